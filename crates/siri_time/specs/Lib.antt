@@ -1,3 +1,4 @@
 pub mod Scan
 pub mod Calendar
 pub mod Moment
+pub mod MomentText

@@ -1,5 +1,5 @@
 -- The moment that a text names (xsd:dateTime).
-use Rattle.std.specs.Prelude.{ℕ, ◌+◌, ◌*◌, nat_le, nat_lt, ◌&&◌, ◌==◌, if◌then◌else◌, ℤ, pos, negsuc, ◌+ℤ◌, ◌-ℤ◌, ◌*ℤ◌, neg_ℤ, List, [], ◌∷◌, ◌++◌, length, Option, Some, None, option_map, is_some, ok_or, Result}
+use Rattle.std.specs.Prelude.{ℕ, ◌+◌, ◌*◌, nat_le, nat_lt, ◌&&◌, ◌==◌, if◌then◌else◌, ℤ, pos, negsuc, ◌-ℤ◌, ◌*ℤ◌, neg_ℤ, List, [], ◌∷◌, ◌++◌, length, Option, Some, None, option_map, is_some, ok_or, Result}
 use Rattle.siri_time.specs.declared.errors.TimeError.{TimeError}
 use Rattle.siri_time.specs.declared.errors.TimeError.TheVariants.{BadTime, NoOffset}
 use Rattle.siri_time.specs.Scan.{Read, ◌>>=◌, two_digits, after_byte, fraction_at}
