@@ -1,2 +1,3 @@
-pub mod Begun
+pub mod Counted
 pub mod Dates
+pub mod DayNumbers
