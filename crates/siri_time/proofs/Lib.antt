@@ -1,3 +1,4 @@
 pub mod Counted
 pub mod Dates
 pub mod DayNumbers
+pub mod MomentRead
