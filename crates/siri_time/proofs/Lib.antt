@@ -1,4 +1,5 @@
 pub mod Counted
 pub mod Dates
 pub mod DayNumbers
+pub mod Digits
 pub mod MomentRead

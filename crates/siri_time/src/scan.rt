@@ -1,5 +1,5 @@
 // Each function reads a part at the front of a text, and gives it with what follows.
-ghost use Rattle.std.specs.Prelude.{◌≡◌, ℕ, ◌-◌, ◌<◌, ◌≤◌, take, drop, length, IfSome, option_copied};
+ghost use Rattle.std.specs.Prelude.{◌≡◌, ℕ, ◌-◌, ◌<◌, ◌≤◌, take, drop, length, IfSome, option_copied, EachIndex, slice_index};
 ghost use Rattle.std.specs.List.{prefix_len};
 ghost use Rattle.std.specs.Char.{is_ascii_digit};
 ghost use Rattle.siri_time.specs.Scan as Spec;
@@ -44,7 +44,8 @@ pub fn fraction(text: &[u8]) -> Option<(u64, &[u8])>
 
 /// The longest run of digits.
 pub fn digits(text: &[u8]) -> (&[u8], &[u8])
-    ensures { (result.0.now, result.1.now) ≡ Spec.digits_at text.now }
+    ensures value { (result.0.now, result.1.now) ≡ Spec.digits_at text.now }
+    ensures each { EachIndex result.0.now (λ k. slice_index result.0.now k ≤ 57) }
 {
     text.split_at(digits_len(text))
 }
@@ -52,6 +53,7 @@ pub fn digits(text: &[u8]) -> (&[u8], &[u8])
 fn digits_len(text: &[u8]) -> usize
     ensures len { result ≡ prefix_len is_ascii_digit text.now }
     ensures within { result ≤ length text.now }
+    ensures each { (k : ℕ) → k < result → slice_index text.now k ≤ 57 }
 {
     text.iter().take_while(|byte| byte.is_ascii_digit()).count()
 }
@@ -67,7 +69,8 @@ fn thousandths(digits: &[u8]) -> u64
     }
 }
 
-fn digit(byte: u8) -> u64
+/// The number of a digit.
+pub fn digit(byte: u8) -> u64
     ensures { result ≡ byte - 48 }
 {
     u64::from(byte.saturating_sub(b'0'))
