@@ -17,3 +17,6 @@ pub use moment::read_moment;
 pub use moment_text::write_moment;
 pub use span::read_span;
 pub use span_text::write_span;
+
+#[cfg(test)]
+mod tests;
