@@ -3,3 +3,4 @@ pub mod Dates
 pub mod DayNumbers
 pub mod Digits
 pub mod MomentRead
+pub mod SpanRead

@@ -51,17 +51,17 @@ time_read second rest small =
     let value : 3600 * (second / 3600) + 60 * (second / 60 % 60) + second % 60 ≡ second = omega arith in
     rw (two_digits_wide (second / 3600) _ (omega arith), two_digits_wide (second / 60 % 60) _ (omega arith), two_digits_wide (second % 60) rest (omega arith), hour, minute, left, value) refl
 
-fraction_read : (ms : ℕ) → ms < 1000 → fraction_at (fraction_text ms ++ 90 ∷ []) ≡ Some (ms, 90 ∷ [])
+pub fraction_read : (ms b : ℕ) (rest : List ℕ) → ms < 1000 → is_ascii_digit b ≡ false → eqb b 46 ≡ false → fraction_at (fraction_text ms ++ b ∷ rest) ≡ Some (ms, b ∷ rest)
 unfolding fraction_at fraction_text
-fraction_read ms small = elim (cases_lt 0 ms) [
+fraction_read ms b rest small ends apart = elim (cases_lt 0 ms) [
     | inl some ↦
       let there : eqb ms 0 ≡ false = grind (arith, nat_tests) in
-      let a = is_digit (ms / 100) (omega arith) in
-      let b = is_digit (ms % 100 / 10) (omega arith) in
-      let c = is_digit (ms % 100 % 10) (omega arith) in
+      let hundreds = is_digit (ms / 100) (omega arith) in
+      let tens = is_digit (ms % 100 / 10) (omega arith) in
+      let ones = is_digit (ms % 100 % 10) (omega arith) in
       let value : 100 * (48 + ms / 100 - 48) + 10 * (48 + ms % 100 / 10 - 48) + (48 + ms % 100 % 10 - 48) ≡ ms = omega arith in
-      rw (there, a, b, c, value) refl
-    | inr none ↦ let same : ms ≡ 0 = omega arith in rw same refl
+      rw (there, hundreds, tens, ones, ends, value) refl
+    | inr none ↦ let same : ms ≡ 0 = omega arith in rw same (rw apart refl)
   ]
 
 local_read : (m : ℕ) → m ≤ 253402300799999 → local_at (moment_text m) ≡ Some (m, 90 ∷ [])
@@ -70,10 +70,10 @@ local_read m small =
     let value : 86400000 * (m / 86400000) + 1000 * (m / 1000 % 86400) + m % 1000 ≡ m = omega arith in
     let date = date_read (m / 86400000) (84 ∷ time_text (m / 1000 % 86400) ++ (fraction_text (m % 1000) ++ 90 ∷ [])) (omega arith) in
     let time = time_read (m / 1000 % 86400) (fraction_text (m % 1000) ++ 90 ∷ []) (omega arith) in
-    let fraction = fraction_read (m % 1000) (omega arith) in
+    let fraction = fraction_read (m % 1000) 90 [] (omega arith) refl refl in
     simp append_assoc (rw (date, time, fraction, value) refl)
 
-length-fraction : (ms : ℕ) → length (fraction_text ms) ≤ 4
+pub length-fraction : (ms : ℕ) → length (fraction_text ms) ≤ 4
 unfolding fraction_text
 length-fraction ms = grind (arith, nat_tests)
 
