@@ -1,3 +1,4 @@
+pub mod Ascii
 pub mod Counted
 pub mod Dates
 pub mod DayNumbers

@@ -101,3 +101,9 @@ moment_in-moment_text m small =
 pub moment_of-moment_text : (m : ℕ) → m ≤ 253402300799999 → moment_of (moment_text m) ≡ Ok m
 unfolding moment_of
 moment_of-moment_text m small = rw (moment_in-moment_text m small) refl
+
+-- and no two moments have the same text
+pub moment_text-injective : (m n : ℕ) → m ≤ 253402300799999 → n ≤ 253402300799999 → moment_text m ≡ moment_text n → m ≡ n
+moment_text-injective m n m_in n_in same =
+    let one : ◌≡◌ {A = Result ℕ TimeError} (Ok m) (Ok n) = sym (moment_of-moment_text m m_in) ∙ ap moment_of same ∙ moment_of-moment_text n n_in in
+    cc

@@ -1,7 +1,8 @@
 -- A written span is read as itself.
-use Rattle.std.proofs.Common.{◌≡◌, ℕ, suc, ◌+◌, ◌-◌, ◌*◌, ◌/◌, ◌%◌, ◌^◌, ◌≤◌, ◌<◌, ◌⊎◌, inl, inr, Bool, true, false, ◌&&◌, ◌||◌, leb, ltb, eqb, cond, List, [], ◌∷◌, ◌++◌, length, take, drop, length-append, append_assoc, Option, Some, None, is_some, Result, Ok, Err, ℤ, pos, negsuc, neg_ℤ, unsigned_abs, refl, ap, ◌∙◌, sym, arith, rules, fold, unwrap_or, ◌==◌, if◌then◌else◌}
+use Rattle.std.proofs.Common.{◌≡◌, ℕ, suc, ◌+◌, ◌-◌, ◌*◌, ◌/◌, ◌%◌, ◌^◌, ◌≤◌, ◌<◌, ◌⊎◌, inl, inr, Bool, true, false, ◌&&◌, ◌||◌, leb, ltb, eqb, cond, List, [], ◌∷◌, ◌++◌, length, take, drop, length-append, append_assoc, Option, Some, None, is_some, Result, Ok, Err, ℤ, pos, negsuc, ◌≤ℤ◌, neg_ℤ, unsigned_abs, refl, ap, ◌∙◌, sym, arith, rules, fold, unwrap_or, ◌==◌, if◌then◌else◌}
 use Rattle.std.proofs.lemmas.Bool.{cases_lt, and_parts, le-leb}
 use Rattle.std.proofs.lemmas.Bool.Decides.{nat_tests}
+use Rattle.std.proofs.lemmas.Int.{ints}
 use Rattle.std.proofs.lemmas.Fmt.{decimal_nonempty, length-decimal-le, digits_decimal, digits_value-decimal}
 use Rattle.std.proofs.lemmas.Str.Parse.{IsNumeralModel, numerals_by_fold}
 use Rattle.std.proofs.Math.Seq.{take-append_seam, drop-append_seam}
@@ -240,3 +241,13 @@ span_of-span_text (pos ms) small =
 span_of-span_text (negsuc n) small =
     let short : ltb 64 (suc (length (length_text (suc n)))) ≡ false = grind (arith, nat_tests, length-length_text (suc n)) in
     rw (short, length_read true (suc n) small) refl
+
+pub within : (s : ℤ) → negsuc 86399999999999 ≤ℤ s → s ≤ℤ pos 86400000000000 → unsigned_abs s ≤ 86400000000000
+within (pos ms) least greatest = omega (arith, ints)
+within (negsuc n) least greatest = omega (arith, ints)
+
+-- and no two spans have the same text
+pub span_text-injective : (s t : ℤ) → unsigned_abs s ≤ 86400000000000 → unsigned_abs t ≤ 86400000000000 → span_text s ≡ span_text t → s ≡ t
+span_text-injective s t s_in t_in same =
+    let one : ◌≡◌ {A = Result ℤ SpanError} (Ok s) (Ok t) = sym (span_of-span_text s s_in) ∙ ap span_of same ∙ span_of-span_text t t_in in
+    cc

@@ -12,7 +12,7 @@ mod span_text;
 mod write;
 
 pub use errors::{SpanError, TimeError};
-pub use laws::written_moment_is_read;
+pub use laws::{written_moment_is_read, written_span_is_read};
 pub use moment::read_moment;
 pub use moment_text::write_moment;
 pub use span::read_span;
