@@ -1,12 +1,12 @@
 -- A written moment is read as itself.
-use Rattle.std.proofs.Common.{◌≡◌, ℕ, ◌+◌, ◌-◌, ◌*◌, ◌/◌, ◌%◌, ◌≤◌, ◌<◌, ◌⊎◌, inl, inr, Bool, true, false, leb, ltb, eqb, List, [], ◌∷◌, ◌++◌, length, length-append, append_assoc, Option, Some, None, Result, Ok, Err, pos, refl, ap, ◌∙◌, sym, arith, is_some, cond}
+use Rattle.std.proofs.Common.{◌≡◌, ℕ, ◌+◌, ◌-◌, ◌*◌, ◌/◌, ◌%◌, ◌≤◌, ◌<◌, inl, inr, true, false, leb, ltb, eqb, List, [], ◌∷◌, ◌++◌, length, length-append, append_assoc, Some, Result, Ok, pos, refl, ap, ◌∙◌, sym, arith}
 use Rattle.std.proofs.lemmas.Bool.{cases_lt}
 use Rattle.std.proofs.lemmas.Bool.Decides.{nat_tests}
 use Rattle.std.specs.Char.{is_ascii_digit}
 use Rattle.jiff_core.proofs.CalendarLemmas.{days_in_month_bounds}
 use Rattle.siri_time.specs.declared.errors.TimeError.{TimeError}
-use Rattle.siri_time.specs.Scan.{two_digits, fraction_at, thousandths}
-use Rattle.siri_time.specs.Calendar.{year_of, month_of, day_of, day_number, natural}
+use Rattle.siri_time.specs.Scan.{two_digits, fraction_at}
+use Rattle.siri_time.specs.Calendar.{year_of, month_of, day_of, day_number}
 use Rattle.siri_time.specs.Moment.{date_at, time_at, local_at, offset_of, moment_in, moment_of}
 use Rattle.siri_time.specs.MomentText.{two_wide, date_text, time_text, fraction_text, moment_text}
 use Rattle.siri_time.proofs.Dates.{is_date-civil}
@@ -54,15 +54,15 @@ time_read second rest small =
 pub fraction_read : (ms b : ℕ) (rest : List ℕ) → ms < 1000 → is_ascii_digit b ≡ false → eqb b 46 ≡ false → fraction_at (fraction_text ms ++ b ∷ rest) ≡ Some (ms, b ∷ rest)
 unfolding fraction_at fraction_text
 fraction_read ms b rest small ends apart = elim (cases_lt 0 ms) [
-    | inl some ↦
+  | inl some ↦
       let there : eqb ms 0 ≡ false = grind (arith, nat_tests) in
       let hundreds = is_digit (ms / 100) (omega arith) in
       let tens = is_digit (ms % 100 / 10) (omega arith) in
       let ones = is_digit (ms % 100 % 10) (omega arith) in
       let value : 100 * (48 + ms / 100 - 48) + 10 * (48 + ms % 100 / 10 - 48) + (48 + ms % 100 % 10 - 48) ≡ ms = omega arith in
       rw (there, hundreds, tens, ones, ends, value) refl
-    | inr none ↦ let same : ms ≡ 0 = omega arith in rw same (rw apart refl)
-  ]
+  | inr none ↦ let same : ms ≡ 0 = omega arith in rw same (rw apart refl)
+]
 
 local_read : (m : ℕ) → m ≤ 253402300799999 → local_at (moment_text m) ≡ Some (m, 90 ∷ [])
 unfolding local_at moment_text

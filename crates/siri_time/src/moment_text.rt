@@ -27,11 +27,13 @@ fn date_text(number: u64) -> [u8; 10]
     ensures { result ≡ Spec.date_text number }
 {
     let (year, month, day) = date_of(number);
-    let [a, b] = two_wide(year / 100);
-    let [c, d] = two_wide(year % 100);
-    let [e, f] = two_wide(month);
-    let [g, h] = two_wide(day);
-    [a, b, c, d, b'-', e, f, b'-', g, h]
+    let century = two_wide(year / 100);
+    let year = two_wide(year % 100);
+    let month = two_wide(month);
+    let day = two_wide(day);
+    [
+        century[0], century[1], year[0], year[1], b'-', month[0], month[1], b'-', day[0], day[1],
+    ]
 }
 
 #[tactic(auto, unfolding(crate::specs::MomentText::time_text))]
@@ -39,10 +41,12 @@ fn time_text(second: u64) -> [u8; 8]
     requires { second < 86400 }
     ensures { result ≡ Spec.time_text second }
 {
-    let [a, b] = two_wide(second / 3600);
-    let [c, d] = two_wide(second / 60 % 60);
-    let [e, f] = two_wide(second % 60);
-    [a, b, b':', c, d, b':', e, f]
+    let hour = two_wide(second / 3600);
+    let minute = two_wide(second / 60 % 60);
+    let second = two_wide(second % 60);
+    [
+        hour[0], hour[1], b':', minute[0], minute[1], b':', second[0], second[1],
+    ]
 }
 
 // `.mmm` where there are milliseconds.

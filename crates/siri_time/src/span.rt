@@ -1,5 +1,5 @@
 // Reads a length of time from its text.
-ghost use Rattle.std.specs.Prelude.{◌≡◌, ◌<◌, ◌≤◌, ◌^◌, length, IfSome, EachIndex, slice_index, option_map, pos, nat_le, if◌then◌else◌};
+ghost use Rattle.std.specs.Prelude.{◌≡◌, ◌<◌, ◌≤◌, ◌^◌, length, IfSome, EachIndex, slice_index};
 ghost use Rattle.siri_time.specs.Span as Spec;
 ghost use Rattle.siri_time.specs.Scan as Scan;
 
@@ -38,7 +38,7 @@ pub fn read_span(text: &[u8]) -> Result<Span, SpanError>
     if date.years.unwrap_or(0) != 0 || date.months.unwrap_or(0) != 0 {
         return Err(SpanError::CalendarSpan);
     }
-    let ms = milliseconds(date, time).ok_or(SpanError::BadSpan)?;
+    let ms = milliseconds(date, time).ok_or(SpanError::BadSpan)? as i64;
     Span::new(if negative { -ms } else { ms }).ok_or(SpanError::BadSpan)
 }
 
@@ -64,10 +64,21 @@ fn parts(date: DateParts, text: &[u8]) -> Option<(DateParts, TimeParts)>
     ensures { result ≡ Spec.parts_of date text.now }
 {
     match text {
-        [] if has_date(date) => Some((date, TimeParts { hours: None, minutes: None, milliseconds: None })),
+        [] if has_date(date) => Some((
+            date,
+            TimeParts {
+                hours: None,
+                minutes: None,
+                milliseconds: None,
+            },
+        )),
         [b'T', rest @ ..] => {
             let (time, rest) = time_parts(rest);
-            if has_time(time) && rest.is_empty() { Some((date, time)) } else { None }
+            if has_time(time) && rest.is_empty() {
+                Some((date, time))
+            } else {
+                None
+            }
         }
         _ => None,
     }
@@ -92,7 +103,14 @@ fn date_parts(text: &[u8]) -> (DateParts, &[u8])
     let (years, rest) = optional(amount(text, b'Y'), text);
     let (months, rest) = optional(amount(rest, b'M'), rest);
     let (days, rest) = optional(amount(rest, b'D'), rest);
-    (DateParts { years, months, days }, rest)
+    (
+        DateParts {
+            years,
+            months,
+            days,
+        },
+        rest,
+    )
 }
 
 #[tactic(auto, unfolding(crate::specs::Span::time_parts))]
@@ -102,7 +120,14 @@ fn time_parts(text: &[u8]) -> (TimeParts, &[u8])
     let (hours, rest) = optional(amount(text, b'H'), text);
     let (minutes, rest) = optional(amount(rest, b'M'), rest);
     let (milliseconds, rest) = optional(seconds(rest), rest);
-    (TimeParts { hours, minutes, milliseconds }, rest)
+    (
+        TimeParts {
+            hours,
+            minutes,
+            milliseconds,
+        },
+        rest,
+    )
 }
 
 fn optional<'a>(part: Option<(u64, &'a [u8])>, text: &'a [u8]) -> (Option<u64>, &'a [u8])
@@ -157,12 +182,17 @@ fn number_of(digits: &[u8]) -> u64
     number
 }
 
-fn milliseconds(date: DateParts, time: TimeParts) -> Option<i64>
-    ensures { result ≡ option_map pos (if nat_le (Spec.milliseconds_of date time) 86400000000000 then Some (Spec.milliseconds_of date time) else None) }
+fn milliseconds(date: DateParts, time: TimeParts) -> Option<u64>
+    ensures value { result ≡ Spec.milliseconds_of date time }
+    ensures small { IfSome result (λ ms. ms ≤ 86400000000000) }
 {
     let total = 86_400_000 * u128::from(date.days.unwrap_or(0))
         + 3_600_000 * u128::from(time.hours.unwrap_or(0))
         + 60_000 * u128::from(time.minutes.unwrap_or(0))
         + u128::from(time.milliseconds.unwrap_or(0));
-    if total > GREATEST { None } else { Some(total as i64) }
+    if total > GREATEST {
+        None
+    } else {
+        Some(total as u64)
+    }
 }

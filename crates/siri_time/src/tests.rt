@@ -48,7 +48,10 @@ fn moments_of_texts(rt: HostRuntime) {
         ("2024-05-01T08:00:00-00:00", 1_714_550_400_000),
         ("1970-01-01T00:01:00+00:01", 0),
         // 64 bytes
-        ("2024-05-01T08:00:00.0000000000000000000000000000000000000000000Z", 1_714_550_400_000),
+        (
+            "2024-05-01T08:00:00.0000000000000000000000000000000000000000000Z",
+            1_714_550_400_000,
+        ),
     ];
     for (text, ms) in cases {
         assert_eq!(rt; moment(text), Ok(ms), "{text}");
@@ -95,9 +98,18 @@ fn texts_of_no_moment(rt: HostRuntime) {
         ("9999-12-31T23:59:59-00:01", TimeError::BadTime),
         ("10000-01-01T00:00:00Z", TimeError::BadTime),
         // 65 bytes, and what becomes 64 and 65
-        ("2024-05-01T08:00:00.00000000000000000000000000000000000000000000Z", TimeError::BadTime),
-        ("2024-05-01T08:00:00.0000000000000000000000000000000000000000000", TimeError::NoOffset),
-        ("2024-05-01T08:00:00.00000000000000000000000000000000000000000000", TimeError::BadTime),
+        (
+            "2024-05-01T08:00:00.00000000000000000000000000000000000000000000Z",
+            TimeError::BadTime,
+        ),
+        (
+            "2024-05-01T08:00:00.0000000000000000000000000000000000000000000",
+            TimeError::NoOffset,
+        ),
+        (
+            "2024-05-01T08:00:00.00000000000000000000000000000000000000000000",
+            TimeError::BadTime,
+        ),
     ];
     for (text, error) in cases {
         assert_eq!(rt; moment(text), Err(error), "{text}");
@@ -120,7 +132,10 @@ fn lengths_of_texts(rt: HostRuntime) {
         ("P1000000D", Ok(86_400_000_000_000)),
         ("-P1000000D", Ok(-86_400_000_000_000)),
         ("P1000000DT0.001S", Err(SpanError::BadSpan)),
-        ("P999999999999999DT999999999999999H", Err(SpanError::BadSpan)),
+        (
+            "P999999999999999DT999999999999999H",
+            Err(SpanError::BadSpan),
+        ),
         // examples of the standard
         ("-P120D", Ok(-10_368_000_000)),
         ("P1Y2M3DT10H30M", Err(SpanError::CalendarSpan)),
@@ -154,8 +169,14 @@ fn lengths_of_texts(rt: HostRuntime) {
         ("P1M", Err(SpanError::CalendarSpan)),
         ("P1Y1000001D", Err(SpanError::CalendarSpan)),
         // 64 and 65 bytes
-        ("PT1.00000000000000000000000000000000000000000000000000000000000S", Ok(1_000)),
-        ("PT1.000000000000000000000000000000000000000000000000000000000000S", Err(SpanError::BadSpan)),
+        (
+            "PT1.00000000000000000000000000000000000000000000000000000000000S",
+            Ok(1_000),
+        ),
+        (
+            "PT1.000000000000000000000000000000000000000000000000000000000000S",
+            Err(SpanError::BadSpan),
+        ),
     ];
     for (text, expected) in cases {
         assert_eq!(rt; span(text), expected, "{text}");
