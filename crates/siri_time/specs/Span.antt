@@ -1,4 +1,4 @@
--- The length of time that a text names (xsd:duration).
+-- The length of time that a text names (xsd:duration of W3C XML Schema, part 2, 3.2.6).
 use Rattle.std.specs.Prelude.{ℕ, ◌+◌, ◌*◌, ◌-◌, nat_le, nat_lt, ◌&&◌, ◌||◌, ◌==◌, Bool, true, false, not, if◌then◌else◌, ℤ, pos, neg_ℤ, List, [], ◌∷◌, length, fold, Option, Some, None, is_some, unwrap_or, Result, Ok, Err}
 use Rattle.siri_time.specs.declared.errors.SpanError.{SpanError}
 use Rattle.siri_time.specs.declared.errors.SpanError.TheVariants.{BadSpan, CalendarSpan}

@@ -8,7 +8,12 @@ use crate::errors::TimeError;
 use crate::scan::{after_byte, fraction, two_digits};
 use siri_base::Moment;
 
-/// The moment that a text names.
+/// The moment that a text names: `YYYY-MM-DDThh:mm:ss`, then optionally `.` and one or more digits, of which those past
+/// the third are cut, then `Z`, `+hh:mm` or `-hh:mm`, up to 14:00; at most 64 bytes (xsd:dateTime). Its date as it
+/// stands and the moment in UTC lie in the years 1970 to 9999.
+///
+/// `NoOffset` where the text names no moment and does with `Z` put at its end, which counts towards the 64 bytes;
+/// `BadTime` where it names none and doesn't.
 #[tactic(auto, unfolding(crate::specs::Moment::moment_of))]
 pub fn read_moment(text: &[u8]) -> Result<Moment, TimeError>
     ensures { result ≡ Spec.moment_of text.now }
@@ -28,7 +33,17 @@ fn moment(text: &[u8]) -> Option<Moment>
         return None;
     }
     let (local, rest) = local(text)?;
-    Moment::new(local as i64 - 60_000 * offset(rest)?)
+    in_utc(local, offset(rest)?)
+}
+
+#[tactic(auto, unfolding(crate::specs::Moment::in_utc))]
+fn in_utc(local: u64, offset: i64) -> Option<Moment>
+    requires local { local < 253402300800000 }
+    requires least { negsuc 839 ≤ℤ offset }
+    requires greatest { offset ≤ℤ pos 840 }
+    ensures { result ≡ Spec.in_utc local offset }
+{
+    Moment::new(local as i64 - 60_000 * offset)
 }
 
 // Whether the text becomes a moment with `Z` put at its end.
@@ -74,8 +89,19 @@ fn time(text: &[u8]) -> Option<(u64, &[u8])>
     let (hour, rest) = two_digits(text)?;
     let (minute, rest) = two_digits(after_byte(rest, b':')?)?;
     let (second, rest) = two_digits(after_byte(rest, b':')?)?;
+    Some((second_of_day(hour, minute, second)?, rest))
+}
+
+#[tactic(auto, unfolding(crate::specs::Moment::second_of_day))]
+fn second_of_day(hour: u64, minute: u64, second: u64) -> Option<u64>
+    requires hour { hour < 100 }
+    requires minute { minute < 100 }
+    requires second { second < 100 }
+    ensures value { result ≡ Spec.second_of_day hour minute second }
+    ensures small { IfSome result (λ number. number < 86400) }
+{
     if hour < 24 && minute < 60 && second < 60 {
-        Some((3600 * hour + 60 * minute + second, rest))
+        Some(3600 * hour + 60 * minute + second)
     } else {
         None
     }

@@ -25,7 +25,12 @@ pub struct TimeParts {
     pub milliseconds: Option<u64>,
 }
 
-/// The length of time that a text names.
+/// The span that a text names: an optional `-`, `P`, then optionally `nY`, `nM` and `nD` in this order, then optionally
+/// `T` with `nH`, `nM` and `nS` or `n.fS` in this order, one of them at least; one part at least in all; each `n` has 1
+/// to 15 digits, and of `f` the digits past the third are cut; at most 64 bytes (xsd:duration).
+///
+/// `BadSpan` where the text isn't of this form; then `CalendarSpan` where its years or months aren't zero; then `BadSpan`
+/// where it passes 1,000,000 days.
 #[tactic(auto, unfolding(crate::specs::Span::span_of))]
 pub fn read_span(text: &[u8]) -> Result<Span, SpanError>
     ensures { result ≡ Spec.span_of text.now }
