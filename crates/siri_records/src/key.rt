@@ -1,6 +1,10 @@
 // What items are known by.
 ghost use Rattle.std.specs.Prelude.{◌≡◌, IfOk};
+ghost use Rattle.std.specs.Prelude.{◌↔◌};
+ghost use Rattle.std.specs.Cmp.{IsTotalOrder};
+ghost use Rattle.std.specs.declared.cmp.Ordering.TheVariants.{Equal};
 ghost use Rattle.siri_records.specs.Keys.{key_of};
+ghost use Rattle.siri_records.specs.Order.{key_cmp};
 
 use crate::Item;
 use siri_base::{Copies, Name, OutOfMemory};
@@ -85,3 +89,11 @@ pub fn key_of(item: &Item) -> Result<Key, OutOfMemory>
         }),
     }
 }
+
+/// A law, which does nothing when it is called: `cmp` of keys is the order by kind and then by names in turn, which is
+/// total, and by which two keys tie exactly where they are equal.
+pub fn keys_are_in_order()
+    ensures stated { (a b : Key) → ⟦<Key as Ord>⟧.cmp a b ≡ key_cmp a b }
+    ensures total { IsTotalOrder key_cmp }
+    ensures exact { (a b : Key) → (key_cmp a b ≡ Equal) ↔ (a ≡ b) }
+{}
