@@ -4,7 +4,9 @@
 //! `siri_base`.
 #![tactic(auto)]
 
+mod quoting;
 mod text;
 
+pub use quoting::quote_numbers;
 pub use serde_json::{Map, Number, Value};
 pub use text::{ParseError, parse, write_tree};
