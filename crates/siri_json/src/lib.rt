@@ -6,7 +6,11 @@
 
 mod quoting;
 mod text;
+mod values;
 
 pub use quoting::quote_numbers;
 pub use serde_json::{Map, Number, Value};
 pub use text::{ParseError, parse, write_tree};
+pub use values::{
+    ObjectOf, TextOf, entries, entry_at, entry_list, flag_of, member, object_of, text_of,
+};
