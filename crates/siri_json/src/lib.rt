@@ -4,10 +4,12 @@
 //! `siri_base`.
 #![tactic(auto)]
 
+mod path;
 mod quoting;
 mod text;
 mod values;
 
+pub use path::{Path, Step};
 pub use quoting::quote_numbers;
 pub use serde_json::{Map, Number, Value};
 pub use text::{ParseError, parse, write_tree};

@@ -2,7 +2,7 @@
 
 ghost use Rattle.std.specs.Prelude.{◌≡◌, ◌<◌, length, map, option_map, slice_get};
 ghost use Rattle.serde_json.specs.View.{view};
-ghost use Rattle.siri_json.specs.Told.{object_told, text_told};
+ghost use Rattle.siri_json.specs.Told.{HasText, object_told, text_told};
 ghost use Rattle.siri_json.specs.Values.{entries_of, flag_in, flag_text, member_of, object_in, single_object, single_text, string_found, text_in};
 
 use serde_json::Value;
@@ -45,7 +45,8 @@ pub fn member<'a>(tree: &'a Value, name: &str) -> Option<&'a Value>
 /// An empty string, an object without `value` and an empty list count as absent; all else is of another kind.
 #[tactic(auto, unfolding(crate::specs::Values::text_in))]
 pub fn text_of(value: &Value) -> TextOf<'_>
-    ensures { text_told result ≡ text_in (view value.now) }
+    ensures told { text_told result ≡ text_in (view value.now) }
+    ensures some { HasText result }
 {
     match value {
         Value::Array(entries) => match entries.first() {
@@ -57,7 +58,8 @@ pub fn text_of(value: &Value) -> TextOf<'_>
 }
 
 fn single_text(value: &Value) -> TextOf<'_>
-    ensures { text_told result ≡ single_text (view value.now) }
+    ensures told { text_told result ≡ single_text (view value.now) }
+    ensures some { HasText result }
 {
     match value {
         Value::String(text) => unless_empty(text.as_str()),
@@ -71,7 +73,8 @@ fn single_text(value: &Value) -> TextOf<'_>
 }
 
 fn unless_empty(text: &str) -> TextOf<'_>
-    ensures { text_told result ≡ string_found text.now }
+    ensures told { text_told result ≡ string_found text.now }
+    ensures some { HasText result }
 {
     if text.is_empty() {
         TextOf::Absent
