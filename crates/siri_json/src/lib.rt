@@ -4,11 +4,13 @@
 //! `siri_base`.
 #![tactic(auto)]
 
+mod laws;
 mod path;
 mod quoting;
 mod text;
 mod values;
 
+pub use laws::{compact_text_reads_back, document_reads_as_texts, quoting_makes_texts};
 pub use path::{Path, Step};
 pub use quoting::quote_numbers;
 pub use serde_json::{Map, Number, Value};
