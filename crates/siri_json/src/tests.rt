@@ -1,0 +1,119 @@
+use crate::*;
+use siri_base::{Copies, Name};
+use std::alloc::{AllocError, Global};
+use std::test::Fail;
+
+/// The compact text of a document's tree, or the name of what was answered in its place.
+fn told(alloc: Global, document: &[u8]) -> Result<Vec<u8>, AllocError> {
+    let name = match read_tree(alloc, document) {
+        Ok(tree) => match write_tree(alloc, &tree) {
+            Ok(text) => return Ok(text),
+            Err(_) => "OutOfMemory",
+        },
+        Err(TreeError::NotJson) => "NotJson",
+        Err(TreeError::TooLong) => "TooLong",
+        Err(TreeError::OutOfMemory) => "OutOfMemory",
+    };
+    Vec::from_slice(alloc, name.as_bytes())
+}
+
+#[test]
+fn documents_are_read_with_their_numbers_as_texts(rt: HostRuntime) -> Result<(), Fail> {
+    for (document, want) in [
+        ("[01]", "NotJson"),
+        ("{1:2}", "NotJson"),
+        ("{1.5:2}", "NotJson"),
+        ("{1.5 \t:2}", "NotJson"),
+        ("", "NotJson"),
+        (
+            "[2.35,\"2.35\",-0,1E+2]",
+            "[\"2.35\",\"2.35\",\"-0\",\"1E+2\"]",
+        ),
+        (
+            "{\"b\":1,\"a\":\"4\\\"5\",\"b\":null}",
+            "{\"a\":\"4\\\"5\",\"b\":null}",
+        ),
+        // The texts of RFC 8259, section 13, without spaces in the wanted ones.
+        ("\"Hello world!\"", "\"Hello world!\""),
+        ("42", "\"42\""),
+        ("true", "true"),
+        (
+            "{\n\"Image\": {\n\"Width\":  800,\n\"Height\": 600,\n\"Title\":  \"View from 15th Floor\",\n\"Thumbnail\": {\n\"Url\":    \"http://www.example.com/image/481989943\",\n\"Height\": 125,\n\"Width\":  100\n},\n\"Animated\" : false,\n\"IDs\": [116, 943, 234, 38793]\n}\n}",
+            "{\"Image\":{\"Animated\":false,\"Height\":\"600\",\"IDs\":[\"116\",\"943\",\"234\",\"38793\"],\"Thumbnail\":{\"Height\":\"125\",\"Url\":\"http://www.example.com/image/481989943\",\"Width\":\"100\"},\"Title\":\"View from 15th Floor\",\"Width\":\"800\"}}",
+        ),
+        (
+            "[\n{\n\"precision\": \"zip\",\n\"Latitude\":  37.7668,\n\"Longitude\": -122.3959,\n\"Address\":   \"\"\n}\n]",
+            "[{\"Address\":\"\",\"Latitude\":\"37.7668\",\"Longitude\":\"-122.3959\",\"precision\":\"zip\"}]",
+        ),
+    ] {
+        let text = told(rt.alloc(), document.as_bytes())?;
+        assert!(rt; text.as_slice() == want.as_bytes(), "{document}");
+    }
+    let spaces = vec![in rt.alloc(); b' '; MAX_DOCUMENT + 1]?;
+    assert!(rt; told(rt.alloc(), &spaces)?.as_slice() == b"TooLong".as_slice());
+    assert!(rt; told(rt.alloc(), b"\"\xff\"")?.as_slice() == b"NotJson".as_slice());
+    Ok(())
+}
+
+#[test]
+fn numbers_are_quoted_outside_of_strings(rt: HostRuntime) -> Result<(), Fail> {
+    let document = "{\"a\":[1,-2.5e3,\"3\"],\"4\":true}";
+    let text = quote_numbers(rt.alloc(), document.as_bytes())
+        .ok()
+        .ok_or("a text")?;
+    assert!(rt; text.as_slice() == b"{\"a\":[\"1\",\"-2.5e3\",\"3\"],\"4\":true}".as_slice());
+    let tree = parse(rt.alloc(), b"[1,\"1\"]").ok().ok_or("a tree")?;
+    let written = write_tree(rt.alloc(), &tree).ok().ok_or("a text")?;
+    assert!(rt; written.as_slice() == b"[1,\"1\"]".as_slice());
+    Ok(())
+}
+
+#[test]
+fn values_stand_for_texts_flags_and_lists(rt: HostRuntime) -> Result<(), Fail> {
+    // A row: a value, its text, its flag, and how many entries it has as a list.
+    for (value, text, flag, count) in [
+        ("\"x\"", "x", None, 1),
+        ("{\"value\":\"1\"}", "1", Some(true), 1),
+        ("[{\"value\":\"false\"},\"x\"]", "false", Some(false), 2),
+        ("[\"a\",null]", "a", None, 2),
+        ("\"\"", "absent", None, 1),
+        ("{}", "absent", None, 1),
+        ("{\"value\":null}", "absent", None, 1),
+        ("[]", "absent", None, 0),
+        ("true", "wrong", Some(true), 1),
+        ("[null]", "wrong", None, 1),
+        ("[[\"x\"]]", "wrong", None, 1),
+        ("{\"value\":[\"x\"]}", "wrong", None, 1),
+    ] {
+        let tree = parse(rt.alloc(), value.as_bytes()).ok().ok_or("a tree")?;
+        let told = match text_of(&tree) {
+            TextOf::Is(text) => text,
+            TextOf::Absent => "absent",
+            TextOf::Wrong => "wrong",
+        };
+        assert_eq!(rt; told, text, "{value}");
+        assert_eq!(rt; flag_of(&tree), flag, "{value}");
+        assert_eq!(rt; entries(&tree), count, "{value}");
+    }
+    Ok(())
+}
+
+#[test]
+fn paths_are_written(rt: HostRuntime) -> Result<(), Fail> {
+    let empty = Path::new(rt.alloc()).text().ok().ok_or("a text")?;
+    assert!(rt; empty.slice() == b".".as_slice());
+    let mut path = Path::new(rt.alloc());
+    let calls = Name::new(rt.alloc(), "Calls").ok().ok_or("a name")?;
+    let order = Name::new(rt.alloc(), "Order").ok().ok_or("a name")?;
+    path.push(Step::Member(order)).ok().ok_or("a step")?;
+    path.prepend(Step::Place(12)).ok().ok_or("a step")?;
+    let mut list = Path::new(rt.alloc());
+    list.push(Step::Member(calls)).ok().ok_or("a step")?;
+    let whole = list
+        .join(path.copy().ok().ok_or("a path")?)
+        .ok()
+        .ok_or("a path")?;
+    let text = whole.text().ok().ok_or("a text")?;
+    assert!(rt; text.slice() == b"Calls[12].Order".as_slice());
+    Ok(())
+}
