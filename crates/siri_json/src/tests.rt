@@ -55,6 +55,12 @@ fn documents_are_read_with_their_numbers_as_texts(rt: HostRuntime) -> Result<(),
     Ok(())
 }
 
+/// A JSON text as it stands, read and written.
+fn written(alloc: Global, text: &[u8]) -> Option<Vec<u8>> {
+    let tree = parse(alloc, text).ok()?;
+    write_tree(alloc, &tree).ok()
+}
+
 #[test]
 fn numbers_are_quoted_outside_of_strings(rt: HostRuntime) -> Result<(), Fail> {
     let document = "{\"a\":[1,-2.5e3,\"3\"],\"4\":true}";
@@ -62,58 +68,68 @@ fn numbers_are_quoted_outside_of_strings(rt: HostRuntime) -> Result<(), Fail> {
         .ok()
         .ok_or("a text")?;
     assert!(rt; text.as_slice() == b"{\"a\":[\"1\",\"-2.5e3\",\"3\"],\"4\":true}".as_slice());
-    let tree = parse(rt.alloc(), b"[1,\"1\"]").ok().ok_or("a tree")?;
-    let written = write_tree(rt.alloc(), &tree).ok().ok_or("a text")?;
-    assert!(rt; written.as_slice() == b"[1,\"1\"]".as_slice());
+    let plain = written(rt.alloc(), b"[1,\"1\"]").ok_or("a text")?;
+    assert!(rt; plain.as_slice() == b"[1,\"1\"]".as_slice());
     Ok(())
+}
+
+/// Whether the value is told to be that text, that flag and so many entries.
+fn is_told(value: &Value, text: &str, flag: &str, count: usize) -> bool {
+    let text_told = match text_of(value) {
+        TextOf::Is(text) => text,
+        TextOf::Absent => "absent",
+        TextOf::Wrong => "wrong",
+    };
+    let flag_told = match flag_of(value) {
+        Some(true) => "true",
+        Some(false) => "false",
+        None => "wrong",
+    };
+    text_told == text && flag_told == flag && entries(value) == count
 }
 
 #[test]
 fn values_stand_for_texts_flags_and_lists(rt: HostRuntime) -> Result<(), Fail> {
     // A row: a value, its text, its flag, and how many entries it has as a list.
     for (value, text, flag, count) in [
-        ("\"x\"", "x", None, 1),
-        ("{\"value\":\"1\"}", "1", Some(true), 1),
-        ("[{\"value\":\"false\"},\"x\"]", "false", Some(false), 2),
-        ("[\"a\",null]", "a", None, 2),
-        ("\"\"", "absent", None, 1),
-        ("{}", "absent", None, 1),
-        ("{\"value\":null}", "absent", None, 1),
-        ("[]", "absent", None, 0),
-        ("true", "wrong", Some(true), 1),
-        ("[null]", "wrong", None, 1),
-        ("[[\"x\"]]", "wrong", None, 1),
-        ("{\"value\":[\"x\"]}", "wrong", None, 1),
+        ("\"x\"", "x", "wrong", 1),
+        ("{\"value\":\"1\"}", "1", "true", 1),
+        ("[{\"value\":\"false\"},\"x\"]", "false", "false", 2),
+        ("[\"a\",null]", "a", "wrong", 2),
+        ("\"\"", "absent", "wrong", 1),
+        ("{}", "absent", "wrong", 1),
+        ("{\"value\":null}", "absent", "wrong", 1),
+        ("[]", "absent", "wrong", 0),
+        ("true", "wrong", "true", 1),
+        ("[null]", "wrong", "wrong", 1),
+        ("[[\"x\"]]", "wrong", "wrong", 1),
+        ("{\"value\":[\"x\"]}", "wrong", "wrong", 1),
     ] {
         let tree = parse(rt.alloc(), value.as_bytes()).ok().ok_or("a tree")?;
-        let told = match text_of(&tree) {
-            TextOf::Is(text) => text,
-            TextOf::Absent => "absent",
-            TextOf::Wrong => "wrong",
-        };
-        assert_eq!(rt; told, text, "{value}");
-        assert_eq!(rt; flag_of(&tree), flag, "{value}");
-        assert_eq!(rt; entries(&tree), count, "{value}");
+        assert!(rt; is_told(&tree, text, flag, count), "{value}");
     }
     Ok(())
+}
+
+/// The path `Calls[12].Order`, by each call that makes one longer.
+fn long_path(alloc: Global) -> Option<Path> {
+    let mut later = Path::new(alloc);
+    later
+        .push(Step::Member(Name::new(alloc, "Order").ok()?))
+        .ok()?;
+    later.prepend(Step::Place(12)).ok()?;
+    let mut path = Path::new(alloc);
+    path.push(Step::Member(Name::new(alloc, "Calls").ok()?))
+        .ok()?;
+    path.join(later.copy().ok()?).ok()
 }
 
 #[test]
 fn paths_are_written(rt: HostRuntime) -> Result<(), Fail> {
     let empty = Path::new(rt.alloc()).text().ok().ok_or("a text")?;
     assert!(rt; empty.slice() == b".".as_slice());
-    let mut path = Path::new(rt.alloc());
-    let calls = Name::new(rt.alloc(), "Calls").ok().ok_or("a name")?;
-    let order = Name::new(rt.alloc(), "Order").ok().ok_or("a name")?;
-    path.push(Step::Member(order)).ok().ok_or("a step")?;
-    path.prepend(Step::Place(12)).ok().ok_or("a step")?;
-    let mut list = Path::new(rt.alloc());
-    list.push(Step::Member(calls)).ok().ok_or("a step")?;
-    let whole = list
-        .join(path.copy().ok().ok_or("a path")?)
-        .ok()
-        .ok_or("a path")?;
-    let text = whole.text().ok().ok_or("a text")?;
+    let path = long_path(rt.alloc()).ok_or("a path")?;
+    let text = path.text().ok().ok_or("a text")?;
     assert!(rt; text.slice() == b"Calls[12].Order".as_slice());
     Ok(())
 }

@@ -117,7 +117,7 @@ pub fn object_of(value: &Value) -> ObjectOf<'_>
     ensures { object_told result ≡ object_in (view value.now) }
 {
     match value {
-        Value::Array(entries) => match entries.first() {
+        Value::Array(list) => match list.first() {
             Some(first) => single_object(first),
             None => ObjectOf::Absent,
         },
