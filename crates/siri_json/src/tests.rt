@@ -73,44 +73,6 @@ fn numbers_are_quoted_outside_of_strings(rt: HostRuntime) -> Result<(), Fail> {
     Ok(())
 }
 
-/// Whether the value is told to be that text, that flag and so many entries.
-fn is_told(value: &Value, text: &str, flag: &str, count: usize) -> bool {
-    let text_told = match text_of(value) {
-        TextOf::Is(text) => text,
-        TextOf::Absent => "absent",
-        TextOf::Wrong => "wrong",
-    };
-    let flag_told = match flag_of(value) {
-        Some(true) => "true",
-        Some(false) => "false",
-        None => "wrong",
-    };
-    text_told == text && flag_told == flag && entries(value) == count
-}
-
-#[test]
-fn values_stand_for_texts_flags_and_lists(rt: HostRuntime) -> Result<(), Fail> {
-    // A row: a value, its text, its flag, and how many entries it has as a list.
-    for (value, text, flag, count) in [
-        ("\"x\"", "x", "wrong", 1),
-        ("{\"value\":\"1\"}", "1", "true", 1),
-        ("[{\"value\":\"false\"},\"x\"]", "false", "false", 2),
-        ("[\"a\",null]", "a", "wrong", 2),
-        ("\"\"", "absent", "wrong", 1),
-        ("{}", "absent", "wrong", 1),
-        ("{\"value\":null}", "absent", "wrong", 1),
-        ("[]", "absent", "wrong", 0),
-        ("true", "wrong", "true", 1),
-        ("[null]", "wrong", "wrong", 1),
-        ("[[\"x\"]]", "wrong", "wrong", 1),
-        ("{\"value\":[\"x\"]}", "wrong", "wrong", 1),
-    ] {
-        let tree = parse(rt.alloc(), value.as_bytes()).ok().ok_or("a tree")?;
-        assert!(rt; is_told(&tree, text, flag, count), "{value}");
-    }
-    Ok(())
-}
-
 /// The path `Calls[12].Order`, by each call that makes one longer.
 fn long_path(alloc: Global) -> Option<Path> {
     let mut later = Path::new(alloc);
