@@ -1,0 +1,38 @@
+// Items of the four services.
+ghost use Rattle.std.specs.Prelude.{◌≡◌};
+
+use crate::{Journey, Situation, Vehicle, Visit};
+use siri_base::{Copies, OutOfMemory};
+
+/// What the services tell of.
+#[derive(Drop)]
+pub enum Item {
+    /// of Stop Monitoring
+    Visit(Visit),
+    /// of Estimated Timetable
+    Journey(Journey),
+    /// of Vehicle Monitoring
+    Vehicle(Vehicle),
+    /// of Situation Exchange
+    Situation(Situation),
+}
+
+/// The functional services (EN 15531-3, CEN/TS 15531-5), in the order of their items.
+#[derive(Clone, Copy, Debug, PartialEq, Eq)]
+pub enum Service {
+    Stop,
+    Timetable,
+    Vehicle,
+    Situation,
+}
+
+impl Copies for Item {
+    fn copy(&self) -> Result<Self, OutOfMemory> {
+        match self {
+            Item::Visit(visit) => Ok(Item::Visit(visit.copy()?)),
+            Item::Journey(journey) => Ok(Item::Journey(journey.copy()?)),
+            Item::Vehicle(vehicle) => Ok(Item::Vehicle(vehicle.copy()?)),
+            Item::Situation(situation) => Ok(Item::Situation(situation.copy()?)),
+        }
+    }
+}

@@ -1,0 +1,24 @@
+//! Visits, journeys, vehicles and situations: what each holds, what it is known by, when it is over, and when two are near.
+//!
+//! Stands on `siri_base`. It reads and writes no text, and knows no topic, no store and no subscription.
+#![tactic(auto)]
+
+mod call;
+mod ends;
+mod item;
+mod journey;
+mod key;
+mod nearness;
+mod situation;
+mod vehicle;
+mod visit;
+
+pub use call::StopCall;
+pub use ends::{closed, dead, end_of, entry_of, moment_of};
+pub use item::{Item, Service};
+pub use journey::Journey;
+pub use key::{Key, key_of, keys_are_in_order};
+pub use nearness::near;
+pub use situation::{Period, Situation};
+pub use vehicle::{Vehicle, VehicleJourney};
+pub use visit::{VehicleLocation, Visit, VisitJourney};

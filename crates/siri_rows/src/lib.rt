@@ -1,0 +1,8 @@
+//! Worked rows and outside vectors, as tests over the public calls of the other crates, so that none of those is proved
+//! a second time for its tests.
+//!
+//! It has no code of its own outside of tests.
+#![tactic(auto)]
+
+#[cfg(test)]
+mod records;
