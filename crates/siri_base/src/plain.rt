@@ -1,8 +1,8 @@
 // A wire, a clock and a keeper in memory, which fail only where nothing is left.
-ghost use Rattle.std.specs.Prelude.{◌≡◌, ◌≤◌, Some, IsSome, [], option_map, OnOk, IsErrOf};
+ghost use Rattle.std.specs.Prelude.{◌≡◌, ◌≤◌, Some, IsSome, [], option_map, OnOk};
 ghost use Rattle.siri_base.specs.Causes.{HasOutsideCause};
 
-use crate::{Clock, Copies, Failed, Keeper, List, Moment, Name, OutsideError, Wire};
+use crate::{Clock, Failed, Keeper, Moment, Name, OutsideError, Wire};
 use std::alloc::Global;
 
 /// A clock with these moments to come. It fails where none is left.
@@ -85,15 +85,14 @@ pub struct PlainWire<'a> {
     input: Option<&'a [u8]>,
     /// What was written to it.
     output: Vec<u8>,
-    /// The addresses that were listened at and dialled, in order.
-    addresses: List<Name>,
     faults: u64,
 }
 
 impl<'a> PlainWire<'a> {
-    /// A wire with connections to accept and connections to dial.
+    /// A wire with connections to accept and connections to dial. It takes no memory.
     pub fn new(alloc: Global, to_accept: &'a [&'a [u8]], to_dial: &'a [&'a [u8]]) -> Self
-        ensures { ⟦<PlainWire<'a> as Wire>⟧.faults result ≡ 0 }
+        ensures held { ⟦<PlainWire<'a> as Wire>⟧.held result ≡ Some [] }
+        ensures faults { ⟦<PlainWire<'a> as Wire>⟧.faults result ≡ 0 }
     {
         PlainWire {
             to_accept,
@@ -102,14 +101,8 @@ impl<'a> PlainWire<'a> {
             dialled: 0,
             input: None,
             output: Vec::new(alloc),
-            addresses: List::new(alloc),
             faults: 0,
         }
-    }
-
-    /// The addresses that were listened at and dialled, in order, whether the call failed or not.
-    pub fn addresses(&self) -> &[Name] {
-        self.addresses.slice()
     }
 
     /// What was written to the connection that came last.
@@ -119,26 +112,17 @@ impl<'a> PlainWire<'a> {
         &self.output
     }
 
-    /// Keeps the address that a call named.
-    fn keep(&mut self, address: &Name) -> Result<(), OutsideError>
-        ensures same { (self.new.input ≡ self.old.input) × (self.new.faults ≡ self.old.faults) }
-        ensures cause { IsErrOf result OutsideError.Failed → ⊥ }
-    {
-        let address = address.copy()?;
-        Ok(self.addresses.push(address)?)
-    }
-
-    /// The first of the connections becomes the one that is there.
+    /// The connection becomes the one that is there, or the wire fails where none is left.
     fn open(&mut self, input: Option<&'a [u8]>) -> Result<(), OutsideError>
         ensures open { OnOk result (IsSome self.new.input) }
         ensures cause { HasOutsideCause self.old.faults self.new.faults result }
     {
-        self.input = input;
-        self.output.clear();
         if input.is_none() {
             self.faults = self.faults.saturating_add(1);
             return Err(OutsideError::Failed);
         }
+        self.input = input;
+        self.output.clear();
         Ok(())
     }
 }
@@ -152,8 +136,8 @@ impl<'a> Wire for PlainWire<'a> {
 
     ghost faults = { λ w. w.faults };
 
-    fn listen(&mut self, address: &Name) -> Result<(), OutsideError> {
-        self.keep(address)
+    fn listen(&mut self, _: &Name) -> Result<(), OutsideError> {
+        Ok(())
     }
 
     fn accept(&mut self) -> Result<(), OutsideError> {
@@ -162,8 +146,7 @@ impl<'a> Wire for PlainWire<'a> {
         self.open(self.to_accept.get(place).copied())
     }
 
-    fn dial(&mut self, address: &Name) -> Result<(), OutsideError> {
-        self.keep(address)?;
+    fn dial(&mut self, _: &Name) -> Result<(), OutsideError> {
         let place = self.dialled;
         self.dialled = place.saturating_add(1);
         self.open(self.to_dial.get(place).copied())
