@@ -1,0 +1,16 @@
+use Rattle.std.proofs.Common.{◌≤◌, ◌<◌, length}
+use Rattle.siri_cli.specs.Reading.{Follows}
+use Rattle.siri_cli.specs.Script.{IsWithin, progress, room, event, fresh}
+use Rattle.siri_cli.proofs.replay.read_script.Given as goal
+
+abbrev pub invariant-loop-script : goal.invariant-loop-script
+invariant-loop-script g l = record {
+  follows : Follows event fresh (g.S.Source.left l.fn.source) (g.S.Source.left l.source) (g.K.Sink.held l.fn.sink) (progress l.script) (g.K.Sink.held l.sink);
+  within : IsWithin l.script;
+  space : 0 < length l.buffer;
+  read_later : g.S.Source.faults l.fn.source ≤ g.S.Source.faults l.source;
+  write_later : g.K.Sink.faults l.fn.sink ≤ g.K.Sink.faults l.sink;
+}
+
+abbrev pub decreases-loop-script : goal.decreases-loop-script
+decreases-loop-script g l = room l.script

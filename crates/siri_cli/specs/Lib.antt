@@ -1,0 +1,15 @@
+pub mod Told
+pub mod Ends
+pub mod Stops
+pub mod Reading
+pub mod Reports
+pub mod Words
+pub mod Run
+pub mod Refused
+pub mod Documents
+pub mod Producer
+pub mod Answers
+pub mod Lines
+pub mod Report
+pub mod Events
+pub mod Script

@@ -1,0 +1,14 @@
+-- The words of the command line.
+use Rattle.std.specs.Prelude.{ℕ, List, [], ◌∷◌, codes, Option, Some, None, if◌then◌else◌, nat_eq}
+use Rattle.std.specs.Cmp.Lexicographic.{pointwise}
+use Rattle.siri_cli.specs.declared.words.Command.{Command}
+use Rattle.siri_cli.specs.declared.words.Command.TheVariants.{Replay}
+
+-- the commands of one word
+abbrev pub command_named : List ℕ → Option Command
+command_named word = if pointwise nat_eq word (codes "replay") then Some Replay else None
+
+-- what the words ask for, or nothing where they are no plain spelling
+abbrev pub command_of : List (List ℕ) → Option Command
+command_of (word ∷ []) = command_named word
+command_of words = None

@@ -1,0 +1,33 @@
+// The words of the command line.
+ghost use Rattle.std.specs.Prelude.{◌≡◌, map, string_bytes};
+
+/// What the words ask for.
+#[derive(Clone, Copy, Debug, PartialEq, Eq)]
+pub enum Command {
+    /// Reads a script, and writes its report.
+    Replay,
+}
+
+impl Command {
+    ghost use Rattle.siri_cli.specs.Words.{command_of, command_named};
+
+    /// The command of the words after the program's name, or `None` exactly where they are no plain spelling of one.
+    pub fn read(words: &[String]) -> Option<Command>
+        ensures { result ≡ command_of (map string_bytes words.now) }
+    {
+        match words {
+            [word] => Command::named(word.as_str()),
+            _ => None,
+        }
+    }
+
+    fn named(word: &str) -> Option<Command>
+        ensures { result ≡ command_named word.now }
+    {
+        if word == "replay" {
+            Some(Command::Replay)
+        } else {
+            None
+        }
+    }
+}

@@ -1,0 +1,7 @@
+//! What the exchange means: the definitions that several crates cite and that no single type owns.
+//!
+//! A producer's history is the list of its steps; what is current after it is a fold over them; a direct response is a
+//! filter of what is current. The program's own code stands in other crates, whose contracts cite these definitions.
+//!
+//! Stands on `siri_records`. It has definitions alone, in `specs/`.
+#![tactic(auto)]
