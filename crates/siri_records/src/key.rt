@@ -1,6 +1,5 @@
 // What items are known by.
-ghost use Rattle.std.specs.Prelude.{◌≡◌, IfOk};
-ghost use Rattle.std.specs.Prelude.{◌↔◌};
+ghost use Rattle.std.specs.Prelude.{◌≡◌, ◌↔◌, IfOk};
 ghost use Rattle.std.specs.Cmp.{IsTotalOrder};
 ghost use Rattle.std.specs.declared.cmp.Ordering.TheVariants.{Equal};
 ghost use Rattle.siri_records.specs.Keys.{key_of};
@@ -11,7 +10,7 @@ use siri_base::{Copies, Name, OutOfMemory};
 
 /// What an item is known by. Keys are ordered by variant, then by their fields in turn, an absent name first, names by
 /// their bytes.
-#[derive(Drop, PartialEq, Eq, PartialOrd, Ord)]
+#[derive(Debug, Drop, PartialEq, Eq, PartialOrd, Ord)]
 pub enum Key {
     Visit {
         monitoring: Name,
