@@ -1,4 +1,4 @@
--- When two items are as good as equal to a subscriber: the meaning of ChangeBeforeUpdates (EN 15531-3).
+-- When two items are as good as equal to a subscriber: how this profile reads ChangeBeforeUpdates (EN 15531-3).
 use Rattle.std.specs.Prelude.{ℕ, ℤ, pos, ◌-ℤ◌, unsigned_abs, int_lt, List, map, None, Bool, false, ◌&&◌, ◌||◌, nat_eq}
 use Rattle.std.specs.Bool.{beq}
 use Rattle.std.specs.Ordering.{int_eq}

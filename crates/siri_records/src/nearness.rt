@@ -12,7 +12,7 @@ use siri_base::{Moment, Span};
 /// Whether two items are near with a slack: they are equal in every field but RecordedAtTime, and but for
 /// ExpectedArrivalTime, ExpectedDepartureTime and Delay, each of which may differ by less than the slack where both
 /// have it. Calls are compared list by list and place by place. Situations are near where they are equal in every
-/// field (the meaning of ChangeBeforeUpdates, EN 15531-3).
+/// field (how this profile reads ChangeBeforeUpdates, EN 15531-3).
 pub fn near(a: &Item, b: &Item, slack: Span) -> bool
     ensures { result ≡ definition.is_near slack a.now b.now }
 {
