@@ -80,6 +80,7 @@ same_from n world (line ∷ rest) =
     ∙ same_rest (option_map known_of) (verdict event n world line) (λ known. report_from known_event (n + 1) known rest) (λ w. report_from event (n + 1) w rest) (λ w. same_from (n + 1) w rest)
 
 same : report_of known_event None ≡ report
+unfolding report
 same = λ i bytes. same_from 1 None (lines bytes) i
 
 pub report_same : (input left old new : Bytes) (end : Status) → Reports (report_of known_event None) input left old new end → Reports report input left old new end

@@ -49,5 +49,5 @@ abbrev pub event : Events World
 event n world line = says n world (line_of line)
 
 -- the report of a script's bytes
-abbrev pub report : List ℕ → Told
+unfoldable pub report : List ℕ → Told
 report bytes = report_of event None bytes

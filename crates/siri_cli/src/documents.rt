@@ -36,7 +36,11 @@ fn list_in(tree: &Value) -> Option<&[Value]>
 fn only_member<'a>(name: &str, tree: &'a Value) -> Option<&'a Value>
     ensures { option_map (λ value. view value.now) result ≡ only_member name.now (view tree.now) }
 {
-    if members(tree) == 1 { tree.get(name) } else { None }
+    if members(tree) == 1 {
+        tree.get(name)
+    } else {
+        None
+    }
 }
 
 /// The one entry of a list.

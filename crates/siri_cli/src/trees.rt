@@ -100,7 +100,12 @@ fn visit_value(alloc: Global, visit: &Visit) -> Result<Value, OutOfMemory>
     let stop = text_value(alloc, visit.monitoring_ref.text())?;
     put(alloc, &mut members, names::MONITORING_REF, stop)?;
     let journey = journey_value(alloc, &visit.monitored_vehicle_journey)?;
-    put(alloc, &mut members, names::MONITORED_VEHICLE_JOURNEY, journey)?;
+    put(
+        alloc,
+        &mut members,
+        names::MONITORED_VEHICLE_JOURNEY,
+        journey,
+    )?;
     Ok(Value::Object(members))
 }
 
@@ -130,7 +135,12 @@ fn delivery_value(alloc: Global, now: Moment, visits: Vec<Value>) -> Result<Valu
     ensures { IfOk result (λ value. view value ≡ delivery_data now (map view visits.items)) }
 {
     let mut members = Map::new(alloc);
-    put_some(alloc, &mut members, names::MONITORED_STOP_VISIT, some_array(visits))?;
+    put_some(
+        alloc,
+        &mut members,
+        names::MONITORED_STOP_VISIT,
+        some_array(visits),
+    )?;
     let timestamp = moment_value(alloc, now)?;
     put(alloc, &mut members, names::RESPONSE_TIMESTAMP, timestamp)?;
     put(alloc, &mut members, names::STATUS, Value::Bool(true))?;
@@ -156,7 +166,12 @@ fn response_value(alloc: Global, now: Moment, delivery: Value) -> Result<Value, 
     put(alloc, &mut members, names::RESPONSE_TIMESTAMP, timestamp)?;
     put(alloc, &mut members, names::STATUS, Value::Bool(true))?;
     let deliveries = list_of_one(alloc, delivery)?;
-    put(alloc, &mut members, names::STOP_MONITORING_DELIVERY, deliveries)?;
+    put(
+        alloc,
+        &mut members,
+        names::STOP_MONITORING_DELIVERY,
+        deliveries,
+    )?;
     Ok(Value::Object(members))
 }
 

@@ -5,4 +5,8 @@
 #![tactic(auto)]
 
 #[cfg(test)]
+mod outside;
+#[cfg(test)]
 mod records;
+#[cfg(test)]
+mod replay;

@@ -207,3 +207,21 @@ fn copies_are_equal(rt: HostRuntime) -> Result<(), Fail> {
     }
     Ok(())
 }
+
+#[test]
+fn an_absent_name_sorts_first(rt: HostRuntime) -> Result<(), Fail> {
+    let alloc = rt.alloc();
+    let journey = |direction: Option<Name>| -> Result<Key, Fail> {
+        Ok(Key::Journey {
+            line: Name::new(alloc, "L1")?,
+            direction,
+            frame: None,
+            journey: Name::new(alloc, "J1")?,
+        })
+    };
+    let absent = journey(None)?;
+    let outward = journey(Some(Name::new(alloc, "out")?))?;
+    assert!(rt; absent < outward);
+    assert!(rt; !(outward < absent));
+    Ok(())
+}

@@ -1,0 +1,88 @@
+// The forms in memory of a clock, a keeper and a wire, and copies of values.
+use siri_base::{
+    Clock, Copies, Failed, Keeper, List, Moment, Name, OutsideError, PlainClock, PlainKeeper,
+    PlainWire, Text, Wire,
+};
+use std::test::Fail;
+
+#[test]
+fn a_clock_gives_its_moments_in_order(rt: HostRuntime) -> Result<(), Fail> {
+    let early = Moment::new(0).ok_or("a moment")?;
+    let late = Moment::new(1_714_550_400_000).ok_or("a moment")?;
+    let moments = [late, early, late];
+    let mut clock = PlainClock::new(&moments);
+    for wanted in [Ok(late), Ok(early), Ok(late), Err(Failed), Err(Failed)] {
+        assert_eq!(rt; clock.now(), wanted);
+    }
+    Ok(())
+}
+
+#[test]
+fn a_keeper_counts_from_one_to_its_last_number(rt: HostRuntime) {
+    for (kept, first, second) in [
+        (0, Ok(1), Ok(2)),
+        (
+            99_999_999_998,
+            Ok(99_999_999_999),
+            Err(OutsideError::Failed),
+        ),
+        (
+            99_999_999_999,
+            Err(OutsideError::Failed),
+            Err(OutsideError::Failed),
+        ),
+    ] {
+        let mut keeper = PlainKeeper::new(kept);
+        assert_eq!(rt; keeper.raise(), first, "from {kept}");
+        assert_eq!(rt; keeper.raise(), second, "from {kept}");
+    }
+}
+
+#[test]
+fn a_wire_takes_its_connections_in_turn(rt: HostRuntime) -> Result<(), Fail> {
+    let here = Name::new(rt.alloc(), "0.0.0.0:8080")?;
+    let there = Name::new(rt.alloc(), "peer:80")?;
+    let to_accept: [&[u8]; 2] = [b"one", b"two"];
+    let to_dial: [&[u8]; 1] = [b"three"];
+    let mut wire = PlainWire::new(rt.alloc(), &to_accept, &to_dial);
+    let mut room = [0; 2];
+    wire.listen(&here)?;
+    wire.accept()?;
+    assert_eq!(rt; wire.read(&mut room)?, 2);
+    assert!(rt; room == *b"on");
+    assert_eq!(rt; wire.read(&mut room)?, 1);
+    assert_eq!(rt; room[0], b'e');
+    assert_eq!(rt; wire.read(&mut room)?, 0);
+    assert_eq!(rt; wire.write(b"yes")?, 3);
+    assert!(rt; wire.written() == b"yes".as_slice());
+    wire.accept()?;
+    assert!(rt; wire.written().is_empty());
+    wire.dial(&there)?;
+    assert_eq!(rt; wire.read(&mut room)?, 2);
+    assert!(rt; room == *b"th");
+    wire.hang_up();
+    assert_eq!(rt; wire.accept(), Err(OutsideError::Failed));
+    assert_eq!(rt; wire.dial(&there), Err(OutsideError::Failed));
+    let addresses = wire.addresses();
+    assert_eq!(rt; addresses.len(), 3);
+    for (address, wanted) in addresses.iter().zip([&here, &there, &there]) {
+        assert_eq!(rt; address.text(), wanted.text());
+    }
+    Ok(())
+}
+
+#[test]
+fn copies_are_of_the_same_text(rt: HostRuntime) -> Result<(), Fail> {
+    let name = Name::new(rt.alloc(), "Z\u{fc}rich HB")?;
+    let text = Text::new(rt.alloc(), "next stop: Z\u{fc}rich")?;
+    let mut names = List::new(rt.alloc());
+    names.push(name.copy()?)?;
+    names.push(Name::new(rt.alloc(), "b")?)?;
+    let copies = names.copy()?;
+    assert_eq!(rt; name.copy()?.text(), "Z\u{fc}rich HB");
+    assert_eq!(rt; text.copy()?.text(), "next stop: Z\u{fc}rich");
+    assert_eq!(rt; copies.len(), 2);
+    assert_eq!(rt; copies.get(0).ok_or("a name")?.text(), "Z\u{fc}rich HB");
+    assert_eq!(rt; copies.get(1).ok_or("a name")?.text(), "b");
+    Ok(())
+}
