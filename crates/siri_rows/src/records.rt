@@ -1,8 +1,8 @@
 // Items at the bounds of nearness, the key of a visit, and a copy of an item of each service.
 use siri_base::{Copies, List, Moment, Name, Span};
 use siri_records::{
-    Item, Journey, Key, Period, Service, Situation, StopCall, Vehicle, VehicleJourney, Visit, VisitJourney,
-    key_of, near,
+    Item, Journey, Key, Period, Service, Situation, StopCall, Vehicle, VehicleJourney, Visit,
+    VisitJourney, key_of, near,
 };
 use std::alloc::Global;
 use std::test::Fail;
