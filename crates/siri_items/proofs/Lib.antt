@@ -1,0 +1,3 @@
+mod Capped
+pub mod Entries
+pub mod Steps
