@@ -7,3 +7,5 @@ pub mod Vehicles
 pub mod Journeys
 pub mod Situations
 pub mod Items
+pub mod Writing
+pub mod Written

@@ -14,6 +14,11 @@ pub mod refusal;
 pub mod rows;
 pub mod rules;
 mod scalars;
+mod write;
+mod write_call;
+mod write_journey;
+mod write_situation;
+pub mod writing;
 
 pub use read::read_item;
 pub use read_call::{LocationRule, OptionalCallRule, StopCallTable};
@@ -22,3 +27,4 @@ pub use read_situation::SituationTable;
 pub use read_vehicle::VehicleTable;
 pub use read_visit::VisitTable;
 pub use refusal::ItemError;
+pub use write::write_item;

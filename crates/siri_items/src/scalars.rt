@@ -1,9 +1,13 @@
 //! Numbers and decimals as texts.
 
-ghost use Rattle.std.specs.Prelude.{◌≡◌, ◌<◌, ◌≤◌, ◌-◌, length, min, IfSome};
-ghost use Rattle.std.specs.List.{list_all, prefix_len};
+ghost use Rattle.std.specs.Prelude.{◌≡◌, ◌<◌, ◌≤◌, ◌-◌, length, min, IfSome, IfOk, OnOk, ◌++◌, ◌==◌};
+ghost use Rattle.std.specs.List.{list_all, prefix_len, suffix_len};
 ghost use Rattle.std.specs.Char.{is_ascii_digit};
 ghost use Rattle.siri_items.specs.Scalars as Spec;
+ghost use Rattle.siri_items.specs.Writing as Written;
+
+use siri_base::{OutOfMemory, append, append_number};
+use std::alloc::Global;
 
 // One more than the units of 180 degrees: the greatest number that is told apart.
 const BEYOND: u64 = 1_800_000_001;
@@ -113,4 +117,65 @@ fn number_on(before: u64, digits: &[u8]) -> u64
         number = (10 * number + u64::from(byte.saturating_sub(b'0'))).min(BEYOND);
     }
     number
+}
+
+/// The text of so many 10^-7 degrees, in degrees: `-` where negative, the whole part, and `.` with the fraction without
+/// the zeros at its end where it isn't zero.
+#[tactic(auto, unfolding(crate::specs::Writing::decimal_text, crate::specs::Writing::magnitude_text))]
+pub fn decimal_text(alloc: Global, units: i64) -> Result<Vec<u8>, OutOfMemory>
+    ensures { IfOk result (λ text. text.items ≡ Written.decimal_text units) }
+{
+    let mut text = Vec::new(alloc);
+    if units < 0 {
+        append(&mut text, b"-")?;
+    }
+    let magnitude = units.unsigned_abs();
+    append_number(alloc, &mut text, magnitude / 10_000_000)?;
+    append_fraction(&mut text, magnitude % 10_000_000)?;
+    Ok(text)
+}
+
+#[tactic(auto, unfolding(crate::specs::Writing::fraction_text))]
+fn append_fraction(into: &mut Vec<u8>, fraction: u64) -> Result<(), OutOfMemory>
+    requires { fraction < 10000000 }
+    ensures { OnOk result (into.new.items ≡ into.old.items ++ Written.fraction_text fraction) }
+{
+    if fraction == 0 {
+        return Ok(());
+    }
+    append(into, b".")?;
+    let digits = seven_wide(fraction);
+    append(into, without_zeros(&digits))
+}
+
+fn seven_wide(fraction: u64) -> [u8; 7]
+    requires { fraction < 10000000 }
+    ensures { result ≡ Written.seven_wide fraction }
+{
+    [
+        b'0' + (fraction / 1_000_000) as u8,
+        b'0' + (fraction / 100_000 % 10) as u8,
+        b'0' + (fraction / 10_000 % 10) as u8,
+        b'0' + (fraction / 1_000 % 10) as u8,
+        b'0' + (fraction / 100 % 10) as u8,
+        b'0' + (fraction / 10 % 10) as u8,
+        b'0' + (fraction % 10) as u8,
+    ]
+}
+
+fn zeros_at_end(digits: &[u8]) -> usize
+    ensures zeros { result ≡ suffix_len (λ digit. digit == 48) digits.now }
+    ensures within { result ≤ length digits.now }
+{
+    digits
+        .iter()
+        .rev()
+        .take_while(|digit| **digit == b'0')
+        .count()
+}
+
+fn without_zeros(digits: &[u8; 7]) -> &[u8]
+    ensures { result.now ≡ Written.without_zeros digits.now }
+{
+    &digits[..7 - zeros_at_end(digits)]
 }
