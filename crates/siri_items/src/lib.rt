@@ -28,3 +28,6 @@ pub use read_vehicle::VehicleTable;
 pub use read_visit::VisitTable;
 pub use refusal::ItemError;
 pub use write::write_item;
+
+#[cfg(test)]
+mod tests;
