@@ -1,0 +1,4 @@
+pub mod Ascii
+mod Capped
+pub mod Entries
+pub mod Steps
