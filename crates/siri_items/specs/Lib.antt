@@ -9,3 +9,4 @@ pub mod Situations
 pub mod Items
 pub mod Writing
 pub mod Written
+pub mod Spelling

@@ -3,6 +3,7 @@
 #![tactic(auto)]
 
 mod journey_rows;
+mod laws;
 pub mod names;
 mod read;
 mod read_call;
@@ -20,6 +21,7 @@ mod write_journey;
 mod write_situation;
 pub mod writing;
 
+pub use laws::read_is_spelled;
 pub use read::read_item;
 pub use read_call::{LocationRule, OptionalCallRule, StopCallTable};
 pub use read_journey::JourneyTable;

@@ -10,8 +10,8 @@ ghost use Rattle.siri_items.specs.Written.{written_call, spelled_call, written_l
 use crate::names;
 use crate::read_call::{LocationRule, StopCallTable};
 use crate::rules::{DecimalRule, FlagRule, MomentRule, NameRule, NumberRule, TextRule};
-use crate::writing::{Spelling, put, put_list, put_made, put_some, unless_empty};
-use serde_json::{Map, Value};
+use crate::writing::{Members, Spelling};
+use serde_json::Value;
 use siri_base::{List, Name, OutOfMemory};
 use siri_records::{StopCall, VehicleLocation};
 use std::alloc::Global;
@@ -20,87 +20,28 @@ use std::alloc::Global;
 fn call_value(alloc: Global, call: &StopCall) -> Result<Value, OutOfMemory>
     ensures { IfOk result (λ value. view value ≡ written_call call.now) }
 {
-    let mut members = Map::new(alloc);
-    put_some::<NameRule>(
-        alloc,
-        &mut members,
-        names::STOP_POINT_REF,
-        &call.stop_point_ref,
-    )?;
-    put_some::<NumberRule>(alloc, &mut members, names::ORDER, &call.order)?;
-    put_some::<TextRule>(
-        alloc,
-        &mut members,
-        names::STOP_POINT_NAME,
-        &call.stop_point_name,
-    )?;
-    put_some::<FlagRule>(
-        alloc,
-        &mut members,
-        names::VEHICLE_AT_STOP,
-        &call.vehicle_at_stop,
-    )?;
-    put_some::<MomentRule>(
-        alloc,
-        &mut members,
-        names::AIMED_ARRIVAL_TIME,
-        &call.aimed_arrival_time,
-    )?;
-    put_some::<MomentRule>(
-        alloc,
-        &mut members,
-        names::EXPECTED_ARRIVAL_TIME,
-        &call.expected_arrival_time,
-    )?;
-    put_some::<MomentRule>(
-        alloc,
-        &mut members,
-        names::ACTUAL_ARRIVAL_TIME,
-        &call.actual_arrival_time,
-    )?;
-    put_some::<TextRule>(
-        alloc,
-        &mut members,
-        names::ARRIVAL_STATUS,
-        &call.arrival_status,
-    )?;
-    put_some::<TextRule>(
-        alloc,
-        &mut members,
-        names::ARRIVAL_PLATFORM_NAME,
-        &call.arrival_platform_name,
-    )?;
-    put_some::<MomentRule>(
-        alloc,
-        &mut members,
-        names::AIMED_DEPARTURE_TIME,
-        &call.aimed_departure_time,
-    )?;
-    put_some::<MomentRule>(
-        alloc,
-        &mut members,
+    let mut members = Members::new(alloc);
+    members.row::<NameRule>(names::STOP_POINT_REF, &call.stop_point_ref)?;
+    members.row::<NumberRule>(names::ORDER, &call.order)?;
+    members.row::<TextRule>(names::STOP_POINT_NAME, &call.stop_point_name)?;
+    members.row::<FlagRule>(names::VEHICLE_AT_STOP, &call.vehicle_at_stop)?;
+    members.row::<MomentRule>(names::AIMED_ARRIVAL_TIME, &call.aimed_arrival_time)?;
+    members.row::<MomentRule>(names::EXPECTED_ARRIVAL_TIME, &call.expected_arrival_time)?;
+    members.row::<MomentRule>(names::ACTUAL_ARRIVAL_TIME, &call.actual_arrival_time)?;
+    members.row::<TextRule>(names::ARRIVAL_STATUS, &call.arrival_status)?;
+    members.row::<TextRule>(names::ARRIVAL_PLATFORM_NAME, &call.arrival_platform_name)?;
+    members.row::<MomentRule>(names::AIMED_DEPARTURE_TIME, &call.aimed_departure_time)?;
+    members.row::<MomentRule>(
         names::EXPECTED_DEPARTURE_TIME,
         &call.expected_departure_time,
     )?;
-    put_some::<MomentRule>(
-        alloc,
-        &mut members,
-        names::ACTUAL_DEPARTURE_TIME,
-        &call.actual_departure_time,
-    )?;
-    put_some::<TextRule>(
-        alloc,
-        &mut members,
-        names::DEPARTURE_STATUS,
-        &call.departure_status,
-    )?;
-    put_some::<TextRule>(
-        alloc,
-        &mut members,
+    members.row::<MomentRule>(names::ACTUAL_DEPARTURE_TIME, &call.actual_departure_time)?;
+    members.row::<TextRule>(names::DEPARTURE_STATUS, &call.departure_status)?;
+    members.row::<TextRule>(
         names::DEPARTURE_PLATFORM_NAME,
         &call.departure_platform_name,
     )?;
-    Ok(Value::Object(members))
+    Ok(members.object())
 }
 
 impl Spelling for StopCallTable {
@@ -120,10 +61,10 @@ impl Spelling for LocationRule {
 
     #[tactic(auto, unfolding(crate::specs::Written::written_location))]
     fn write(alloc: Global, location: &VehicleLocation) -> Result<Option<Value>, OutOfMemory> {
-        let mut members = Map::new(alloc);
-        put_some::<DecimalRule>(alloc, &mut members, names::LONGITUDE, &location.longitude)?;
-        put_some::<DecimalRule>(alloc, &mut members, names::LATITUDE, &location.latitude)?;
-        Ok(unless_empty(members))
+        let mut members = Members::new(alloc);
+        members.row::<DecimalRule>(names::LONGITUDE, &location.longitude)?;
+        members.row::<DecimalRule>(names::LATITUDE, &location.latitude)?;
+        Ok(members.some_object())
     }
 }
 
@@ -131,35 +72,30 @@ impl Spelling for LocationRule {
 fn framed(alloc: Global, frame: &Name, dated: Option<Value>) -> Result<Value, OutOfMemory>
     ensures { IfOk result (λ value. Some (view value) ≡ written_framed (Some frame.now) (option_map view dated)) }
 {
-    let mut members = Map::new(alloc);
-    put::<NameRule>(alloc, &mut members, names::DATA_FRAME_REF, frame)?;
-    put_made(alloc, &mut members, names::DATED_VEHICLE_JOURNEY_REF, dated)?;
-    Ok(Value::Object(members))
+    let mut members = Members::new(alloc);
+    members.needed::<NameRule>(names::DATA_FRAME_REF, frame)?;
+    members.made(names::DATED_VEHICLE_JOURNEY_REF, dated)?;
+    Ok(members.object())
 }
 
 /// Writes how a journey is named: as an object where there is a data frame, otherwise by itself.
 #[tactic(auto, unfolding(crate::specs::Written::written_framed, crate::specs::Written::written_dated))]
 pub fn put_reference(
     alloc: Global,
-    members: &mut Map<String, Value>,
+    members: &mut Members,
     frame: &Option<Name>,
     dated: Option<Value>,
 ) -> Result<(), OutOfMemory>
-    ensures { OnOk result (members_view members.new.entries
+    ensures { OnOk result (members_view members.new.map.entries
         ≡ put_row DATED_VEHICLE_JOURNEY_REF.now (written_dated frame.now (option_map view dated))
-        (put_row FRAMED_VEHICLE_JOURNEY_REF.now (written_framed frame.now (option_map view dated)) (members_view members.old.entries))) }
+        (put_row FRAMED_VEHICLE_JOURNEY_REF.now (written_framed frame.now (option_map view dated)) (members_view members.old.map.entries))) }
 {
     match frame {
         Some(frame) => {
             let reference = framed(alloc, frame, dated)?;
-            put_made(
-                alloc,
-                members,
-                names::FRAMED_VEHICLE_JOURNEY_REF,
-                Some(reference),
-            )
+            members.made(names::FRAMED_VEHICLE_JOURNEY_REF, Some(reference))
         }
-        None => put_made(alloc, members, names::DATED_VEHICLE_JOURNEY_REF, dated),
+        None => members.made(names::DATED_VEHICLE_JOURNEY_REF, dated),
     }
 }
 
@@ -172,7 +108,7 @@ pub fn calls_value(
 ) -> Result<Option<Value>, OutOfMemory>
     ensures { IfOk result (λ value. option_map view value ≡ written_calls key.now calls.now) }
 {
-    let mut members = Map::new(alloc);
-    put_list::<StopCallTable>(alloc, &mut members, key, calls)?;
-    Ok(unless_empty(members))
+    let mut members = Members::new(alloc);
+    members.list::<StopCallTable>(key, calls)?;
+    Ok(members.some_object())
 }

@@ -2,7 +2,7 @@
 
 ghost use Rattle.std.specs.Prelude.{◌≡◌, Option, Some, None, IfOk, OnOk, option_map, option_and_then};
 ghost use Rattle.serde_json.specs.Data.{Data};
-ghost use Rattle.serde_json.specs.View.{view, members_view};
+ghost use Rattle.serde_json.specs.View.{view};
 ghost use Rattle.std.specs.Prelude.{map, drop, ◌++◌};
 ghost use Rattle.std.specs.List.{filter_map};
 ghost use Rattle.siri_items.specs.Writing.{some_array, written_list};
@@ -10,8 +10,8 @@ ghost use Rattle.siri_items.specs.Written.{written_period, written_name, written
 
 use crate::names;
 use crate::rules::{MomentRule, NameRule, TextRule};
-use crate::writing::{Spelling, put, put_list, put_made, put_some, some_array, unless_empty};
-use serde_json::{Map, Value};
+use crate::writing::{Members, Spelling, some_array};
+use serde_json::Value;
 use siri_base::{List, Name, OutOfMemory};
 use siri_records::{Period, Situation};
 use std::alloc::Global;
@@ -25,10 +25,10 @@ impl Spelling for PeriodRule {
 
     #[tactic(auto, unfolding(crate::specs::Written::written_period))]
     fn write(alloc: Global, period: &Period) -> Result<Option<Value>, OutOfMemory> {
-        let mut members = Map::new(alloc);
-        put::<MomentRule>(alloc, &mut members, names::START_TIME, &period.start_time)?;
-        put_some::<MomentRule>(alloc, &mut members, names::END_TIME, &period.end_time)?;
-        Ok(Some(Value::Object(members)))
+        let mut members = Members::new(alloc);
+        members.needed::<MomentRule>(names::START_TIME, &period.start_time)?;
+        members.row::<MomentRule>(names::END_TIME, &period.end_time)?;
+        Ok(Some(members.object()))
     }
 }
 
@@ -36,9 +36,9 @@ impl Spelling for PeriodRule {
 fn name_value(alloc: Global, inner: &str, name: &Name) -> Result<Value, OutOfMemory>
     ensures { IfOk result (λ value. Some (view value) ≡ written_name inner.now name.now) }
 {
-    let mut members = Map::new(alloc);
-    put::<NameRule>(alloc, &mut members, inner, name)?;
-    Ok(Value::Object(members))
+    let mut members = Members::new(alloc);
+    members.needed::<NameRule>(inner, name)?;
+    Ok(members.object())
 }
 
 fn name_list(alloc: Global, inner: &str, names: &[Name]) -> Result<Vec<Value>, OutOfMemory>
@@ -61,10 +61,10 @@ fn names_value(
 ) -> Result<Option<Value>, OutOfMemory>
     ensures { IfOk result (λ value. option_map view value ≡ written_names key.now inner.now names.now) }
 {
-    let mut members = Map::new(alloc);
+    let mut members = Members::new(alloc);
     let list = some_array(name_list(alloc, inner, names.slice())?);
-    put_made(alloc, &mut members, key, list)?;
-    Ok(unless_empty(members))
+    members.made(key, list)?;
+    Ok(members.some_object())
 }
 
 #[tactic(auto, unfolding(crate::specs::Written::written_networks, crate::specs::Written::written_network))]
@@ -76,14 +76,9 @@ fn networks_value(alloc: Global, lines: &List<Name>) -> Result<Option<Value>, Ou
         Some(network) => {
             let mut list = Vec::new(alloc);
             list.push(network)?;
-            let mut members = Map::new(alloc);
-            put_made(
-                alloc,
-                &mut members,
-                names::AFFECTED_NETWORK,
-                Some(Value::Array(list)),
-            )?;
-            Ok(Some(Value::Object(members)))
+            let mut members = Members::new(alloc);
+            members.made(names::AFFECTED_NETWORK, Some(Value::Array(list)))?;
+            Ok(Some(members.object()))
         }
         None => Ok(None),
     }
@@ -94,24 +89,24 @@ fn affects_value(alloc: Global, situation: &Situation) -> Result<Option<Value>, 
     ensures { IfOk result (λ value. option_map view value
         ≡ written_affects situation.now.affected_operators situation.now.affected_lines situation.now.affected_stop_points) }
 {
-    let mut members = Map::new(alloc);
+    let mut members = Members::new(alloc);
     let operators = names_value(
         alloc,
         names::AFFECTED_OPERATOR,
         names::OPERATOR_REF,
         &situation.affected_operators,
     )?;
-    put_made(alloc, &mut members, names::OPERATORS, operators)?;
+    members.made(names::OPERATORS, operators)?;
     let networks = networks_value(alloc, &situation.affected_lines)?;
-    put_made(alloc, &mut members, names::NETWORKS, networks)?;
+    members.made(names::NETWORKS, networks)?;
     let stop_points = names_value(
         alloc,
         names::AFFECTED_STOP_POINT,
         names::STOP_POINT_REF,
         &situation.affected_stop_points,
     )?;
-    put_made(alloc, &mut members, names::STOP_POINTS, stop_points)?;
-    Ok(unless_empty(members))
+    members.made(names::STOP_POINTS, stop_points)?;
+    Ok(members.some_object())
 }
 
 /// The tree of a situation.
@@ -119,48 +114,18 @@ fn affects_value(alloc: Global, situation: &Situation) -> Result<Option<Value>, 
 pub fn situation_value(alloc: Global, situation: &Situation) -> Result<Value, OutOfMemory>
     ensures { IfOk result (λ value. view value ≡ written_situation situation.now) }
 {
-    let mut members = Map::new(alloc);
-    put_some::<MomentRule>(
-        alloc,
-        &mut members,
-        names::CREATION_TIME,
-        &situation.creation_time,
-    )?;
-    put_some::<NameRule>(
-        alloc,
-        &mut members,
-        names::PARTICIPANT_REF,
-        &situation.participant_ref,
-    )?;
-    put::<NameRule>(
-        alloc,
-        &mut members,
-        names::SITUATION_NUMBER,
-        &situation.situation_number,
-    )?;
-    put_some::<NameRule>(alloc, &mut members, names::VERSION, &situation.version)?;
-    put_some::<MomentRule>(
-        alloc,
-        &mut members,
-        names::VERSIONED_AT_TIME,
-        &situation.versioned_at_time,
-    )?;
-    put_some::<TextRule>(alloc, &mut members, names::PROGRESS, &situation.progress)?;
-    put_list::<PeriodRule>(
-        alloc,
-        &mut members,
-        names::VALIDITY_PERIOD,
-        &situation.validity_period,
-    )?;
-    put_some::<TextRule>(alloc, &mut members, names::SEVERITY, &situation.severity)?;
-    put_some::<TextRule>(alloc, &mut members, names::SUMMARY, &situation.summary)?;
-    put_some::<TextRule>(
-        alloc,
-        &mut members,
-        names::DESCRIPTION,
-        &situation.description,
-    )?;
+    let mut members = Members::new(alloc);
+    members.row::<MomentRule>(names::CREATION_TIME, &situation.creation_time)?;
+    members.row::<NameRule>(names::PARTICIPANT_REF, &situation.participant_ref)?;
+    members.needed::<NameRule>(names::SITUATION_NUMBER, &situation.situation_number)?;
+    members.row::<NameRule>(names::VERSION, &situation.version)?;
+    members.row::<MomentRule>(names::VERSIONED_AT_TIME, &situation.versioned_at_time)?;
+    members.row::<TextRule>(names::PROGRESS, &situation.progress)?;
+    members.list::<PeriodRule>(names::VALIDITY_PERIOD, &situation.validity_period)?;
+    members.row::<TextRule>(names::SEVERITY, &situation.severity)?;
+    members.row::<TextRule>(names::SUMMARY, &situation.summary)?;
+    members.row::<TextRule>(names::DESCRIPTION, &situation.description)?;
     let affects = affects_value(alloc, situation)?;
-    put_made(alloc, &mut members, names::AFFECTS, affects)?;
-    Ok(Value::Object(members))
+    members.made(names::AFFECTS, affects)?;
+    Ok(members.object())
 }

@@ -2,7 +2,7 @@
 
 ghost use Rattle.std.specs.Prelude.{◌≡◌, Option, Some, None, IfOk, OnOk, option_map, option_and_then, map};
 ghost use Rattle.std.specs.List.{filter_map};
-ghost use Rattle.serde_json.specs.Data.{Data, string};
+ghost use Rattle.serde_json.specs.Data.{Data, string, object, no_members};
 ghost use Rattle.serde_json.specs.View.{view, members_view};
 ghost use Rattle.siri_items.specs.Writing.{put_row, some_object, some_array, written_list, written_text, written_flag, written_number, written_moment, written_span, written_decimal, decimal_text};
 ghost use Rattle.siri_time.specs.MomentText.{moment_text};
@@ -26,32 +26,72 @@ pub trait Spelling {
         ensures { IfOk result (λ written. option_map view written ≡ spelling value.now) };
 }
 
-/// Puts what was made for a row, where it isn't left out.
-pub fn put_made(
-    alloc: Global,
-    members: &mut Map<String, Value>,
-    key: &str,
-    made: Option<Value>,
-) -> Result<(), OutOfMemory>
-    ensures { OnOk result (members_view members.new.entries ≡ put_row key.now (option_map view made) (members_view members.old.entries)) }
-{
-    if let Some(value) = made {
-        serde_json::put(members, alloc, key, value)?;
-    }
-    Ok(())
+/// The members of an object that is written row by row, in byte order of their names, and where its memory comes from.
+#[derive(Drop)]
+pub struct Members {
+    pub alloc: Global,
+    pub map: Map<String, Value>,
 }
 
-/// Puts a row.
-pub fn put<R: Spelling>(
-    alloc: Global,
-    members: &mut Map<String, Value>,
-    key: &str,
-    value: &R::Of,
-) -> Result<(), OutOfMemory>
-    ensures { OnOk result (members_view members.new.entries ≡ put_row key.now (R.spelling value.now) (members_view members.old.entries)) }
-{
-    let made = R::write(alloc, value)?;
-    put_made(alloc, members, key, made)
+impl Members {
+    /// No members.
+    pub fn new(alloc: Global) -> Members
+        ensures { members_view result.map.entries ≡ no_members }
+    {
+        Members {
+            alloc,
+            map: Map::new(alloc),
+        }
+    }
+
+    /// Puts what was made for a row, where it isn't left out.
+    pub fn made(&mut self, key: &str, made: Option<Value>) -> Result<(), OutOfMemory>
+        ensures { OnOk result (members_view self.new.map.entries ≡ put_row key.now (option_map view made) (members_view self.old.map.entries)) }
+    {
+        if let Some(value) = made {
+            serde_json::put(&mut self.map, self.alloc, key, value)?;
+        }
+        Ok(())
+    }
+
+    /// Puts a row that is required.
+    pub fn needed<R: Spelling>(&mut self, key: &str, value: &R::Of) -> Result<(), OutOfMemory>
+        ensures { OnOk result (members_view self.new.map.entries ≡ put_row key.now (R.spelling value.now) (members_view self.old.map.entries)) }
+    {
+        let made = R::write(self.alloc, value)?;
+        self.made(key, made)
+    }
+
+    /// Puts a row that may be absent.
+    pub fn row<R: Spelling>(&mut self, key: &str, value: &Option<R::Of>) -> Result<(), OutOfMemory>
+        ensures { OnOk result (members_view self.new.map.entries ≡ put_row key.now (option_and_then R.spelling value.now) (members_view self.old.map.entries)) }
+    {
+        let made = write_some::<R>(self.alloc, value)?;
+        self.made(key, made)
+    }
+
+    /// Puts a list, which is left out where it would be empty.
+    #[tactic(auto, unfolding(crate::specs::Writing::written_list))]
+    pub fn list<R: Spelling>(&mut self, key: &str, values: &List<R::Of>) -> Result<(), OutOfMemory>
+        ensures { OnOk result (members_view self.new.map.entries ≡ put_row key.now (written_list R.spelling values.now) (members_view self.old.map.entries)) }
+    {
+        let entries = entries_of::<R>(self.alloc, values.slice())?;
+        self.made(key, some_array(entries))
+    }
+
+    /// The object.
+    pub fn object(self) -> Value
+        ensures { view result ≡ object (members_view self.map.entries) }
+    {
+        Value::Object(self.map)
+    }
+
+    /// The object, which is left out where it would be empty.
+    pub fn some_object(self) -> Option<Value>
+        ensures { option_map view result ≡ some_object (members_view self.map.entries) }
+    {
+        unless_empty(self.map)
+    }
 }
 
 /// The spelling of a value that may be absent.
@@ -67,33 +107,6 @@ pub fn write_some<R: Spelling>(
     }
 }
 
-/// Puts a row that may be absent.
-pub fn put_some<R: Spelling>(
-    alloc: Global,
-    members: &mut Map<String, Value>,
-    key: &str,
-    value: &Option<R::Of>,
-) -> Result<(), OutOfMemory>
-    ensures { OnOk result (members_view members.new.entries ≡ put_row key.now (option_and_then R.spelling value.now) (members_view members.old.entries)) }
-{
-    let made = write_some::<R>(alloc, value)?;
-    put_made(alloc, members, key, made)
-}
-
-/// Puts a list, which is left out where it would be empty.
-#[tactic(auto, unfolding(crate::specs::Writing::written_list))]
-pub fn put_list<R: Spelling>(
-    alloc: Global,
-    members: &mut Map<String, Value>,
-    key: &str,
-    values: &List<R::Of>,
-) -> Result<(), OutOfMemory>
-    ensures { OnOk result (members_view members.new.entries ≡ put_row key.now (written_list R.spelling values.now) (members_view members.old.entries)) }
-{
-    let entries = entries_of::<R>(alloc, values.slice())?;
-    put_made(alloc, members, key, some_array(entries))
-}
-
 fn entries_of<R: Spelling>(alloc: Global, values: &[R::Of]) -> Result<Vec<Value>, OutOfMemory>
     ensures { IfOk result (λ entries. map view entries.items ≡ filter_map R.spelling values.now) }
 {
@@ -106,8 +119,7 @@ fn entries_of<R: Spelling>(alloc: Global, values: &[R::Of]) -> Result<Vec<Value>
     Ok(entries)
 }
 
-/// An object, which is left out where it would be empty.
-pub fn unless_empty(members: Map<String, Value>) -> Option<Value>
+fn unless_empty(members: Map<String, Value>) -> Option<Value>
     ensures { option_map view result ≡ some_object (members_view members.entries) }
 {
     if members.is_empty() {
