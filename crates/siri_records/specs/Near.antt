@@ -1,8 +1,8 @@
--- When two items are as good as equal to a subscriber: the meaning of ChangeBeforeUpdates (EN 15531-3).
-use Rattle.std.specs.Prelude.{ℕ, ℤ, pos, ◌-ℤ◌, unsigned_abs, int_lt, List, Bool, false, ◌&&◌, ◌||◌, nat_eq}
+-- When two items are as good as equal to a subscriber: how this profile reads ChangeBeforeUpdates (EN 15531-3).
+use Rattle.std.specs.Prelude.{ℕ, ℤ, pos, ◌-ℤ◌, unsigned_abs, int_lt, List, map, None, Bool, false, ◌&&◌, ◌||◌, nat_eq}
 use Rattle.std.specs.Bool.{beq}
 use Rattle.std.specs.Ordering.{int_eq}
-use Rattle.std.specs.Option.{option_eq}
+use Rattle.std.specs.Option.{option_eq, option_map}
 use Rattle.std.specs.Cmp.Lexicographic.{pointwise}
 use Rattle.siri_records.specs.declared.call.StopCall.{StopCall}
 use Rattle.siri_records.specs.declared.item.Item.{Item}
@@ -146,3 +146,33 @@ is_near slack (item.Journey a) (item.Journey b) = is_near_journey slack a b
 is_near slack (item.Vehicle a) (item.Vehicle b) = is_near_vehicle slack a b
 is_near slack (item.Situation a) (item.Situation b) = is_near_situation a b
 is_near slack a b = false
+
+-- what no slack touches: an item without RecordedAtTime, ExpectedArrivalTime, ExpectedDepartureTime and Delay
+abbrev pub steady_call : StopCall → StopCall
+steady_call c = record c { expected_arrival_time = None; expected_departure_time = None }
+
+abbrev pub steady_visit_journey : VisitJourney → VisitJourney
+steady_visit_journey j = record j { delay = None; monitored_call = steady_call j.monitored_call }
+
+abbrev pub steady_visit : Visit → Visit
+steady_visit v = record v { recorded_at_time = None; monitored_vehicle_journey = steady_visit_journey v.monitored_vehicle_journey }
+
+abbrev pub steady_journey : Journey → Journey
+steady_journey j = record j {
+  recorded_at_time = None;
+  delay = None;
+  recorded_calls = map steady_call j.recorded_calls;
+  estimated_calls = map steady_call j.estimated_calls;
+}
+
+abbrev pub steady_vehicle_journey : VehicleJourney → VehicleJourney
+steady_vehicle_journey j = record j { delay = None; monitored_call = option_map steady_call j.monitored_call }
+
+abbrev pub steady_vehicle : Vehicle → Vehicle
+steady_vehicle v = record v { recorded_at_time = None; monitored_vehicle_journey = steady_vehicle_journey v.monitored_vehicle_journey }
+
+abbrev pub steady : Item → Item
+steady (item.Visit v) = item.Visit (steady_visit v)
+steady (item.Journey j) = item.Journey (steady_journey j)
+steady (item.Vehicle v) = item.Vehicle (steady_vehicle v)
+steady (item.Situation s) = item.Situation s

@@ -4,16 +4,16 @@ ghost use Rattle.std.specs.Prelude.{◌≡◌};
 use crate::{Journey, Situation, Vehicle, Visit};
 use siri_base::{Copies, OutOfMemory};
 
-/// What the services tell of.
+/// What the four services tell of.
 #[derive(Drop)]
 pub enum Item {
-    /// of Stop Monitoring
+    /// A visit, of Stop Monitoring.
     Visit(Visit),
-    /// of Estimated Timetable
+    /// A journey, of Estimated Timetable.
     Journey(Journey),
-    /// of Vehicle Monitoring
+    /// A vehicle, of Vehicle Monitoring.
     Vehicle(Vehicle),
-    /// of Situation Exchange
+    /// A situation, of Situation Exchange.
     Situation(Situation),
 }
 

@@ -5,7 +5,7 @@ use crate::call::StopCall;
 use siri_base::{Copies, List, Moment, Name, OutOfMemory, Span, Text};
 
 /// A journey with the calls behind it and those ahead of it (EN 15531-3, EstimatedVehicleJourney). It is known by its
-/// line, direction, data frame and dated journey.
+/// line, direction, data frame and dated journey. A document has at most 1,000 calls in each of its lists.
 #[derive(Drop)]
 pub struct Journey {
     pub recorded_at_time: Option<Moment>,

@@ -18,7 +18,7 @@ pub use ends::{closed, dead, end_of, entry_of, moment_of};
 pub use item::{Item, Service};
 pub use journey::Journey;
 pub use key::{Key, key_of, keys_are_in_order};
-pub use nearness::near;
+pub use nearness::{near, near_items_agree};
 pub use situation::{Period, Situation};
 pub use vehicle::{Vehicle, VehicleJourney};
 pub use visit::{VehicleLocation, Visit, VisitJourney};

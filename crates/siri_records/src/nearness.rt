@@ -1,5 +1,5 @@
 // When two items are as good as equal.
-ghost use Rattle.std.specs.Prelude.{◌≡◌};
+ghost use Rattle.std.specs.Prelude.{◌≡◌, ℤ, true};
 ghost use Rattle.std.specs.Cmp.Lexicographic.{pointwise};
 ghost use Rattle.std.specs.Option.{option_eq};
 ghost use Rattle.siri_records.specs.Near as definition;
@@ -12,7 +12,7 @@ use siri_base::{Moment, Span};
 /// Whether two items are near with a slack: they are equal in every field but RecordedAtTime, and but for
 /// ExpectedArrivalTime, ExpectedDepartureTime and Delay, each of which may differ by less than the slack where both
 /// have it. Calls are compared list by list and place by place. Situations are near where they are equal in every
-/// field (the meaning of ChangeBeforeUpdates, EN 15531-3).
+/// field (how this profile reads ChangeBeforeUpdates, EN 15531-3).
 pub fn near(a: &Item, b: &Item, slack: Span) -> bool
     ensures { result ≡ definition.is_near slack a.now b.now }
 {
@@ -208,3 +208,10 @@ fn close(a: i64, b: i64, slack: Span) -> bool
 {
     a == b || i128::from(a.abs_diff(b)) < i128::from(slack.ms())
 }
+
+/// A law, which does nothing when it is called: every item is near itself, with whatever slack, and items that are near
+/// are equal in every field but RecordedAtTime, ExpectedArrivalTime, ExpectedDepartureTime and Delay.
+pub fn near_items_agree()
+    ensures itself { (slack : ℤ) (a : Item) → definition.is_near slack a a ≡ true }
+    ensures agree { (slack : ℤ) (a b : Item) → definition.is_near slack a b ≡ true → definition.steady a ≡ definition.steady b }
+{}

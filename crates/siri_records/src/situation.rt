@@ -4,7 +4,7 @@ ghost use Rattle.std.specs.Prelude.{◌≡◌};
 use siri_base::{Copies, List, Moment, Name, OutOfMemory, Text};
 
 /// A situation that affects operators, lines or stops (CEN/TS 15531-5, PtSituationElement). It is known by its
-/// participant and its situation number.
+/// participant and its situation number. A document has at most 100 periods and 2,000 names of each kind in it.
 #[derive(Drop)]
 pub struct Situation {
     pub creation_time: Option<Moment>,

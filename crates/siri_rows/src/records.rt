@@ -1,8 +1,8 @@
 // Items at the bounds of nearness, the key of a visit, and a copy of an item of each service.
 use siri_base::{Copies, List, Moment, Name, Span};
 use siri_records::{
-    Item, Journey, Key, Service, Situation, StopCall, Vehicle, VehicleJourney, Visit, VisitJourney,
-    key_of, near,
+    Item, Journey, Key, Period, Service, Situation, StopCall, Vehicle, VehicleJourney, Visit,
+    VisitJourney, key_of, near,
 };
 use std::alloc::Global;
 use std::test::Fail;
@@ -108,6 +108,11 @@ fn vehicle(alloc: Global, delay: i64) -> Result<Item, Fail> {
 
 fn situation(alloc: Global, creation: i64) -> Result<Item, Fail> {
     let situation_number = Name::new(alloc, "12")?;
+    let mut validity_period = List::new(alloc);
+    validity_period.push(Period {
+        start_time: Moment::new(TEN_PAST).ok_or("no moment")?,
+        end_time: None,
+    })?;
     Ok(Item::Situation(Situation {
         creation_time: Moment::new(creation),
         participant_ref: None,
@@ -115,7 +120,7 @@ fn situation(alloc: Global, creation: i64) -> Result<Item, Fail> {
         version: None,
         versioned_at_time: None,
         progress: None,
-        validity_period: List::new(alloc),
+        validity_period,
         severity: None,
         summary: None,
         description: None,

@@ -1,0 +1,6 @@
+pub mod Ascii
+mod Capped
+pub mod Entries
+pub mod ReadSpelled
+pub mod SpelledReads
+pub mod Steps

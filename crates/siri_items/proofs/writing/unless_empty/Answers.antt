@@ -1,0 +1,13 @@
+use Rattle.std.proofs.Common.{◌≡◌, List, [], ◌∷◌, Some, refl, length, true}
+use Rattle.serde_json.specs.Data.{object}
+use Rattle.serde_json.specs.View.{members_view}
+use Rattle.serde_json.proofs.Views.{view-Object, Entry}
+use Rattle.siri_items.specs.Writing.{some_object}
+use Rattle.siri_items.proofs.writing.unless_empty.Goals as goal
+
+not_empty : (es : List Entry) → (length es ≡ 0 → ⊥) → Some (object (members_view es)) ≡ some_object (members_view es)
+not_empty [] h = absurd (h refl)
+not_empty (e ∷ es) h = refl
+
+pub returns-else-is_empty : goal.returns-else-is_empty
+returns-else-is_empty c = rw view-Object (not_empty c.args.members.entries (λ none. let is : c.is_empty.result ≡ true = c.is_empty.ensures.1 none in absurd cc))

@@ -1,0 +1,247 @@
+//! The rows that the journeys of all services have, as they are read.
+
+ghost use Rattle.std.specs.Prelude.{◌≡◌, None};
+
+use crate::read_call::{JourneyRef, NeededReference};
+use siri_base::{List, Moment, Name, Span, Text};
+use siri_records::{Journey, StopCall, VehicleJourney, VehicleLocation, VisitJourney};
+
+/// Rows of a journey that were read so far.
+pub struct JourneyRows {
+    pub line_ref: Option<Name>,
+    pub direction_ref: Option<Name>,
+    pub reference: JourneyRef,
+    pub published_line_name: Option<Text>,
+    pub operator_ref: Option<Name>,
+    pub destination_ref: Option<Name>,
+    pub destination_name: Option<Text>,
+    pub vehicle_ref: Option<Name>,
+    pub monitored: Option<bool>,
+    pub occupancy: Option<Text>,
+    pub delay: Option<Span>,
+}
+
+impl Drop for JourneyRows {
+    fn drop(self) {
+        let JourneyRows {
+            line_ref: _,
+            direction_ref: _,
+            reference: _,
+            published_line_name: _,
+            operator_ref: _,
+            destination_ref: _,
+            destination_name: _,
+            vehicle_ref: _,
+            monitored: _,
+            occupancy: _,
+            delay: _,
+        } = self;
+    }
+}
+
+impl JourneyRows {
+    /// No row.
+    pub fn new() -> JourneyRows
+        ensures { result ≡ record {
+          line_ref = None;
+          direction_ref = None;
+          reference = record { data_frame_ref = None; dated_vehicle_journey_ref = None };
+          published_line_name = None;
+          operator_ref = None;
+          destination_ref = None;
+          destination_name = None;
+          vehicle_ref = None;
+          monitored = None;
+          occupancy = None;
+          delay = None;
+        } }
+    {
+        JourneyRows {
+            line_ref: None,
+            direction_ref: None,
+            reference: JourneyRef {
+                data_frame_ref: None,
+                dated_vehicle_journey_ref: None,
+            },
+            published_line_name: None,
+            operator_ref: None,
+            destination_ref: None,
+            destination_name: None,
+            vehicle_ref: None,
+            monitored: None,
+            occupancy: None,
+            delay: None,
+        }
+    }
+
+    /// The journey of a visit.
+    pub fn visit_journey(
+        self,
+        vehicle_location: Option<VehicleLocation>,
+        monitored_call: StopCall,
+    ) -> VisitJourney
+        ensures { result ≡ record {
+          line_ref = self.line_ref;
+          direction_ref = self.direction_ref;
+          data_frame_ref = self.reference.data_frame_ref;
+          dated_vehicle_journey_ref = self.reference.dated_vehicle_journey_ref;
+          published_line_name = self.published_line_name;
+          operator_ref = self.operator_ref;
+          destination_ref = self.destination_ref;
+          destination_name = self.destination_name;
+          vehicle_ref = self.vehicle_ref;
+          monitored = self.monitored;
+          occupancy = self.occupancy;
+          delay = self.delay;
+          vehicle_location = vehicle_location;
+          monitored_call = monitored_call;
+        } }
+    {
+        let JourneyRows {
+            line_ref,
+            direction_ref,
+            reference,
+            published_line_name,
+            operator_ref,
+            destination_ref,
+            destination_name,
+            vehicle_ref,
+            monitored,
+            occupancy,
+            delay,
+        } = self;
+        VisitJourney {
+            line_ref,
+            direction_ref,
+            data_frame_ref: reference.data_frame_ref,
+            dated_vehicle_journey_ref: reference.dated_vehicle_journey_ref,
+            published_line_name,
+            operator_ref,
+            destination_ref,
+            destination_name,
+            vehicle_ref,
+            monitored,
+            occupancy,
+            delay,
+            vehicle_location,
+            monitored_call,
+        }
+    }
+
+    /// The journey of a vehicle. Its row of the vehicle isn't looked at.
+    pub fn vehicle_journey(
+        self,
+        vehicle_ref: Name,
+        vehicle_location: Option<VehicleLocation>,
+        monitored_call: Option<StopCall>,
+    ) -> VehicleJourney
+        ensures { result ≡ record {
+          line_ref = self.line_ref;
+          direction_ref = self.direction_ref;
+          data_frame_ref = self.reference.data_frame_ref;
+          dated_vehicle_journey_ref = self.reference.dated_vehicle_journey_ref;
+          published_line_name = self.published_line_name;
+          operator_ref = self.operator_ref;
+          destination_ref = self.destination_ref;
+          destination_name = self.destination_name;
+          vehicle_ref = vehicle_ref;
+          monitored = self.monitored;
+          occupancy = self.occupancy;
+          delay = self.delay;
+          vehicle_location = vehicle_location;
+          monitored_call = monitored_call;
+        } }
+    {
+        let JourneyRows {
+            line_ref,
+            direction_ref,
+            reference,
+            published_line_name,
+            operator_ref,
+            destination_ref,
+            destination_name,
+            vehicle_ref: _,
+            monitored,
+            occupancy,
+            delay,
+        } = self;
+        VehicleJourney {
+            line_ref,
+            direction_ref,
+            data_frame_ref: reference.data_frame_ref,
+            dated_vehicle_journey_ref: reference.dated_vehicle_journey_ref,
+            published_line_name,
+            operator_ref,
+            destination_ref,
+            destination_name,
+            vehicle_ref,
+            monitored,
+            occupancy,
+            delay,
+            vehicle_location,
+            monitored_call,
+        }
+    }
+
+    /// A journey with its calls. Its rows of the line and the reference aren't looked at.
+    pub fn journey(
+        self,
+        recorded_at_time: Option<Moment>,
+        line_ref: Name,
+        reference: NeededReference,
+        cancellation: Option<bool>,
+        recorded_calls: List<StopCall>,
+        estimated_calls: List<StopCall>,
+    ) -> Journey
+        ensures { result ≡ record {
+          recorded_at_time = recorded_at_time;
+          line_ref = line_ref;
+          direction_ref = self.direction_ref;
+          data_frame_ref = reference.data_frame_ref;
+          dated_vehicle_journey_ref = reference.dated_vehicle_journey_ref;
+          cancellation = cancellation;
+          published_line_name = self.published_line_name;
+          operator_ref = self.operator_ref;
+          destination_ref = self.destination_ref;
+          destination_name = self.destination_name;
+          vehicle_ref = self.vehicle_ref;
+          monitored = self.monitored;
+          occupancy = self.occupancy;
+          delay = self.delay;
+          recorded_calls = recorded_calls;
+          estimated_calls = estimated_calls;
+        } }
+    {
+        let JourneyRows {
+            line_ref: _,
+            direction_ref,
+            reference: _,
+            published_line_name,
+            operator_ref,
+            destination_ref,
+            destination_name,
+            vehicle_ref,
+            monitored,
+            occupancy,
+            delay,
+        } = self;
+        Journey {
+            recorded_at_time,
+            line_ref,
+            direction_ref,
+            data_frame_ref: reference.data_frame_ref,
+            dated_vehicle_journey_ref: reference.dated_vehicle_journey_ref,
+            cancellation,
+            published_line_name,
+            operator_ref,
+            destination_ref,
+            destination_name,
+            vehicle_ref,
+            monitored,
+            occupancy,
+            delay,
+            recorded_calls,
+            estimated_calls,
+        }
+    }
+}

@@ -1,0 +1,41 @@
+//! Reading items.
+
+ghost use Rattle.std.specs.Prelude.{◌≡◌};
+ghost use Rattle.serde_json.specs.View.{view};
+ghost use Rattle.siri_items.specs.Refusals.{Gives, at_path};
+ghost use Rattle.siri_items.specs.Items.{item_of};
+
+use crate::read_journey::JourneyTable;
+use crate::read_situation::SituationTable;
+use crate::read_vehicle::VehicleTable;
+use crate::read_visit::VisitTable;
+use crate::refusal::{ItemError, from_path};
+use crate::rows::present;
+use serde_json::Value;
+use siri_json::Path;
+use siri_records::{Item, Service};
+use std::alloc::Global;
+
+/// The item of a service that a tree spells, or the first refusal in the order of the tables, depth first, with `at`
+/// before its path. A journey's RecordedAtTime is its own.
+pub fn read_item(
+    alloc: Global,
+    tree: &Value,
+    service: Service,
+    at: &Path,
+) -> Result<Item, ItemError>
+    ensures { Gives result (at_path at.now (item_of service (view tree.now))) }
+{
+    from_path(at, item(alloc, tree, service))
+}
+
+fn item(alloc: Global, tree: &Value, service: Service) -> Result<Item, ItemError>
+    ensures { Gives result (item_of service (view tree.now)) }
+{
+    match service {
+        Service::Stop => Ok(Item::Visit(present::<VisitTable>(alloc, tree)?)),
+        Service::Timetable => Ok(Item::Journey(present::<JourneyTable>(alloc, tree)?)),
+        Service::Vehicle => Ok(Item::Vehicle(present::<VehicleTable>(alloc, tree)?)),
+        Service::Situation => Ok(Item::Situation(present::<SituationTable>(alloc, tree)?)),
+    }
+}

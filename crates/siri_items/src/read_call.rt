@@ -1,0 +1,225 @@
+//! Reading calls at stops, and the parts that the journeys of all services have.
+
+ghost use Rattle.std.specs.Prelude.{◌≡◌, Option};
+ghost use Rattle.serde_json.specs.Data.{Data};
+ghost use Rattle.serde_json.specs.View.{view};
+ghost use Rattle.siri_items.specs.Refusals.{Gives};
+ghost use Rattle.siri_items.specs.Rules.{table, some_table};
+ghost use Rattle.siri_items.specs.Calls.{stop_call, call_is_blank, framed, framed_rows, framed_of, plain_reference, reference, needed_reference, location, location_is_blank, optional_location, optional_call};
+
+use crate::names;
+use crate::refusal::{ItemError, refuse, refuse_at};
+use crate::rows::{needed, row};
+use crate::rules::{
+    DecimalRule, FlagRule, MomentRule, NameRule, NumberRule, Rule, Table, TextRule,
+};
+use serde_json::Value;
+use siri_base::{Name, Reason};
+use siri_json::{ObjectOf, object_of};
+use siri_records::{StopCall, VehicleLocation};
+use std::alloc::Global;
+
+/// A call at a stop.
+pub struct StopCallTable;
+
+impl Table for StopCallTable {
+    type Out = StopCall;
+
+    ghost rows = { stop_call };
+
+    #[tactic(auto, unfolding(crate::specs::Calls::stop_call))]
+    fn read_rows(alloc: Global, tree: &Value) -> Result<StopCall, ItemError> {
+        Ok(StopCall {
+            stop_point_ref: row::<NameRule>(alloc, tree, names::STOP_POINT_REF)?,
+            order: row::<NumberRule>(alloc, tree, names::ORDER)?,
+            stop_point_name: row::<TextRule>(alloc, tree, names::STOP_POINT_NAME)?,
+            vehicle_at_stop: row::<FlagRule>(alloc, tree, names::VEHICLE_AT_STOP)?,
+            aimed_arrival_time: row::<MomentRule>(alloc, tree, names::AIMED_ARRIVAL_TIME)?,
+            expected_arrival_time: row::<MomentRule>(alloc, tree, names::EXPECTED_ARRIVAL_TIME)?,
+            actual_arrival_time: row::<MomentRule>(alloc, tree, names::ACTUAL_ARRIVAL_TIME)?,
+            arrival_status: row::<TextRule>(alloc, tree, names::ARRIVAL_STATUS)?,
+            arrival_platform_name: row::<TextRule>(alloc, tree, names::ARRIVAL_PLATFORM_NAME)?,
+            aimed_departure_time: row::<MomentRule>(alloc, tree, names::AIMED_DEPARTURE_TIME)?,
+            expected_departure_time: row::<MomentRule>(
+                alloc,
+                tree,
+                names::EXPECTED_DEPARTURE_TIME,
+            )?,
+            actual_departure_time: row::<MomentRule>(alloc, tree, names::ACTUAL_DEPARTURE_TIME)?,
+            departure_status: row::<TextRule>(alloc, tree, names::DEPARTURE_STATUS)?,
+            departure_platform_name: row::<TextRule>(alloc, tree, names::DEPARTURE_PLATFORM_NAME)?,
+        })
+    }
+}
+
+/// A call that need not be there: it counts as absent where all its rows are.
+pub struct OptionalCallRule;
+
+impl Rule for OptionalCallRule {
+    type Out = StopCall;
+
+    ghost rule = { optional_call };
+
+    #[tactic(auto, unfolding(crate::specs::Rules::some_table))]
+    fn read(alloc: Global, value: &Value) -> Result<Option<StopCall>, ItemError> {
+        match StopCallTable::read(alloc, value)? {
+            Some(call) if call_is_blank(&call) => Ok(None),
+            other => Ok(other),
+        }
+    }
+}
+
+#[tactic(auto, unfolding(crate::specs::Calls::call_is_blank))]
+fn call_is_blank(call: &StopCall) -> bool
+    ensures { result ≡ call_is_blank call.now }
+{
+    call.stop_point_ref.is_none()
+        && call.order.is_none()
+        && call.stop_point_name.is_none()
+        && call.vehicle_at_stop.is_none()
+        && call.aimed_arrival_time.is_none()
+        && call.expected_arrival_time.is_none()
+        && call.actual_arrival_time.is_none()
+        && call.arrival_status.is_none()
+        && call.arrival_platform_name.is_none()
+        && call.aimed_departure_time.is_none()
+        && call.expected_departure_time.is_none()
+        && call.actual_departure_time.is_none()
+        && call.departure_status.is_none()
+        && call.departure_platform_name.is_none()
+}
+
+/// Where a vehicle is; it counts as absent where both rows are.
+pub struct LocationRule;
+
+struct LocationTable;
+
+impl Table for LocationTable {
+    type Out = VehicleLocation;
+
+    ghost rows = { location };
+
+    #[tactic(auto, unfolding(crate::specs::Calls::location))]
+    fn read_rows(alloc: Global, tree: &Value) -> Result<VehicleLocation, ItemError> {
+        Ok(VehicleLocation {
+            longitude: row::<DecimalRule>(alloc, tree, names::LONGITUDE)?,
+            latitude: row::<DecimalRule>(alloc, tree, names::LATITUDE)?,
+        })
+    }
+}
+
+impl Rule for LocationRule {
+    type Out = VehicleLocation;
+
+    ghost rule = { optional_location };
+
+    #[tactic(auto, unfolding(crate::specs::Rules::some_table, crate::specs::Calls::location_is_blank))]
+    fn read(alloc: Global, value: &Value) -> Result<Option<VehicleLocation>, ItemError> {
+        match LocationTable::read(alloc, value)? {
+            Some(
+                VehicleLocation {
+                    longitude: None,
+                    latitude: None,
+                },
+            ) => Ok(None),
+            other => Ok(other),
+        }
+    }
+}
+
+/// How a journey is named: with its data frame, or by itself.
+#[derive(Drop)]
+pub struct JourneyRef {
+    pub data_frame_ref: Option<Name>,
+    pub dated_vehicle_journey_ref: Option<Name>,
+}
+
+/// How a journey is named, where it has to be.
+#[derive(Drop)]
+pub struct NeededReference {
+    pub data_frame_ref: Option<Name>,
+    pub dated_vehicle_journey_ref: Name,
+}
+
+struct FramedRule;
+
+#[tactic(auto, unfolding(crate::specs::Calls::framed_of))]
+fn framed_of(
+    alloc: Global,
+    frame: Option<Name>,
+    dated: Option<Name>,
+) -> Result<Option<NeededReference>, ItemError>
+    ensures { Gives result (framed_of frame dated) }
+{
+    match (frame, dated) {
+        (None, None) => Ok(None),
+        (Some(_), None) => refuse_at(alloc, names::DATED_VEHICLE_JOURNEY_REF, Reason::Missing),
+        (data_frame_ref, Some(dated_vehicle_journey_ref)) => Ok(Some(NeededReference {
+            data_frame_ref,
+            dated_vehicle_journey_ref,
+        })),
+    }
+}
+
+#[tactic(auto, unfolding(crate::specs::Calls::framed_rows))]
+fn framed_rows(alloc: Global, tree: &Value) -> Result<Option<NeededReference>, ItemError>
+    ensures { Gives result (framed_rows (view tree.now)) }
+{
+    let frame = row::<NameRule>(alloc, tree, names::DATA_FRAME_REF)?;
+    let dated = row::<NameRule>(alloc, tree, names::DATED_VEHICLE_JOURNEY_REF)?;
+    framed_of(alloc, frame, dated)
+}
+
+impl Rule for FramedRule {
+    type Out = NeededReference;
+
+    ghost rule = { framed };
+
+    #[tactic(auto, unfolding(crate::specs::Calls::framed))]
+    fn read(alloc: Global, value: &Value) -> Result<Option<NeededReference>, ItemError> {
+        match object_of(value) {
+            ObjectOf::Is(tree) => framed_rows(alloc, tree),
+            ObjectOf::Absent => Ok(None),
+            ObjectOf::Wrong => refuse(alloc, Reason::WrongKind),
+        }
+    }
+}
+
+/// How the object names its journey, where it need not.
+#[tactic(auto, unfolding(crate::specs::Calls::reference, crate::specs::Calls::plain_reference))]
+pub fn reference(alloc: Global, tree: &Value) -> Result<JourneyRef, ItemError>
+    ensures { Gives result (reference (view tree.now)) }
+{
+    match row::<FramedRule>(alloc, tree, names::FRAMED_VEHICLE_JOURNEY_REF)? {
+        Some(framed) => Ok(JourneyRef {
+            data_frame_ref: framed.data_frame_ref,
+            dated_vehicle_journey_ref: Some(framed.dated_vehicle_journey_ref),
+        }),
+        None => Ok(JourneyRef {
+            data_frame_ref: None,
+            dated_vehicle_journey_ref: row::<NameRule>(
+                alloc,
+                tree,
+                names::DATED_VEHICLE_JOURNEY_REF,
+            )?,
+        }),
+    }
+}
+
+/// How the object names its journey, which it has to: otherwise `Missing` at DatedVehicleJourneyRef.
+#[tactic(auto, unfolding(crate::specs::Calls::needed_reference, crate::specs::Calls::plain_needed))]
+pub fn needed_reference(alloc: Global, tree: &Value) -> Result<NeededReference, ItemError>
+    ensures { Gives result (needed_reference (view tree.now)) }
+{
+    match row::<FramedRule>(alloc, tree, names::FRAMED_VEHICLE_JOURNEY_REF)? {
+        Some(framed) => Ok(framed),
+        None => Ok(NeededReference {
+            data_frame_ref: None,
+            dated_vehicle_journey_ref: needed::<NameRule>(
+                alloc,
+                tree,
+                names::DATED_VEHICLE_JOURNEY_REF,
+            )?,
+        }),
+    }
+}

@@ -1,0 +1,87 @@
+//! Reading journeys.
+
+ghost use Rattle.std.specs.Prelude.{◌≡◌};
+ghost use Rattle.serde_json.specs.Data.{Data};
+ghost use Rattle.serde_json.specs.View.{view};
+ghost use Rattle.siri_items.specs.Refusals.{Gives};
+ghost use Rattle.siri_items.specs.Journeys.{journey_rows, has_time, with_time, journey};
+
+use crate::journey_rows::JourneyRows;
+use crate::names;
+use crate::read_call::{StopCallTable, needed_reference};
+use crate::refusal::{ItemError, refuse};
+use crate::rows::{list_inside, needed, row};
+use crate::rules::{FlagRule, MomentRule, NameRule, SpanRule, Table, TextRule};
+use serde_json::Value;
+use siri_base::Reason;
+use siri_records::{Journey, StopCall, moment_of};
+use std::alloc::Global;
+
+const MOST_CALLS: usize = 1000;
+
+#[tactic(auto, unfolding(crate::specs::Journeys::journey_rows))]
+fn journey_rows(alloc: Global, tree: &Value) -> Result<Journey, ItemError>
+    ensures { Gives result (journey_rows (view tree.now)) }
+{
+    let mut rows = JourneyRows::new();
+    let recorded_at_time = row::<MomentRule>(alloc, tree, names::RECORDED_AT_TIME)?;
+    let line_ref = needed::<NameRule>(alloc, tree, names::LINE_REF)?;
+    rows.direction_ref = row::<NameRule>(alloc, tree, names::DIRECTION_REF)?;
+    let reference = needed_reference(alloc, tree)?;
+    let cancellation = row::<FlagRule>(alloc, tree, names::CANCELLATION)?;
+    rows.published_line_name = row::<TextRule>(alloc, tree, names::PUBLISHED_LINE_NAME)?;
+    rows.operator_ref = row::<NameRule>(alloc, tree, names::OPERATOR_REF)?;
+    rows.destination_ref = row::<NameRule>(alloc, tree, names::DESTINATION_REF)?;
+    rows.destination_name = row::<TextRule>(alloc, tree, names::DESTINATION_NAME)?;
+    rows.vehicle_ref = row::<NameRule>(alloc, tree, names::VEHICLE_REF)?;
+    rows.monitored = row::<FlagRule>(alloc, tree, names::MONITORED)?;
+    rows.occupancy = row::<TextRule>(alloc, tree, names::OCCUPANCY)?;
+    rows.delay = row::<SpanRule>(alloc, tree, names::DELAY)?;
+    let recorded = list_inside::<StopCallTable>(
+        alloc,
+        tree,
+        names::RECORDED_CALLS,
+        names::RECORDED_CALL,
+        MOST_CALLS,
+    )?;
+    let estimated = list_inside::<StopCallTable>(
+        alloc,
+        tree,
+        names::ESTIMATED_CALLS,
+        names::ESTIMATED_CALL,
+        MOST_CALLS,
+    )?;
+    Ok(rows.journey(
+        recorded_at_time,
+        line_ref,
+        reference,
+        cancellation,
+        recorded,
+        estimated,
+    ))
+}
+
+fn has_time(calls: &[StopCall]) -> bool
+    ensures { result ≡ has_time calls.now }
+{
+    calls.iter().any(|call| moment_of(call).is_some())
+}
+
+/// A journey with its calls, of which one has a time: otherwise `NoMoment` (EN 15531-3, EstimatedVehicleJourney).
+pub struct JourneyTable;
+
+impl Table for JourneyTable {
+    type Out = Journey;
+
+    ghost rows = { journey };
+
+    #[tactic(auto, unfolding(crate::specs::Journeys::journey))]
+    fn read_rows(alloc: Global, tree: &Value) -> Result<Journey, ItemError> {
+        let journey = journey_rows(alloc, tree)?;
+        if has_time(journey.recorded_calls.slice()) || has_time(journey.estimated_calls.slice()) {
+            Ok(journey)
+        } else {
+            refuse(alloc, Reason::NoMoment)
+        }
+    }
+}

@@ -1,0 +1,230 @@
+//! Reading situations.
+
+ghost use Rattle.std.specs.Prelude.{◌≡◌, Some, flat_map, sum_by, nat_le, OnOk, ◌++◌, IfOk};
+ghost use Rattle.serde_json.specs.Data.{Data};
+ghost use Rattle.serde_json.specs.View.{view};
+ghost use Rattle.siri_items.specs.Refusals.{Gives};
+ghost use Rattle.siri_items.specs.Rules.{list_inside};
+ghost use Rattle.siri_items.specs.declared.names.TheConstants.{NETWORKS};
+ghost use Rattle.siri_items.specs.Situations.{period, lines_at, network, all_lines, lines_of, network_lines, affected, or_nothing, situation};
+
+use crate::names;
+use crate::refusal::{ItemError, below, refuse, refuse_at};
+use crate::rows::{entry_count, list_of, names_inside, names_of, needed, row, some_list};
+use crate::rules::{MomentRule, NameRule, Table, TextRule};
+use serde_json::Value;
+use siri_base::{List, Name, OutOfMemory, Reason};
+use siri_json::{ObjectOf, member, object_of};
+use siri_records::{Period, Situation};
+use std::alloc::Global;
+
+const MOST_PERIODS: usize = 100;
+
+const MOST_NAMES: usize = 2000;
+
+struct PeriodTable;
+
+impl Table for PeriodTable {
+    type Out = Period;
+
+    ghost rows = { period };
+
+    #[tactic(auto, unfolding(crate::specs::Situations::period))]
+    fn read_rows(alloc: Global, tree: &Value) -> Result<Period, ItemError> {
+        Ok(Period {
+            start_time: needed::<MomentRule>(alloc, tree, names::START_TIME)?,
+            end_time: row::<MomentRule>(alloc, tree, names::END_TIME)?,
+        })
+    }
+}
+
+/// What a situation affects.
+#[derive(Drop)]
+pub struct Affected {
+    pub operators: List<Name>,
+    pub lines: List<Name>,
+    pub stop_points: List<Name>,
+}
+
+/// The lines of a network, and how many entries its list has that aren't null.
+#[derive(Drop)]
+pub struct Network {
+    pub lines: List<Name>,
+    pub entries: usize,
+}
+
+struct NetworkTable;
+
+fn lines_at(alloc: Global, value: &Value) -> Result<Network, ItemError>
+    ensures { Gives result (lines_at (Some (view value.now))) }
+{
+    let lines = names_of(alloc, value, names::LINE_REF)?;
+    Ok(Network {
+        lines,
+        entries: entry_count(value),
+    })
+}
+
+impl Table for NetworkTable {
+    type Out = Network;
+
+    ghost rows = { network };
+
+    #[tactic(auto, unfolding(crate::specs::Situations::network))]
+    fn read_rows(alloc: Global, tree: &Value) -> Result<Network, ItemError> {
+        match member(tree, names::AFFECTED_LINE) {
+            Some(value) => below(alloc, names::AFFECTED_LINE, lines_at(alloc, value)),
+            None => Ok(Network {
+                lines: List::new(alloc),
+                entries: 0,
+            }),
+        }
+    }
+}
+
+fn is_few(networks: &[Network]) -> bool
+    ensures { result ≡ nat_le (sum_by (λ n. n.entries) networks.now) 2000 }
+{
+    let mut left = MOST_NAMES;
+    for network in networks {
+        if network.entries > left {
+            return false;
+        }
+        left -= network.entries;
+    }
+    true
+}
+
+fn joined(alloc: Global, networks: List<Network>) -> Result<List<Name>, OutOfMemory>
+    ensures { IfOk result (λ lines. lines ≡ flat_map (λ n. n.lines) networks) }
+{
+    let mut lines = Vec::new(alloc);
+    for network in networks.into_vec() {
+        lines.append(&mut network.lines.into_vec())?;
+    }
+    Ok(List::of(lines))
+}
+
+#[tactic(auto, unfolding(crate::specs::Situations::lines_of))]
+fn lines_of(alloc: Global, value: &Value) -> Result<List<Name>, ItemError>
+    ensures { Gives result (lines_of (view value.now)) }
+{
+    let networks = list_of::<NetworkTable>(alloc, value)?;
+    if !is_few(networks.slice()) {
+        return refuse(alloc, Reason::TooMany);
+    }
+    Ok(joined(alloc, networks)?)
+}
+
+#[tactic(auto, unfolding(crate::specs::Situations::network_lines))]
+fn network_lines(alloc: Global, tree: &Value) -> Result<List<Name>, ItemError>
+    ensures { Gives result (network_lines (view tree.now)) }
+{
+    match member(tree, names::AFFECTED_NETWORK) {
+        Some(value) => below(alloc, names::AFFECTED_NETWORK, lines_of(alloc, value)),
+        None => Ok(List::new(alloc)),
+    }
+}
+
+#[tactic(auto, unfolding(crate::specs::Rules::list_inside))]
+fn all_lines(alloc: Global, tree: &Value) -> Result<List<Name>, ItemError>
+    ensures { Gives result (list_inside NETWORKS.now network_lines (view tree.now)) }
+{
+    let Some(value) = member(tree, names::NETWORKS) else {
+        return Ok(List::new(alloc));
+    };
+    match object_of(value) {
+        ObjectOf::Is(networks) => below(alloc, names::NETWORKS, network_lines(alloc, networks)),
+        ObjectOf::Absent => Ok(List::new(alloc)),
+        ObjectOf::Wrong => refuse_at(alloc, names::NETWORKS, Reason::WrongKind),
+    }
+}
+
+struct AffectedTable;
+
+impl Table for AffectedTable {
+    type Out = Affected;
+
+    ghost rows = { affected };
+
+    #[tactic(auto, unfolding(crate::specs::Situations::affected))]
+    fn read_rows(alloc: Global, tree: &Value) -> Result<Affected, ItemError> {
+        Ok(Affected {
+            operators: names_inside(
+                alloc,
+                tree,
+                names::OPERATORS,
+                names::AFFECTED_OPERATOR,
+                names::OPERATOR_REF,
+                MOST_NAMES,
+            )?,
+            lines: all_lines(alloc, tree)?,
+            stop_points: names_inside(
+                alloc,
+                tree,
+                names::STOP_POINTS,
+                names::AFFECTED_STOP_POINT,
+                names::STOP_POINT_REF,
+                MOST_NAMES,
+            )?,
+        })
+    }
+}
+
+fn or_nothing(alloc: Global, affects: Option<Affected>) -> Affected
+    ensures { result ≡ or_nothing affects }
+{
+    match affects {
+        Some(affected) => affected,
+        None => Affected {
+            operators: List::new(alloc),
+            lines: List::new(alloc),
+            stop_points: List::new(alloc),
+        },
+    }
+}
+
+/// A situation of the network (CEN/TS 15531-5, PtSituationElement).
+pub struct SituationTable;
+
+impl Table for SituationTable {
+    type Out = Situation;
+
+    ghost rows = { situation };
+
+    #[tactic(auto, unfolding(crate::specs::Situations::situation))]
+    fn read_rows(alloc: Global, tree: &Value) -> Result<Situation, ItemError> {
+        let creation_time = row::<MomentRule>(alloc, tree, names::CREATION_TIME)?;
+        let participant_ref = row::<NameRule>(alloc, tree, names::PARTICIPANT_REF)?;
+        let situation_number = needed::<NameRule>(alloc, tree, names::SITUATION_NUMBER)?;
+        let version = row::<NameRule>(alloc, tree, names::VERSION)?;
+        let versioned_at_time = row::<MomentRule>(alloc, tree, names::VERSIONED_AT_TIME)?;
+        let progress = row::<TextRule>(alloc, tree, names::PROGRESS)?;
+        let validity_period = some_list::<PeriodTable>(
+            alloc,
+            tree,
+            names::VALIDITY_PERIOD,
+            MOST_PERIODS,
+        )?;
+        let severity = row::<TextRule>(alloc, tree, names::SEVERITY)?;
+        let summary = row::<TextRule>(alloc, tree, names::SUMMARY)?;
+        let description = row::<TextRule>(alloc, tree, names::DESCRIPTION)?;
+        let affects = row::<AffectedTable>(alloc, tree, names::AFFECTS)?;
+        let affected = or_nothing(alloc, affects);
+        Ok(Situation {
+            creation_time,
+            participant_ref,
+            situation_number,
+            version,
+            versioned_at_time,
+            progress,
+            validity_period,
+            severity,
+            summary,
+            description,
+            affected_operators: affected.operators,
+            affected_lines: affected.lines,
+            affected_stop_points: affected.stop_points,
+        })
+    }
+}

@@ -1,0 +1,67 @@
+//! Reading vehicle activities.
+
+ghost use Rattle.std.specs.Prelude.{◌≡◌};
+ghost use Rattle.serde_json.specs.Data.{Data};
+ghost use Rattle.serde_json.specs.View.{view};
+ghost use Rattle.siri_items.specs.Refusals.{Gives};
+ghost use Rattle.siri_items.specs.Vehicles.{vehicle_journey, vehicle};
+
+use crate::journey_rows::JourneyRows;
+use crate::names;
+use crate::read_call::{LocationRule, OptionalCallRule, reference};
+use crate::refusal::ItemError;
+use crate::rows::{needed, row};
+use crate::rules::{FlagRule, MomentRule, NameRule, SpanRule, Table, TextRule};
+use serde_json::Value;
+use siri_records::{Vehicle, VehicleJourney};
+use std::alloc::Global;
+
+struct VehicleJourneyTable;
+
+impl Table for VehicleJourneyTable {
+    type Out = VehicleJourney;
+
+    ghost rows = { vehicle_journey };
+
+    #[tactic(auto, unfolding(crate::specs::Vehicles::vehicle_journey))]
+    fn read_rows(alloc: Global, tree: &Value) -> Result<VehicleJourney, ItemError> {
+        let mut rows = JourneyRows::new();
+        rows.line_ref = row::<NameRule>(alloc, tree, names::LINE_REF)?;
+        rows.direction_ref = row::<NameRule>(alloc, tree, names::DIRECTION_REF)?;
+        rows.reference = reference(alloc, tree)?;
+        rows.published_line_name = row::<TextRule>(alloc, tree, names::PUBLISHED_LINE_NAME)?;
+        rows.operator_ref = row::<NameRule>(alloc, tree, names::OPERATOR_REF)?;
+        rows.destination_ref = row::<NameRule>(alloc, tree, names::DESTINATION_REF)?;
+        rows.destination_name = row::<TextRule>(alloc, tree, names::DESTINATION_NAME)?;
+        let vehicle_ref = needed::<NameRule>(alloc, tree, names::VEHICLE_REF)?;
+        rows.monitored = row::<FlagRule>(alloc, tree, names::MONITORED)?;
+        rows.occupancy = row::<TextRule>(alloc, tree, names::OCCUPANCY)?;
+        rows.delay = row::<SpanRule>(alloc, tree, names::DELAY)?;
+        let location = row::<LocationRule>(alloc, tree, names::VEHICLE_LOCATION)?;
+        let call = row::<OptionalCallRule>(alloc, tree, names::MONITORED_CALL)?;
+        Ok(rows.vehicle_journey(vehicle_ref, location, call))
+    }
+}
+
+/// What a vehicle does (EN 15531-3, VehicleActivity).
+pub struct VehicleTable;
+
+impl Table for VehicleTable {
+    type Out = Vehicle;
+
+    ghost rows = { vehicle };
+
+    #[tactic(auto, unfolding(crate::specs::Vehicles::vehicle))]
+    fn read_rows(alloc: Global, tree: &Value) -> Result<Vehicle, ItemError> {
+        Ok(Vehicle {
+            recorded_at_time: row::<MomentRule>(alloc, tree, names::RECORDED_AT_TIME)?,
+            item_identifier: row::<NameRule>(alloc, tree, names::ITEM_IDENTIFIER)?,
+            valid_until_time: row::<MomentRule>(alloc, tree, names::VALID_UNTIL_TIME)?,
+            monitored_vehicle_journey: needed::<VehicleJourneyTable>(
+                alloc,
+                tree,
+                names::MONITORED_VEHICLE_JOURNEY,
+            )?,
+        })
+    }
+}

@@ -1,0 +1,80 @@
+//! Reading visits.
+
+ghost use Rattle.std.specs.Prelude.{◌≡◌};
+ghost use Rattle.serde_json.specs.Data.{Data};
+ghost use Rattle.serde_json.specs.View.{view};
+ghost use Rattle.siri_items.specs.Refusals.{Gives};
+ghost use Rattle.siri_items.specs.Visits.{timed_call, visit_journey, visit};
+
+use crate::journey_rows::JourneyRows;
+use crate::names;
+use crate::read_call::{LocationRule, StopCallTable, reference};
+use crate::refusal::{ItemError, refuse_at};
+use crate::rows::{needed, row};
+use crate::rules::{FlagRule, MomentRule, NameRule, SpanRule, Table, TextRule};
+use serde_json::Value;
+use siri_base::Reason;
+use siri_records::{StopCall, Visit, VisitJourney, moment_of};
+use std::alloc::Global;
+
+/// The call at the monitored stop, which has to be there and to have a time: otherwise `NoMoment` at it.
+#[tactic(auto, unfolding(crate::specs::Visits::timed_call))]
+fn timed_call(alloc: Global, tree: &Value) -> Result<StopCall, ItemError>
+    ensures { Gives result (timed_call (view tree.now)) }
+{
+    let call = needed::<StopCallTable>(alloc, tree, names::MONITORED_CALL)?;
+    match moment_of(&call) {
+        Some(_) => Ok(call),
+        None => refuse_at(alloc, names::MONITORED_CALL, Reason::NoMoment),
+    }
+}
+
+struct VisitJourneyTable;
+
+impl Table for VisitJourneyTable {
+    type Out = VisitJourney;
+
+    ghost rows = { visit_journey };
+
+    #[tactic(auto, unfolding(crate::specs::Visits::visit_journey))]
+    fn read_rows(alloc: Global, tree: &Value) -> Result<VisitJourney, ItemError> {
+        let mut rows = JourneyRows::new();
+        rows.line_ref = row::<NameRule>(alloc, tree, names::LINE_REF)?;
+        rows.direction_ref = row::<NameRule>(alloc, tree, names::DIRECTION_REF)?;
+        rows.reference = reference(alloc, tree)?;
+        rows.published_line_name = row::<TextRule>(alloc, tree, names::PUBLISHED_LINE_NAME)?;
+        rows.operator_ref = row::<NameRule>(alloc, tree, names::OPERATOR_REF)?;
+        rows.destination_ref = row::<NameRule>(alloc, tree, names::DESTINATION_REF)?;
+        rows.destination_name = row::<TextRule>(alloc, tree, names::DESTINATION_NAME)?;
+        rows.vehicle_ref = row::<NameRule>(alloc, tree, names::VEHICLE_REF)?;
+        rows.monitored = row::<FlagRule>(alloc, tree, names::MONITORED)?;
+        rows.occupancy = row::<TextRule>(alloc, tree, names::OCCUPANCY)?;
+        rows.delay = row::<SpanRule>(alloc, tree, names::DELAY)?;
+        let location = row::<LocationRule>(alloc, tree, names::VEHICLE_LOCATION)?;
+        let call = timed_call(alloc, tree)?;
+        Ok(rows.visit_journey(location, call))
+    }
+}
+
+/// A visit of a vehicle at a stop (EN 15531-3, MonitoredStopVisit).
+pub struct VisitTable;
+
+impl Table for VisitTable {
+    type Out = Visit;
+
+    ghost rows = { visit };
+
+    #[tactic(auto, unfolding(crate::specs::Visits::visit))]
+    fn read_rows(alloc: Global, tree: &Value) -> Result<Visit, ItemError> {
+        Ok(Visit {
+            recorded_at_time: row::<MomentRule>(alloc, tree, names::RECORDED_AT_TIME)?,
+            item_identifier: needed::<NameRule>(alloc, tree, names::ITEM_IDENTIFIER)?,
+            monitoring_ref: needed::<NameRule>(alloc, tree, names::MONITORING_REF)?,
+            monitored_vehicle_journey: needed::<VisitJourneyTable>(
+                alloc,
+                tree,
+                names::MONITORED_VEHICLE_JOURNEY,
+            )?,
+        })
+    }
+}

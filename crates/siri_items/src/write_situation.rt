@@ -1,0 +1,131 @@
+//! Writing situations.
+
+ghost use Rattle.std.specs.Prelude.{◌≡◌, Option, Some, None, IfOk, OnOk, option_map, option_and_then};
+ghost use Rattle.serde_json.specs.Data.{Data};
+ghost use Rattle.serde_json.specs.View.{view};
+ghost use Rattle.std.specs.Prelude.{map, drop, ◌++◌};
+ghost use Rattle.std.specs.List.{filter_map};
+ghost use Rattle.siri_items.specs.Writing.{some_array, written_list};
+ghost use Rattle.siri_items.specs.Written.{written_period, written_name, written_names, written_network, written_networks, written_affects, written_situation};
+
+use crate::names;
+use crate::rules::{MomentRule, NameRule, TextRule};
+use crate::writing::{Members, Spelling, some_array};
+use serde_json::Value;
+use siri_base::{List, Name, OutOfMemory};
+use siri_records::{Period, Situation};
+use std::alloc::Global;
+
+struct PeriodRule;
+
+impl Spelling for PeriodRule {
+    type Of = Period;
+
+    ghost spelling = { written_period };
+
+    #[tactic(auto, unfolding(crate::specs::Written::written_period))]
+    fn write(alloc: Global, period: &Period) -> Result<Option<Value>, OutOfMemory> {
+        let mut members = Members::new(alloc);
+        members.needed::<MomentRule>(names::START_TIME, &period.start_time)?;
+        members.row::<MomentRule>(names::END_TIME, &period.end_time)?;
+        Ok(Some(members.object()))
+    }
+}
+
+#[tactic(auto, unfolding(crate::specs::Written::written_name))]
+fn name_value(alloc: Global, inner: &str, name: &Name) -> Result<Value, OutOfMemory>
+    ensures { IfOk result (λ value. Some (view value) ≡ written_name inner.now name.now) }
+{
+    let mut members = Members::new(alloc);
+    members.needed::<NameRule>(inner, name)?;
+    Ok(members.object())
+}
+
+fn name_list(alloc: Global, inner: &str, names: &[Name]) -> Result<Vec<Value>, OutOfMemory>
+    ensures { IfOk result (λ list. map view list.items ≡ filter_map (written_name inner.now) names.now) }
+{
+    let mut entries = Vec::new(alloc);
+    for name in names {
+        entries.push(name_value(alloc, inner, name)?)?;
+    }
+    Ok(entries)
+}
+
+/// Names in a list inside an object, which is left out where there are none.
+#[tactic(auto, unfolding(crate::specs::Written::written_names, crate::specs::Writing::written_list))]
+fn names_value(
+    alloc: Global,
+    key: &str,
+    inner: &str,
+    names: &List<Name>,
+) -> Result<Option<Value>, OutOfMemory>
+    ensures { IfOk result (λ value. option_map view value ≡ written_names key.now inner.now names.now) }
+{
+    let mut members = Members::new(alloc);
+    let list = some_array(name_list(alloc, inner, names.slice())?);
+    members.made(key, list)?;
+    Ok(members.some_object())
+}
+
+#[tactic(auto, unfolding(crate::specs::Written::written_networks, crate::specs::Written::written_network))]
+fn networks_value(alloc: Global, lines: &List<Name>) -> Result<Option<Value>, OutOfMemory>
+    ensures { IfOk result (λ value. option_map view value ≡ written_networks lines.now) }
+{
+    let network = names_value(alloc, names::AFFECTED_LINE, names::LINE_REF, lines)?;
+    match network {
+        Some(network) => {
+            let mut list = Vec::new(alloc);
+            list.push(network)?;
+            let mut members = Members::new(alloc);
+            members.made(names::AFFECTED_NETWORK, Some(Value::Array(list)))?;
+            Ok(Some(members.object()))
+        }
+        None => Ok(None),
+    }
+}
+
+#[tactic(auto, unfolding(crate::specs::Written::written_affects))]
+fn affects_value(alloc: Global, situation: &Situation) -> Result<Option<Value>, OutOfMemory>
+    ensures { IfOk result (λ value. option_map view value
+        ≡ written_affects situation.now.affected_operators situation.now.affected_lines situation.now.affected_stop_points) }
+{
+    let mut members = Members::new(alloc);
+    let operators = names_value(
+        alloc,
+        names::AFFECTED_OPERATOR,
+        names::OPERATOR_REF,
+        &situation.affected_operators,
+    )?;
+    members.made(names::OPERATORS, operators)?;
+    let networks = networks_value(alloc, &situation.affected_lines)?;
+    members.made(names::NETWORKS, networks)?;
+    let stop_points = names_value(
+        alloc,
+        names::AFFECTED_STOP_POINT,
+        names::STOP_POINT_REF,
+        &situation.affected_stop_points,
+    )?;
+    members.made(names::STOP_POINTS, stop_points)?;
+    Ok(members.some_object())
+}
+
+/// The tree of a situation.
+#[tactic(auto, unfolding(crate::specs::Written::written_situation))]
+pub fn situation_value(alloc: Global, situation: &Situation) -> Result<Value, OutOfMemory>
+    ensures { IfOk result (λ value. view value ≡ written_situation situation.now) }
+{
+    let mut members = Members::new(alloc);
+    members.row::<MomentRule>(names::CREATION_TIME, &situation.creation_time)?;
+    members.row::<NameRule>(names::PARTICIPANT_REF, &situation.participant_ref)?;
+    members.needed::<NameRule>(names::SITUATION_NUMBER, &situation.situation_number)?;
+    members.row::<NameRule>(names::VERSION, &situation.version)?;
+    members.row::<MomentRule>(names::VERSIONED_AT_TIME, &situation.versioned_at_time)?;
+    members.row::<TextRule>(names::PROGRESS, &situation.progress)?;
+    members.list::<PeriodRule>(names::VALIDITY_PERIOD, &situation.validity_period)?;
+    members.row::<TextRule>(names::SEVERITY, &situation.severity)?;
+    members.row::<TextRule>(names::SUMMARY, &situation.summary)?;
+    members.row::<TextRule>(names::DESCRIPTION, &situation.description)?;
+    let affects = affects_value(alloc, situation)?;
+    members.made(names::AFFECTS, affects)?;
+    Ok(members.object())
+}

@@ -1,0 +1,79 @@
+// Deliveries of items.
+ghost use Rattle.std.specs.Prelude.{◌≡◌};
+
+use siri_base::{Copies, List, Moment, Name, OutOfMemory, Text};
+use siri_records::{Item, Key};
+
+/// What is delivered of the four services (EN 15531-2, ServiceDelivery): the answer to a request, a part of a
+/// subscription's round, or a feed.
+#[derive(Drop)]
+pub struct ServiceDelivery {
+    pub response_timestamp: Option<Moment>,
+    pub producer_ref: Option<Name>,
+    pub response_message_identifier: Option<Name>,
+    /// The identifier of the request that it answers; in a round the subscription's number.
+    pub request_message_ref: Option<Name>,
+    pub status: bool,
+    /// The ErrorText of its ErrorCondition.
+    pub error_condition: Option<Text>,
+    /// Whether further parts of the round follow.
+    pub more_data: bool,
+    pub stop_monitoring_delivery: List<FunctionalDelivery>,
+    pub estimated_timetable_delivery: List<FunctionalDelivery>,
+    pub vehicle_monitoring_delivery: List<FunctionalDelivery>,
+    pub situation_exchange_delivery: List<FunctionalDelivery>,
+}
+
+/// What is delivered of one service (EN 15531-3, StopMonitoringDelivery and its like; CEN/TS 15531-5 for situations).
+/// Its items and removals are of that service. Start and part stand where round does.
+#[derive(Drop)]
+pub struct FunctionalDelivery {
+    pub response_timestamp: Option<Moment>,
+    pub subscriber_ref: Option<Name>,
+    pub subscription_ref: Option<Name>,
+    pub status: bool,
+    /// The ErrorText of its ErrorCondition.
+    pub error_condition: Option<Text>,
+    /// The number of the producer's start.
+    pub start: Option<u64>,
+    pub round: Option<u64>,
+    pub part: Option<u64>,
+    pub items: List<Item>,
+    /// What its cancellations, or its removed journeys or situations, name.
+    pub removals: List<Key>,
+}
+
+impl Copies for ServiceDelivery {
+    fn copy(&self) -> Result<Self, OutOfMemory> {
+        Ok(ServiceDelivery {
+            response_timestamp: self.response_timestamp,
+            producer_ref: self.producer_ref.copy()?,
+            response_message_identifier: self.response_message_identifier.copy()?,
+            request_message_ref: self.request_message_ref.copy()?,
+            status: self.status,
+            error_condition: self.error_condition.copy()?,
+            more_data: self.more_data,
+            stop_monitoring_delivery: self.stop_monitoring_delivery.copy()?,
+            estimated_timetable_delivery: self.estimated_timetable_delivery.copy()?,
+            vehicle_monitoring_delivery: self.vehicle_monitoring_delivery.copy()?,
+            situation_exchange_delivery: self.situation_exchange_delivery.copy()?,
+        })
+    }
+}
+
+impl Copies for FunctionalDelivery {
+    fn copy(&self) -> Result<Self, OutOfMemory> {
+        Ok(FunctionalDelivery {
+            response_timestamp: self.response_timestamp,
+            subscriber_ref: self.subscriber_ref.copy()?,
+            subscription_ref: self.subscription_ref.copy()?,
+            status: self.status,
+            error_condition: self.error_condition.copy()?,
+            start: self.start,
+            round: self.round,
+            part: self.part,
+            items: self.items.copy()?,
+            removals: self.removals.copy()?,
+        })
+    }
+}

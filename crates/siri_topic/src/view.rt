@@ -1,0 +1,119 @@
+// The items that are shown to a topic.
+ghost use Rattle.std.specs.Prelude.{◌≡◌};
+ghost use Rattle.siri_topic.specs.Shown as definition;
+
+use crate::{Topic, Window, matches};
+use siri_base::{Moment, Span};
+use siri_records::{Item, Period, Situation, closed, end_of, entry_of};
+
+/// The window of a topic at a moment: from the later of its StartTime and now, for its PreviewInterval. It has no far
+/// edge where there is no PreviewInterval.
+pub fn window(topic: &Topic, now: Moment) -> Window
+    ensures { result ≡ definition.window_of topic.now now }
+{
+    let from = match start_of(topic) {
+        Some(start) => start.max(now).ms(),
+        None => now.ms(),
+    };
+    let to = match preview_of(topic) {
+        Some(preview) => Some(from + preview.ms()),
+        None => None,
+    };
+    Window { from, to }
+}
+
+/// Whether an item is shown to a topic at a moment: it agrees with the topic, isn't closed, and is in the topic's window
+/// at that moment. It takes no memory.
+///
+/// A visit or a journey is in a window where its end isn't before the near edge and its entry is before the far edge. A
+/// vehicle is in it where its ValidUntilTime isn't before the moment, or absent. A situation is in it where some one of
+/// its periods begins before the far edge and doesn't end before the near edge.
+pub fn shown(topic: &Topic, item: &Item, now: Moment) -> bool
+    ensures { result ≡ definition.is_shown topic.now item.now now }
+{
+    matches(topic, item) && !closed(item) && is_in(&window(topic, now), now, item)
+}
+
+/// The law that an item that is dead at a moment is shown to no topic at that moment.
+pub fn dead_items_are_never_shown()
+    ensures { definition.DeadAreNeverShown }
+{}
+
+fn start_of(topic: &Topic) -> Option<Moment>
+    ensures { result ≡ definition.start_of topic.now }
+{
+    match topic {
+        Topic::Stop(topic) => topic.start_time,
+        Topic::Situation(topic) => topic.start_time,
+        _ => None,
+    }
+}
+
+fn preview_of(topic: &Topic) -> Option<Span>
+    ensures { result ≡ definition.preview_of topic.now }
+{
+    match topic {
+        Topic::Stop(topic) => topic.preview_interval,
+        Topic::Timetable(topic) => topic.preview_interval,
+        Topic::Vehicle(_) => None,
+        Topic::Situation(topic) => topic.preview_interval,
+    }
+}
+
+fn is_in(window: &Window, now: Moment, item: &Item) -> bool
+    ensures { result ≡ definition.is_in window.now now item.now }
+{
+    match item {
+        Item::Visit(_) | Item::Journey(_) => {
+            is_from(window.from, end_of(item)) && is_before(window.to, entry_of(item))
+        }
+        Item::Vehicle(vehicle) => !is_over(now.ms(), vehicle.valid_until_time),
+        Item::Situation(situation) => has_period_in(window, situation),
+    }
+}
+
+// Some one of its periods begins before the far edge and doesn't end before the near edge.
+fn has_period_in(window: &Window, situation: &Situation) -> bool
+    ensures { result ≡ definition.has_period_in window.now situation.now }
+{
+    situation
+        .validity_period
+        .slice()
+        .iter()
+        .any(|period| is_period_in(window, period))
+}
+
+fn is_period_in(window: &Window, period: &Period) -> bool
+    ensures { result ≡ definition.is_period_in window.now period.now }
+{
+    is_before(window.to, Some(period.start_time)) && !is_over(window.from, period.end_time)
+}
+
+fn is_from(from: i64, moment: Option<Moment>) -> bool
+    ensures { result ≡ definition.is_from from moment }
+{
+    match moment {
+        Some(moment) => moment.ms() >= from,
+        None => false,
+    }
+}
+
+fn is_before(to: Option<i64>, moment: Option<Moment>) -> bool
+    ensures { result ≡ definition.is_before to moment }
+{
+    match (to, moment) {
+        (Some(to), Some(moment)) => moment.ms() < to,
+        (None, Some(_)) => true,
+        (_, None) => false,
+    }
+}
+
+// There is an end, and it is before this moment.
+fn is_over(from: i64, end: Option<Moment>) -> bool
+    ensures { result ≡ definition.is_over from end }
+{
+    match end {
+        Some(end) => end.ms() < from,
+        None => false,
+    }
+}
