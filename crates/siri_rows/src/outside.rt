@@ -1,7 +1,7 @@
 // The forms in memory of a clock, a keeper and a wire, and copies of values.
 use siri_base::{
     Clock, Copies, Failed, Keeper, List, Moment, Name, OutsideError, PlainClock, PlainKeeper,
-    PlainWire, Text, Wire,
+    PlainWire, Text, TextError, Wire,
 };
 use std::test::Fail;
 
@@ -84,5 +84,21 @@ fn copies_are_of_the_same_text(rt: HostRuntime) -> Result<(), Fail> {
     assert_eq!(rt; copies.len(), 2);
     assert_eq!(rt; copies.get(0).ok_or("a name")?.text(), "Z\u{fc}rich HB");
     assert_eq!(rt; copies.get(1).ok_or("a name")?.text(), "b");
+    Ok(())
+}
+
+#[test]
+fn names_have_1_to_255_bytes(rt: HostRuntime) -> Result<(), Fail> {
+    let longest = "Haltestelle-0042".repeat(rt.alloc(), 16)?;
+    let cases = [
+        ("", Err(TextError::Empty)),
+        ("a", Ok(1)),
+        (&longest[1..], Ok(255)),
+        (longest.as_str(), Err(TextError::TooLong)),
+    ];
+    for (text, expected) in cases {
+        let length = Name::new(rt.alloc(), text).map(|name| name.text().len());
+        assert_eq!(rt; length, expected, "{text}");
+    }
     Ok(())
 }
