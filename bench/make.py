@@ -1,6 +1,7 @@
 #!/usr/bin/env python3
 """Makes an input of the benchmark: `make.py lines N` is a script of N lines that are passed over, `make.py visits N`
-one with N visits fed in four lines and asked for once. It goes to standard output."""
+one with N visits fed in four lines and asked for once, `make.py delivery N` a ServiceDelivery of N visits with the rows
+that feeds have, about 600 bytes each. It goes to standard output."""
 import json
 import sys
 
@@ -35,4 +36,45 @@ def visits(count):
     put("ask", {"ServiceRequest": {"StopMonitoringRequest": [{"MonitoringRef": "S1"}]}})
 
 
-{"lines": lines, "visits": visits}[sys.argv[1]](int(sys.argv[2]))
+STOPS = ["Hauptbahnhof", "Universit\u00e4t Nord", "Marktplatz", "Stadion / Messe"]
+
+
+def clock(seconds):
+    return "2024-05-01T%02d:%02d:%02d+02:00" % (seconds // 3600 % 24, seconds // 60 % 60, seconds % 60)
+
+
+def realistic_visit(number):
+    """A visit in the spellings of feeds: names as objects with a value, texts in lists, numbers as numbers."""
+    due = 6 * 3600 + number * 7
+    return {
+        "RecordedAtTime": "2024-05-01T05:59:%02d.123456Z" % (number % 60),
+        "ItemIdentifier": "visit-%08d" % (number * 7919 % 100_000_007),
+        "MonitoringRef": {"value": "STIF:StopPoint:Q:%d:" % (41000 + number % 500)},
+        "MonitoredVehicleJourney": {
+            "LineRef": {"value": "STIF:Line::C%05d:" % (number % 40)},
+            "DirectionRef": "out" if number % 2 else "in",
+            "FramedVehicleJourneyRef": {"DataFrameRef": {"value": "any"}, "DatedVehicleJourneyRef": "J%07d" % number},
+            "DestinationName": [{"value": STOPS[number % 4]}],
+            "JourneyNote": [],
+            "Delay": "PT%dS" % (number % 240),
+            "VehicleLocation": {"Longitude": 2.3 + number % 1000 / 10000, "Latitude": 48.8 + number % 700 / 10000},
+            "MonitoredCall": {
+                "StopPointName": [{"value": STOPS[(number + 1) % 4]}],
+                "Order": number % 30,
+                "VehicleAtStop": False,
+                "AimedDepartureTime": clock(due),
+                "ExpectedDepartureTime": clock(due + number % 240),
+                "DepartureStatus": "delayed" if number % 240 else "onTime",
+            },
+        },
+    }
+
+
+def delivery(count):
+    entries = [realistic_visit(number) for number in range(count)]
+    services = [{"ResponseTimestamp": "2024-05-01T04:00:00Z", "Status": "true", "MonitoredStopVisit": entries}]
+    document = {"ResponseTimestamp": "2024-05-01T06:00:00+02:00", "ProducerRef": {"value": "AGENCY"}, "StopMonitoringDelivery": services}
+    print(json.dumps({"Siri": {"ServiceDelivery": document}}, separators=(",", ":"), ensure_ascii=False))
+
+
+{"lines": lines, "visits": visits, "delivery": delivery}[sys.argv[1]](int(sys.argv[2]))

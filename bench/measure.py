@@ -1,11 +1,13 @@
 #!/usr/bin/env python3
-"""Runs the program and the yardsticks over the inputs in a folder: `measure.py PROGRAM FOLDER`."""
+"""Runs the program, its phases and the yardsticks over the inputs in a folder: `measure.py CRATES YARDSTICK FOLDER`,
+CRATES being the folder of the built crates and YARDSTICK the program on serde_json."""
 import os
 import resource
 import subprocess
 import sys
 
 RUNS = 5
+PHASE_RUNS = 15
 JSON = """
 import json, sys
 for line in sys.stdin:
@@ -29,7 +31,11 @@ def run_once(command, path):
         return seconds, int(kilobytes.read()) * 1024 / 1e6
 
 
-def main(program, folder):
+PHASES = ["bytes", "tree", "items", "spelled", "text"]
+
+
+def replay_beside_yardsticks(program, folder):
+    """Scripts, each beside its yardstick in the same run."""
     replay = [program, "replay"]
     reads_json = [sys.executable, "-S", "-c", JSON]
     cases = [
@@ -50,6 +56,47 @@ def main(program, folder):
             peak = max(run[place][1] for run in runs)
             figures = ("%.1f" % megabytes, name, "%.3f" % seconds, "%.0f" % (megabytes / seconds), "%.1f" % peak)
             print(row % ((kind, size) + figures + ("%.2f" % (seconds / least),)))
+
+
+def phases(program, folder):
+    """The phases of reading and writing items, each as the difference of two runs."""
+    path = os.path.join(folder, "delivery.8000")
+    megabytes = os.path.getsize(path) / 1e6
+    runs = [[run_once([program, phase], path) for phase in PHASES] for _ in range(PHASE_RUNS)]
+    row = "%-8s %7s %9s %8s %9s"
+    print(row % ("phase", "MB", "seconds", "MB/s", "peak MB"))
+    before = 0.0
+    for place, phase in enumerate(PHASES):
+        until = min(run[place][0] for run in runs)
+        peak = max(run[place][1] for run in runs)
+        seconds = max(until - before, 0.001)
+        print(row % (phase, "%.1f" % megabytes, "%.3f" % seconds, "%.0f" % (megabytes / seconds), "%.1f" % peak))
+        before = until
+
+
+def documents(program, yardstick, folder):
+    """`siri convert` and `siri check` of one document, beside a program on serde_json in the same runs."""
+    path = os.path.join(folder, "delivery.8000")
+    megabytes = os.path.getsize(path) / 1e6
+    commands = [("convert", [program, "convert"]), ("check", [program, "check"]), ("yardstick", [yardstick])]
+    runs = [[run_once(command, path) for _, command in commands] for _ in range(PHASE_RUNS)]
+    least = min(run[-1][0] for run in runs)
+    row = "%-9s %7s %9s %8s %9s %9s %7s"
+    print(row % ("command", "MB", "seconds", "MB/s", "peak MB", "peak/doc", "ratio"))
+    for place, (name, _) in enumerate(commands):
+        seconds = min(run[place][0] for run in runs)
+        peak = max(run[place][1] for run in runs)
+        figures = ("%.3f" % seconds, "%.0f" % (megabytes / seconds), "%.1f" % peak, "%.1f" % (peak / megabytes))
+        print(row % ((name, "%.1f" % megabytes) + figures + ("%.2f" % (seconds / least),)))
+
+
+def main(crates, yardstick, folder):
+    siri = os.path.join(crates, "siri/out/siri")
+    replay_beside_yardsticks(siri, folder)
+    print()
+    phases(os.path.join(crates, "siri_speed/out/siri_speed"), folder)
+    print()
+    documents(siri, yardstick, folder)
 
 
 main(*sys.argv[1:])

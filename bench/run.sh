@@ -1,17 +1,23 @@
 #!/usr/bin/env bash
-# Measures `siri replay` on two kinds of script, at half the size and at the whole one, each beside a yardstick in the
-# same run: `grep -c '^#'` over the script of passed-over lines, and for the visits python's json, which reads the same
-# four documents and writes them. It prints for each the processor seconds (user and system, the least of five runs),
-# the megabytes of input a second, the peak memory, and the ratio of the seconds to the yardstick's.
+# Measures three things, each beside a yardstick in the same run, and prints processor seconds (user and system, the least
+# of several runs), megabytes of input a second, and the peak memory:
+#
+# - `siri replay` on two kinds of script, at half the size and at the whole one, beside `grep -c '^#'` over the script of
+#   passed-over lines, and for the visits python's json, which reads the same four documents and writes them;
+# - the phases of reading and writing items of a delivery of 5.5 MB, as differences of runs of `siri_speed`;
+# - `siri convert` and `siri check` of that delivery, beside a program on Rust's serde_json (bench/yardstick), which wants
+#   cargo and Debian's package librust-serde-json-dev.
 set -eu
 here=$(dirname -- "$(readlink -f -- "${BASH_SOURCE[0]}")")
-program=$here/../crates/siri/out/siri
 "$here/../siri" replay </dev/null # builds it, where it isn't there
+(cd "$here/../crates/siri_speed" && rt run >/dev/null)
+(cd "$here/yardstick" && cargo build --release --offline --quiet)
 
 inputs=$(mktemp -d)
 trap 'rm -r -- "$inputs"' EXIT
 for size in 500000 1000000; do python3 "$here/make.py" lines "$size" >"$inputs/lines.$size"; done
 for size in 10000 20000; do python3 "$here/make.py" visits "$size" >"$inputs/visits.$size"; done
+python3 "$here/make.py" delivery 8000 >"$inputs/delivery.8000"
 
 echo "$(nproc) cores; $(rt version)"
-python3 "$here/measure.py" "$program" "$inputs"
+python3 "$here/measure.py" "$here/../crates" "$here/yardstick/target/release/yardstick" "$inputs"

@@ -1,0 +1,140 @@
+//! A program for the benchmark: does the first phases of reading and writing a delivery of visits, so that the time of
+//! each phase is the difference of two runs.
+//!
+//! `siri_speed PHASE < DOCUMENT`, where PHASE is one of these, each after those before it:
+//!
+//! | Phase | What is done |
+//! |---|---|
+//! | `bytes` | the document is read into memory |
+//! | `tree` | its tree is read |
+//! | `items` | the visits of its StopMonitoringDelivery are read from the tree |
+//! | `spelled` | each is written into a tree |
+//! | `text` | the texts of those trees are written |
+//!
+//! It prints how many bytes, items or bytes of text it made. With no word it prints nothing.
+#![tactic(auto)]
+
+use siri_base::OutOfMemory;
+use siri_items::{ItemError, read_item, write_item};
+use siri_json::{Path, TreeError, Value, entry_at, entry_list, member, read_tree, write_tree};
+use siri_records::{Item, Service};
+use std::alloc::{AllocError, AllocFailed, Global};
+use std::env;
+use std::io::Read;
+use std::process::ExitCode;
+
+/// A phase wasn't done: there was no input, it was refused, or there was no memory.
+#[derive(Debug, Drop)]
+struct Stopped;
+
+impl From<OutOfMemory> for Stopped {
+    fn from(_: OutOfMemory) -> Self {
+        Stopped
+    }
+}
+
+impl From<AllocError> for Stopped {
+    fn from(_: AllocError) -> Self {
+        Stopped
+    }
+}
+
+impl<T: Drop> From<AllocFailed<T>> for Stopped {
+    fn from(_: AllocFailed<T>) -> Self {
+        Stopped
+    }
+}
+
+impl From<std::io::Error> for Stopped {
+    fn from(_: std::io::Error) -> Self {
+        Stopped
+    }
+}
+
+impl From<TreeError> for Stopped {
+    fn from(_: TreeError) -> Self {
+        Stopped
+    }
+}
+
+impl From<ItemError> for Stopped {
+    fn from(_: ItemError) -> Self {
+        Stopped
+    }
+}
+
+fn main(rt: HostRuntime) -> ExitCode {
+    let Ok(given) = env::args(&rt) else {
+        return ExitCode::from(64);
+    };
+    let Ok(words) = given.skip(1).collect::<Vec<String>>(rt.alloc()) else {
+        return ExitCode::from(70);
+    };
+    match words.first() {
+        None => ExitCode::from(0),
+        Some(phase) => match measured(&rt, phase.as_str()) {
+            Ok(()) => ExitCode::from(0),
+            Err(_) => ExitCode::from(1),
+        },
+    }
+}
+
+/// Does the phases up to the one of that name, and prints how much the last one made.
+fn measured(rt: &HostRuntime, phase: &str) -> Result<(), Stopped> {
+    let alloc = rt.alloc();
+    let mut document = Vec::new(alloc);
+    rt.stdin().read_to_end(&mut document)?;
+    let made = made(alloc, document, phase)?;
+    println!(rt; "{made}")?;
+    Ok(())
+}
+
+/// How many bytes, visits or bytes of text the phase of that name made.
+fn made(alloc: Global, document: Vec<u8>, phase: &str) -> Result<usize, Stopped> {
+    if phase == "bytes" {
+        return Ok(document.len());
+    }
+    let tree = read_tree(alloc, &document)?;
+    drop(document);
+    let visits = visits_of(&tree).ok_or(Stopped)?;
+    if phase == "tree" {
+        return Ok(visits.len());
+    }
+    let items = items_of(alloc, visits)?;
+    if phase == "items" {
+        return Ok(items.len());
+    }
+    let trees = trees_of(alloc, &items)?;
+    if phase == "spelled" {
+        return Ok(trees.len());
+    }
+    let mut bytes = 0usize;
+    for tree in trees.iter() {
+        bytes = bytes.saturating_add(write_tree(alloc, tree)?.len());
+    }
+    Ok(bytes)
+}
+
+/// The visits of the first StopMonitoringDelivery.
+fn visits_of(tree: &Value) -> Option<&[Value]> {
+    let delivery = member(member(tree, "Siri")?, "ServiceDelivery")?;
+    let service = entry_at(member(delivery, "StopMonitoringDelivery")?, 0)?;
+    Some(entry_list(member(service, "MonitoredStopVisit")?))
+}
+
+fn items_of(alloc: Global, visits: &[Value]) -> Result<Vec<Item>, Stopped> {
+    let root = Path::new(alloc);
+    let mut items = Vec::new(alloc);
+    for visit in visits {
+        items.push(read_item(alloc, visit, Service::Stop, &root)?)?;
+    }
+    Ok(items)
+}
+
+fn trees_of(alloc: Global, items: &[Item]) -> Result<Vec<Value>, Stopped> {
+    let mut trees = Vec::new(alloc);
+    for item in items {
+        trees.push(write_item(alloc, item)?)?;
+    }
+    Ok(trees)
+}
