@@ -1,6 +1,12 @@
 pub mod Ascii
+pub mod Back
+pub mod BackLists
+pub mod BackTables
+pub mod BackValues
 mod Capped
+pub mod DecimalRead
 pub mod Entries
+pub mod Nonempty
 pub mod ReadSpelled
 pub mod SpelledReads
 pub mod Steps

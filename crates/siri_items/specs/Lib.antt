@@ -10,3 +10,4 @@ pub mod Items
 pub mod Writing
 pub mod Written
 pub mod Spelling
+pub mod Proper

@@ -160,10 +160,13 @@ written_journey j = row_object (journey_rows j)
 -- ---- situations
 
 -- ValidityPeriod
-unfoldable pub written_period : Period → Option Data
-written_period p = Some (row_object (
+abbrev pub period_rows : Period → List Row
+period_rows p =
     (START_TIME.now, written_moment p.start_time) ∷
-    (END_TIME.now, option_and_then written_moment p.end_time) ∷ []))
+    (END_TIME.now, option_and_then written_moment p.end_time) ∷ []
+
+unfoldable pub written_period : Period → Option Data
+written_period p = Some (row_object (period_rows p))
 
 -- a name in an object of its own
 unfoldable pub written_name : List ℕ → List ℕ → Option Data
