@@ -31,7 +31,7 @@ use Rattle.siri_items.specs.Situations.{situation, period, network, lines_at, al
 use Rattle.siri_items.specs.Items.{item_of}
 use Rattle.siri_items.specs.Spelling.{SpellsCall, SpellsLocation, SpellsVisitJourney, SpellsVisit, SpellsVehicleJourney, SpellsVehicle, SpellsJourneyRows, SpellsPeriod, SpellsAffects, SpellsSituation}
 use Rattle.siri_items.specs.Writing.{Row, with_rows, row_object, some_object, some_array, written_list, written_text}
-use Rattle.siri_items.specs.Written.{call_rows, written_call, spelled_call, location_rows, written_location, framed_rows, written_framed, written_dated, visit_journey_rows, written_visit_journey, visit_rows, written_visit, vehicle_journey_rows, written_vehicle_journey, vehicle_rows, written_vehicle, written_calls, journey_rows, written_journey, period_rows, written_period, written_name, written_names, written_network, written_networks, written_affects, situation_rows, written_situation, written_item}
+use Rattle.siri_items.specs.Written.{call_rows, written_call, spelled_call, location_rows, written_location, framed_rows, written_framed, written_dated, visit_journey_rows, written_visit_journey, visit_rows, written_visit, vehicle_journey_rows, written_vehicle_journey, vehicle_rows, written_vehicle, written_calls, journey_rows, written_journey, period_rows, written_period, written_name, written_names, written_network, written_networks, affects_rows, written_affects, situation_rows, written_situation, written_item}
 use Rattle.siri_items.specs.Proper.{IsName, IsListWithin, IsProperCall, IsProperOptionalCall, IsProperLocation, IsProperVisitJourney, IsProperVisit, IsProperVehicleJourney, IsProperVehicle, IsProperJourney, IsProperPeriod, IsProperSituation, IsProper, service_of, as_written}
 use Rattle.siri_items.proofs.Back.{found_again, GivesBack, member_again, row_again}
 use Rattle.siri_items.proofs.BackValues.{name_back, some_name_back, some_text_back, some_flag_back, some_number_back, moment_back, some_moment_back, some_span_back, some_decimal_back, table_back, some_table_back}
@@ -318,12 +318,6 @@ network_of_none = refl
 networks_back : (d : Data) (lines : List (List ℕ)) → IsListWithin 2000 IsName lines → member_of NETWORKS.now d ≡ found_again (written_networks lines) → list_inside NETWORKS.now network_lines d ≡ Ok lines
 unfolding written_networks written_names
 networks_back d lines p at_networks = networks_at d (network_members lines) lines network_of_none (network_back lines p.each) p.bound at_networks
-
-abbrev affects_rows : List (List ℕ) → List (List ℕ) → List (List ℕ) → List Row
-affects_rows operators lines stop_points =
-    (OPERATORS.now, written_names AFFECTED_OPERATOR.now OPERATOR_REF.now operators) ∷
-    (NETWORKS.now, written_networks lines) ∷
-    (STOP_POINTS.now, written_names AFFECTED_STOP_POINT.now STOP_POINT_REF.now stop_points) ∷ []
 
 affected_back : (operators lines stop_points : List (List ℕ)) → IsListWithin 2000 IsName operators → IsListWithin 2000 IsName lines → IsListWithin 2000 IsName stop_points
     → affected (as_texts (row_object (affects_rows operators lines stop_points))) ≡ Ok (record { operators = operators; lines = lines; stop_points = stop_points })

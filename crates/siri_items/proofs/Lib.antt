@@ -3,6 +3,8 @@ pub mod Back
 pub mod BackLists
 pub mod BackTables
 pub mod BackValues
+pub mod CanonicalParts
+pub mod CanonicalTables
 mod Capped
 pub mod DecimalRead
 pub mod Entries
