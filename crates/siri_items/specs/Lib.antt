@@ -11,3 +11,4 @@ pub mod Writing
 pub mod Written
 pub mod Spelling
 pub mod Proper
+pub mod Parts
