@@ -1,6 +1,14 @@
 pub mod Ascii
+pub mod Back
+pub mod BackLists
+pub mod BackTables
+pub mod BackValues
+pub mod CanonicalParts
+pub mod CanonicalTables
 mod Capped
+pub mod DecimalRead
 pub mod Entries
+pub mod Nonempty
 pub mod ReadSpelled
 pub mod SpelledReads
 pub mod Steps

@@ -10,3 +10,5 @@ pub mod Items
 pub mod Writing
 pub mod Written
 pub mod Spelling
+pub mod Proper
+pub mod Parts

@@ -160,10 +160,13 @@ written_journey j = row_object (journey_rows j)
 -- ---- situations
 
 -- ValidityPeriod
-unfoldable pub written_period : Period → Option Data
-written_period p = Some (row_object (
+abbrev pub period_rows : Period → List Row
+period_rows p =
     (START_TIME.now, written_moment p.start_time) ∷
-    (END_TIME.now, option_and_then written_moment p.end_time) ∷ []))
+    (END_TIME.now, option_and_then written_moment p.end_time) ∷ []
+
+unfoldable pub written_period : Period → Option Data
+written_period p = Some (row_object (period_rows p))
 
 -- a name in an object of its own
 unfoldable pub written_name : List ℕ → List ℕ → Option Data
@@ -182,11 +185,14 @@ unfoldable pub written_networks : List (List ℕ) → Option Data
 written_networks lines = written_network (written_names AFFECTED_LINE.now LINE_REF.now lines)
 
 -- Affects
-unfoldable pub written_affects : List (List ℕ) → List (List ℕ) → List (List ℕ) → Option Data
-written_affects operators lines stop_points = some_object (with_rows no_members (
+abbrev pub affects_rows : List (List ℕ) → List (List ℕ) → List (List ℕ) → List Row
+affects_rows operators lines stop_points =
     (OPERATORS.now, written_names AFFECTED_OPERATOR.now OPERATOR_REF.now operators) ∷
     (NETWORKS.now, written_networks lines) ∷
-    (STOP_POINTS.now, written_names AFFECTED_STOP_POINT.now STOP_POINT_REF.now stop_points) ∷ []))
+    (STOP_POINTS.now, written_names AFFECTED_STOP_POINT.now STOP_POINT_REF.now stop_points) ∷ []
+
+unfoldable pub written_affects : List (List ℕ) → List (List ℕ) → List (List ℕ) → Option Data
+written_affects operators lines stop_points = some_object (with_rows no_members (affects_rows operators lines stop_points))
 
 -- PtSituationElement
 abbrev pub situation_rows : Situation → List Row

@@ -1,6 +1,7 @@
 //! The rows that the journeys of all services have, as they are read.
 
-ghost use Rattle.std.specs.Prelude.{◌≡◌, None};
+ghost use Rattle.std.specs.Prelude.{◌≡◌};
+ghost use Rattle.siri_items.specs.Parts.{no_rows, visit_journey_of, vehicle_journey_of, journey_of};
 
 use crate::read_call::{JourneyRef, NeededReference};
 use siri_base::{List, Moment, Name, Span, Text};
@@ -42,19 +43,7 @@ impl Drop for JourneyRows {
 impl JourneyRows {
     /// No row.
     pub fn new() -> JourneyRows
-        ensures { result ≡ record {
-          line_ref = None;
-          direction_ref = None;
-          reference = record { data_frame_ref = None; dated_vehicle_journey_ref = None };
-          published_line_name = None;
-          operator_ref = None;
-          destination_ref = None;
-          destination_name = None;
-          vehicle_ref = None;
-          monitored = None;
-          occupancy = None;
-          delay = None;
-        } }
+        ensures { result ≡ no_rows }
     {
         JourneyRows {
             line_ref: None,
@@ -80,22 +69,7 @@ impl JourneyRows {
         vehicle_location: Option<VehicleLocation>,
         monitored_call: StopCall,
     ) -> VisitJourney
-        ensures { result ≡ record {
-          line_ref = self.line_ref;
-          direction_ref = self.direction_ref;
-          data_frame_ref = self.reference.data_frame_ref;
-          dated_vehicle_journey_ref = self.reference.dated_vehicle_journey_ref;
-          published_line_name = self.published_line_name;
-          operator_ref = self.operator_ref;
-          destination_ref = self.destination_ref;
-          destination_name = self.destination_name;
-          vehicle_ref = self.vehicle_ref;
-          monitored = self.monitored;
-          occupancy = self.occupancy;
-          delay = self.delay;
-          vehicle_location = vehicle_location;
-          monitored_call = monitored_call;
-        } }
+        ensures { result ≡ visit_journey_of self vehicle_location monitored_call }
     {
         let JourneyRows {
             line_ref,
@@ -135,22 +109,7 @@ impl JourneyRows {
         vehicle_location: Option<VehicleLocation>,
         monitored_call: Option<StopCall>,
     ) -> VehicleJourney
-        ensures { result ≡ record {
-          line_ref = self.line_ref;
-          direction_ref = self.direction_ref;
-          data_frame_ref = self.reference.data_frame_ref;
-          dated_vehicle_journey_ref = self.reference.dated_vehicle_journey_ref;
-          published_line_name = self.published_line_name;
-          operator_ref = self.operator_ref;
-          destination_ref = self.destination_ref;
-          destination_name = self.destination_name;
-          vehicle_ref = vehicle_ref;
-          monitored = self.monitored;
-          occupancy = self.occupancy;
-          delay = self.delay;
-          vehicle_location = vehicle_location;
-          monitored_call = monitored_call;
-        } }
+        ensures { result ≡ vehicle_journey_of self vehicle_ref vehicle_location monitored_call }
     {
         let JourneyRows {
             line_ref,
@@ -193,24 +152,7 @@ impl JourneyRows {
         recorded_calls: List<StopCall>,
         estimated_calls: List<StopCall>,
     ) -> Journey
-        ensures { result ≡ record {
-          recorded_at_time = recorded_at_time;
-          line_ref = line_ref;
-          direction_ref = self.direction_ref;
-          data_frame_ref = reference.data_frame_ref;
-          dated_vehicle_journey_ref = reference.dated_vehicle_journey_ref;
-          cancellation = cancellation;
-          published_line_name = self.published_line_name;
-          operator_ref = self.operator_ref;
-          destination_ref = self.destination_ref;
-          destination_name = self.destination_name;
-          vehicle_ref = self.vehicle_ref;
-          monitored = self.monitored;
-          occupancy = self.occupancy;
-          delay = self.delay;
-          recorded_calls = recorded_calls;
-          estimated_calls = estimated_calls;
-        } }
+        ensures { result ≡ journey_of self recorded_at_time line_ref reference cancellation recorded_calls estimated_calls }
     {
         let JourneyRows {
             line_ref: _,

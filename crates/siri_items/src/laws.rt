@@ -1,14 +1,35 @@
 //! What holds of the definitions: each function has a law for its clause, and does nothing when it is called.
 
-ghost use Rattle.std.specs.Prelude.{◌≡◌, ◌↔◌, Ok};
-ghost use Rattle.serde_json.specs.Data.{Data};
+ghost use Rattle.std.specs.Prelude.{◌≡◌, ◌↔◌, ◌≤◌, Ok, Some, option_map};
+ghost use Rattle.serde_json.specs.Data.{Data, depth};
 ghost use Rattle.siri_records.specs.declared.item.Item.{Item};
 ghost use Rattle.siri_records.specs.declared.item.Service.{Service};
 ghost use Rattle.siri_items.specs.Items.{item_of};
+ghost use Rattle.siri_items.specs.Proper.{IsProper, as_written, service_of};
 ghost use Rattle.siri_items.specs.Spelling.{SpellsItem};
+ghost use Rattle.siri_items.specs.Written.{written_item};
+ghost use Rattle.siri_json.specs.Canonical.{IsCanonical, as_texts};
+ghost use Rattle.siri_json.specs.Tree.{tree_of};
+ghost use Rattle.serde_json.specs.Written.{compact_text};
 
 /// An item is read from a tree exactly where the tree spells it: where the member of each row spells the field's value
 /// under the row's rule, or is absent where there is none.
 pub fn read_is_spelled()
     ensures { (service : Service) (d : Data) (i : Item) → (item_of service d ≡ Ok i) ↔ SpellsItem service d i }
+{}
+
+/// What was written of a proper item, with its numbers as texts, is read as that item (a journey without its
+/// RecordedAtTime, which isn't written in it).
+pub fn written_is_read()
+    ensures { (i : Item) → IsProper i → item_of (service_of i) (as_texts (written_item i)) ≡ Ok (as_written i) }
+{}
+
+/// What is written of a proper item is a canonical tree of at most seven lists and objects inside one another.
+pub fn written_is_canonical()
+    ensures { (i : Item) → IsProper i → IsCanonical (written_item i) × (depth (written_item i) ≤ 7) }
+{}
+
+/// The compact text of what is written of a proper item, read as a document, is read as that item.
+pub fn written_text_is_read()
+    ensures { (i : Item) → IsProper i → option_map (item_of (service_of i)) (tree_of (compact_text (written_item i))) ≡ Some (Ok (as_written i)) }
 {}

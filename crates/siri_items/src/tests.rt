@@ -226,3 +226,41 @@ fn lines_of_all_networks_are_counted_together(rt: HostRuntime) -> Result<(), Fai
     );
     Ok(())
 }
+
+// Items with every row of their tables, and several entries in each list.
+
+const WHOLE_VISIT: &str =
+    "{\"ItemIdentifier\":\"i1\",\"MonitoredVehicleJourney\":{\"Delay\":\"PT1M30S\",\"DestinationName\":\"Nord\",\"DestinationRef\":\"S9\",\"DirectionRef\":\"out\",\"FramedVehicleJourneyRef\":{\"DataFrameRef\":\"2024-05-01\",\"DatedVehicleJourneyRef\":\"J1\"},\"LineRef\":\"L1\",\"Monitored\":false,\"MonitoredCall\":{\"ActualArrivalTime\":\"2024-05-01T08:05:01.250Z\",\"ActualDepartureTime\":\"2024-05-01T08:07:00Z\",\"AimedArrivalTime\":\"2024-05-01T08:04:00Z\",\"AimedDepartureTime\":\"2024-05-01T08:06:00Z\",\"ArrivalPlatformName\":\"3 \\\"b\\\"\",\"ArrivalStatus\":\"delayed\",\"DeparturePlatformName\":\"4\\\\c\",\"DepartureStatus\":\"departed\",\"ExpectedArrivalTime\":\"2024-05-01T08:04:30Z\",\"ExpectedDepartureTime\":\"2024-05-01T08:06:30Z\",\"Order\":7,\"StopPointName\":\"Gare de l’Est\",\"StopPointRef\":\"S2\",\"VehicleAtStop\":true},\"Occupancy\":\"seatsAvailable\",\"OperatorRef\":\"OP\",\"PublishedLineName\":\"Ligne 1\",\"VehicleLocation\":{\"Latitude\":\"48.85\",\"Longitude\":\"-2.3521999\"},\"VehicleRef\":\"V7\"},\"MonitoringRef\":\"S2\",\"RecordedAtTime\":\"2024-05-01T07:59:30.123Z\"}";
+
+const WHOLE_JOURNEY: &str =
+    "{\"Cancellation\":true,\"Delay\":\"PT1M30S\",\"DestinationName\":\"Nord\",\"DestinationRef\":\"S9\",\"DirectionRef\":\"out\",\"EstimatedCalls\":{\"EstimatedCall\":[{\"ActualArrivalTime\":\"2024-05-01T08:05:01.250Z\",\"ActualDepartureTime\":\"2024-05-01T08:07:00Z\",\"AimedArrivalTime\":\"2024-05-01T08:04:00Z\",\"AimedDepartureTime\":\"2024-05-01T08:06:00Z\",\"ArrivalPlatformName\":\"3 \\\"b\\\"\",\"ArrivalStatus\":\"delayed\",\"DeparturePlatformName\":\"4\\\\c\",\"DepartureStatus\":\"departed\",\"ExpectedArrivalTime\":\"2024-05-01T08:04:30Z\",\"ExpectedDepartureTime\":\"2024-05-01T08:06:30Z\",\"Order\":7,\"StopPointName\":\"Gare de l’Est\",\"StopPointRef\":\"S2\",\"VehicleAtStop\":true},{\"Order\":999999999999999999,\"StopPointRef\":\"S9\"}]},\"FramedVehicleJourneyRef\":{\"DataFrameRef\":\"2024-05-01\",\"DatedVehicleJourneyRef\":\"J1\"},\"LineRef\":\"L1\",\"Monitored\":false,\"Occupancy\":\"seatsAvailable\",\"OperatorRef\":\"OP\",\"PublishedLineName\":\"Ligne 1\",\"RecordedCalls\":{\"RecordedCall\":[{\"ActualDepartureTime\":\"2024-05-01T07:50:00Z\",\"Order\":1,\"StopPointRef\":\"S0\"},{},{\"ActualArrivalTime\":\"2024-05-01T08:05:01.250Z\",\"ActualDepartureTime\":\"2024-05-01T08:07:00Z\",\"AimedArrivalTime\":\"2024-05-01T08:04:00Z\",\"AimedDepartureTime\":\"2024-05-01T08:06:00Z\",\"ArrivalPlatformName\":\"3 \\\"b\\\"\",\"ArrivalStatus\":\"delayed\",\"DeparturePlatformName\":\"4\\\\c\",\"DepartureStatus\":\"departed\",\"ExpectedArrivalTime\":\"2024-05-01T08:04:30Z\",\"ExpectedDepartureTime\":\"2024-05-01T08:06:30Z\",\"Order\":7,\"StopPointName\":\"Gare de l’Est\",\"StopPointRef\":\"S2\",\"VehicleAtStop\":true}]},\"VehicleRef\":\"V7\"}";
+
+const WHOLE_VEHICLE: &str =
+    "{\"ItemIdentifier\":\"i2\",\"MonitoredVehicleJourney\":{\"Delay\":\"-P1DT2H\",\"DestinationName\":\"Nord\",\"DestinationRef\":\"S9\",\"DirectionRef\":\"out\",\"FramedVehicleJourneyRef\":{\"DataFrameRef\":\"2024-05-01\",\"DatedVehicleJourneyRef\":\"J1\"},\"LineRef\":\"L1\",\"Monitored\":false,\"MonitoredCall\":{\"ActualArrivalTime\":\"2024-05-01T08:05:01.250Z\",\"ActualDepartureTime\":\"2024-05-01T08:07:00Z\",\"AimedArrivalTime\":\"2024-05-01T08:04:00Z\",\"AimedDepartureTime\":\"2024-05-01T08:06:00Z\",\"ArrivalPlatformName\":\"3 \\\"b\\\"\",\"ArrivalStatus\":\"delayed\",\"DeparturePlatformName\":\"4\\\\c\",\"DepartureStatus\":\"departed\",\"ExpectedArrivalTime\":\"2024-05-01T08:04:30Z\",\"ExpectedDepartureTime\":\"2024-05-01T08:06:30Z\",\"Order\":7,\"StopPointName\":\"Gare de l’Est\",\"StopPointRef\":\"S2\",\"VehicleAtStop\":true},\"Occupancy\":\"seatsAvailable\",\"OperatorRef\":\"OP\",\"PublishedLineName\":\"Ligne 1\",\"VehicleLocation\":{\"Latitude\":\"48.85\",\"Longitude\":\"-2.3521999\"},\"VehicleRef\":\"V7\"},\"RecordedAtTime\":\"2024-05-01T07:58:00Z\",\"ValidUntilTime\":\"2024-05-01T08:10:00Z\"}";
+
+const WHOLE_SITUATION: &str =
+    "{\"Affects\":{\"Networks\":{\"AffectedNetwork\":[{\"AffectedLine\":[{\"LineRef\":\"L1\"},{\"LineRef\":\"L2\"},{\"LineRef\":\"L3\"}]}]},\"Operators\":{\"AffectedOperator\":[{\"OperatorRef\":\"OP1\"},{\"OperatorRef\":\"OP2\"}]},\"StopPoints\":{\"AffectedStopPoint\":[{\"StopPointRef\":\"S1\"},{\"StopPointRef\":\"S2\"}]}},\"CreationTime\":\"2023-11-02T12:00:00Z\",\"Description\":\"Works at the station\",\"ParticipantRef\":\"AGENCY\",\"Progress\":\"published\",\"Severity\":\"slight\",\"SituationNumber\":\"12\",\"Summary\":\"Works\",\"ValidityPeriod\":[{\"EndTime\":\"2023-11-04T00:00:00Z\",\"StartTime\":\"2023-11-03T00:00:00Z\"},{\"EndTime\":\"2023-11-11T00:00:00Z\",\"StartTime\":\"2023-11-10T00:00:00Z\"},{\"StartTime\":\"2023-11-20T00:00:00Z\"}],\"Version\":\"3\",\"VersionedAtTime\":\"2023-11-02T12:30:00Z\"}";
+
+#[test]
+fn whole_items_are_written_as_they_were_read(rt: HostRuntime) -> Result<(), Fail> {
+    let alloc = rt.alloc();
+    check(&rt, alloc, Service::Stop, &[(WHOLE_VISIT, WHOLE_VISIT)])?;
+    check(
+        &rt,
+        alloc,
+        Service::Timetable,
+        &[(WHOLE_JOURNEY, WHOLE_JOURNEY)],
+    )?;
+    check(
+        &rt,
+        alloc,
+        Service::Vehicle,
+        &[(WHOLE_VEHICLE, WHOLE_VEHICLE)],
+    )?;
+    check(
+        &rt,
+        alloc,
+        Service::Situation,
+        &[(WHOLE_SITUATION, WHOLE_SITUATION)],
+    )
+}

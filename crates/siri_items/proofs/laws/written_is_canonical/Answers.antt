@@ -1,0 +1,5 @@
+use Rattle.siri_items.proofs.CanonicalTables.{item_canonical}
+use Rattle.siri_items.proofs.laws.written_is_canonical.Goals as goal
+
+pub returns : goal.returns
+returns c = item_canonical

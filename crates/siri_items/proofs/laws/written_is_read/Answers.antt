@@ -1,0 +1,5 @@
+use Rattle.siri_items.proofs.BackTables.{item_back}
+use Rattle.siri_items.proofs.laws.written_is_read.Goals as goal
+
+pub returns : goal.returns
+returns c = item_back

@@ -1,0 +1,84 @@
+-- The rows that the journeys of all services have, and the journeys that they make with the rows that each has for itself.
+use Rattle.std.specs.Prelude.{ℕ, List, Bool, Option, None}
+use Rattle.siri_records.specs.declared.call.StopCall.{StopCall}
+use Rattle.siri_records.specs.declared.visit.VisitJourney.{VisitJourney}
+use Rattle.siri_records.specs.declared.visit.VehicleLocation.{VehicleLocation}
+use Rattle.siri_records.specs.declared.vehicle.VehicleJourney.{VehicleJourney}
+use Rattle.siri_records.specs.declared.journey.Journey.{Journey}
+use Rattle.siri_items.specs.declared.journey_rows.JourneyRows.{JourneyRows}
+use Rattle.siri_items.specs.declared.read_call.NeededReference.{NeededReference}
+
+-- no row was read
+abbrev pub no_rows : JourneyRows
+no_rows = record {
+  line_ref = None;
+  direction_ref = None;
+  reference = record { data_frame_ref = None; dated_vehicle_journey_ref = None };
+  published_line_name = None;
+  operator_ref = None;
+  destination_ref = None;
+  destination_name = None;
+  vehicle_ref = None;
+  monitored = None;
+  occupancy = None;
+  delay = None;
+}
+
+-- the journey of a visit
+abbrev pub visit_journey_of : JourneyRows → Option VehicleLocation → StopCall → VisitJourney
+visit_journey_of rows vehicle_location monitored_call = record {
+  line_ref = rows.line_ref;
+  direction_ref = rows.direction_ref;
+  data_frame_ref = rows.reference.data_frame_ref;
+  dated_vehicle_journey_ref = rows.reference.dated_vehicle_journey_ref;
+  published_line_name = rows.published_line_name;
+  operator_ref = rows.operator_ref;
+  destination_ref = rows.destination_ref;
+  destination_name = rows.destination_name;
+  vehicle_ref = rows.vehicle_ref;
+  monitored = rows.monitored;
+  occupancy = rows.occupancy;
+  delay = rows.delay;
+  vehicle_location = vehicle_location;
+  monitored_call = monitored_call;
+}
+
+-- the journey of a vehicle, which is named
+abbrev pub vehicle_journey_of : JourneyRows → List ℕ → Option VehicleLocation → Option StopCall → VehicleJourney
+vehicle_journey_of rows vehicle_ref vehicle_location monitored_call = record {
+  line_ref = rows.line_ref;
+  direction_ref = rows.direction_ref;
+  data_frame_ref = rows.reference.data_frame_ref;
+  dated_vehicle_journey_ref = rows.reference.dated_vehicle_journey_ref;
+  published_line_name = rows.published_line_name;
+  operator_ref = rows.operator_ref;
+  destination_ref = rows.destination_ref;
+  destination_name = rows.destination_name;
+  vehicle_ref = vehicle_ref;
+  monitored = rows.monitored;
+  occupancy = rows.occupancy;
+  delay = rows.delay;
+  vehicle_location = vehicle_location;
+  monitored_call = monitored_call;
+}
+
+-- a journey, whose line and reference are there
+abbrev pub journey_of : JourneyRows → Option ℕ → List ℕ → NeededReference → Option Bool → List StopCall → List StopCall → Journey
+journey_of rows recorded_at_time line_ref reference cancellation recorded_calls estimated_calls = record {
+  recorded_at_time = recorded_at_time;
+  line_ref = line_ref;
+  direction_ref = rows.direction_ref;
+  data_frame_ref = reference.data_frame_ref;
+  dated_vehicle_journey_ref = reference.dated_vehicle_journey_ref;
+  cancellation = cancellation;
+  published_line_name = rows.published_line_name;
+  operator_ref = rows.operator_ref;
+  destination_ref = rows.destination_ref;
+  destination_name = rows.destination_name;
+  vehicle_ref = rows.vehicle_ref;
+  monitored = rows.monitored;
+  occupancy = rows.occupancy;
+  delay = rows.delay;
+  recorded_calls = recorded_calls;
+  estimated_calls = estimated_calls;
+}
