@@ -9,5 +9,15 @@
 //! inside them. The rules of rows and the tables of items are those of `siri_items`.
 #![tactic(auto)]
 
+mod document;
+mod kinds;
 pub mod names;
+mod read_deliveries;
 mod read_error;
+mod read_frames;
+mod read_parts;
+mod read_removals;
+mod read_statuses;
+mod read_supplies;
+
+pub use document::{DecodeError, Refusal, decode};
