@@ -11,3 +11,8 @@
 
 pub mod names;
 mod read_error;
+mod read_requests;
+mod read_subscriber;
+mod read_subscriptions;
+mod read_terminations;
+mod read_topics;
