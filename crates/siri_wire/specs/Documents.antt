@@ -11,7 +11,10 @@ use Rattle.siri_items.specs.Refusals.{Refusal, ◌>>=◌, refused}
 use Rattle.siri_items.specs.Rules.{table, needed}
 use Rattle.siri_items.specs.declared.refusal.ItemError.{ItemError}
 use Rattle.siri_items.specs.declared.refusal.ItemError.TheVariants as items
+use Rattle.siri_wire.specs.Requests.{service_request}
 use Rattle.siri_wire.specs.Deliveries.{service_delivery}
+use Rattle.siri_wire.specs.Subscriptions.{subscription_request, subscription_response}
+use Rattle.siri_wire.specs.Terminations.{termination_request, termination_response}
 use Rattle.siri_wire.specs.Supplies.{data_ready_notification, data_ready_acknowledgement, data_supply_request, data_received_acknowledgement}
 use Rattle.siri_wire.specs.Statuses.{check_status_request, check_status_response, heartbeat_notification}
 use Rattle.siri_wire.specs.declared.kinds.Kind.{Kind}
@@ -23,7 +26,12 @@ use Rattle.siri_wire.specs.declared.names.TheConstants.{SIRI, SERVICE_REQUEST, S
 -- the messages
 abbrev pub kinds : List Kind
 kinds =
+    kind.ServiceRequest ∷
     kind.ServiceDelivery ∷
+    kind.SubscriptionRequest ∷
+    kind.SubscriptionResponse ∷
+    kind.TerminateSubscriptionRequest ∷
+    kind.TerminateSubscriptionResponse ∷
     kind.DataReadyNotification ∷
     kind.DataReadyAcknowledgement ∷
     kind.DataSupplyRequest ∷
@@ -34,7 +42,12 @@ kinds =
 
 -- the name under which a document holds a message
 abbrev pub name_of : Kind → List ℕ
+name_of kind.ServiceRequest = SERVICE_REQUEST.now
 name_of kind.ServiceDelivery = SERVICE_DELIVERY.now
+name_of kind.SubscriptionRequest = SUBSCRIPTION_REQUEST.now
+name_of kind.SubscriptionResponse = SUBSCRIPTION_RESPONSE.now
+name_of kind.TerminateSubscriptionRequest = TERMINATE_SUBSCRIPTION_REQUEST.now
+name_of kind.TerminateSubscriptionResponse = TERMINATE_SUBSCRIPTION_RESPONSE.now
 name_of kind.DataReadyNotification = DATA_READY_NOTIFICATION.now
 name_of kind.DataReadyAcknowledgement = DATA_READY_ACKNOWLEDGEMENT.now
 name_of kind.DataSupplyRequest = DATA_SUPPLY_REQUEST.now
@@ -45,7 +58,12 @@ name_of kind.HeartbeatNotification = HEARTBEAT_NOTIFICATION.now
 
 -- the message of a kind, by its table
 abbrev pub message_at : Kind → Data → Result Message Refusal
+message_at kind.ServiceRequest d = needed (table service_request) SERVICE_REQUEST.now d >>= λ m. Ok (message.ServiceRequest m)
 message_at kind.ServiceDelivery d = needed (table service_delivery) SERVICE_DELIVERY.now d >>= λ m. Ok (message.ServiceDelivery m)
+message_at kind.SubscriptionRequest d = needed (table subscription_request) SUBSCRIPTION_REQUEST.now d >>= λ m. Ok (message.SubscriptionRequest m)
+message_at kind.SubscriptionResponse d = needed (table subscription_response) SUBSCRIPTION_RESPONSE.now d >>= λ m. Ok (message.SubscriptionResponse m)
+message_at kind.TerminateSubscriptionRequest d = needed (table termination_request) TERMINATE_SUBSCRIPTION_REQUEST.now d >>= λ m. Ok (message.TerminateSubscriptionRequest m)
+message_at kind.TerminateSubscriptionResponse d = needed (table termination_response) TERMINATE_SUBSCRIPTION_RESPONSE.now d >>= λ m. Ok (message.TerminateSubscriptionResponse m)
 message_at kind.DataReadyNotification d = needed (table data_ready_notification) DATA_READY_NOTIFICATION.now d >>= λ m. Ok (message.DataReadyNotification m)
 message_at kind.DataReadyAcknowledgement d = needed (table data_ready_acknowledgement) DATA_READY_ACKNOWLEDGEMENT.now d >>= λ m. Ok (message.DataReadyAcknowledgement m)
 message_at kind.DataSupplyRequest d = needed (table data_supply_request) DATA_SUPPLY_REQUEST.now d >>= λ m. Ok (message.DataSupplyRequest m)

@@ -1,4 +1,9 @@
 pub mod Errors
+pub mod Topics
+pub mod Requests
+pub mod Subscribers
+pub mod Subscriptions
+pub mod Terminations
 pub mod Supplies
 pub mod Statuses
 pub mod Removals

@@ -8,12 +8,17 @@ ghost use Rattle.siri_wire.specs.Documents.{message_at, siri, root, message_of, 
 use crate::kinds::{Kind, only_held};
 use crate::names;
 use crate::read_deliveries::ServiceDeliveryTable;
+use crate::read_requests::ServiceRequestTable;
 use crate::read_statuses::{
     CheckStatusRequestTable, CheckStatusResponseTable, HeartbeatNotificationTable,
 };
+use crate::read_subscriptions::{SubscriptionRequestTable, SubscriptionResponseTable};
 use crate::read_supplies::{
     DataReadyAcknowledgementTable, DataReadyNotificationTable, DataReceivedAcknowledgementTable,
     DataSupplyRequestTable,
+};
+use crate::read_terminations::{
+    TerminateSubscriptionRequestTable, TerminateSubscriptionResponseTable,
 };
 use serde_json::Value;
 use siri_base::Reason;
@@ -57,37 +62,42 @@ fn message_at(alloc: Global, tree: &Value, kind: Kind) -> Result<Message, ItemEr
     ensures { Gives result (message_at kind (view tree.now)) }
 {
     match kind {
+        Kind::ServiceRequest => Ok(Message::ServiceRequest(needed::<ServiceRequestTable>(
+            alloc,
+            tree,
+            names::SERVICE_REQUEST,
+        )?)),
         Kind::ServiceDelivery => Ok(Message::ServiceDelivery(needed::<ServiceDeliveryTable>(
             alloc,
             tree,
             names::SERVICE_DELIVERY,
         )?)),
-        Kind::DataReadyNotification => {
-            Ok(Message::DataReadyNotification(needed::<DataReadyNotificationTable>(
-                alloc,
-                tree,
-                names::DATA_READY_NOTIFICATION,
-            )?))
-        }
-        Kind::DataReadyAcknowledgement => {
-            Ok(Message::DataReadyAcknowledgement(needed::<DataReadyAcknowledgementTable>(
-                alloc,
-                tree,
-                names::DATA_READY_ACKNOWLEDGEMENT,
-            )?))
-        }
+        Kind::SubscriptionRequest => Ok(Message::SubscriptionRequest(needed::<
+            SubscriptionRequestTable,
+        >(alloc, tree, names::SUBSCRIPTION_REQUEST)?)),
+        Kind::SubscriptionResponse => Ok(Message::SubscriptionResponse(needed::<
+            SubscriptionResponseTable,
+        >(alloc, tree, names::SUBSCRIPTION_RESPONSE)?)),
+        Kind::TerminateSubscriptionRequest => Ok(Message::TerminateSubscriptionRequest(needed::<
+            TerminateSubscriptionRequestTable,
+        >(alloc, tree, names::TERMINATE_SUBSCRIPTION_REQUEST)?)),
+        Kind::TerminateSubscriptionResponse => Ok(Message::TerminateSubscriptionResponse(needed::<
+            TerminateSubscriptionResponseTable,
+        >(alloc, tree, names::TERMINATE_SUBSCRIPTION_RESPONSE)?)),
+        Kind::DataReadyNotification => Ok(Message::DataReadyNotification(needed::<
+            DataReadyNotificationTable,
+        >(alloc, tree, names::DATA_READY_NOTIFICATION)?)),
+        Kind::DataReadyAcknowledgement => Ok(Message::DataReadyAcknowledgement(needed::<
+            DataReadyAcknowledgementTable,
+        >(alloc, tree, names::DATA_READY_ACKNOWLEDGEMENT)?)),
         Kind::DataSupplyRequest => Ok(Message::DataSupplyRequest(needed::<DataSupplyRequestTable>(
             alloc,
             tree,
             names::DATA_SUPPLY_REQUEST,
         )?)),
-        Kind::DataReceivedAcknowledgement => {
-            Ok(Message::DataReceivedAcknowledgement(needed::<DataReceivedAcknowledgementTable>(
-                alloc,
-                tree,
-                names::DATA_RECEIVED_ACKNOWLEDGEMENT,
-            )?))
-        }
+        Kind::DataReceivedAcknowledgement => Ok(Message::DataReceivedAcknowledgement(needed::<
+            DataReceivedAcknowledgementTable,
+        >(alloc, tree, names::DATA_RECEIVED_ACKNOWLEDGEMENT)?)),
         Kind::CheckStatusRequest => Ok(Message::CheckStatusRequest(needed::<
             CheckStatusRequestTable,
         >(alloc, tree, names::CHECK_STATUS_REQUEST)?)),

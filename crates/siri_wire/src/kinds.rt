@@ -10,7 +10,12 @@ use siri_json::{ObjectOf, member, object_of};
 /// A kind of messages (EN 15531-2).
 #[derive(Clone, Copy)]
 pub enum Kind {
+    ServiceRequest,
     ServiceDelivery,
+    SubscriptionRequest,
+    SubscriptionResponse,
+    TerminateSubscriptionRequest,
+    TerminateSubscriptionResponse,
     DataReadyNotification,
     DataReadyAcknowledgement,
     DataSupplyRequest,
@@ -20,8 +25,13 @@ pub enum Kind {
     HeartbeatNotification,
 }
 
-const KINDS: [Kind; 8] = [
+const KINDS: [Kind; 13] = [
+    Kind::ServiceRequest,
     Kind::ServiceDelivery,
+    Kind::SubscriptionRequest,
+    Kind::SubscriptionResponse,
+    Kind::TerminateSubscriptionRequest,
+    Kind::TerminateSubscriptionResponse,
     Kind::DataReadyNotification,
     Kind::DataReadyAcknowledgement,
     Kind::DataSupplyRequest,
@@ -37,7 +47,12 @@ impl Kind {
         ensures { result.now ≡ name_of self }
     {
         match self {
+            Kind::ServiceRequest => names::SERVICE_REQUEST,
             Kind::ServiceDelivery => names::SERVICE_DELIVERY,
+            Kind::SubscriptionRequest => names::SUBSCRIPTION_REQUEST,
+            Kind::SubscriptionResponse => names::SUBSCRIPTION_RESPONSE,
+            Kind::TerminateSubscriptionRequest => names::TERMINATE_SUBSCRIPTION_REQUEST,
+            Kind::TerminateSubscriptionResponse => names::TERMINATE_SUBSCRIPTION_RESPONSE,
             Kind::DataReadyNotification => names::DATA_READY_NOTIFICATION,
             Kind::DataReadyAcknowledgement => names::DATA_READY_ACKNOWLEDGEMENT,
             Kind::DataSupplyRequest => names::DATA_SUPPLY_REQUEST,

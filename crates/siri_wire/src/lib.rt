@@ -17,7 +17,12 @@ mod read_error;
 mod read_frames;
 mod read_parts;
 mod read_removals;
+mod read_requests;
 mod read_statuses;
+mod read_subscriber;
+mod read_subscriptions;
 mod read_supplies;
+mod read_terminations;
+mod read_topics;
 
 pub use document::{DecodeError, Refusal, decode};
