@@ -1,0 +1,49 @@
+-- The table of EstimatedJourneyVersionFrame (EN 15531-3): the journeys of all frames as one list.
+use Rattle.std.specs.Prelude.{ℕ, List, [], length, map, flat_map, nat_le, if◌then◌else◌, Option, Some, None, Result, Ok}
+use Rattle.serde_json.specs.Data.{Data}
+use Rattle.siri_base.specs.declared.reason.Reason.TheVariants.{TooMany}
+use Rattle.siri_json.specs.Values.{member_of}
+use Rattle.siri_json.specs.declared.path.Step.TheVariants.{Member}
+use Rattle.siri_records.specs.declared.item.Item.{Item}
+use Rattle.siri_records.specs.declared.item.Item.TheVariants as item
+use Rattle.siri_records.specs.declared.journey.Journey.{Journey}
+use Rattle.siri_items.specs.Refusals.{Refusal, ◌>>=◌, refused, below}
+use Rattle.siri_items.specs.Rules.{moment, table, row, list_of, or_empty}
+use Rattle.siri_items.specs.Journeys.{journey}
+use Rattle.siri_items.specs.declared.names.TheConstants.{RECORDED_AT_TIME}
+use Rattle.siri_wire.specs.declared.names.TheConstants.{ESTIMATED_VEHICLE_JOURNEY, ESTIMATED_JOURNEY_VERSION_FRAME}
+
+-- a journey's own RecordedAtTime, or its frame's where that is absent
+abbrev pub own_or : Option ℕ → Option ℕ → Option ℕ
+own_or (Some own) frame = Some own
+own_or None frame = frame
+
+-- a journey of a frame
+abbrev pub framed_journey : Option ℕ → Journey → Item
+framed_journey frame j = item.Journey (record j { recorded_at_time = own_or j.recorded_at_time frame })
+
+-- the journeys of a frame, as many as there are
+unfoldable pub journeys : Data → Result (List Journey) Refusal
+journeys d = below (Member ESTIMATED_VEHICLE_JOURNEY.now) (or_empty (list_of (table journey)) (member_of ESTIMATED_VEHICLE_JOURNEY.now d))
+
+-- EstimatedJourneyVersionFrame: its journeys, each with its own RecordedAtTime or the frame's
+unfoldable pub frame : Data → Result (List Item) Refusal
+frame d = do
+  recorded_at_time ← row moment RECORDED_AT_TIME.now d
+  journeys ← journeys d
+  Ok (map (framed_journey recorded_at_time) journeys)
+
+-- the journeys of all frames
+abbrev pub together : List (List Item) → List Item
+together frames = flat_map (λ items. items) frames
+
+-- there may be 20,000 of them in all
+abbrev pub few_together : List Item → Result (List Item) Refusal
+few_together items = if nat_le (length items) 20000 then Ok items else refused TooMany
+
+-- the bound is tested after the entries
+unfoldable pub frames_of : Data → Result (List Item) Refusal
+frames_of d = list_of (table frame) d >>= λ frames. few_together (together frames)
+
+unfoldable pub framed_journeys : Data → Result (List Item) Refusal
+framed_journeys d = below (Member ESTIMATED_JOURNEY_VERSION_FRAME.now) (or_empty frames_of (member_of ESTIMATED_JOURNEY_VERSION_FRAME.now d))

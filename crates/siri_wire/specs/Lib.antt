@@ -1,0 +1,13 @@
+pub mod Errors
+pub mod Topics
+pub mod Requests
+pub mod Subscribers
+pub mod Subscriptions
+pub mod Terminations
+pub mod Supplies
+pub mod Statuses
+pub mod Removals
+pub mod Parts
+pub mod Frames
+pub mod Deliveries
+pub mod Documents

@@ -1,0 +1,159 @@
+// Documents, from their bytes on.
+ghost use Rattle.std.specs.Prelude.{◌≡◌};
+ghost use Rattle.serde_json.specs.Data.{Data};
+ghost use Rattle.serde_json.specs.View.{view};
+ghost use Rattle.siri_items.specs.Refusals.{Gives};
+ghost use Rattle.siri_wire.specs.Documents.{message_at, siri, root, message_of, Decodes, decode_error};
+
+use crate::kinds::{Kind, only_held};
+use crate::names;
+use crate::read_deliveries::ServiceDeliveryTable;
+use crate::read_requests::ServiceRequestTable;
+use crate::read_statuses::{
+    CheckStatusRequestTable, CheckStatusResponseTable, HeartbeatNotificationTable,
+};
+use crate::read_subscriptions::{SubscriptionRequestTable, SubscriptionResponseTable};
+use crate::read_supplies::{
+    DataReadyAcknowledgementTable, DataReadyNotificationTable, DataReceivedAcknowledgementTable,
+    DataSupplyRequestTable,
+};
+use crate::read_terminations::{
+    TerminateSubscriptionRequestTable, TerminateSubscriptionResponseTable,
+};
+use serde_json::Value;
+use siri_base::Reason;
+use siri_items::ItemError;
+use siri_items::refusal::refuse;
+use siri_items::rows::needed;
+use siri_items::rules::Table;
+use siri_json::{Path, TreeError, read_tree};
+use siri_messages::Message;
+use std::alloc::Global;
+
+/// Where a document is refused, and why.
+#[derive(Debug, Drop)]
+pub struct Refusal {
+    /// The path from the document's root.
+    pub path: Path,
+    pub reason: Reason,
+}
+
+/// Why a document gave no message.
+#[derive(Debug, Drop)]
+pub enum DecodeError {
+    /// The document is refused: the first refusal in the order of the tables, depth first.
+    Refused(Refusal),
+    /// There was no memory.
+    OutOfMemory,
+}
+
+impl From<ItemError> for DecodeError {
+    ghost from_gives = { λ error given. given ≡ decode_error error };
+
+    fn from(error: ItemError) -> Self {
+        match error {
+            ItemError::Refused { path, reason } => DecodeError::Refused(Refusal { path, reason }),
+            ItemError::OutOfMemory => DecodeError::OutOfMemory,
+        }
+    }
+}
+
+fn message_at(alloc: Global, tree: &Value, kind: Kind) -> Result<Message, ItemError>
+    ensures { Gives result (message_at kind (view tree.now)) }
+{
+    match kind {
+        Kind::ServiceRequest => Ok(Message::ServiceRequest(needed::<ServiceRequestTable>(
+            alloc,
+            tree,
+            names::SERVICE_REQUEST,
+        )?)),
+        Kind::ServiceDelivery => Ok(Message::ServiceDelivery(needed::<ServiceDeliveryTable>(
+            alloc,
+            tree,
+            names::SERVICE_DELIVERY,
+        )?)),
+        Kind::SubscriptionRequest => Ok(Message::SubscriptionRequest(needed::<
+            SubscriptionRequestTable,
+        >(alloc, tree, names::SUBSCRIPTION_REQUEST)?)),
+        Kind::SubscriptionResponse => Ok(Message::SubscriptionResponse(needed::<
+            SubscriptionResponseTable,
+        >(alloc, tree, names::SUBSCRIPTION_RESPONSE)?)),
+        Kind::TerminateSubscriptionRequest => Ok(Message::TerminateSubscriptionRequest(needed::<
+            TerminateSubscriptionRequestTable,
+        >(alloc, tree, names::TERMINATE_SUBSCRIPTION_REQUEST)?)),
+        Kind::TerminateSubscriptionResponse => Ok(Message::TerminateSubscriptionResponse(needed::<
+            TerminateSubscriptionResponseTable,
+        >(alloc, tree, names::TERMINATE_SUBSCRIPTION_RESPONSE)?)),
+        Kind::DataReadyNotification => Ok(Message::DataReadyNotification(needed::<
+            DataReadyNotificationTable,
+        >(alloc, tree, names::DATA_READY_NOTIFICATION)?)),
+        Kind::DataReadyAcknowledgement => Ok(Message::DataReadyAcknowledgement(needed::<
+            DataReadyAcknowledgementTable,
+        >(alloc, tree, names::DATA_READY_ACKNOWLEDGEMENT)?)),
+        Kind::DataSupplyRequest => Ok(Message::DataSupplyRequest(needed::<DataSupplyRequestTable>(
+            alloc,
+            tree,
+            names::DATA_SUPPLY_REQUEST,
+        )?)),
+        Kind::DataReceivedAcknowledgement => Ok(Message::DataReceivedAcknowledgement(needed::<
+            DataReceivedAcknowledgementTable,
+        >(alloc, tree, names::DATA_RECEIVED_ACKNOWLEDGEMENT)?)),
+        Kind::CheckStatusRequest => Ok(Message::CheckStatusRequest(needed::<
+            CheckStatusRequestTable,
+        >(alloc, tree, names::CHECK_STATUS_REQUEST)?)),
+        Kind::CheckStatusResponse => Ok(Message::CheckStatusResponse(needed::<
+            CheckStatusResponseTable,
+        >(alloc, tree, names::CHECK_STATUS_RESPONSE)?)),
+        Kind::HeartbeatNotification => Ok(Message::HeartbeatNotification(needed::<
+            HeartbeatNotificationTable,
+        >(alloc, tree, names::HEARTBEAT_NOTIFICATION)?)),
+    }
+}
+
+/// The one message in Siri; `UnknownMessage` where there isn't exactly one.
+struct SiriTable;
+
+impl Table for SiriTable {
+    type Out = Message;
+
+    ghost rows = { siri };
+
+    #[tactic(auto, unfolding(crate::specs::Documents::siri))]
+    fn read_rows(alloc: Global, tree: &Value) -> Result<Message, ItemError> {
+        match only_held(tree) {
+            Some(kind) => message_at(alloc, tree, kind),
+            None => refuse(alloc, Reason::UnknownMessage),
+        }
+    }
+}
+
+#[tactic(auto, unfolding(crate::specs::Documents::root))]
+fn root(alloc: Global, tree: &Value) -> Result<Message, ItemError>
+    ensures { Gives result (root (view tree.now)) }
+{
+    match tree {
+        Value::Object(_) => needed::<SiriTable>(alloc, tree, names::SIRI),
+        _ => refuse(alloc, Reason::WrongKind),
+    }
+}
+
+#[tactic(auto, unfolding(crate::specs::Documents::message_of))]
+fn message_of(alloc: Global, document: &[u8]) -> Result<Message, ItemError>
+    ensures { Gives result (message_of document.now) }
+{
+    match read_tree(alloc, document) {
+        Ok(tree) => root(alloc, &tree),
+        Err(TreeError::TooLong) => refuse(alloc, Reason::TooLong),
+        Err(TreeError::NotJson) => refuse(alloc, Reason::NotJson),
+        Err(TreeError::OutOfMemory) => Err(ItemError::OutOfMemory),
+    }
+}
+
+/// The message that a document spells (EN 15531-2), or the first refusal: `TooLong` above 8,388,608 bytes, `NotJson`,
+/// `WrongKind` where it is no object, `Missing` and `WrongKind` at Siri, `UnknownMessage` at Siri where it doesn't hold
+/// exactly one message, and then what the message's table is refused for, row by row, depth first.
+pub fn decode(alloc: Global, bytes: &[u8]) -> Result<Message, DecodeError>
+    ensures { Decodes result (message_of bytes.now) }
+{
+    Ok(message_of(alloc, bytes)?)
+}

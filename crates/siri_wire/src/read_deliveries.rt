@@ -1,0 +1,206 @@
+// Reading deliveries of items.
+ghost use Rattle.std.specs.Prelude.{◌≡◌};
+ghost use Rattle.serde_json.specs.Data.{Data};
+ghost use Rattle.serde_json.specs.View.{view};
+ghost use Rattle.siri_items.specs.Refusals.{Gives};
+ghost use Rattle.siri_wire.specs.Deliveries.{visit_item, vehicle_item, situation_item, stop_monitoring_delivery, estimated_timetable_delivery, vehicle_monitoring_delivery, situation_exchange_delivery, service_delivery};
+
+use crate::names;
+use crate::read_error::error_condition;
+use crate::read_frames::framed_journeys;
+use crate::read_parts::{
+    JourneyExtensionsTable, MOST_ENTRIES, SituationExtensionsTable, Standing, StandingTable,
+    or_none, read_heading,
+};
+use crate::read_removals::{VehicleCancellationTable, VisitCancellationTable};
+use serde_json::Value;
+use siri_items::rows::{list, list_inside, row};
+use siri_items::rules::{FlagRule, MomentRule, NameRule, Table};
+use siri_items::{ItemError, SituationTable, VehicleTable, VisitTable};
+use siri_messages::{FunctionalDelivery, ServiceDelivery};
+use siri_records::Item;
+use std::alloc::Global;
+
+const MOST_DELIVERIES: usize = 100;
+
+struct VisitItemTable;
+
+impl Table for VisitItemTable {
+    type Out = Item;
+
+    ghost rows = { visit_item };
+
+    #[tactic(auto, unfolding(crate::specs::Deliveries::visit_item))]
+    fn read_rows(alloc: Global, tree: &Value) -> Result<Item, ItemError> {
+        Ok(Item::Visit(VisitTable::read_rows(alloc, tree)?))
+    }
+}
+
+struct VehicleItemTable;
+
+impl Table for VehicleItemTable {
+    type Out = Item;
+
+    ghost rows = { vehicle_item };
+
+    #[tactic(auto, unfolding(crate::specs::Deliveries::vehicle_item))]
+    fn read_rows(alloc: Global, tree: &Value) -> Result<Item, ItemError> {
+        Ok(Item::Vehicle(VehicleTable::read_rows(alloc, tree)?))
+    }
+}
+
+struct SituationItemTable;
+
+impl Table for SituationItemTable {
+    type Out = Item;
+
+    ghost rows = { situation_item };
+
+    #[tactic(auto, unfolding(crate::specs::Deliveries::situation_item))]
+    fn read_rows(alloc: Global, tree: &Value) -> Result<Item, ItemError> {
+        Ok(Item::Situation(SituationTable::read_rows(alloc, tree)?))
+    }
+}
+
+/// Visits, and visits that are no more (EN 15531-3, StopMonitoringDelivery), at most 20,000 of each.
+pub struct StopMonitoringDeliveryTable;
+
+impl Table for StopMonitoringDeliveryTable {
+    type Out = FunctionalDelivery;
+
+    ghost rows = { stop_monitoring_delivery };
+
+    #[tactic(auto, unfolding(crate::specs::Deliveries::stop_monitoring_delivery))]
+    fn read_rows(alloc: Global, tree: &Value) -> Result<FunctionalDelivery, ItemError> {
+        let heading = read_heading(alloc, tree)?;
+        let extensions = row::<StandingTable>(alloc, tree, names::EXTENSIONS)?;
+        let items = list::<VisitItemTable>(alloc, tree, names::MONITORED_STOP_VISIT, MOST_ENTRIES)?;
+        let removals = list::<VisitCancellationTable>(
+            alloc,
+            tree,
+            names::MONITORED_STOP_VISIT_CANCELLATION,
+            MOST_ENTRIES,
+        )?;
+        let standing = extensions.unwrap_or(Standing::outside());
+        Ok(heading.delivery(standing, items, removals))
+    }
+}
+
+/// Journeys in frames, and journeys that are shown no more (EN 15531-3, EstimatedTimetableDelivery), at most 20,000 of
+/// each.
+pub struct EstimatedTimetableDeliveryTable;
+
+impl Table for EstimatedTimetableDeliveryTable {
+    type Out = FunctionalDelivery;
+
+    ghost rows = { estimated_timetable_delivery };
+
+    #[tactic(auto, unfolding(crate::specs::Deliveries::estimated_timetable_delivery))]
+    fn read_rows(alloc: Global, tree: &Value) -> Result<FunctionalDelivery, ItemError> {
+        let heading = read_heading(alloc, tree)?;
+        let extensions = row::<JourneyExtensionsTable>(alloc, tree, names::EXTENSIONS)?;
+        let items = framed_journeys(alloc, tree)?;
+        let extended = or_none(alloc, extensions);
+        Ok(heading.delivery(extended.standing, items, extended.removals))
+    }
+}
+
+/// Vehicle activities, and those that are no more (EN 15531-3, VehicleMonitoringDelivery), at most 20,000 of each.
+pub struct VehicleMonitoringDeliveryTable;
+
+impl Table for VehicleMonitoringDeliveryTable {
+    type Out = FunctionalDelivery;
+
+    ghost rows = { vehicle_monitoring_delivery };
+
+    #[tactic(auto, unfolding(crate::specs::Deliveries::vehicle_monitoring_delivery))]
+    fn read_rows(alloc: Global, tree: &Value) -> Result<FunctionalDelivery, ItemError> {
+        let heading = read_heading(alloc, tree)?;
+        let extensions = row::<StandingTable>(alloc, tree, names::EXTENSIONS)?;
+        let items = list::<VehicleItemTable>(alloc, tree, names::VEHICLE_ACTIVITY, MOST_ENTRIES)?;
+        let removals = list::<VehicleCancellationTable>(
+            alloc,
+            tree,
+            names::VEHICLE_ACTIVITY_CANCELLATION,
+            MOST_ENTRIES,
+        )?;
+        let standing = extensions.unwrap_or(Standing::outside());
+        Ok(heading.delivery(standing, items, removals))
+    }
+}
+
+/// Situations, and situations that are shown no more (CEN/TS 15531-5, SituationExchangeDelivery), at most 20,000 of
+/// each.
+pub struct SituationExchangeDeliveryTable;
+
+impl Table for SituationExchangeDeliveryTable {
+    type Out = FunctionalDelivery;
+
+    ghost rows = { situation_exchange_delivery };
+
+    #[tactic(auto, unfolding(crate::specs::Deliveries::situation_exchange_delivery))]
+    fn read_rows(alloc: Global, tree: &Value) -> Result<FunctionalDelivery, ItemError> {
+        let heading = read_heading(alloc, tree)?;
+        let extensions = row::<SituationExtensionsTable>(alloc, tree, names::EXTENSIONS)?;
+        let items = list_inside::<SituationItemTable>(
+            alloc,
+            tree,
+            names::SITUATIONS,
+            names::PT_SITUATION_ELEMENT,
+            MOST_ENTRIES,
+        )?;
+        let extended = or_none(alloc, extensions);
+        Ok(heading.delivery(extended.standing, items, extended.removals))
+    }
+}
+
+/// What is delivered of the four services (EN 15531-2, ServiceDelivery), at most 100 deliveries of each. Status is true
+/// and MoreData false where they are absent.
+pub struct ServiceDeliveryTable;
+
+impl Table for ServiceDeliveryTable {
+    type Out = ServiceDelivery;
+
+    ghost rows = { service_delivery };
+
+    #[tactic(auto, unfolding(crate::specs::Deliveries::service_delivery))]
+    fn read_rows(alloc: Global, tree: &Value) -> Result<ServiceDelivery, ItemError> {
+        Ok(ServiceDelivery {
+            response_timestamp: row::<MomentRule>(alloc, tree, names::RESPONSE_TIMESTAMP)?,
+            producer_ref: row::<NameRule>(alloc, tree, names::PRODUCER_REF)?,
+            response_message_identifier: row::<NameRule>(
+                alloc,
+                tree,
+                names::RESPONSE_MESSAGE_IDENTIFIER,
+            )?,
+            request_message_ref: row::<NameRule>(alloc, tree, names::REQUEST_MESSAGE_REF)?,
+            status: row::<FlagRule>(alloc, tree, names::STATUS)?.unwrap_or(true),
+            error_condition: error_condition(alloc, tree)?,
+            more_data: row::<FlagRule>(alloc, tree, names::MORE_DATA)?.unwrap_or(false),
+            stop_monitoring_delivery: list::<StopMonitoringDeliveryTable>(
+                alloc,
+                tree,
+                names::STOP_MONITORING_DELIVERY,
+                MOST_DELIVERIES,
+            )?,
+            estimated_timetable_delivery: list::<EstimatedTimetableDeliveryTable>(
+                alloc,
+                tree,
+                names::ESTIMATED_TIMETABLE_DELIVERY,
+                MOST_DELIVERIES,
+            )?,
+            vehicle_monitoring_delivery: list::<VehicleMonitoringDeliveryTable>(
+                alloc,
+                tree,
+                names::VEHICLE_MONITORING_DELIVERY,
+                MOST_DELIVERIES,
+            )?,
+            situation_exchange_delivery: list::<SituationExchangeDeliveryTable>(
+                alloc,
+                tree,
+                names::SITUATION_EXCHANGE_DELIVERY,
+                MOST_DELIVERIES,
+            )?,
+        })
+    }
+}

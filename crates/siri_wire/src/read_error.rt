@@ -1,0 +1,46 @@
+// Reading the texts of errors.
+ghost use Rattle.std.specs.Prelude.{◌≡◌, Result, Option};
+ghost use Rattle.serde_json.specs.View.{view};
+ghost use Rattle.siri_items.specs.Refusals.{Gives};
+ghost use Rattle.siri_wire.specs.Errors.{other_error, error_condition};
+
+use crate::names;
+use serde_json::Value;
+use siri_base::{Reason, Text};
+use siri_items::ItemError;
+use siri_items::refusal::{below, refuse};
+use siri_items::rows::inside;
+use siri_items::rules::TextRule;
+use siri_json::{ObjectOf, member, object_of};
+use std::alloc::Global;
+
+/// The text of an error of a kind of its own.
+#[tactic(auto, unfolding(crate::specs::Errors::other_error, siri_items::specs::Rules::inside, siri_items::specs::Rules::row))]
+fn other_error(alloc: Global, value: &Value) -> Result<Option<Text>, ItemError>
+    ensures { Gives result (other_error (view value.now)) }
+{
+    let tree = match object_of(value) {
+        ObjectOf::Is(tree) => tree,
+        ObjectOf::Absent => return Ok(None),
+        ObjectOf::Wrong => return refuse(alloc, Reason::WrongKind),
+    };
+    match member(tree, names::OTHER_ERROR) {
+        Some(error) => below(
+            alloc,
+            names::OTHER_ERROR,
+            inside::<TextRule>(alloc, error, names::ERROR_TEXT),
+        ),
+        None => Ok(None),
+    }
+}
+
+/// The text of an object's ErrorCondition.
+#[tactic(auto, unfolding(crate::specs::Errors::error_condition, siri_items::specs::Rules::row))]
+pub fn error_condition(alloc: Global, tree: &Value) -> Result<Option<Text>, ItemError>
+    ensures { Gives result (error_condition (view tree.now)) }
+{
+    match member(tree, names::ERROR_CONDITION) {
+        Some(value) => below(alloc, names::ERROR_CONDITION, other_error(alloc, value)),
+        None => Ok(None),
+    }
+}

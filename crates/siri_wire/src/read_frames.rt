@@ -1,0 +1,107 @@
+// Reading the journeys of all frames as one list.
+ghost use Rattle.std.specs.Prelude.{◌≡◌, map, IfOk};
+ghost use Rattle.serde_json.specs.Data.{Data};
+ghost use Rattle.serde_json.specs.View.{view};
+ghost use Rattle.siri_items.specs.Refusals.{Gives};
+ghost use Rattle.siri_wire.specs.Frames.{framed_journey, journeys, frame, together, frames_of, framed_journeys};
+
+use crate::names;
+use crate::read_parts::MOST_ENTRIES;
+use serde_json::Value;
+use siri_base::{List, Moment, OutOfMemory, Reason};
+use siri_items::refusal::{below, refuse};
+use siri_items::rows::{list_of, row};
+use siri_items::rules::{MomentRule, Table};
+use siri_items::{ItemError, JourneyTable, names as item_names};
+use siri_json::member;
+use siri_records::{Item, Journey};
+use std::alloc::Global;
+
+/// A frame's journeys (EN 15531-3, EstimatedJourneyVersionFrame), each with its own RecordedAtTime or the frame's.
+struct FrameTable;
+
+fn framed_journey(frame: &Option<Moment>, mut journey: Journey) -> Item
+    ensures { result ≡ framed_journey frame.now journey }
+{
+    journey.recorded_at_time = journey.recorded_at_time.or(*frame);
+    Item::Journey(journey)
+}
+
+fn framed(
+    alloc: Global,
+    frame: &Option<Moment>,
+    journeys: List<Journey>,
+) -> Result<List<Item>, OutOfMemory>
+    ensures { IfOk result (λ items. items ≡ map (framed_journey frame.now) journeys) }
+{
+    let mut items = Vec::new(alloc);
+    for journey in journeys.into_vec() {
+        items.push(framed_journey(frame, journey))?;
+    }
+    Ok(List::of(items))
+}
+
+#[tactic(auto, unfolding(crate::specs::Frames::journeys))]
+fn journeys(alloc: Global, tree: &Value) -> Result<List<Journey>, ItemError>
+    ensures { Gives result (journeys (view tree.now)) }
+{
+    match member(tree, names::ESTIMATED_VEHICLE_JOURNEY) {
+        Some(value) => below(
+            alloc,
+            names::ESTIMATED_VEHICLE_JOURNEY,
+            list_of::<JourneyTable>(alloc, value),
+        ),
+        None => Ok(List::new(alloc)),
+    }
+}
+
+impl Table for FrameTable {
+    type Out = List<Item>;
+
+    ghost rows = { frame };
+
+    #[tactic(auto, unfolding(crate::specs::Frames::frame))]
+    fn read_rows(alloc: Global, tree: &Value) -> Result<List<Item>, ItemError> {
+        let recorded_at_time = row::<MomentRule>(alloc, tree, item_names::RECORDED_AT_TIME)?;
+        let journeys = journeys(alloc, tree)?;
+        Ok(framed(alloc, &recorded_at_time, journeys)?)
+    }
+}
+
+fn together(alloc: Global, frames: List<List<Item>>) -> Result<List<Item>, OutOfMemory>
+    ensures { IfOk result (λ items. items ≡ together frames) }
+{
+    let mut items = Vec::new(alloc);
+    for frame in frames.into_vec() {
+        items.append(&mut frame.into_vec())?;
+    }
+    Ok(List::of(items))
+}
+
+#[tactic(auto, unfolding(crate::specs::Frames::frames_of))]
+fn frames_of(alloc: Global, value: &Value) -> Result<List<Item>, ItemError>
+    ensures { Gives result (frames_of (view value.now)) }
+{
+    let frames = list_of::<FrameTable>(alloc, value)?;
+    let items = together(alloc, frames)?;
+    if items.len() > MOST_ENTRIES {
+        return refuse(alloc, Reason::TooMany);
+    }
+    Ok(items)
+}
+
+/// The journeys of all frames of a delivery, at most 20,000: otherwise `TooMany` at EstimatedJourneyVersionFrame, after
+/// what its entries are refused for.
+#[tactic(auto, unfolding(crate::specs::Frames::framed_journeys))]
+pub fn framed_journeys(alloc: Global, tree: &Value) -> Result<List<Item>, ItemError>
+    ensures { Gives result (framed_journeys (view tree.now)) }
+{
+    match member(tree, names::ESTIMATED_JOURNEY_VERSION_FRAME) {
+        Some(value) => below(
+            alloc,
+            names::ESTIMATED_JOURNEY_VERSION_FRAME,
+            frames_of(alloc, value),
+        ),
+        None => Ok(List::new(alloc)),
+    }
+}

@@ -1,0 +1,176 @@
+// Reading what the functional deliveries of all services have.
+ghost use Rattle.std.specs.Prelude.{◌≡◌};
+ghost use Rattle.serde_json.specs.Data.{Data};
+ghost use Rattle.serde_json.specs.View.{view};
+ghost use Rattle.siri_items.specs.Refusals.{Gives};
+ghost use Rattle.siri_wire.specs.Parts.{heading, outside, within_round, standing, extended, or_none, delivery_of};
+ghost use Rattle.siri_wire.specs.Removals.{removed_journey, removed_situation};
+
+use crate::names;
+use crate::read_error::error_condition;
+use crate::read_removals::{RemovedJourneyTable, RemovedSituationTable};
+use crate::read_supplies::lacks;
+use serde_json::Value;
+use siri_base::{List, Moment, Name, Text};
+use siri_items::ItemError;
+use siri_items::rows::{list, needed, row};
+use siri_items::rules::{FlagRule, MomentRule, NameRule, NumberRule, Table};
+use siri_messages::FunctionalDelivery;
+use siri_records::{Item, Key};
+use std::alloc::Global;
+
+/// The most entries of a list of items or removals.
+pub const MOST_ENTRIES: usize = 20_000;
+
+/// The rows of a functional delivery before its Extensions (EN 15531-2).
+#[derive(Drop)]
+pub struct Heading {
+    pub response_timestamp: Option<Moment>,
+    pub subscriber_ref: Option<Name>,
+    pub subscription_ref: Option<Name>,
+    pub status: bool,
+    pub error_condition: Option<Text>,
+}
+
+/// Where in a round a delivery stands: all three numbers are there, or none is.
+#[derive(Clone, Copy)]
+pub struct Standing {
+    pub start: Option<u64>,
+    pub round: Option<u64>,
+    pub part: Option<u64>,
+}
+
+/// The Extensions of a delivery of journeys or situations.
+#[derive(Drop)]
+pub struct Extended {
+    pub standing: Standing,
+    pub removals: List<Key>,
+}
+
+/// The rows before Extensions. Status is true where it is absent.
+#[tactic(auto, unfolding(crate::specs::Parts::heading))]
+pub fn read_heading(alloc: Global, tree: &Value) -> Result<Heading, ItemError>
+    ensures { Gives result (heading (view tree.now)) }
+{
+    Ok(Heading {
+        response_timestamp: row::<MomentRule>(alloc, tree, names::RESPONSE_TIMESTAMP)?,
+        subscriber_ref: row::<NameRule>(alloc, tree, names::SUBSCRIBER_REF)?,
+        subscription_ref: row::<NameRule>(alloc, tree, names::SUBSCRIPTION_REF)?,
+        status: row::<FlagRule>(alloc, tree, names::STATUS)?.unwrap_or(true),
+        error_condition: error_condition(alloc, tree)?,
+    })
+}
+
+impl Heading {
+    /// The delivery of these items and removals.
+    pub fn delivery(
+        self,
+        standing: Standing,
+        items: List<Item>,
+        removals: List<Key>,
+    ) -> FunctionalDelivery
+        ensures { result ≡ delivery_of self standing items removals }
+    {
+        FunctionalDelivery {
+            response_timestamp: self.response_timestamp,
+            subscriber_ref: self.subscriber_ref,
+            subscription_ref: self.subscription_ref,
+            status: self.status,
+            error_condition: self.error_condition,
+            start: standing.start,
+            round: standing.round,
+            part: standing.part,
+            items,
+            removals,
+        }
+    }
+}
+
+impl Standing {
+    /// In no round.
+    pub fn outside() -> Standing
+        ensures { result ≡ outside }
+    {
+        Standing {
+            start: None,
+            round: None,
+            part: None,
+        }
+    }
+}
+
+#[tactic(auto, unfolding(crate::specs::Parts::within_round))]
+fn within_round(alloc: Global, tree: &Value) -> Result<Standing, ItemError>
+    ensures { Gives result (within_round (view tree.now)) }
+{
+    Ok(Standing {
+        start: Some(needed::<NumberRule>(alloc, tree, names::START)?),
+        round: Some(needed::<NumberRule>(alloc, tree, names::ROUND)?),
+        part: Some(needed::<NumberRule>(alloc, tree, names::PART)?),
+    })
+}
+
+/// Where in a round a delivery of visits or vehicles stands (this profile's own): where Round stands, Start and Part
+/// have to; where it doesn't, they aren't looked at.
+pub struct StandingTable;
+
+impl Table for StandingTable {
+    type Out = Standing;
+
+    ghost rows = { standing };
+
+    #[tactic(auto, unfolding(crate::specs::Parts::standing))]
+    fn read_rows(alloc: Global, tree: &Value) -> Result<Standing, ItemError> {
+        if lacks(tree, names::ROUND) {
+            return Ok(Standing::outside());
+        }
+        within_round(alloc, tree)
+    }
+}
+
+/// Where in a round a delivery of journeys stands, and the journeys that are shown no more, at most 20,000.
+pub struct JourneyExtensionsTable;
+
+impl Table for JourneyExtensionsTable {
+    type Out = Extended;
+
+    ghost rows = { extended removed_journey };
+
+    #[tactic(auto, unfolding(crate::specs::Parts::extended))]
+    fn read_rows(alloc: Global, tree: &Value) -> Result<Extended, ItemError> {
+        Ok(Extended {
+            standing: StandingTable::read_rows(alloc, tree)?,
+            removals: list::<RemovedJourneyTable>(alloc, tree, names::REMOVED, MOST_ENTRIES)?,
+        })
+    }
+}
+
+/// Where in a round a delivery of situations stands, and the situations that are shown no more, at most 20,000.
+pub struct SituationExtensionsTable;
+
+impl Table for SituationExtensionsTable {
+    type Out = Extended;
+
+    ghost rows = { extended removed_situation };
+
+    #[tactic(auto, unfolding(crate::specs::Parts::extended))]
+    fn read_rows(alloc: Global, tree: &Value) -> Result<Extended, ItemError> {
+        Ok(Extended {
+            standing: StandingTable::read_rows(alloc, tree)?,
+            removals: list::<RemovedSituationTable>(alloc, tree, names::REMOVED, MOST_ENTRIES)?,
+        })
+    }
+}
+
+/// Extensions that are absent tell of no round, and of nothing removed.
+pub fn or_none(alloc: Global, extensions: Option<Extended>) -> Extended
+    ensures { result ≡ or_none extensions }
+{
+    match extensions {
+        Some(extended) => extended,
+        None => Extended {
+            standing: Standing::outside(),
+            removals: List::new(alloc),
+        },
+    }
+}

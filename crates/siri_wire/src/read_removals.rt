@@ -1,0 +1,83 @@
+// Reading cancellations, and removed journeys and situations.
+ghost use Rattle.std.specs.Prelude.{◌≡◌};
+ghost use Rattle.serde_json.specs.Data.{Data};
+ghost use Rattle.serde_json.specs.View.{view};
+ghost use Rattle.siri_items.specs.Refusals.{Gives};
+ghost use Rattle.siri_wire.specs.Removals.{visit_cancellation, vehicle_cancellation, removed_journey, removed_situation};
+
+use crate::names;
+use serde_json::Value;
+use siri_items::rows::{needed, row};
+use siri_items::rules::{NameRule, Table};
+use siri_items::{ItemError, names as item_names};
+use siri_records::Key;
+use std::alloc::Global;
+
+/// The key of a visit that is no more (EN 15531-3, MonitoredStopVisitCancellation).
+pub struct VisitCancellationTable;
+
+impl Table for VisitCancellationTable {
+    type Out = Key;
+
+    ghost rows = { visit_cancellation };
+
+    #[tactic(auto, unfolding(crate::specs::Removals::visit_cancellation))]
+    fn read_rows(alloc: Global, tree: &Value) -> Result<Key, ItemError> {
+        Ok(Key::Visit {
+            item: needed::<NameRule>(alloc, tree, names::ITEM_REF)?,
+            monitoring: needed::<NameRule>(alloc, tree, item_names::MONITORING_REF)?,
+        })
+    }
+}
+
+/// The key of a vehicle whose activity is no more (EN 15531-3, VehicleActivityCancellation).
+pub struct VehicleCancellationTable;
+
+impl Table for VehicleCancellationTable {
+    type Out = Key;
+
+    ghost rows = { vehicle_cancellation };
+
+    #[tactic(auto, unfolding(crate::specs::Removals::vehicle_cancellation))]
+    fn read_rows(alloc: Global, tree: &Value) -> Result<Key, ItemError> {
+        Ok(Key::Vehicle {
+            vehicle: needed::<NameRule>(alloc, tree, names::ITEM_REF)?,
+        })
+    }
+}
+
+/// The key of a journey that is shown no more (this profile's own, among the Extensions of a timetable's delivery).
+pub struct RemovedJourneyTable;
+
+impl Table for RemovedJourneyTable {
+    type Out = Key;
+
+    ghost rows = { removed_journey };
+
+    #[tactic(auto, unfolding(crate::specs::Removals::removed_journey))]
+    fn read_rows(alloc: Global, tree: &Value) -> Result<Key, ItemError> {
+        Ok(Key::Journey {
+            line: needed::<NameRule>(alloc, tree, item_names::LINE_REF)?,
+            direction: row::<NameRule>(alloc, tree, item_names::DIRECTION_REF)?,
+            frame: row::<NameRule>(alloc, tree, item_names::DATA_FRAME_REF)?,
+            journey: needed::<NameRule>(alloc, tree, item_names::DATED_VEHICLE_JOURNEY_REF)?,
+        })
+    }
+}
+
+/// The key of a situation that is shown no more (this profile's own, among the Extensions of a delivery of situations).
+pub struct RemovedSituationTable;
+
+impl Table for RemovedSituationTable {
+    type Out = Key;
+
+    ghost rows = { removed_situation };
+
+    #[tactic(auto, unfolding(crate::specs::Removals::removed_situation))]
+    fn read_rows(alloc: Global, tree: &Value) -> Result<Key, ItemError> {
+        Ok(Key::Situation {
+            participant: row::<NameRule>(alloc, tree, item_names::PARTICIPANT_REF)?,
+            number: needed::<NameRule>(alloc, tree, item_names::SITUATION_NUMBER)?,
+        })
+    }
+}

@@ -1,0 +1,85 @@
+//! Reading requests that are answered at once.
+
+ghost use Rattle.std.specs.Prelude.{◌≡◌};
+ghost use Rattle.serde_json.specs.Data.{Data};
+ghost use Rattle.serde_json.specs.View.{view};
+ghost use Rattle.siri_items.specs.Refusals.{Gives};
+ghost use Rattle.siri_wire.specs.Requests.{service_request_rows, asks_nothing, service_request};
+
+use crate::names;
+use crate::read_topics::{
+    SituationTopicTable, StopTopicTable, TimetableTopicTable, VehicleTopicTable,
+};
+use serde_json::Value;
+use siri_base::Reason;
+use siri_items::ItemError;
+use siri_items::refusal::refuse;
+use siri_items::rows::{list, row};
+use siri_items::rules::{MomentRule, NameRule, Table};
+use siri_messages::ServiceRequest;
+use std::alloc::Global;
+
+const MOST_TOPICS: usize = 100;
+
+#[tactic(auto, unfolding(crate::specs::Requests::service_request_rows))]
+fn service_request_rows(alloc: Global, tree: &Value) -> Result<ServiceRequest, ItemError>
+    ensures { Gives result (service_request_rows (view tree.now)) }
+{
+    Ok(ServiceRequest {
+        request_timestamp: row::<MomentRule>(alloc, tree, names::REQUEST_TIMESTAMP)?,
+        requestor_ref: row::<NameRule>(alloc, tree, names::REQUESTOR_REF)?,
+        message_identifier: row::<NameRule>(alloc, tree, names::MESSAGE_IDENTIFIER)?,
+        stop_monitoring_request: list::<StopTopicTable>(
+            alloc,
+            tree,
+            names::STOP_MONITORING_REQUEST,
+            MOST_TOPICS,
+        )?,
+        estimated_timetable_request: list::<TimetableTopicTable>(
+            alloc,
+            tree,
+            names::ESTIMATED_TIMETABLE_REQUEST,
+            MOST_TOPICS,
+        )?,
+        vehicle_monitoring_request: list::<VehicleTopicTable>(
+            alloc,
+            tree,
+            names::VEHICLE_MONITORING_REQUEST,
+            MOST_TOPICS,
+        )?,
+        situation_exchange_request: list::<SituationTopicTable>(
+            alloc,
+            tree,
+            names::SITUATION_EXCHANGE_REQUEST,
+            MOST_TOPICS,
+        )?,
+    })
+}
+
+fn asks_nothing(request: &ServiceRequest) -> bool
+    ensures { result ≡ asks_nothing request.now }
+{
+    request.stop_monitoring_request.len() == 0
+        && request.estimated_timetable_request.len() == 0
+        && request.vehicle_monitoring_request.len() == 0
+        && request.situation_exchange_request.len() == 0
+}
+
+/// A request for what is shown to some topics now, at most 100 of each service (EN 15531-2, ServiceRequest):
+/// `NotCarried` where it asks for no topic.
+pub struct ServiceRequestTable;
+
+impl Table for ServiceRequestTable {
+    type Out = ServiceRequest;
+
+    ghost rows = { service_request };
+
+    #[tactic(auto, unfolding(crate::specs::Requests::service_request))]
+    fn read_rows(alloc: Global, tree: &Value) -> Result<ServiceRequest, ItemError> {
+        let request = service_request_rows(alloc, tree)?;
+        if asks_nothing(&request) {
+            return refuse(alloc, Reason::NotCarried);
+        }
+        Ok(request)
+    }
+}

@@ -1,0 +1,71 @@
+// Reading whether the producer is there.
+ghost use Rattle.std.specs.Prelude.{◌≡◌};
+ghost use Rattle.serde_json.specs.Data.{Data};
+ghost use Rattle.serde_json.specs.View.{view};
+ghost use Rattle.siri_items.specs.Refusals.{Gives};
+ghost use Rattle.siri_wire.specs.Statuses.{check_status_request, check_status_response, heartbeat_notification};
+
+use crate::names;
+use serde_json::Value;
+use siri_items::ItemError;
+use siri_items::rows::row;
+use siri_items::rules::{FlagRule, MomentRule, NameRule, Table};
+use siri_messages::{CheckStatusRequest, CheckStatusResponse, HeartbeatNotification};
+use std::alloc::Global;
+
+/// A question whether the producer is there (EN 15531-2, CheckStatusRequest).
+pub struct CheckStatusRequestTable;
+
+impl Table for CheckStatusRequestTable {
+    type Out = CheckStatusRequest;
+
+    ghost rows = { check_status_request };
+
+    #[tactic(auto, unfolding(crate::specs::Statuses::check_status_request))]
+    fn read_rows(alloc: Global, tree: &Value) -> Result<CheckStatusRequest, ItemError> {
+        Ok(CheckStatusRequest {
+            request_timestamp: row::<MomentRule>(alloc, tree, names::REQUEST_TIMESTAMP)?,
+            requestor_ref: row::<NameRule>(alloc, tree, names::REQUESTOR_REF)?,
+            message_identifier: row::<NameRule>(alloc, tree, names::MESSAGE_IDENTIFIER)?,
+        })
+    }
+}
+
+/// The producer's answer to such a question (EN 15531-2, CheckStatusResponse). Status is true where it is absent.
+pub struct CheckStatusResponseTable;
+
+impl Table for CheckStatusResponseTable {
+    type Out = CheckStatusResponse;
+
+    ghost rows = { check_status_response };
+
+    #[tactic(auto, unfolding(crate::specs::Statuses::check_status_response))]
+    fn read_rows(alloc: Global, tree: &Value) -> Result<CheckStatusResponse, ItemError> {
+        Ok(CheckStatusResponse {
+            response_timestamp: row::<MomentRule>(alloc, tree, names::RESPONSE_TIMESTAMP)?,
+            producer_ref: row::<NameRule>(alloc, tree, names::PRODUCER_REF)?,
+            request_message_ref: row::<NameRule>(alloc, tree, names::REQUEST_MESSAGE_REF)?,
+            status: row::<FlagRule>(alloc, tree, names::STATUS)?.unwrap_or(true),
+            service_started_time: row::<MomentRule>(alloc, tree, names::SERVICE_STARTED_TIME)?,
+        })
+    }
+}
+
+/// The producer tells that it is there (EN 15531-2, HeartbeatNotification). Status is true where it is absent.
+pub struct HeartbeatNotificationTable;
+
+impl Table for HeartbeatNotificationTable {
+    type Out = HeartbeatNotification;
+
+    ghost rows = { heartbeat_notification };
+
+    #[tactic(auto, unfolding(crate::specs::Statuses::heartbeat_notification))]
+    fn read_rows(alloc: Global, tree: &Value) -> Result<HeartbeatNotification, ItemError> {
+        Ok(HeartbeatNotification {
+            request_timestamp: row::<MomentRule>(alloc, tree, names::REQUEST_TIMESTAMP)?,
+            producer_ref: row::<NameRule>(alloc, tree, names::PRODUCER_REF)?,
+            status: row::<FlagRule>(alloc, tree, names::STATUS)?.unwrap_or(true),
+            service_started_time: row::<MomentRule>(alloc, tree, names::SERVICE_STARTED_TIME)?,
+        })
+    }
+}

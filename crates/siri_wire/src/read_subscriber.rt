@@ -1,0 +1,34 @@
+//! Reading who subscribes.
+
+ghost use Rattle.std.specs.Prelude.{◌≡◌};
+ghost use Rattle.serde_json.specs.View.{view};
+ghost use Rattle.siri_items.specs.Refusals.{Gives};
+ghost use Rattle.siri_wire.specs.Subscribers.{subscriber_or};
+
+use crate::names;
+use serde_json::Value;
+use siri_base::{Copies, Name, Reason};
+use siri_items::ItemError;
+use siri_items::refusal::refuse_at;
+use siri_items::rows::row;
+use siri_items::rules::NameRule;
+use std::alloc::Global;
+
+/// The subscriber that an object names, or the requestor where it names none: `Missing` at SubscriberRef where both are
+/// absent.
+#[tactic(auto, unfolding(crate::specs::Subscribers::subscriber_or))]
+pub fn subscriber_or(
+    alloc: Global,
+    tree: &Value,
+    requestor: &Option<Name>,
+) -> Result<Name, ItemError>
+    ensures { Gives result (subscriber_or requestor.now (view tree.now)) }
+{
+    if let Some(named) = row::<NameRule>(alloc, tree, names::SUBSCRIBER_REF)? {
+        return Ok(named);
+    }
+    match requestor {
+        Some(requestor) => Ok(requestor.copy()?),
+        None => refuse_at(alloc, names::SUBSCRIBER_REF, Reason::Missing),
+    }
+}

@@ -1,0 +1,173 @@
+// Reading the messages by which rounds are announced, fetched and acknowledged.
+ghost use Rattle.std.specs.Prelude.{◌≡◌, Result, Option};
+ghost use Rattle.serde_json.specs.Data.{Data};
+ghost use Rattle.serde_json.specs.View.{view};
+ghost use Rattle.siri_items.specs.Refusals.{Gives};
+ghost use Rattle.siri_wire.specs.Supplies.{mark, lacks, lacks_mark, mark_if_any, optional_mark, data_ready_notification, data_ready_acknowledgement, data_supply_request, data_received_acknowledgement};
+
+use crate::names;
+use crate::read_error::error_condition;
+use serde_json::Value;
+use siri_base::Reason;
+use siri_items::ItemError;
+use siri_items::refusal::refuse;
+use siri_items::rows::{needed, row};
+use siri_items::rules::{FlagRule, MomentRule, NameRule, NumberRule, Rule, Table};
+use siri_json::{ObjectOf, TextOf, member, object_of, text_of};
+use siri_messages::{
+    DataReadyAcknowledgement, DataReadyNotification, DataReceivedAcknowledgement,
+    DataSupplyRequest, Mark,
+};
+use std::alloc::Global;
+
+/// Which part of which round of a subscription is meant (this profile's own): all five rows have to be there.
+pub struct MarkTable;
+
+impl Table for MarkTable {
+    type Out = Mark;
+
+    ghost rows = { mark };
+
+    #[tactic(auto, unfolding(crate::specs::Supplies::mark))]
+    fn read_rows(alloc: Global, tree: &Value) -> Result<Mark, ItemError> {
+        let subscription = needed::<NameRule>(alloc, tree, names::SUBSCRIPTION_REF)?;
+        Ok(Mark {
+            number: needed::<NumberRule>(alloc, tree, names::NUMBER)?,
+            start: needed::<NumberRule>(alloc, tree, names::START)?,
+            round: needed::<NumberRule>(alloc, tree, names::ROUND)?,
+            part: needed::<NumberRule>(alloc, tree, names::PART)?,
+            subscription,
+        })
+    }
+}
+
+/// The member of that name, which is wanted to be a text, is absent.
+#[tactic(auto, unfolding(crate::specs::Supplies::lacks))]
+pub fn lacks(tree: &Value, key: &str) -> bool
+    ensures { result ≡ lacks key.now (view tree.now) }
+{
+    match member(tree, key) {
+        Some(value) => match text_of(value) {
+            TextOf::Absent => true,
+            TextOf::Is(_) | TextOf::Wrong => false,
+        },
+        None => true,
+    }
+}
+
+#[tactic(auto, unfolding(crate::specs::Supplies::lacks_mark))]
+fn lacks_mark(tree: &Value) -> bool
+    ensures { result ≡ lacks_mark (view tree.now) }
+{
+    lacks(tree, names::SUBSCRIPTION_REF)
+        && lacks(tree, names::NUMBER)
+        && lacks(tree, names::START)
+        && lacks(tree, names::ROUND)
+        && lacks(tree, names::PART)
+}
+
+#[tactic(auto, unfolding(crate::specs::Supplies::mark_if_any))]
+fn mark_if_any(alloc: Global, tree: &Value) -> Result<Option<Mark>, ItemError>
+    ensures { Gives result (mark_if_any (view tree.now)) }
+{
+    if lacks_mark(tree) {
+        return Ok(None);
+    }
+    Ok(Some(MarkTable::read_rows(alloc, tree)?))
+}
+
+/// A mark that need not be there: it counts as absent where all its rows are.
+struct OptionalMarkRule;
+
+impl Rule for OptionalMarkRule {
+    type Out = Mark;
+
+    ghost rule = { optional_mark };
+
+    #[tactic(auto, unfolding(crate::specs::Supplies::optional_mark))]
+    fn read(alloc: Global, value: &Value) -> Result<Option<Mark>, ItemError> {
+        match object_of(value) {
+            ObjectOf::Is(tree) => mark_if_any(alloc, tree),
+            ObjectOf::Absent => Ok(None),
+            ObjectOf::Wrong => refuse(alloc, Reason::WrongKind),
+        }
+    }
+}
+
+/// A part of a round is ready (EN 15531-2, DataReadyNotification). Its Extensions have to be a mark.
+pub struct DataReadyNotificationTable;
+
+impl Table for DataReadyNotificationTable {
+    type Out = DataReadyNotification;
+
+    ghost rows = { data_ready_notification };
+
+    #[tactic(auto, unfolding(crate::specs::Supplies::data_ready_notification))]
+    fn read_rows(alloc: Global, tree: &Value) -> Result<DataReadyNotification, ItemError> {
+        Ok(DataReadyNotification {
+            request_timestamp: row::<MomentRule>(alloc, tree, names::REQUEST_TIMESTAMP)?,
+            producer_ref: row::<NameRule>(alloc, tree, names::PRODUCER_REF)?,
+            extensions: needed::<MarkTable>(alloc, tree, names::EXTENSIONS)?,
+        })
+    }
+}
+
+/// A notification was taken (EN 15531-2, DataReadyAcknowledgement). Status is true where it is absent.
+pub struct DataReadyAcknowledgementTable;
+
+impl Table for DataReadyAcknowledgementTable {
+    type Out = DataReadyAcknowledgement;
+
+    ghost rows = { data_ready_acknowledgement };
+
+    #[tactic(auto, unfolding(crate::specs::Supplies::data_ready_acknowledgement))]
+    fn read_rows(alloc: Global, tree: &Value) -> Result<DataReadyAcknowledgement, ItemError> {
+        Ok(DataReadyAcknowledgement {
+            response_timestamp: row::<MomentRule>(alloc, tree, names::RESPONSE_TIMESTAMP)?,
+            consumer_ref: row::<NameRule>(alloc, tree, names::CONSUMER_REF)?,
+            status: row::<FlagRule>(alloc, tree, names::STATUS)?.unwrap_or(true),
+        })
+    }
+}
+
+/// A part of a round is fetched (EN 15531-2, DataSupplyRequest). AllData is false where it is absent; ConsumerRef and
+/// the mark have to be there.
+pub struct DataSupplyRequestTable;
+
+impl Table for DataSupplyRequestTable {
+    type Out = DataSupplyRequest;
+
+    ghost rows = { data_supply_request };
+
+    #[tactic(auto, unfolding(crate::specs::Supplies::data_supply_request))]
+    fn read_rows(alloc: Global, tree: &Value) -> Result<DataSupplyRequest, ItemError> {
+        Ok(DataSupplyRequest {
+            request_timestamp: row::<MomentRule>(alloc, tree, names::REQUEST_TIMESTAMP)?,
+            consumer_ref: needed::<NameRule>(alloc, tree, names::CONSUMER_REF)?,
+            all_data: row::<FlagRule>(alloc, tree, names::ALL_DATA)?.unwrap_or(false),
+            extensions: needed::<MarkTable>(alloc, tree, names::EXTENSIONS)?,
+        })
+    }
+}
+
+/// A delivery was taken (EN 15531-2, DataReceivedAcknowledgement). Status is true where it is absent; a mark whose rows
+/// are all absent is none.
+pub struct DataReceivedAcknowledgementTable;
+
+impl Table for DataReceivedAcknowledgementTable {
+    type Out = DataReceivedAcknowledgement;
+
+    ghost rows = { data_received_acknowledgement };
+
+    #[tactic(auto, unfolding(crate::specs::Supplies::data_received_acknowledgement))]
+    fn read_rows(alloc: Global, tree: &Value) -> Result<DataReceivedAcknowledgement, ItemError> {
+        Ok(DataReceivedAcknowledgement {
+            response_timestamp: row::<MomentRule>(alloc, tree, names::RESPONSE_TIMESTAMP)?,
+            consumer_ref: row::<NameRule>(alloc, tree, names::CONSUMER_REF)?,
+            request_message_ref: row::<NameRule>(alloc, tree, names::REQUEST_MESSAGE_REF)?,
+            status: row::<FlagRule>(alloc, tree, names::STATUS)?.unwrap_or(true),
+            error_condition: error_condition(alloc, tree)?,
+            extensions: row::<OptionalMarkRule>(alloc, tree, names::EXTENSIONS)?,
+        })
+    }
+}

@@ -1,0 +1,94 @@
+//! Reading requests to end subscriptions, and their answers.
+
+ghost use Rattle.std.specs.Prelude.{◌≡◌};
+ghost use Rattle.serde_json.specs.Data.{Data};
+ghost use Rattle.serde_json.specs.View.{view};
+ghost use Rattle.siri_items.specs.Refusals.{Gives};
+ghost use Rattle.siri_wire.specs.Terminations.{termination_request, termination_status, termination_response};
+
+use crate::names;
+use crate::read_error::error_condition;
+use crate::read_subscriber::subscriber_or;
+use serde_json::Value;
+use siri_items::ItemError;
+use siri_items::rows::{list, needed, row, some_list};
+use siri_items::rules::{FlagRule, MomentRule, NameRule, NumberRule, Table};
+use siri_messages::{
+    TerminateSubscriptionRequest, TerminateSubscriptionResponse, TerminationResponseStatus,
+};
+use std::alloc::Global;
+
+const MOST_SUBSCRIPTIONS: usize = 200;
+
+/// A request to end subscriptions, at least one and at most 200 (EN 15531-2, TerminateSubscriptionRequest). The
+/// subscriber is the requestor where it isn't named.
+pub struct TerminateSubscriptionRequestTable;
+
+impl Table for TerminateSubscriptionRequestTable {
+    type Out = TerminateSubscriptionRequest;
+
+    ghost rows = { termination_request };
+
+    #[tactic(auto, unfolding(crate::specs::Terminations::termination_request))]
+    fn read_rows(alloc: Global, tree: &Value) -> Result<TerminateSubscriptionRequest, ItemError> {
+        let request_timestamp = row::<MomentRule>(alloc, tree, names::REQUEST_TIMESTAMP)?;
+        let requestor_ref = row::<NameRule>(alloc, tree, names::REQUESTOR_REF)?;
+        let message_identifier = needed::<NumberRule>(alloc, tree, names::MESSAGE_IDENTIFIER)?;
+        let subscriber_ref = subscriber_or(alloc, tree, &requestor_ref)?;
+        Ok(TerminateSubscriptionRequest {
+            request_timestamp,
+            requestor_ref,
+            message_identifier,
+            subscriber_ref,
+            subscription_ref: some_list::<NameRule>(
+                alloc,
+                tree,
+                names::SUBSCRIPTION_REF,
+                MOST_SUBSCRIPTIONS,
+            )?,
+        })
+    }
+}
+
+/// What became of a subscription that was to end; its Status is true where it is absent (EN 15531-2,
+/// TerminationResponseStatus).
+struct TerminationResponseStatusTable;
+
+impl Table for TerminationResponseStatusTable {
+    type Out = TerminationResponseStatus;
+
+    ghost rows = { termination_status };
+
+    #[tactic(auto, unfolding(crate::specs::Terminations::termination_status))]
+    fn read_rows(alloc: Global, tree: &Value) -> Result<TerminationResponseStatus, ItemError> {
+        Ok(TerminationResponseStatus {
+            subscriber_ref: row::<NameRule>(alloc, tree, names::SUBSCRIBER_REF)?,
+            subscription_ref: row::<NameRule>(alloc, tree, names::SUBSCRIPTION_REF)?,
+            status: row::<FlagRule>(alloc, tree, names::STATUS)?.unwrap_or(true),
+            error_condition: error_condition(alloc, tree)?,
+        })
+    }
+}
+
+/// The answer to a request to end subscriptions, with at most 200 statuses (EN 15531-2, TerminateSubscriptionResponse).
+pub struct TerminateSubscriptionResponseTable;
+
+impl Table for TerminateSubscriptionResponseTable {
+    type Out = TerminateSubscriptionResponse;
+
+    ghost rows = { termination_response };
+
+    #[tactic(auto, unfolding(crate::specs::Terminations::termination_response))]
+    fn read_rows(alloc: Global, tree: &Value) -> Result<TerminateSubscriptionResponse, ItemError> {
+        Ok(TerminateSubscriptionResponse {
+            response_timestamp: row::<MomentRule>(alloc, tree, names::RESPONSE_TIMESTAMP)?,
+            request_message_ref: row::<NameRule>(alloc, tree, names::REQUEST_MESSAGE_REF)?,
+            termination_response_status: list::<TerminationResponseStatusTable>(
+                alloc,
+                tree,
+                names::TERMINATION_RESPONSE_STATUS,
+                MOST_SUBSCRIPTIONS,
+            )?,
+        })
+    }
+}

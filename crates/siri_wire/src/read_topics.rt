@@ -1,0 +1,147 @@
+//! Reading topics.
+
+ghost use Rattle.std.specs.Prelude.{◌≡◌};
+ghost use Rattle.serde_json.specs.Data.{Data};
+ghost use Rattle.serde_json.specs.View.{view};
+ghost use Rattle.siri_items.specs.Refusals.{Gives};
+ghost use Rattle.siri_wire.specs.Topics.{stop_rows, stop_topic, subscribed_stop_topic, line_direction, timetable_topic, vehicle_topic, situation_topic};
+
+use crate::names;
+use serde_json::Value;
+use siri_base::Reason;
+use siri_items::refusal::refuse_at;
+use siri_items::rows::{list_inside, needed, row};
+use siri_items::rules::{LengthRule, MomentRule, NameRule, NumberRule, Table};
+use siri_items::{ItemError, names as items};
+use siri_topic::{LineDirection, SituationTopic, StopTopic, TimetableTopic, Topic, VehicleTopic};
+use std::alloc::Global;
+
+const MOST_LINES: usize = 100;
+
+#[tactic(auto, unfolding(crate::specs::Topics::stop_rows))]
+fn stop_rows(alloc: Global, tree: &Value) -> Result<StopTopic, ItemError>
+    ensures { Gives result (stop_rows (view tree.now)) }
+{
+    Ok(StopTopic {
+        monitoring_ref: needed::<NameRule>(alloc, tree, items::MONITORING_REF)?,
+        line_ref: row::<NameRule>(alloc, tree, items::LINE_REF)?,
+        direction_ref: row::<NameRule>(alloc, tree, items::DIRECTION_REF)?,
+        operator_ref: row::<NameRule>(alloc, tree, items::OPERATOR_REF)?,
+        destination_ref: row::<NameRule>(alloc, tree, items::DESTINATION_REF)?,
+        preview_interval: row::<LengthRule>(alloc, tree, names::PREVIEW_INTERVAL)?,
+        start_time: row::<MomentRule>(alloc, tree, items::START_TIME)?,
+        maximum_stop_visits: row::<NumberRule>(alloc, tree, names::MAXIMUM_STOP_VISITS)?,
+    })
+}
+
+/// The visits at a monitoring point, as a request asks for them (EN 15531-3, StopMonitoringRequest).
+pub struct StopTopicTable;
+
+impl Table for StopTopicTable {
+    type Out = Topic;
+
+    ghost rows = { stop_topic };
+
+    #[tactic(auto, unfolding(crate::specs::Topics::stop_topic))]
+    fn read_rows(alloc: Global, tree: &Value) -> Result<Topic, ItemError> {
+        Ok(Topic::Stop(stop_rows(alloc, tree)?))
+    }
+}
+
+/// The visits at a monitoring point, as a subscription asks for them (EN 15531-3, StopMonitoringRequest):
+/// `NotCarried` at a MaximumStopVisits, which belongs to the answer of a request.
+pub struct SubscribedStopTable;
+
+impl Table for SubscribedStopTable {
+    type Out = Topic;
+
+    ghost rows = { subscribed_stop_topic };
+
+    #[tactic(auto, unfolding(crate::specs::Topics::subscribed_stop_topic))]
+    fn read_rows(alloc: Global, tree: &Value) -> Result<Topic, ItemError> {
+        let topic = stop_rows(alloc, tree)?;
+        match topic.maximum_stop_visits {
+            None => Ok(Topic::Stop(topic)),
+            Some(_) => refuse_at(alloc, names::MAXIMUM_STOP_VISITS, Reason::NotCarried),
+        }
+    }
+}
+
+/// A line, and a direction of it (EN 15531-3, LineDirection).
+struct LineDirectionTable;
+
+impl Table for LineDirectionTable {
+    type Out = LineDirection;
+
+    ghost rows = { line_direction };
+
+    #[tactic(auto, unfolding(crate::specs::Topics::line_direction))]
+    fn read_rows(alloc: Global, tree: &Value) -> Result<LineDirection, ItemError> {
+        Ok(LineDirection {
+            line_ref: needed::<NameRule>(alloc, tree, items::LINE_REF)?,
+            direction_ref: row::<NameRule>(alloc, tree, items::DIRECTION_REF)?,
+        })
+    }
+}
+
+/// The journeys of an operator, on some lines, of which there are at most 100 (EN 15531-3, EstimatedTimetableRequest).
+pub struct TimetableTopicTable;
+
+impl Table for TimetableTopicTable {
+    type Out = Topic;
+
+    ghost rows = { timetable_topic };
+
+    #[tactic(auto, unfolding(crate::specs::Topics::timetable_topic))]
+    fn read_rows(alloc: Global, tree: &Value) -> Result<Topic, ItemError> {
+        Ok(Topic::Timetable(TimetableTopic {
+            preview_interval: row::<LengthRule>(alloc, tree, names::PREVIEW_INTERVAL)?,
+            operator_ref: row::<NameRule>(alloc, tree, items::OPERATOR_REF)?,
+            lines: list_inside::<LineDirectionTable>(
+                alloc,
+                tree,
+                names::LINES,
+                names::LINE_DIRECTION,
+                MOST_LINES,
+            )?,
+        }))
+    }
+}
+
+/// The vehicles of a line and a direction (EN 15531-3, VehicleMonitoringRequest).
+pub struct VehicleTopicTable;
+
+impl Table for VehicleTopicTable {
+    type Out = Topic;
+
+    ghost rows = { vehicle_topic };
+
+    #[tactic(auto, unfolding(crate::specs::Topics::vehicle_topic))]
+    fn read_rows(alloc: Global, tree: &Value) -> Result<Topic, ItemError> {
+        Ok(Topic::Vehicle(VehicleTopic {
+            vehicle_ref: row::<NameRule>(alloc, tree, items::VEHICLE_REF)?,
+            line_ref: row::<NameRule>(alloc, tree, items::LINE_REF)?,
+            direction_ref: row::<NameRule>(alloc, tree, items::DIRECTION_REF)?,
+        }))
+    }
+}
+
+/// The situations that affect a line, a stop and an operator (CEN/TS 15531-5, SituationExchangeRequest).
+pub struct SituationTopicTable;
+
+impl Table for SituationTopicTable {
+    type Out = Topic;
+
+    ghost rows = { situation_topic };
+
+    #[tactic(auto, unfolding(crate::specs::Topics::situation_topic))]
+    fn read_rows(alloc: Global, tree: &Value) -> Result<Topic, ItemError> {
+        Ok(Topic::Situation(SituationTopic {
+            line_ref: row::<NameRule>(alloc, tree, items::LINE_REF)?,
+            stop_point_ref: row::<NameRule>(alloc, tree, items::STOP_POINT_REF)?,
+            operator_ref: row::<NameRule>(alloc, tree, items::OPERATOR_REF)?,
+            preview_interval: row::<LengthRule>(alloc, tree, names::PREVIEW_INTERVAL)?,
+            start_time: row::<MomentRule>(alloc, tree, items::START_TIME)?,
+        }))
+    }
+}
