@@ -9,5 +9,19 @@
 //! inside them. The rules of rows and the tables of items are those of `siri_items`.
 #![tactic(auto)]
 
+mod encoding;
 pub mod names;
 mod read_error;
+mod write_deliveries;
+mod write_entries;
+mod write_requests;
+mod write_statuses;
+mod write_subscriptions;
+mod write_topics;
+mod write_values;
+
+pub use encoding::encode;
+
+
+#[cfg(test)]
+mod encoding_tests;
