@@ -1,18 +1,16 @@
 -- What is written of deliveries holds no float.
-use Rattle.std.proofs.Common.{◌≡◌, ℕ, ℤ, List, [], ◌∷◌, Bool, true, false, Option, None, Some, refl, option_and_then}
-use Rattle.std.specs.Prelude.{codes}
+use Rattle.std.proofs.Common.{◌≡◌, List, [], ◌∷◌, false, Option, refl}
 use Rattle.serde_json.specs.Data.{Data}
 use Rattle.serde_json.specs.Written.{has_float}
 use Rattle.siri_records.specs.declared.item.Item.{Item}
-use Rattle.siri_records.specs.declared.item.Item.TheVariants as items
 use Rattle.siri_records.specs.declared.key.Key.{Key}
 use Rattle.siri_records.specs.declared.key.Key.TheVariants as keys
 use Rattle.siri_messages.specs.declared.deliveries.FunctionalDelivery.{FunctionalDelivery}
 use Rattle.siri_messages.specs.declared.deliveries.ServiceDelivery.{ServiceDelivery}
-use Rattle.siri_items.specs.Writing.{Row, written_list, written_text, written_flag, written_moment, written_span, row_object}
-use Rattle.siri_wire.proofs.Plain.{IsPlain, ArePlain, object_plain, some_object_plain, some_plain, some_text, some_flag, some_number, some_moment, some_span, list_plain, single_plain}
+use Rattle.siri_items.specs.Writing.{Row, written_list}
+use Rattle.siri_wire.proofs.Plain.{IsPlain, ArePlain, object_plain, some_object_plain, some_plain, some_text, some_number, some_moment, list_plain, single_plain}
 use Rattle.siri_items.specs.Written.{written_item}
-use Rattle.siri_wire.specs.WrittenValues.{written_identifier, written_where_true, written_error, mark_rows, written_mark}
+use Rattle.siri_wire.specs.WrittenValues.{written_error}
 use Rattle.siri_wire.specs.WrittenDeliveries.{spelled_item, frame_time, frame_rows, written_frame, written_situations, removal_rows, written_removal, place_rows, written_place, written_removed, delivery_rows, written_stop_delivery, written_timetable_delivery, written_vehicle_delivery, written_situation_delivery, service_delivery_rows, written_service_delivery}
 use Rattle.siri_wire.specs.declared.names.TheConstants.{ESTIMATED_JOURNEY_VERSION_FRAME, MONITORED_STOP_VISIT, MONITORED_STOP_VISIT_CANCELLATION, PT_SITUATION_ELEMENT, REMOVED, SITUATIONS, VEHICLE_ACTIVITY, VEHICLE_ACTIVITY_CANCELLATION}
 use Rattle.siri_wire.proofs.PlainItems.{item_plain}
@@ -82,14 +80,34 @@ situation_delivery_plain d =
 
 pub service_delivery_plain : (s : ServiceDelivery) → has_float (written_service_delivery s) ≡ false
 unfolding written_service_delivery
-service_delivery_plain s = object_plain (service_delivery_rows s) (some_moment s.response_timestamp,
-    (some_text s.producer_ref,
-    (some_text s.response_message_identifier,
-    (some_text s.request_message_ref,
-    (refl,
-    (some_plain written_error error_plain s.error_condition,
-    (where_true_plain s.more_data,
-    (list_plain written_stop_delivery stop_delivery_plain s.stop_monitoring_delivery,
-    (list_plain written_timetable_delivery timetable_delivery_plain s.estimated_timetable_delivery,
-    (list_plain written_vehicle_delivery vehicle_delivery_plain s.vehicle_monitoring_delivery,
-    (list_plain written_situation_delivery situation_delivery_plain s.situation_exchange_delivery, tt)))))))))))
+service_delivery_plain s = object_plain (service_delivery_rows s) (
+  some_moment s.response_timestamp,
+  (
+    some_text s.producer_ref,
+    (
+      some_text s.response_message_identifier,
+      (
+        some_text s.request_message_ref,
+        (
+          refl,
+          (
+            some_plain written_error error_plain s.error_condition,
+            (
+              where_true_plain s.more_data,
+              (
+                list_plain written_stop_delivery stop_delivery_plain s.stop_monitoring_delivery,
+                (
+                  list_plain written_timetable_delivery timetable_delivery_plain s.estimated_timetable_delivery,
+                  (
+                    list_plain written_vehicle_delivery vehicle_delivery_plain s.vehicle_monitoring_delivery,
+                    (list_plain written_situation_delivery situation_delivery_plain s.situation_exchange_delivery, tt),
+                  ),
+                ),
+              ),
+            ),
+          ),
+        ),
+      ),
+    ),
+  ),
+)

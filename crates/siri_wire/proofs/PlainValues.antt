@@ -1,12 +1,9 @@
 -- What several messages write holds no float.
-use Rattle.std.proofs.Common.{◌≡◌, ℕ, ℤ, List, [], ◌∷◌, Bool, true, false, Option, None, Some, refl, option_and_then}
-use Rattle.std.specs.Prelude.{codes}
-use Rattle.serde_json.specs.Data.{Data}
-use Rattle.serde_json.specs.Written.{has_float}
+use Rattle.std.proofs.Common.{ℕ, List, [], ◌∷◌, Bool, true, false, Some, refl}
 use Rattle.siri_messages.specs.declared.supplies.Mark.{Mark}
-use Rattle.siri_items.specs.Writing.{Row, written_list, written_text, written_flag, written_moment, written_span, row_object}
-use Rattle.siri_wire.proofs.Plain.{IsPlain, ArePlain, object_plain, some_object_plain, some_plain, some_text, some_flag, some_number, some_moment, some_span, list_plain, single_plain}
-use Rattle.siri_wire.specs.WrittenValues.{written_identifier, written_where_true, written_error, mark_rows, written_mark}
+use Rattle.siri_items.specs.Writing.{Row, written_text, row_object}
+use Rattle.siri_wire.proofs.Plain.{IsPlain, object_plain}
+use Rattle.siri_wire.specs.WrittenValues.{written_where_true, written_error, mark_rows, written_mark}
 use Rattle.siri_wire.specs.declared.names.TheConstants.{ERROR_TEXT, OTHER_ERROR}
 
 pub where_true_plain : (b : Bool) → IsPlain (written_where_true b)
@@ -22,8 +19,16 @@ error_plain text =
 
 pub mark_plain : (m : Mark) → IsPlain (written_mark m)
 unfolding written_mark
-mark_plain m = object_plain (mark_rows m) (refl,
-    (refl,
-    (refl,
-    (refl,
-    (refl, tt)))))
+mark_plain m = object_plain (mark_rows m) (
+  refl,
+  (
+    refl,
+    (
+      refl,
+      (
+        refl,
+        (refl, tt),
+      ),
+    ),
+  ),
+)

@@ -1,6 +1,6 @@
 -- What is written of requests that are answered at once, of how rounds are fetched and acknowledged, and of whether the
 -- producer is there: the rows of those messages, in table order (EN 15531-2).
-use Rattle.std.specs.Prelude.{List, [], ◌∷◌, Option, Some, option_and_then}
+use Rattle.std.specs.Prelude.{List, [], ◌∷◌, option_and_then}
 use Rattle.serde_json.specs.Data.{Data}
 use Rattle.siri_messages.specs.declared.requests.ServiceRequest.{ServiceRequest}
 use Rattle.siri_messages.specs.declared.supplies.DataReadyNotification.{DataReadyNotification}

@@ -1,5 +1,5 @@
 -- What is written of topics: the rows of the four functional requests, in table order (EN 15531-3; CEN/TS 15531-5).
-use Rattle.std.specs.Prelude.{ℕ, List, [], ◌∷◌, Option, Some, option_and_then}
+use Rattle.std.specs.Prelude.{List, [], ◌∷◌, Option, Some, option_and_then}
 use Rattle.serde_json.specs.Data.{Data, no_members}
 use Rattle.siri_topic.specs.declared.topics.Topic.{Topic}
 use Rattle.siri_topic.specs.declared.topics.Topic.TheVariants as topic

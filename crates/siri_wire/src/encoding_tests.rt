@@ -60,7 +60,12 @@ fn what_need_not_be_there_is_left_out(rt: HostRuntime) -> Result<(), Fail> {
         requestor_ref: None,
         message_identifier: None,
     });
-    check(&rt, alloc, &question, "{\"Siri\":{\"CheckStatusRequest\":{}}}")?;
+    check(
+        &rt,
+        alloc,
+        &question,
+        "{\"Siri\":{\"CheckStatusRequest\":{}}}",
+    )?;
     let supply = Message::DataSupplyRequest(DataSupplyRequest {
         request_timestamp: Some(moment("2024-05-01T08:00:00Z")?),
         consumer_ref: name(alloc, "c1")?,
@@ -75,7 +80,12 @@ fn what_need_not_be_there_is_left_out(rt: HostRuntime) -> Result<(), Fail> {
     )
 }
 
-fn subscription(alloc: Global, topic: Topic, slack: i64, fetched: bool) -> Result<Subscription, Fail> {
+fn subscription(
+    alloc: Global,
+    topic: Topic,
+    slack: i64,
+    fetched: bool,
+) -> Result<Subscription, Fail> {
     Ok(Subscription {
         subscriber: name(alloc, "c1")?,
         identifier: name(alloc, "a")?,

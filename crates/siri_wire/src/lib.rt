@@ -22,6 +22,5 @@ mod write_values;
 
 pub use encoding::encode;
 
-
 #[cfg(test)]
 mod encoding_tests;

@@ -36,10 +36,7 @@ fn place_value(alloc: Global, delivery: &FunctionalDelivery) -> Result<Option<Va
 }
 
 #[tactic(auto, unfolding(crate::specs::WrittenDeliveries::written_removed))]
-fn removed_value(
-    alloc: Global,
-    delivery: &FunctionalDelivery,
-) -> Result<Option<Value>, OutOfMemory>
+fn removed_value(alloc: Global, delivery: &FunctionalDelivery) -> Result<Option<Value>, OutOfMemory>
     ensures { IfOk result (λ value. option_map view value ≡ written_removed delivery.now) }
 {
     let mut members = place_members(alloc, delivery)?;
@@ -77,7 +74,10 @@ impl Spelling for StopDeliverySpelling {
         let place = place_value(alloc, delivery)?;
         let mut members = delivery_members(alloc, delivery, place)?;
         members.list::<ItemSpelling>(names::MONITORED_STOP_VISIT, &delivery.items)?;
-        members.list::<RemovalSpelling>(names::MONITORED_STOP_VISIT_CANCELLATION, &delivery.removals)?;
+        members.list::<RemovalSpelling>(
+            names::MONITORED_STOP_VISIT_CANCELLATION,
+            &delivery.removals,
+        )?;
         Ok(Some(members.object()))
     }
 }
@@ -93,10 +93,7 @@ impl Spelling for TimetableDeliverySpelling {
     fn write(alloc: Global, delivery: &FunctionalDelivery) -> Result<Option<Value>, OutOfMemory> {
         let removed = removed_value(alloc, delivery)?;
         let mut members = delivery_members(alloc, delivery, removed)?;
-        members.list::<FrameSpelling>(
-            names::ESTIMATED_JOURNEY_VERSION_FRAME,
-            &delivery.items,
-        )?;
+        members.list::<FrameSpelling>(names::ESTIMATED_JOURNEY_VERSION_FRAME, &delivery.items)?;
         Ok(Some(members.object()))
     }
 }

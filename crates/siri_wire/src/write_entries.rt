@@ -8,10 +8,9 @@ ghost use Rattle.siri_wire.specs.WrittenDeliveries.{spelled_item, frame_time, wr
 use crate::names;
 use serde_json::Value;
 use siri_base::{Moment, Name, OutOfMemory};
-use siri_items::names as item_names;
 use siri_items::rules::{MomentRule, NameRule};
-use siri_items::write_item;
 use siri_items::writing::{Members, Spelling};
+use siri_items::{names as item_names, write_item};
 use siri_records::{Item, Key};
 use std::alloc::Global;
 

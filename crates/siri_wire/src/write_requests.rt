@@ -20,10 +20,7 @@ use std::alloc::Global;
 
 /// The object of a ServiceRequest.
 #[tactic(auto, unfolding(crate::specs::WrittenRequests::written_service_request))]
-pub fn service_request_value(
-    alloc: Global,
-    request: &ServiceRequest,
-) -> Result<Value, OutOfMemory>
+pub fn service_request_value(alloc: Global, request: &ServiceRequest) -> Result<Value, OutOfMemory>
     ensures { IfOk result (λ value. view value ≡ written_service_request request.now) }
 {
     let mut members = Members::new(alloc);

@@ -14,10 +14,7 @@ use std::alloc::Global;
 
 /// The object of a CheckStatusRequest.
 #[tactic(auto, unfolding(crate::specs::WrittenRequests::written_check_status))]
-pub fn check_status_value(
-    alloc: Global,
-    request: &CheckStatusRequest,
-) -> Result<Value, OutOfMemory>
+pub fn check_status_value(alloc: Global, request: &CheckStatusRequest) -> Result<Value, OutOfMemory>
     ensures { IfOk result (λ value. view value ≡ written_check_status request.now) }
 {
     let mut members = Members::new(alloc);

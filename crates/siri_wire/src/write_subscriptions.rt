@@ -135,10 +135,7 @@ pub fn subscription_request_value(
     let mut members = Members::new(alloc);
     members.row::<MomentRule>(names::REQUEST_TIMESTAMP, &request.request_timestamp)?;
     members.row::<NameRule>(names::REQUESTOR_REF, &request.requestor_ref)?;
-    members.needed::<IdentifierSpelling>(
-        names::MESSAGE_IDENTIFIER,
-        &request.message_identifier,
-    )?;
+    members.needed::<IdentifierSpelling>(names::MESSAGE_IDENTIFIER, &request.message_identifier)?;
     members.row::<NameRule>(names::CONSUMER_ADDRESS, &request.consumer_address)?;
     let context = context_value(alloc, &request.heartbeat_interval)?;
     members.made(names::SUBSCRIPTION_CONTEXT, context)?;
@@ -206,10 +203,7 @@ pub fn termination_value(
     let mut members = Members::new(alloc);
     members.row::<MomentRule>(names::REQUEST_TIMESTAMP, &request.request_timestamp)?;
     members.row::<NameRule>(names::REQUESTOR_REF, &request.requestor_ref)?;
-    members.needed::<IdentifierSpelling>(
-        names::MESSAGE_IDENTIFIER,
-        &request.message_identifier,
-    )?;
+    members.needed::<IdentifierSpelling>(names::MESSAGE_IDENTIFIER, &request.message_identifier)?;
     members.needed::<NameRule>(names::SUBSCRIBER_REF, &request.subscriber_ref)?;
     members.list::<NameRule>(names::SUBSCRIPTION_REF, &request.subscription_ref)?;
     Ok(members.object())

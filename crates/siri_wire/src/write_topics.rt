@@ -91,7 +91,6 @@ fn situation_topic_value(alloc: Global, topic: &SituationTopic) -> Result<Value,
     Ok(members.object())
 }
 
-
 #[tactic(auto, unfolding(crate::specs::WrittenTopics::written_topic))]
 fn topic_value(alloc: Global, topic: &Topic) -> Result<Value, OutOfMemory>
     ensures { IfOk result (λ value. view value ≡ written_topic topic.now) }
