@@ -11,3 +11,9 @@ pub mod Parts
 pub mod Frames
 pub mod Deliveries
 pub mod Documents
+pub mod WrittenValues
+pub mod WrittenTopics
+pub mod WrittenDeliveries
+pub mod WrittenSubscriptions
+pub mod WrittenRequests
+pub mod Canonical

@@ -10,6 +10,7 @@
 #![tactic(auto)]
 
 mod document;
+mod encoding;
 mod kinds;
 pub mod names;
 mod read_deliveries;
@@ -24,5 +25,16 @@ mod read_subscriptions;
 mod read_supplies;
 mod read_terminations;
 mod read_topics;
+mod write_deliveries;
+mod write_entries;
+mod write_requests;
+mod write_statuses;
+mod write_subscriptions;
+mod write_topics;
+mod write_values;
 
 pub use document::{DecodeError, Refusal, decode};
+pub use encoding::encode;
+
+#[cfg(test)]
+mod encoding_tests;

@@ -1,0 +1,58 @@
+//! Writing whether the producer is there, and since when.
+
+ghost use Rattle.std.specs.Prelude.{◌≡◌, Option, IfOk, option_and_then};
+ghost use Rattle.serde_json.specs.View.{view};
+ghost use Rattle.siri_wire.specs.WrittenRequests.{written_check_status, written_status_response, written_heartbeat};
+
+use crate::names;
+use serde_json::Value;
+use siri_base::OutOfMemory;
+use siri_items::rules::{FlagRule, MomentRule, NameRule};
+use siri_items::writing::Members;
+use siri_messages::{CheckStatusRequest, CheckStatusResponse, HeartbeatNotification};
+use std::alloc::Global;
+
+/// The object of a CheckStatusRequest.
+#[tactic(auto, unfolding(crate::specs::WrittenRequests::written_check_status))]
+pub fn check_status_value(alloc: Global, request: &CheckStatusRequest) -> Result<Value, OutOfMemory>
+    ensures { IfOk result (λ value. view value ≡ written_check_status request.now) }
+{
+    let mut members = Members::new(alloc);
+    members.row::<MomentRule>(names::REQUEST_TIMESTAMP, &request.request_timestamp)?;
+    members.row::<NameRule>(names::REQUESTOR_REF, &request.requestor_ref)?;
+    members.row::<NameRule>(names::MESSAGE_IDENTIFIER, &request.message_identifier)?;
+    Ok(members.object())
+}
+
+/// The object of a CheckStatusResponse.
+#[tactic(auto, unfolding(crate::specs::WrittenRequests::written_status_response))]
+pub fn status_response_value(
+    alloc: Global,
+    response: &CheckStatusResponse,
+) -> Result<Value, OutOfMemory>
+    ensures { IfOk result (λ value. view value ≡ written_status_response response.now) }
+{
+    let mut members = Members::new(alloc);
+    members.row::<MomentRule>(names::RESPONSE_TIMESTAMP, &response.response_timestamp)?;
+    members.row::<NameRule>(names::PRODUCER_REF, &response.producer_ref)?;
+    members.row::<NameRule>(names::REQUEST_MESSAGE_REF, &response.request_message_ref)?;
+    members.needed::<FlagRule>(names::STATUS, &response.status)?;
+    members.row::<MomentRule>(names::SERVICE_STARTED_TIME, &response.service_started_time)?;
+    Ok(members.object())
+}
+
+/// The object of a HeartbeatNotification.
+#[tactic(auto, unfolding(crate::specs::WrittenRequests::written_heartbeat))]
+pub fn heartbeat_value(
+    alloc: Global,
+    heartbeat: &HeartbeatNotification,
+) -> Result<Value, OutOfMemory>
+    ensures { IfOk result (λ value. view value ≡ written_heartbeat heartbeat.now) }
+{
+    let mut members = Members::new(alloc);
+    members.row::<MomentRule>(names::REQUEST_TIMESTAMP, &heartbeat.request_timestamp)?;
+    members.row::<NameRule>(names::PRODUCER_REF, &heartbeat.producer_ref)?;
+    members.needed::<FlagRule>(names::STATUS, &heartbeat.status)?;
+    members.row::<MomentRule>(names::SERVICE_STARTED_TIME, &heartbeat.service_started_time)?;
+    Ok(members.object())
+}

@@ -1,0 +1,117 @@
+//! Writing topics.
+
+ghost use Rattle.std.specs.Prelude.{◌≡◌, Option, IfOk, option_map, option_and_then};
+ghost use Rattle.serde_json.specs.Data.{Data};
+ghost use Rattle.serde_json.specs.View.{view};
+ghost use Rattle.siri_wire.specs.WrittenTopics.{written_stop_topic, written_line_direction, written_lines, written_timetable_topic, written_vehicle_topic, written_situation_topic, written_topic, spelled_topic};
+
+use crate::names;
+use serde_json::Value;
+use siri_base::{List, OutOfMemory};
+use siri_items::names as item_names;
+use siri_items::rules::{MomentRule, NameRule, NumberRule, SpanRule};
+use siri_items::writing::{Members, Spelling};
+use siri_topic::{LineDirection, SituationTopic, StopTopic, TimetableTopic, Topic, VehicleTopic};
+use std::alloc::Global;
+
+#[tactic(auto, unfolding(crate::specs::WrittenTopics::written_stop_topic))]
+fn stop_topic_value(alloc: Global, topic: &StopTopic) -> Result<Value, OutOfMemory>
+    ensures { IfOk result (λ value. view value ≡ written_stop_topic topic.now) }
+{
+    let mut members = Members::new(alloc);
+    members.needed::<NameRule>(item_names::MONITORING_REF, &topic.monitoring_ref)?;
+    members.row::<NameRule>(item_names::LINE_REF, &topic.line_ref)?;
+    members.row::<NameRule>(item_names::DIRECTION_REF, &topic.direction_ref)?;
+    members.row::<NameRule>(item_names::OPERATOR_REF, &topic.operator_ref)?;
+    members.row::<NameRule>(item_names::DESTINATION_REF, &topic.destination_ref)?;
+    members.row::<SpanRule>(names::PREVIEW_INTERVAL, &topic.preview_interval)?;
+    members.row::<MomentRule>(item_names::START_TIME, &topic.start_time)?;
+    members.row::<NumberRule>(names::MAXIMUM_STOP_VISITS, &topic.maximum_stop_visits)?;
+    Ok(members.object())
+}
+
+struct LineDirectionSpelling;
+
+impl Spelling for LineDirectionSpelling {
+    type Of = LineDirection;
+
+    ghost spelling = { written_line_direction };
+
+    #[tactic(auto, unfolding(crate::specs::WrittenTopics::written_line_direction))]
+    fn write(alloc: Global, line: &LineDirection) -> Result<Option<Value>, OutOfMemory> {
+        let mut members = Members::new(alloc);
+        members.needed::<NameRule>(item_names::LINE_REF, &line.line_ref)?;
+        members.row::<NameRule>(item_names::DIRECTION_REF, &line.direction_ref)?;
+        Ok(Some(members.object()))
+    }
+}
+
+#[tactic(auto, unfolding(crate::specs::WrittenTopics::written_lines))]
+fn lines_value(alloc: Global, lines: &List<LineDirection>) -> Result<Option<Value>, OutOfMemory>
+    ensures { IfOk result (λ value. option_map view value ≡ written_lines lines.now) }
+{
+    let mut members = Members::new(alloc);
+    members.list::<LineDirectionSpelling>(names::LINE_DIRECTION, lines)?;
+    Ok(members.some_object())
+}
+
+#[tactic(auto, unfolding(crate::specs::WrittenTopics::written_timetable_topic))]
+fn timetable_topic_value(alloc: Global, topic: &TimetableTopic) -> Result<Value, OutOfMemory>
+    ensures { IfOk result (λ value. view value ≡ written_timetable_topic topic.now) }
+{
+    let mut members = Members::new(alloc);
+    members.row::<SpanRule>(names::PREVIEW_INTERVAL, &topic.preview_interval)?;
+    members.row::<NameRule>(item_names::OPERATOR_REF, &topic.operator_ref)?;
+    let lines = lines_value(alloc, &topic.lines)?;
+    members.made(names::LINES, lines)?;
+    Ok(members.object())
+}
+
+#[tactic(auto, unfolding(crate::specs::WrittenTopics::written_vehicle_topic))]
+fn vehicle_topic_value(alloc: Global, topic: &VehicleTopic) -> Result<Value, OutOfMemory>
+    ensures { IfOk result (λ value. view value ≡ written_vehicle_topic topic.now) }
+{
+    let mut members = Members::new(alloc);
+    members.row::<NameRule>(item_names::VEHICLE_REF, &topic.vehicle_ref)?;
+    members.row::<NameRule>(item_names::LINE_REF, &topic.line_ref)?;
+    members.row::<NameRule>(item_names::DIRECTION_REF, &topic.direction_ref)?;
+    Ok(members.object())
+}
+
+#[tactic(auto, unfolding(crate::specs::WrittenTopics::written_situation_topic))]
+fn situation_topic_value(alloc: Global, topic: &SituationTopic) -> Result<Value, OutOfMemory>
+    ensures { IfOk result (λ value. view value ≡ written_situation_topic topic.now) }
+{
+    let mut members = Members::new(alloc);
+    members.row::<NameRule>(item_names::LINE_REF, &topic.line_ref)?;
+    members.row::<NameRule>(item_names::STOP_POINT_REF, &topic.stop_point_ref)?;
+    members.row::<NameRule>(item_names::OPERATOR_REF, &topic.operator_ref)?;
+    members.row::<SpanRule>(names::PREVIEW_INTERVAL, &topic.preview_interval)?;
+    members.row::<MomentRule>(item_names::START_TIME, &topic.start_time)?;
+    Ok(members.object())
+}
+
+#[tactic(auto, unfolding(crate::specs::WrittenTopics::written_topic))]
+fn topic_value(alloc: Global, topic: &Topic) -> Result<Value, OutOfMemory>
+    ensures { IfOk result (λ value. view value ≡ written_topic topic.now) }
+{
+    match topic {
+        Topic::Stop(topic) => stop_topic_value(alloc, topic),
+        Topic::Timetable(topic) => timetable_topic_value(alloc, topic),
+        Topic::Vehicle(topic) => vehicle_topic_value(alloc, topic),
+        Topic::Situation(topic) => situation_topic_value(alloc, topic),
+    }
+}
+
+/// A topic, by the table of its service.
+pub struct TopicSpelling;
+
+impl Spelling for TopicSpelling {
+    type Of = Topic;
+
+    ghost spelling = { spelled_topic };
+
+    fn write(alloc: Global, topic: &Topic) -> Result<Option<Value>, OutOfMemory> {
+        Ok(Some(topic_value(alloc, topic)?))
+    }
+}
