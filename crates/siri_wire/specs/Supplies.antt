@@ -1,7 +1,9 @@
 -- The tables of the messages by which rounds are announced, fetched and acknowledged (EN 15531-2). Their Extensions hold a
 -- mark, which is this profile's own.
-use Rattle.std.specs.Prelude.{ℕ, List, Bool, true, false, ◌&&◌, if◌then◌else◌, Option, Some, None, unwrap_or, Result, Ok}
+use Rattle.std.specs.Prelude.{ℕ, List, [], ◌∷◌, Bool, true, false, ◌&&◌, if◌then◌else◌, Option, Some, None, unwrap_or, Result, Ok, Err}
 use Rattle.serde_json.specs.Data.{Data}
+use Rattle.siri_base.specs.declared.reason.Reason.TheVariants.{NotCarried}
+use Rattle.siri_json.specs.declared.path.Step.TheVariants.{Member}
 use Rattle.siri_json.specs.Values.{Found, found, absent, wrong, member_of, text_in, object_in}
 use Rattle.siri_messages.specs.declared.supplies.Mark.{Mark}
 use Rattle.siri_messages.specs.declared.supplies.DataReadyNotification.{DataReadyNotification}
@@ -68,14 +70,21 @@ data_ready_acknowledgement d = do
   status ← row flag STATUS.now d
   Ok (record { response_timestamp = response_timestamp; consumer_ref = consumer_ref; status = unwrap_or status true })
 
--- DataSupplyRequest: a part of a round is fetched
-unfoldable pub data_supply_request : Data → Result DataSupplyRequest Refusal
-data_supply_request d = do
+unfoldable pub supply_rows : Data → Result DataSupplyRequest Refusal
+supply_rows d = do
   request_timestamp ← row moment REQUEST_TIMESTAMP.now d
   consumer_ref ← needed name CONSUMER_REF.now d
   all_data ← row flag ALL_DATA.now d
   extensions ← needed (table mark) EXTENSIONS.now d
   Ok (record { request_timestamp = request_timestamp; consumer_ref = consumer_ref; all_data = unwrap_or all_data false; extensions = extensions })
+
+-- a request for everything and not the changes alone isn't carried
+abbrev pub unless_all : DataSupplyRequest → Result DataSupplyRequest Refusal
+unless_all m = if m.all_data then Err (record { path = Member ALL_DATA.now ∷ []; reason = NotCarried }) else Ok m
+
+-- DataSupplyRequest: a part of a round is fetched
+unfoldable pub data_supply_request : Data → Result DataSupplyRequest Refusal
+data_supply_request d = supply_rows d >>= unless_all
 
 -- DataReceivedAcknowledgement: a delivery was taken
 unfoldable pub data_received_acknowledgement : Data → Result DataReceivedAcknowledgement Refusal

@@ -3,14 +3,14 @@ ghost use Rattle.std.specs.Prelude.{◌≡◌, Result, Option};
 ghost use Rattle.serde_json.specs.Data.{Data};
 ghost use Rattle.serde_json.specs.View.{view};
 ghost use Rattle.siri_items.specs.Refusals.{Gives};
-ghost use Rattle.siri_wire.specs.Supplies.{mark, lacks, lacks_mark, mark_if_any, optional_mark, data_ready_notification, data_ready_acknowledgement, data_supply_request, data_received_acknowledgement};
+ghost use Rattle.siri_wire.specs.Supplies.{mark, lacks, lacks_mark, mark_if_any, optional_mark, data_ready_notification, data_ready_acknowledgement, supply_rows, data_supply_request, data_received_acknowledgement};
 
 use crate::names;
 use crate::read_error::error_condition;
 use serde_json::Value;
 use siri_base::Reason;
 use siri_items::ItemError;
-use siri_items::refusal::refuse;
+use siri_items::refusal::{refuse, refuse_at};
 use siri_items::rows::{needed, row};
 use siri_items::rules::{FlagRule, MomentRule, NameRule, NumberRule, Rule, Table};
 use siri_json::{ObjectOf, TextOf, member, object_of, text_of};
@@ -130,8 +130,20 @@ impl Table for DataReadyAcknowledgementTable {
     }
 }
 
-/// A part of a round is fetched (EN 15531-2, DataSupplyRequest). AllData is false where it is absent; ConsumerRef and
-/// the mark have to be there.
+#[tactic(auto, unfolding(crate::specs::Supplies::supply_rows))]
+fn supply_rows(alloc: Global, tree: &Value) -> Result<DataSupplyRequest, ItemError>
+    ensures { Gives result (supply_rows (view tree.now)) }
+{
+    Ok(DataSupplyRequest {
+        request_timestamp: row::<MomentRule>(alloc, tree, names::REQUEST_TIMESTAMP)?,
+        consumer_ref: needed::<NameRule>(alloc, tree, names::CONSUMER_REF)?,
+        all_data: row::<FlagRule>(alloc, tree, names::ALL_DATA)?.unwrap_or(false),
+        extensions: needed::<MarkTable>(alloc, tree, names::EXTENSIONS)?,
+    })
+}
+
+/// A part of a round is fetched (EN 15531-2, DataSupplyRequest). AllData is false where it is absent, and `NotCarried`
+/// where it is true, after the other rows; ConsumerRef and the mark have to be there.
 pub struct DataSupplyRequestTable;
 
 impl Table for DataSupplyRequestTable {
@@ -141,12 +153,11 @@ impl Table for DataSupplyRequestTable {
 
     #[tactic(auto, unfolding(crate::specs::Supplies::data_supply_request))]
     fn read_rows(alloc: Global, tree: &Value) -> Result<DataSupplyRequest, ItemError> {
-        Ok(DataSupplyRequest {
-            request_timestamp: row::<MomentRule>(alloc, tree, names::REQUEST_TIMESTAMP)?,
-            consumer_ref: needed::<NameRule>(alloc, tree, names::CONSUMER_REF)?,
-            all_data: row::<FlagRule>(alloc, tree, names::ALL_DATA)?.unwrap_or(false),
-            extensions: needed::<MarkTable>(alloc, tree, names::EXTENSIONS)?,
-        })
+        let request = supply_rows(alloc, tree)?;
+        if request.all_data {
+            return refuse_at(alloc, names::ALL_DATA, Reason::NotCarried);
+        }
+        Ok(request)
     }
 }
 
