@@ -1,5 +1,5 @@
 -- What was written is spelled again: objects that are left out where they would be empty, and lists.
-use Rattle.std.proofs.Common.{◌≡◌, ℕ, ◌+◌, ◌≤◌, ◌⊎◌, inl, inr, Bool, true, false, cond, not, nat_le, List, [], ◌∷◌, ◌++◌, length, bytes_eq, Option, Some, None, option_map, Result, Ok, refl, sym, ap, subst, ◌∙◌, arith}
+use Rattle.std.proofs.Common.{◌≡◌, ℕ, ◌+◌, ◌≤◌, ◌⊎◌, inl, inr, Bool, true, false, cond, not, nat_le, List, [], ◌∷◌, length, bytes_eq, Option, Some, None, Result, Ok, refl, sym, ap, ◌∙◌, arith}
 use Rattle.std.specs.Prelude.{count_by}
 use Rattle.std.specs.List.{filter_map, AllByRecursion}
 use Rattle.std.proofs.lemmas.Bool.{le-leb}
@@ -9,8 +9,8 @@ use Rattle.serde_json.specs.Data.{Data, object, array, Members, no_members, memb
 use Rattle.serde_json.specs.View.{items_of}
 use Rattle.siri_json.specs.Canonical.{as_texts, items_as_texts}
 use Rattle.siri_json.specs.Values.{object_in, member_of, items_list, entries_of}
-use Rattle.siri_items.specs.Refusals.{Refusal, ◌>>=◌}
-use Rattle.siri_items.specs.Rules.{name, row, inside, table, some_table, present, is_null, entry_count, entries_from, found_from, at_most, list_of, names_of, or_empty, list, not_empty, some_list, names, list_inside}
+use Rattle.siri_items.specs.Refusals.{Refusal}
+use Rattle.siri_items.specs.Rules.{name, inside, table, some_table, present, is_null, entry_count, entries_from, found_from, at_most, list_of, names_of, or_empty, list, not_empty, some_list, names, list_inside}
 use Rattle.siri_items.specs.Writing.{Row, with_rows, row_object, some_object, some_array, written_list, written_text}
 use Rattle.siri_items.specs.Written.{written_name}
 use Rattle.siri_items.specs.Proper.{IsName}

@@ -1,5 +1,5 @@
 -- What was written is spelled again: a lemma a table, a line a row.
-use Rattle.std.proofs.Common.{◌≡◌, ℕ, ◌+◌, ◌≤◌, inl, inr, true, false, ◌||◌, nat_le, List, [], ◌∷◌, ◌++◌, length, append-nil, Option, Some, None, Result, Ok, refl, sym, ap, arith, IsSome}
+use Rattle.std.proofs.Common.{◌≡◌, ℕ, ◌+◌, ◌≤◌, inl, inr, true, nat_le, List, [], ◌∷◌, length, append-nil, Option, Some, None, Result, Ok, refl, sym, ap, arith, IsSome}
 use Rattle.std.specs.Prelude.{IfSome, option_and_then, sum_by}
 use Rattle.std.specs.List.{filter_map, AllByRecursion}
 use Rattle.std.proofs.lemmas.Bool.{le-leb}
@@ -30,7 +30,7 @@ use Rattle.siri_items.specs.Journeys.{journey}
 use Rattle.siri_items.specs.Situations.{situation, period, network, lines_at, all_lines, lines_of, network_lines, affected}
 use Rattle.siri_items.specs.Items.{item_of}
 use Rattle.siri_items.specs.Spelling.{SpellsCall, SpellsLocation, SpellsVisitJourney, SpellsVisit, SpellsVehicleJourney, SpellsVehicle, SpellsJourneyRows, SpellsPeriod, SpellsAffects, SpellsSituation}
-use Rattle.siri_items.specs.Writing.{Row, with_rows, row_object, some_object, some_array, written_list, written_text}
+use Rattle.siri_items.specs.Writing.{with_rows, row_object, some_object, some_array, written_list, written_text}
 use Rattle.siri_items.specs.Written.{call_rows, written_call, spelled_call, location_rows, written_location, framed_rows, written_framed, written_dated, visit_journey_rows, written_visit_journey, visit_rows, written_visit, vehicle_journey_rows, written_vehicle_journey, vehicle_rows, written_vehicle, written_calls, journey_rows, written_journey, period_rows, written_period, written_name, written_names, written_network, written_networks, affects_rows, written_affects, situation_rows, written_situation, written_item}
 use Rattle.siri_items.specs.Proper.{IsName, IsListWithin, IsProperCall, IsProperOptionalCall, IsProperLocation, IsProperVisitJourney, IsProperVisit, IsProperVehicleJourney, IsProperVehicle, IsProperJourney, IsProperPeriod, IsProperSituation, IsProper, service_of, as_written}
 use Rattle.siri_items.proofs.Back.{found_again, GivesBack, member_again, row_again}

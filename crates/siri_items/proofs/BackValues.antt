@@ -1,5 +1,5 @@
 -- What was written is spelled again: a lemma a rule.
-use Rattle.std.proofs.Common.{◌≡◌, ℕ, zero, suc, ◌+◌, ◌<◌, ◌≤◌, ◌^◌, Bool, true, false, nat_le, List, [], ◌∷◌, length, ℤ, pos, negsuc, unsigned_abs, Option, Some, None, Result, Ok, refl, ap, ◌∙◌, arith}
+use Rattle.std.proofs.Common.{◌≡◌, ℕ, ◌<◌, ◌≤◌, ◌^◌, Bool, true, false, nat_le, List, [], ◌∷◌, length, ℤ, pos, Option, Some, None, Result, Ok, refl, ap, ◌∙◌, arith}
 use Rattle.std.specs.Prelude.{IfSome, option_and_then}
 use Rattle.std.specs.List.{list_all}
 use Rattle.std.specs.Char.{is_ascii_digit}
@@ -9,7 +9,7 @@ use Rattle.std.specs.Fmt.{decimal as digits}
 use Rattle.std.proofs.lemmas.Bool.{le-leb}
 use Rattle.std.proofs.lemmas.Fmt.{digits_decimal, digits_value-decimal, decimal_nonempty, length-decimal-le}
 use Rattle.std.proofs.lemmas.Str.Parse.{IsNumeralModel, numerals_by_value, tells_all_ascii_digits}
-use Rattle.serde_json.specs.Data.{Data, object, string, Members, no_members}
+use Rattle.serde_json.specs.Data.{Data, object, string, Members}
 use Rattle.siri_json.specs.Canonical.{as_texts}
 use Rattle.siri_json.specs.Values.{string_found, found, text_in, flag_in, object_in}
 use Rattle.siri_time.specs.Moment.{moment_of}
@@ -19,11 +19,11 @@ use Rattle.siri_time.specs.SpanText.{span_text}
 use Rattle.siri_time.proofs.MomentRead.{moment_of-moment_text}
 use Rattle.siri_time.proofs.SpanRead.{span_of-span_text}
 use Rattle.siri_items.specs.Refusals.{Refusal}
-use Rattle.siri_items.specs.Rules.{maybe, spelled, bounded, name, text, moment, moment_or, span, span_or, span0, number, decimal, or_refused, flag, table, some_table, unless_blank}
+use Rattle.siri_items.specs.Rules.{spelled, bounded, name, text, moment, moment_or, span, span_or, span0, number, decimal, or_refused, flag, table, some_table}
 use Rattle.siri_items.specs.Scalars.{number_of, decimal_of}
 use Rattle.siri_items.specs.Writing.{written_text, written_number, written_moment, written_span, written_decimal, written_flag, decimal_text}
 use Rattle.siri_items.specs.Proper.{IsTextWithin, IsName, IsText, IsMoment, IsSpan, IsNumber, IsDecimal}
-use Rattle.siri_items.proofs.Back.{found_again, GivesBack}
+use Rattle.siri_items.proofs.Back.{GivesBack}
 use Rattle.siri_items.proofs.DecimalRead.{digits_are, decimal_of-decimal_text}
 use Rattle.siri_items.proofs.Nonempty.{moment_text_nonempty, span_text_nonempty, decimal_text_nonempty}
 

@@ -1,13 +1,13 @@
 -- What is written is canonical and not deep: values, rows and lists.
-use Rattle.std.proofs.Common.{◌≡◌, ℕ, suc, ◌≤◌, ◌^◌, max, true, List, [], ◌∷◌, ℤ, unsigned_abs, Option, Some, None, Ordering, Less, Equal, Greater, arith}
-use Rattle.std.specs.Prelude.{IfSome, Bool, nat_lt, IsUtf8, IsAscii, option_and_then, ⊤}
+use Rattle.std.proofs.Common.{◌≡◌, ℕ, suc, ◌≤◌, true, List, [], ◌∷◌, ℤ, Option, Some, None, Ordering, Less, Equal, Greater, arith}
+use Rattle.std.specs.Prelude.{IfSome, Bool, nat_lt, IsUtf8, IsAscii, option_and_then}
 use Rattle.std.specs.List.{filter_map, cons_option, list_all, AllByRecursion}
 use Rattle.std.specs.Ordering.{nat_cmp, match_ordering}
 use Rattle.std.specs.Cmp.Lexicographic.{slice_cmp}
 use Rattle.std.proofs.lemmas.Bool.{and_parts, ltb-true}
 use Rattle.std.proofs.lemmas.Str.{IsUtf8-from_ascii}
 use Rattle.std.proofs.lemmas.Str.Ascii.{IsAscii-nil, IsAscii-cons}
-use Rattle.serde_json.specs.Data.{Data, string, object, array, Items, Members, no_members, member as one_member, put, depth, items_depth, members_depth}
+use Rattle.serde_json.specs.Data.{Data, object, Items, Members, no_members, member as one_member, put, depth, items_depth, members_depth}
 use Rattle.serde_json.specs.View.{items_of}
 use Rattle.siri_json.specs.Canonical.{IsCanonical, ItemsAreCanonical}
 use Rattle.siri_json.proofs.Order.{canonical_put}

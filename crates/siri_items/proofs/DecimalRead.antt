@@ -1,5 +1,5 @@
 -- A written decimal is read as itself.
-use Rattle.std.proofs.Common.{◌≡◌, ℕ, zero, suc, ◌+◌, ◌-◌, ◌*◌, ◌/◌, ◌%◌, ◌^◌, ◌≤◌, ◌<◌, ◌⊎◌, inl, inr, true, false, leb, ltb, eqb, List, [], ◌∷◌, ◌++◌, length, length-append, append-nil, take, drop, Option, Some, None, ℤ, pos, negsuc, unsigned_abs, refl, ap, ◌∙◌, arith, rules, fold}
+use Rattle.std.proofs.Common.{◌≡◌, ℕ, zero, suc, ◌+◌, ◌-◌, ◌*◌, ◌/◌, ◌%◌, ◌≤◌, ◌<◌, ◌⊎◌, inl, inr, true, false, leb, ltb, eqb, List, [], ◌∷◌, ◌++◌, length, length-append, take, Some, ℤ, pos, negsuc, unsigned_abs, refl, ◌∙◌, arith, rules, fold}
 use Rattle.std.proofs.lemmas.Bool.{cases_lt, and_parts, le-leb}
 use Rattle.std.proofs.lemmas.Bool.Decides.{nat_tests}
 use Rattle.std.proofs.lemmas.Fmt.{decimal_nonempty, length-decimal-le, digits_decimal, digits_value-decimal}

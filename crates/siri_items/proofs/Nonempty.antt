@@ -1,12 +1,12 @@
 -- No written text is empty.
-use Rattle.std.proofs.Common.{◌≡◌, ℕ, suc, ◌/◌, ◌%◌, ◌≤◌, inl, inr, false, eqb, List, [], ◌∷◌, ◌++◌, length, length-append, ℤ, pos, negsuc, unsigned_abs, arith}
+use Rattle.std.proofs.Common.{◌≡◌, ℕ, ◌/◌, ◌≤◌, inl, inr, false, eqb, List, ◌++◌, length, length-append, ℤ, pos, negsuc, unsigned_abs, arith}
 use Rattle.std.proofs.lemmas.Bool.{cases_lt}
 use Rattle.std.proofs.lemmas.Bool.Decides.{nat_tests}
 use Rattle.std.proofs.lemmas.Fmt.{decimal_nonempty}
 use Rattle.std.specs.Fmt.{decimal}
 use Rattle.siri_time.specs.MomentText.{date_text, moment_text}
 use Rattle.siri_time.specs.SpanText.{length_text, span_text}
-use Rattle.siri_items.specs.Writing.{fraction_text, magnitude_text, decimal_text}
+use Rattle.siri_items.specs.Writing.{magnitude_text, decimal_text}
 
 after : (front back : List ℕ) → 1 ≤ length front → 1 ≤ length (front ++ back)
 after front back some = omega (arith, length-append front back)

@@ -1,9 +1,11 @@
 //! Reading journeys.
 
-ghost use Rattle.std.specs.Prelude.{◌≡◌};
+ghost use Rattle.std.specs.Prelude.{◌≡◌, IsTrue};
 ghost use Rattle.serde_json.specs.Data.{Data};
 ghost use Rattle.serde_json.specs.View.{view};
-ghost use Rattle.siri_items.specs.Refusals.{Gives};
+ghost use Rattle.siri_items.specs.Refusals.{Gives, is_key};
+ghost use Rattle.siri_items.specs.Rules.{list, list_inside, table};
+ghost use Rattle.siri_items.specs.Calls.{stop_call};
 ghost use Rattle.siri_items.specs.Journeys.{journey_rows, has_time, with_time, journey};
 
 use crate::journey_rows::JourneyRows;
@@ -13,11 +15,24 @@ use crate::refusal::{ItemError, refuse};
 use crate::rows::{list_inside, needed, row};
 use crate::rules::{FlagRule, MomentRule, NameRule, SpanRule, Table, TextRule};
 use serde_json::Value;
-use siri_base::Reason;
+use siri_base::{List, Reason};
 use siri_records::{Journey, StopCall, moment_of};
 use std::alloc::Global;
 
 const MOST_CALLS: usize = 1000;
+
+fn calls_inside(
+    alloc: Global,
+    tree: &Value,
+    outer: &str,
+    key: &str,
+) -> Result<List<StopCall>, ItemError>
+    requires outer { IsTrue (is_key outer.now) }
+    requires key { IsTrue (is_key key.now) }
+    ensures { Gives result (list_inside outer.now (list (table stop_call) 1000 key.now) (view tree.now)) }
+{
+    list_inside::<StopCallTable>(alloc, tree, outer, key, MOST_CALLS)
+}
 
 #[tactic(auto, unfolding(crate::specs::Journeys::journey_rows))]
 fn journey_rows(alloc: Global, tree: &Value) -> Result<Journey, ItemError>
@@ -37,20 +52,8 @@ fn journey_rows(alloc: Global, tree: &Value) -> Result<Journey, ItemError>
     rows.monitored = row::<FlagRule>(alloc, tree, names::MONITORED)?;
     rows.occupancy = row::<TextRule>(alloc, tree, names::OCCUPANCY)?;
     rows.delay = row::<SpanRule>(alloc, tree, names::DELAY)?;
-    let recorded = list_inside::<StopCallTable>(
-        alloc,
-        tree,
-        names::RECORDED_CALLS,
-        names::RECORDED_CALL,
-        MOST_CALLS,
-    )?;
-    let estimated = list_inside::<StopCallTable>(
-        alloc,
-        tree,
-        names::ESTIMATED_CALLS,
-        names::ESTIMATED_CALL,
-        MOST_CALLS,
-    )?;
+    let recorded = calls_inside(alloc, tree, names::RECORDED_CALLS, names::RECORDED_CALL)?;
+    let estimated = calls_inside(alloc, tree, names::ESTIMATED_CALLS, names::ESTIMATED_CALL)?;
     Ok(rows.journey(
         recorded_at_time,
         line_ref,
