@@ -1,5 +1,6 @@
 // What the lines of a script made of a producer.
 ghost use Rattle.std.specs.Prelude.{◌≡◌, ◌+◌, ◌≤◌, ◌<◌, ◌^◌, length, pos, map, fold, IfSome, OnOk, IfOk, option_map};
+ghost use Rattle.std.specs.BTreeMap.{insert_entry};
 ghost use Rattle.siri_model.specs.Direct.{agrees, is_in, is_from, is_before, is_shown, window_of};
 ghost use Rattle.siri_model.specs.History.{Clock};
 ghost use Rattle.siri_cli.specs.Producer.{Known, known_from, after_clock, after_feed, observed, topic_of};
@@ -93,17 +94,28 @@ fn observe(current: &mut BTreeMap<Key, Item>, items: Vec<Item>) -> Result<(), Ou
 fn put(current: &mut BTreeMap<Key, Item>, item: Item) -> Result<(), OutOfMemory>
     ensures { OnOk result (current.new.entries ≡ observed current.old.entries item) }
 {
-    let key = key_of(&item)?;
-    match current.insert(key, item) {
-        Ok(before) => {
-            discard(before);
-            Ok(())
+    match key_of(&item) {
+        Ok(key) => insert(current, key, item),
+        Err(error) => {
+            drop(item);
+            Err(error)
         }
-        Err(_) => Err(OutOfMemory),
     }
 }
 
-fn discard(_: Option<Item>) {}
+/// The value becomes the one of the key. It knows nothing of the value, so letting one go is a call here.
+fn insert<K: Ord + Drop, V: Drop>(
+    map: &mut BTreeMap<K, V>,
+    key: K,
+    value: V,
+) -> Result<(), OutOfMemory>
+    ensures { OnOk result (map.new.entries ≡ insert_entry K.cmp map.old.entries key value) }
+{
+    match map.insert(key, value) {
+        Ok(_) => Ok(()),
+        Err(_) => Err(OutOfMemory),
+    }
+}
 
 /// Whether an item is shown to a topic at a moment.
 pub fn is_shown(topic: &StopTopic, now: Moment, item: &Item) -> bool
