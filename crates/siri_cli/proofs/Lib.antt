@@ -5,3 +5,4 @@ pub mod Written
 pub mod ListLemmas
 pub mod Same
 pub mod Floats
+pub mod OneDocument

@@ -1,5 +1,5 @@
 -- The report by what a producer knows is the report by its history.
-use Rattle.std.proofs.Common.{◌≡◌, ℕ, ◌+◌, List, [], ◌∷◌, ◌++◌, Bool, true, false, Option, None, Some, refl, sym, ap, ◌∙◌, length, map, option_map, subst, add-zero, ap₂}
+use Rattle.std.proofs.Common.{◌≡◌, ℕ, ◌+◌, List, [], ◌∷◌, ◌++◌, Bool, true, false, None, Some, refl, sym, ap, ◌∙◌, length, map, option_map, subst, add-zero, ap₂}
 use Rattle.std.proofs.lemmas.List.{length-map}
 use Rattle.std.specs.Str.Lines.{lines}
 use Rattle.siri_records.specs.declared.item.Item.{Item}
@@ -10,7 +10,7 @@ use Rattle.siri_base.specs.declared.status.Status.TheVariants as status
 use Rattle.siri_model.specs.History.{History, Step, State, Clock, Feed, Settle, Observed, after_step, nothing, state_of}
 use Rattle.siri_cli.specs.declared.lines.Line.{Line}
 use Rattle.siri_cli.specs.declared.lines.Line.TheVariants as said
-use Rattle.siri_cli.specs.Told.{Told, Events, Verdict, Goes, Stops, verdict, goes_on, after_text, ends_with, report_from}
+use Rattle.siri_cli.specs.Told.{Told, Verdict, Goes, Stops, verdict, goes_on, after_text, report_from}
 use Rattle.siri_cli.specs.Lines.{line_of}
 use Rattle.siri_cli.specs.Report.{World, event, says, fed, visits_of, entries_of, report}
 use Rattle.siri_cli.specs.Producer.{Known, after_clock, after_feed}

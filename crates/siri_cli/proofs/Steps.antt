@@ -1,5 +1,5 @@
 -- How a script is read, byte by byte and piece by piece.
-use Rattle.std.proofs.Common.{◌≡◌, ℕ, ◌+◌, ◌<◌, List, [], ◌∷◌, ◌++◌, eqb, false, true, Bool, Option, refl, sym, ap, ◌∙◌, subst, append_assoc, append-nil, length, arith, length-append, inl, inr, Ok, Err, Result, OnOk, take, drop, get_or, take-append-drop, add-one}
+use Rattle.std.proofs.Common.{◌≡◌, ℕ, ◌+◌, ◌<◌, List, [], ◌∷◌, ◌++◌, eqb, false, true, Bool, refl, sym, ap, ◌∙◌, subst, append_assoc, append-nil, length, arith, length-append, inl, inr, Ok, Err, Result, OnOk, take, drop, get_or, take-append-drop, add-one}
 use Rattle.std.proofs.Math.Seq.{take-suc, take-length}
 use Rattle.std.specs.Prelude.{MatchBool}
 use Rattle.std.specs.Io.KnownBytes.{Appends}
@@ -12,7 +12,7 @@ use Rattle.siri_cli.specs.declared.stop.Stop.TheVariants as stop
 use Rattle.siri_base.specs.declared.errors.OutsideError.{OutsideError}
 use Rattle.siri_base.specs.declared.errors.OutsideError.TheVariants as outside
 use Rattle.siri_cli.specs.Stops.{stop_of, status_of}
-use Rattle.siri_cli.specs.Told.{Told, Events, Goes, ends_with, verdict}
+use Rattle.siri_cli.specs.Told.{Told, Events, Goes, verdict}
 use Rattle.siri_cli.specs.Ends.{Bytes, Ends, AppendsFront, AreWholeLines}
 use Rattle.siri_cli.specs.Reading.{Progress, to_come, Continues, HasNoBreak, Advances, CutsOff, EndsWithin, Breaks, LineBreaks, Brings, Finishes, is_cut}
 use Rattle.siri_cli.proofs.LineBreaks.{lines_whole, whole_append, no_break_more, line_ended, last_line, too_long}

@@ -1,15 +1,14 @@
 -- A run over a source that told its bytes, or did not.
-use Rattle.std.proofs.Common.{◌≡◌, ◌⊎◌, ℕ, List, [], ◌∷◌, ◌++◌, Option, None, Some, Bool, true, false, refl, sym, ap, ◌∙◌, subst, append-nil, append_assoc, inl, inr}
+use Rattle.std.proofs.Common.{◌≡◌, ℕ, List, [], ◌++◌, None, Some, Bool, true, false, refl, sym, ap, ◌∙◌, subst, append-nil, append_assoc, inl, inr}
 use Rattle.std.specs.Prelude.{◌≢◌, MatchBool}
 use Rattle.std.specs.Io.KnownBytes.{Consumes, Keeps, IsAtEnd}
-use Rattle.std.specs.Str.Lines.{lines}
 use Rattle.siri_base.specs.declared.status.Status.{Status}
 use Rattle.siri_base.specs.declared.status.Status.TheVariants as status
 use Rattle.siri_cli.specs.declared.stop.Stop.{Stop}
 use Rattle.siri_cli.specs.declared.stop.Stop.TheVariants as stop
-use Rattle.siri_cli.specs.Told.{Told, Events}
+use Rattle.siri_cli.specs.Told.{Events}
 use Rattle.siri_cli.specs.Ends.{Bytes, Ends, AppendsFront}
-use Rattle.siri_cli.specs.Reading.{Progress, to_come, beginning, Advances, CutsOff, EndsWithin, Breaks, Finishes, Stands, Follows, is_cut}
+use Rattle.siri_cli.specs.Reading.{Progress, beginning, Advances, CutsOff, EndsWithin, Breaks, Finishes, Stands, Follows, is_cut}
 use Rattle.siri_cli.specs.Stops.{status_of}
 use Rattle.siri_cli.specs.Reports.{Reports, WritesFront, report_of}
 use Rattle.siri_cli.proofs.Steps.{advances_none, advances_more, breaks_more, finishes_after, front_so_far, front_none}

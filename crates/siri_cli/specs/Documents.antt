@@ -1,6 +1,6 @@
 -- The documents of a script's lines: deliveries and requests of Stop Monitoring in one spelling, in which no other member
 -- stands anywhere.
-use Rattle.std.specs.Prelude.{◌≡◌, ℕ, suc, ◌==◌, ℤ, pos, List, [], ◌∷◌, length, Bool, true, false, ◌&&◌, nat_le, nat_eq, Option, Some, None, is_some, if◌then◌else◌, Result, Ok, Err, option_and_then}
+use Rattle.std.specs.Prelude.{◌≡◌, ℕ, suc, ◌==◌, ℤ, pos, List, [], ◌∷◌, length, ◌&&◌, nat_le, Option, Some, None, is_some, if◌then◌else◌, Result, Ok, Err}
 use Rattle.std.specs.Int.Signed.{lt_z}
 use Rattle.serde_json.specs.Data.{Data, string, array, object, Members, no_members, member}
 use Rattle.serde_json.specs.Find.{get}

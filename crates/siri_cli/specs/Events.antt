@@ -1,5 +1,5 @@
 -- What the lines of a script bring, by what its producer knows.
-use Rattle.std.specs.Prelude.{ℕ, ◌+◌, List, [], Bool, true, false, length, nat_le, Option, Some, None, option_map}
+use Rattle.std.specs.Prelude.{ℕ, ◌+◌, List, [], Bool, true, false, length, nat_le, Option, Some, None}
 use Rattle.siri_records.specs.declared.item.Item.{Item}
 use Rattle.siri_model.specs.History.{History, state_of}
 use Rattle.siri_model.specs.Direct.{shown}
@@ -9,7 +9,7 @@ use Rattle.siri_cli.specs.Answers.{started_text, fed_text, answer_text}
 use Rattle.siri_cli.specs.Lines.{line_of}
 use Rattle.siri_cli.specs.Producer.{Known, known_from, after_clock, after_feed, topic_of}
 use Rattle.siri_cli.specs.Report.{visits_of, not_yet}
-use Rattle.siri_cli.specs.Told.{Events, Verdict, Goes, Stops}
+use Rattle.siri_cli.specs.Told.{Events, Verdict, Goes}
 
 -- what a producer knows after a history
 abbrev pub known_of : History → Known

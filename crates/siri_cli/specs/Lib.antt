@@ -13,3 +13,4 @@ pub mod Lines
 pub mod Report
 pub mod Events
 pub mod Script
+pub mod OneDocument

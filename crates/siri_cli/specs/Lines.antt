@@ -1,5 +1,5 @@
 -- What a line of a script says.
-use Rattle.std.specs.Prelude.{ℕ, List, [], ◌∷◌, Bool, true, length, drop, codes, if◌then◌else◌, ◌==◌, nat_eq, Option, Some, None, Result, Ok, Err}
+use Rattle.std.specs.Prelude.{ℕ, List, [], ◌∷◌, Bool, true, length, drop, codes, if◌then◌else◌, ◌==◌, nat_eq, Option, Some, None}
 use Rattle.std.specs.List.{starts_with}
 use Rattle.siri_time.specs.Moment.{moment_of}
 use Rattle.siri_cli.specs.Documents.{feed_of, ask_of, ok}

@@ -1,7 +1,7 @@
 -- What the lines of a script made of a producer.
-use Rattle.std.specs.Prelude.{ℕ, ◌+◌, List, map, length, max}
+use Rattle.std.specs.Prelude.{ℕ, ◌+◌, List, map, length}
 use Rattle.siri_records.specs.declared.item.Item.{Item}
-use Rattle.siri_model.specs.History.{State, Items, Entry, Observed, Start, Clock, Feed, after_entry, after_step, nothing}
+use Rattle.siri_model.specs.History.{State, Items, Observed, Start, Clock, Feed, after_entry, after_step, nothing}
 use Rattle.siri_model.specs.Direct.{StopTopic}
 use Rattle.siri_cli.specs.declared.topic.StopTopic.{StopTopic as Asked}
 

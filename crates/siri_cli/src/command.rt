@@ -2,11 +2,14 @@
 ghost use Rattle.std.specs.Prelude.{◌≡◌, ◌↔◌, map, string_bytes, Some, None};
 ghost use Rattle.siri_base.specs.Causes.{Rose};
 ghost use Rattle.siri_cli.specs.Ends.{ReadsAll};
+ghost use Rattle.siri_cli.specs.OneDocument.{Answers, check_text, convert_text};
 ghost use Rattle.siri_cli.specs.Reports.{Reports};
-ghost use Rattle.siri_cli.specs.Run.{IsBuilt};
+ghost use Rattle.siri_cli.specs.Run.{EndsDocument, IsBuilt, TakesDocument};
 ghost use Rattle.siri_cli.specs.Report.{report};
 ghost use Rattle.siri_cli.specs.Words.{command_of};
 
+use crate::check::check;
+use crate::convert::convert;
 use crate::replay::replay;
 use crate::words::Command;
 use siri_base::{Clock, Keeper, Sink, Source, Status, Wire};
@@ -24,16 +27,25 @@ pub fn run<S: Source, K: Sink, W: Wire, C: Clock, E: Keeper>(
 ) -> Status
     ensures replay { command_of (map string_bytes words.now) ≡ Some Command.Replay
         → Reports report (S.left source.old) (S.left source.new) (K.held sink.old) (K.held sink.new) result }
+    ensures check { command_of (map string_bytes words.now) ≡ Some Command.Check
+        → Answers check_text (S.left source.old) (S.left source.new) (K.held sink.old) (K.held sink.new) result }
+    ensures convert { command_of (map string_bytes words.now) ≡ Some Command.Convert
+        → Answers convert_text (S.left source.old) (S.left source.new) (K.held sink.old) (K.held sink.new) result }
     ensures all { ReadsAll (S.left source.new) result }
     ensures usage { (result ≡ Status.Usage) ↔ (command_of (map string_bytes words.now) ≡ None) }
     ensures nothing { result ≡ Status.Usage → (source.new ≡ source.old) × (sink.new ≡ sink.old) }
     ensures read { result ≡ Status.ReadFault → Rose (S.faults source.old) (S.faults source.new) }
     ensures write { result ≡ Status.WriteFault → Rose (K.faults sink.old) (K.faults sink.new) }
+    ensures refused { result ≡ Status.Refused → TakesDocument (command_of (map string_bytes words.now)) }
+    ensures document { TakesDocument (command_of (map string_bytes words.now)) → EndsDocument result }
+    ensures unread { TakesDocument (command_of (map string_bytes words.now)) → result ≡ Status.ReadFault → sink.new ≡ sink.old }
     ensures unused { (wire.new ≡ wire.old) × (clock.new ≡ clock.old) × (keeper.new ≡ keeper.old) }
     ensures built { IsBuilt result }
 {
     match Command::read(words) {
         None => Status::Usage,
         Some(Command::Replay) => replay(alloc, source, sink),
+        Some(Command::Check) => check(alloc, source, sink),
+        Some(Command::Convert) => convert(alloc, source, sink),
     }
 }

@@ -6,12 +6,18 @@
 //! ```text
 //! words -> Command                                 source -> pieces -> lines -> Line -> event -> report -> sink
 //!          (words.rt)                              (replay.rt, script.rt)  (lines.rt)  (events.rt)
+//!
+//!                                                  source -> document -> message or refusal -> answer -> sink
+//!                                                  (document.rt)         (check.rt, convert.rt)
 //! ```
 //!
 //! The reader of lines knows nothing of what a line says; what a line says knows nothing of how it came.
 #![tactic(auto)]
 
+mod check;
 mod command;
+mod convert;
+mod document;
 mod documents;
 mod events;
 mod lines;

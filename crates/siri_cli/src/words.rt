@@ -6,6 +6,10 @@ ghost use Rattle.std.specs.Prelude.{◌≡◌, map, string_bytes};
 pub enum Command {
     /// Reads a script, and writes its report.
     Replay,
+    /// Reads one document, and writes the name of its message, or the refusal.
+    Check,
+    /// Reads one document, and writes its message's canonical text, or the refusal.
+    Convert,
 }
 
 impl Command {
@@ -26,6 +30,10 @@ impl Command {
     {
         if word == "replay" {
             Some(Command::Replay)
+        } else if word == "check" {
+            Some(Command::Check)
+        } else if word == "convert" {
+            Some(Command::Convert)
         } else {
             None
         }

@@ -1,5 +1,4 @@
-use Rattle.std.proofs.Common.{◌≤◌, ◌≡◌, ◌++◌, List, ℕ, length}
-use Rattle.std.specs.Io.KnownBytes.{Appends}
+use Rattle.std.proofs.Common.{◌≤◌, length}
 use Rattle.siri_cli.proofs.Written.{Wrote}
 use Rattle.siri_cli.proofs.writing.write_text.Given as goal
 

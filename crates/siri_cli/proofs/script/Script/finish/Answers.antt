@@ -1,4 +1,4 @@
-use Rattle.std.proofs.Common.{◌≡◌, eqb, false, [], sym, ap, ◌∙◌, length}
+use Rattle.std.proofs.Common.{◌≡◌, eqb, false, sym, ap, ◌∙◌, length}
 use Rattle.siri_cli.specs.Script.{progress, event}
 use Rattle.siri_cli.proofs.Steps.{finished_whole, finished_early}
 use Rattle.siri_cli.proofs.script.Script.finish.Goals as goal

@@ -1,6 +1,5 @@
-use Rattle.std.proofs.Common.{arith, take}
+use Rattle.std.proofs.Common.{arith}
 use Rattle.std.proofs.lemmas.Result.{err_from_is_err_and}
-use Rattle.siri_cli.specs.Reading.{Advances}
 use Rattle.siri_cli.specs.Script.{progress, event}
 use Rattle.siri_cli.proofs.Steps.{advances_byte, breaks_whole}
 use Rattle.siri_cli.proofs.script.Script.take.Goals as goal

@@ -1,0 +1,140 @@
+// Reads the one document of a command, and tells what is made of it.
+ghost use Rattle.std.specs.Prelude.{◌≡◌, ◌≢◌, ◌≤◌, ◌<◌, ◌+◌, length, take, drop, IfOk, OnOk};
+ghost use Rattle.std.specs.Io.KnownBytes.{Consumes, IsAtEnd};
+ghost use Rattle.siri_base.specs.Causes.{Rose, HasOutsideCause};
+ghost use Rattle.siri_wire.specs.Documents.{Decodes, message_of};
+ghost use Rattle.siri_cli.specs.OneDocument.{IsDocument, Tells, refused_told};
+ghost use Rattle.siri_cli.specs.Run.{EndsDocument};
+
+use crate::writing::write_text;
+use siri_base::{OutOfMemory, OutsideError, Sink, Source, Status, append};
+use siri_json::MAX_DOCUMENT;
+use siri_messages::Message;
+use siri_wire::{DecodeError, Refusal, decode};
+use std::alloc::Global;
+use std::marker::Model;
+
+/// How much room is made for what the source gives at once.
+const PIECE: usize = 65_536;
+
+/// How many bytes are read at most: one more than a document may have.
+const MOST: usize = MAX_DOCUMENT + 1;
+
+/// What is told of a document, and whether it is refused.
+#[derive(Drop)]
+pub struct Answer {
+    text: Vec<u8>,
+    refused: bool,
+}
+
+impl Model for Answer {
+    ghost use Rattle.siri_cli.specs.Told.{Told};
+    ghost use Rattle.siri_cli.specs.OneDocument.{status_where};
+
+    ghost Value = { Told };
+
+    ghost view = { λ a. record { text = a.text.items; status = status_where a.refused } };
+}
+
+impl Answer {
+    /// The text tells what the document is.
+    pub fn of(text: Vec<u8>) -> Answer
+        ensures { result ≡ record { text = text.items; status = Status.Done } }
+    {
+        Answer {
+            text,
+            refused: false,
+        }
+    }
+
+    /// `PATH: REASON`: the text tells why the document is refused.
+    pub fn refused(refusal: &Refusal) -> Result<Answer, OutOfMemory>
+        ensures { IfOk result (λ answer. answer ≡ refused_told (record { path = refusal.now.path; reason = refusal.now.reason })) }
+    {
+        let mut text = refusal.path.text()?.into_vec();
+        append(&mut text, b": ")?;
+        append(&mut text, refusal.reason.name().as_bytes())?;
+        append(&mut text, b"\n")?;
+        Ok(Answer {
+            text,
+            refused: true,
+        })
+    }
+
+    /// Writes the whole text.
+    pub fn write<K: Sink>(self, sink: &mut K) -> Status
+        ensures text { Tells (K.held sink.old) self (K.held sink.new) result }
+        ensures write { result ≡ Status.WriteFault → Rose (K.faults sink.old) (K.faults sink.new) }
+        ensures read { result ≢ Status.ReadFault }
+        ensures ends { EndsDocument result }
+    {
+        match write_text(sink, &self.text) {
+            Ok(()) if self.refused => Status::Refused,
+            Ok(()) => Status::Done,
+            Err(OutsideError::Failed) => Status::WriteFault,
+            Err(OutsideError::OutOfMemory) => Status::OutOfMemory,
+        }
+    }
+}
+
+/// Reads the document to its end, or to its byte 8,388,609, where it is too long.
+pub fn read_document<S: Source>(alloc: Global, source: &mut S) -> Result<Vec<u8>, OutsideError>
+    ensures document { IfOk result (λ document. IsDocument (S.left source.old) (S.left source.new) document.items) }
+    ensures cause { HasOutsideCause (S.faults source.old) (S.faults source.new) result }
+{
+    let mut document = Vec::new(alloc);
+    let mut filled = 0;
+    while filled < MOST {
+        make_room(&mut document, filled)?;
+        match read_at(source, &mut document, filled)? {
+            0 => {
+                document.truncate(filled);
+                return Ok(document);
+            }
+            count => filled += count,
+        }
+    }
+    Ok(document)
+}
+
+/// Makes room behind the bytes that came, where there is none.
+fn make_room(document: &mut Vec<u8>, filled: usize) -> Result<(), OutOfMemory>
+    requires below { filled < MOST }
+    requires within { filled ≤ length document.old.items }
+    requires bound { length document.old.items ≤ MOST }
+    ensures kept { OnOk result (take filled document.new.items ≡ take filled document.old.items) }
+    ensures room { OnOk result (filled < length document.new.items) }
+    ensures bound { OnOk result (length document.new.items ≤ MOST) }
+{
+    if filled == document.len() {
+        document.resize((filled + PIECE).min(MOST), 0)?;
+    }
+    Ok(())
+}
+
+/// Reads into the room behind the bytes that came, and gives how many more came: 0 at the end.
+fn read_at<S: Source>(
+    source: &mut S,
+    document: &mut [u8],
+    filled: usize,
+) -> Result<usize, OutsideError>
+    requires { filled < length document.old }
+    ensures kept { take filled document.new ≡ take filled document.old }
+    ensures length { length document.new ≡ length document.old }
+    ensures bound { IfOk result (λ count. filled + count ≤ length document.new) }
+    ensures bytes { IfOk result (λ count. Consumes (S.left source.old) (S.left source.new) (take count (drop filled document.new))) }
+    ensures end { IfOk result (λ count. count ≡ 0 → IsAtEnd (S.left source.new)) }
+    ensures cause { HasOutsideCause (S.faults source.old) (S.faults source.new) result }
+{
+    match source.read(&mut document[filled..]) {
+        Ok(count) => Ok(count),
+        Err(_) => Err(OutsideError::Failed),
+    }
+}
+
+/// The message of a document, whose bytes aren't kept.
+pub fn read_message(alloc: Global, document: Vec<u8>) -> Result<Message, DecodeError>
+    ensures { Decodes result (message_of document.items) }
+{
+    decode(alloc, &document)
+}
