@@ -5,8 +5,12 @@
 #![tactic(auto)]
 
 #[cfg(test)]
+mod documents;
+#[cfg(test)]
 mod outside;
 #[cfg(test)]
 mod records;
 #[cfg(test)]
 mod replay;
+#[cfg(test)]
+mod running;

@@ -1,11 +1,8 @@
 // Scripts, each with the report, the number and the text of the status that it brings.
 ghost use Rattle.std.specs.Prelude.{Some};
 
-use siri_base::{
-    Failed, MemorySink, MemorySource, PlainClock, PlainKeeper, PlainSink, PlainSource, PlainWire,
-    Sink, Source, Status,
-};
-use siri_cli::run;
+use crate::running::run_words;
+use siri_base::{Failed, MemorySink, MemorySource, PlainSink, PlainSource, Sink, Source};
 use std::alloc::{AllocError, Global};
 use std::test::Fail;
 
@@ -158,14 +155,6 @@ const CASES: [Case; 13] = [
     },
 ];
 
-fn words_of(alloc: Global, words: &[&str]) -> Result<Vec<String>, AllocError> {
-    let mut all = Vec::new(alloc);
-    for word in words {
-        all.push(String::from_str(alloc, word)?)?;
-    }
-    Ok(all)
-}
-
 fn joined(alloc: Global, pieces: &[&str]) -> Result<Vec<u8>, AllocError> {
     let mut text = Vec::new(alloc);
     for piece in pieces {
@@ -177,28 +166,6 @@ fn joined(alloc: Global, pieces: &[&str]) -> Result<Vec<u8>, AllocError> {
 // The script of the window's edges.
 fn edges(alloc: Global) -> Result<Vec<u8>, AllocError> {
     joined(alloc, &[EIGHT, EDGES, ASK, "PT30M", END])
-}
-
-// Runs the command of these words, with nothing to come from a wire, a clock and a keeper.
-fn run_words<S: Source, K: Sink>(
-    alloc: Global,
-    words: &[&str],
-    source: &mut S,
-    sink: &mut K,
-) -> Result<Status, AllocError> {
-    let words = words_of(alloc, words)?;
-    let mut wire = PlainWire::new(alloc, &[], &[]);
-    let mut clock = PlainClock::new(&[]);
-    let mut keeper = PlainKeeper::new(0);
-    Ok(run(
-        alloc,
-        &words,
-        source,
-        sink,
-        &mut wire,
-        &mut clock,
-        &mut keeper,
-    ))
 }
 
 #[test]
