@@ -18,6 +18,11 @@ abbrev pub ArePlain : List Row → Type 0
 ArePlain [] = Unit {0}
 ArePlain (row ∷ rows) = IsPlain row.1 × ArePlain rows
 
+infixr 5 ◌⊗◌
+-- a row's proof, and then those of the rows after it
+abbrev pub ◌⊗◌ : {P Q : Type 0} → P → Q → P × Q
+p ⊗ q = (p, q)
+
 or_parts : (a b : Bool) → (a || b) ≡ false → (a ≡ false) × (b ≡ false)
 or_parts false b h = (refl, h)
 or_parts true b h = absurd (cc h)

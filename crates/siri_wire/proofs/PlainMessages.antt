@@ -7,7 +7,7 @@ use Rattle.siri_messages.specs.Kinds.{kind_of}
 use Rattle.siri_items.specs.Writing.{Row, row_object}
 use Rattle.siri_wire.specs.declared.names.TheConstants.{SIRI}
 use Rattle.siri_wire.specs.Canonical.{written_body, written_message}
-use Rattle.siri_wire.proofs.Plain.{object_plain}
+use Rattle.siri_wire.proofs.Plain.{◌⊗◌, object_plain}
 use Rattle.siri_wire.proofs.PlainRequests.{service_request_plain, data_ready_plain, ready_acknowledgement_plain, supply_plain, received_plain, check_status_plain, status_response_plain, heartbeat_plain}
 use Rattle.siri_wire.proofs.PlainDeliveries.{service_delivery_plain}
 use Rattle.siri_wire.proofs.PlainSubscriptions.{subscription_request_plain, subscription_response_plain, termination_plain, termination_response_plain}
@@ -33,4 +33,4 @@ unfolding written_message
 message_plain m =
     let inner : List Row = (kind_of m, Some (written_body m)) ∷ [] in
     let outer : List Row = (SIRI.now, Some (row_object inner)) ∷ [] in
-    object_plain outer (object_plain inner (body_plain m, tt), tt)
+    object_plain outer (object_plain inner (body_plain m ⊗ tt) ⊗ tt)
