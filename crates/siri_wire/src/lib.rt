@@ -35,6 +35,3 @@ mod write_values;
 
 pub use document::{DecodeError, Refusal, decode};
 pub use encoding::encode;
-
-#[cfg(test)]
-mod encoding_tests;
