@@ -14,7 +14,8 @@ use Rattle.siri_wire.proofs.Documents.{document_too_long}
 use Rattle.siri_cli.specs.Told.{Told}
 use Rattle.siri_cli.specs.Ends.{Bytes, Ends, AppendsFront, ReadsAll}
 use Rattle.siri_cli.specs.Reading.{is_cut}
-use Rattle.siri_cli.specs.OneDocument.{Answered, Answers, IsDocument, IsDocumentRead, Tells, check_text, convert_text, ok_text, told_of}
+use Rattle.siri_cli.specs.DocumentParts.{IsDocument, Tells}
+use Rattle.siri_cli.specs.OneDocument.{Answered, Answers, IsDocumentRead, check_text, convert_text, ok_text, told_of}
 use Rattle.siri_wire.specs.Canonical.{canonical}
 use Rattle.siri_cli.proofs.Steps.{front_none}
 

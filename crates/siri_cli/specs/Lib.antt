@@ -14,3 +14,4 @@ pub mod Report
 pub mod Events
 pub mod Script
 pub mod OneDocument
+pub mod DocumentParts

@@ -1,6 +1,5 @@
--- The commands over one document: what they tell, and what a run of one does.
-use Rattle.std.specs.Prelude.{◌≡◌, ◌⊎◌, ◌≤◌, ◌<◌, ℕ, List, [], ◌++◌, drop, length, codes, None, Some, Result, Ok, Err, Bool, true, false, MatchBool}
-use Rattle.std.specs.Io.KnownBytes.{Consumes, IsAtEnd}
+-- The commands over one document: what they tell of it, and how a run of one ends.
+use Rattle.std.specs.Prelude.{◌≡◌, ◌⊎◌, ℕ, List, [], ◌++◌, drop, codes, None, Some, Result, Ok, Err, MatchBool}
 use Rattle.siri_base.specs.declared.status.Status.{Status}
 use Rattle.siri_base.specs.declared.status.Status.TheVariants as status
 use Rattle.siri_base.specs.Words.{reason_name}
@@ -18,11 +17,6 @@ use Rattle.siri_cli.specs.Told.{Told}
 -- `PATH: REASON`
 abbrev pub refusal_text : Refusal → List ℕ
 refusal_text refusal = path_text refusal.path ++ (codes ": " ++ reason_name refusal.reason)
-
--- the status where a document is refused, and where it isn't
-abbrev pub status_where : Bool → Status
-status_where true = status.Refused
-status_where false = status.Done
 
 -- the refusal is told, and the run ends with status 1
 abbrev pub refused_told : Refusal → Told
@@ -58,20 +52,10 @@ pub record Answered (told : Told) (input : List ℕ) (left old new : Bytes) (end
   pub ends : Ends old told new end
   pub read : IsDocumentRead input left told.text
 
--- What is told of the input was written, and the run ended as it says; or the run was cut off, and a front of that text
--- was written.
+-- Where the source tells its bytes: what is told of them was written, and the run ended as it says; or the run was cut
+-- off, and a front of that text was written.
 abbrev pub Answers : (List ℕ → Told) → Bytes → Bytes → Bytes → Bytes → Status → Type 0
 Answers told None left old new end = Unit {0}
 Answers told (Some input) left old new end = MatchBool (is_cut end)
     (AppendsFront old new (told input).text)
     (Answered (told input) input left old new end)
-
--- the document that was read: what the source had left, to its end or to byte 8,388,609
-pub record IsDocument (before after : Bytes) (document : List ℕ) : Type 0 where
-  pub taken : Consumes before after document
-  pub bound : length document ≤ 8388609
-  pub whole : length document < 8388609 → IsAtEnd after
-
--- what is told was written, or a front of it
-abbrev pub Tells : Bytes → Told → Bytes → Status → Type 0
-Tells old told new end = MatchBool (is_cut end) (AppendsFront old new told.text) (Ends old told new end)

@@ -15,7 +15,8 @@ use crate::words::Command;
 use siri_base::{Clock, Keeper, Sink, Source, Status, Wire};
 use std::alloc::Global;
 
-/// Does what the words after the program's name say.
+/// Does what the words after the program's name say: `replay` reads a script and writes its report, `check` and
+/// `convert` read one document and write what is told of it.
 pub fn run<S: Source, K: Sink, W: Wire, C: Clock, E: Keeper>(
     alloc: Global,
     words: &[String],

@@ -3,7 +3,8 @@ ghost use Rattle.std.specs.Prelude.{◌≡◌, ◌≢◌, ◌≤◌, ◌<◌, �
 ghost use Rattle.std.specs.Io.KnownBytes.{Consumes, IsAtEnd};
 ghost use Rattle.siri_base.specs.Causes.{Rose, HasOutsideCause};
 ghost use Rattle.siri_wire.specs.Documents.{Decodes, message_of};
-ghost use Rattle.siri_cli.specs.OneDocument.{IsDocument, Tells, refused_told};
+ghost use Rattle.siri_cli.specs.DocumentParts.{IsDocument, Tells};
+ghost use Rattle.siri_cli.specs.OneDocument.{refused_told};
 ghost use Rattle.siri_cli.specs.Run.{EndsDocument};
 
 use crate::writing::write_text;
@@ -29,7 +30,7 @@ pub struct Answer {
 
 impl Model for Answer {
     ghost use Rattle.siri_cli.specs.Told.{Told};
-    ghost use Rattle.siri_cli.specs.OneDocument.{status_where};
+    ghost use Rattle.siri_cli.specs.DocumentParts.{status_where};
 
     ghost Value = { Told };
 
