@@ -1,5 +1,5 @@
 -- The first dead entry, and an entry that is taken out at its place.
-use Rattle.std.proofs.Common.{◌≡◌, ℕ, suc, zero, ◌+◌, ◌<◌, Bool, true, false, List, [], ◌∷◌, length, get_or, drop, Option, Some, None, slice_get, option_map, not, refl, ap, ◌∙◌, sym, subst, arith, add-one, nat_lt}
+use Rattle.std.proofs.Common.{◌≡◌, ℕ, suc, zero, ◌+◌, ◌<◌, Bool, true, false, List, [], ◌∷◌, length, get_or, drop, Option, Some, None, slice_get, option_map, not, refl, ap, ◌∙◌, sym, subst, arith, add-one, ◌≤◌}
 use Rattle.std.specs.List.{filter, AllByRecursion}
 use Rattle.std.specs.List.Sorted.{IsStrictlySortedBy}
 use Rattle.std.specs.Cmp.{IsTotalOrder, tied_itself}
@@ -14,6 +14,8 @@ use Rattle.siri_store.specs.Calls.{is_over, dead_of, past_end, sooner, first_by_
 use Rattle.siri_store.specs.Held.{entries_view}
 use Rattle.siri_store.specs.Places.{IsHere}
 use Rattle.siri_store.proofs.Edited.{Shared}
+use Rattle.std.proofs.lemmas.Bool.{lt-ltb, le-ltb}
+use Rattle.siri_store.proofs.Placed.{length_mapped}
 
 -- ---- a place in order
 
@@ -36,16 +38,22 @@ entry_at [] i e lt is = absurd (omega (arith, lt))
 entry_at (x ∷ es) zero e lt is = ap (λ (y : Key × Shared). Some (y.0, y.1.value)) (sym is)
 entry_at (x ∷ es) (suc i) e lt is = entry_at es i e (omega (arith, lt)) is
 
+pub length_view : (es : List (Key × Shared)) → length (entries_view es) ≡ length es
+length_view es = length_mapped {B = Key × Item} (λ (e : Key × Shared). (e.0, e.1.value)) es
+
+pub entry_within : (es : List (Key × Shared)) (i : ℕ) (e : Key × Shared) → i < length (entries_view es) → e ≡ get_or es i e → slice_get (entries_view es) i ≡ Some (e.0, e.1.value)
+entry_within es i e within is = entry_at es i e (omega (arith, within, length_view es)) is
+
 -- ---- the first by end
 
 pub sooner_alone : (es : List (Key × Item)) (place : ℕ) (later : Option ℕ) (e : Key × Item) → later ≡ None → slice_get es place ≡ Some e → slice_get es place ≡ option_map (λ e. sooner e (option_and_then (slice_get es) later)) (slice_get es place)
 sooner_alone es place later e is here = rw is (rw here)
 
-pub sooner_later : (es : List (Key × Item)) (place i : ℕ) (later : Option ℕ) (e l : Key × Item) → later ≡ Some i → slice_get es place ≡ Some e → slice_get es i ≡ Some l → nat_lt (past_end l.1) (past_end e.1) ≡ true → slice_get es i ≡ option_map (λ e. sooner e (option_and_then (slice_get es) later)) (slice_get es place)
-sooner_later es place i later e l is here there less = rw is (rw here (rw there (rw less)))
+pub sooner_later : (es : List (Key × Item)) (place i : ℕ) (later : Option ℕ) (e l : Key × Item) → later ≡ Some i → slice_get es place ≡ Some e → slice_get es i ≡ Some l → past_end l.1 < past_end e.1 → slice_get es i ≡ option_map (λ e. sooner e (option_and_then (slice_get es) later)) (slice_get es place)
+sooner_later es place i later e l is here there less = rw is (rw here (rw there (rw (lt-ltb (past_end l.1) (past_end e.1) less))))
 
-pub sooner_here : (es : List (Key × Item)) (place i : ℕ) (later : Option ℕ) (e l : Key × Item) → later ≡ Some i → slice_get es place ≡ Some e → slice_get es i ≡ Some l → nat_lt (past_end l.1) (past_end e.1) ≡ false → slice_get es place ≡ option_map (λ e. sooner e (option_and_then (slice_get es) later)) (slice_get es place)
-sooner_here es place i later e l is here there less = rw is (rw here (rw there (rw less)))
+pub sooner_here : (es : List (Key × Item)) (place i : ℕ) (later : Option ℕ) (e l : Key × Item) → later ≡ Some i → slice_get es place ≡ Some e → slice_get es i ≡ Some l → past_end e.1 ≤ past_end l.1 → slice_get es place ≡ option_map (λ e. sooner e (option_and_then (slice_get es) later)) (slice_get es place)
+sooner_here es place i later e l is here there more = rw is (rw here (rw there (rw (le-ltb (past_end l.1) (past_end e.1) more))))
 
 from_here : (es : List (Key × Item)) (i : ℕ) (e : Key × Item) → slice_get es i ≡ Some e → drop i es ≡ e ∷ drop (suc i) es
 from_here [] i e is = cc

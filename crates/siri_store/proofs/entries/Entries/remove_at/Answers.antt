@@ -4,9 +4,8 @@ use Rattle.siri_records.proofs.Order.{key_cmp_total}
 use Rattle.siri_records.specs.declared.key.Key.{Key}
 use Rattle.siri_records.specs.declared.item.Item.{Item}
 use Rattle.siri_store.specs.Held.{entries_view}
-use Rattle.siri_store.proofs.Edited.{Shared, sorted_remove, remove_here}
-use Rattle.siri_store.proofs.Leaving.{here_at, entry_at}
-use Rattle.siri_store.proofs.Placed.{length_mapped}
+use Rattle.siri_store.proofs.Edited.{sorted_remove, remove_here}
+use Rattle.siri_store.proofs.Leaving.{here_at, entry_at, length_view}
 use Rattle.siri_store.proofs.entries.Entries.remove_at.Goals as goal
 
 pub invariant_of-self : goal.invariant_of-self
@@ -16,12 +15,12 @@ pub returns-clause-key : goal.returns-clause-key
 returns-clause-key c =
     let es = c.self.inside.entries.items in
     let within = rw (← c.self.view_is) at c.requires in
-    let lt : c.args.place < length es = omega (arith, within, length_mapped (λ (e : Key × Shared). (e.0, e.1.value)) es) in
+    let lt : c.args.place < length es = omega (arith, within, length_view es) in
     rw (← c.self.view_is) (ap (option_map (λ (e : Key × Item). e.0)) (entry_at es c.args.place c.remove-key.result lt c.remove-key.ensures.value))
 
 pub returns-clause-rest : goal.returns-clause-rest
 returns-clause-rest c =
     let es = c.self.inside.entries.items in
     let within = rw (← c.self.view_is) at c.requires in
-    let lt : c.args.place < length es = omega (arith, within, length_mapped (λ (e : Key × Shared). (e.0, e.1.value)) es) in
+    let lt : c.args.place < length es = omega (arith, within, length_view es) in
     rw (← c.self.view_is) (ap entries_view c.remove-key.ensures.items ∙ remove_here key_cmp c.remove-key.result.0 _ _ (here_at key_cmp_total es c.args.place c.remove-key.result c.self.invariant lt c.remove-key.ensures.value))

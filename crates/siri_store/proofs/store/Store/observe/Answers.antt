@@ -13,3 +13,6 @@ returns-clause-alive c =
     let alive = rw (← c.self.view_is) at c.requires in
     let live = ap (λ i. is_dead i c.self.inside.moment) (sym c.deref-2.ensures) ∙ (sym c.dead.ensures ∙ c.if-dead.false) in
     rw c.in_ok-put.ensures.ok (alive_put c.self.inside.moment c.self.inside.entries c.in-Ok.key c.args.item.value alive live)
+
+pub returns-in_err-put-clause-alive : goal.returns-in_err-put-clause-alive
+returns-in_err-put-clause-alive c = rw c.in_err-put.ensures.err (rw (← c.self.view_is) at c.requires)
