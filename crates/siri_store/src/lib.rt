@@ -21,6 +21,8 @@ mod counter;
 mod entries;
 mod selected;
 mod store;
+#[cfg(test)]
+mod tests;
 
 pub use counter::Counter;
 pub use entries::Entries;

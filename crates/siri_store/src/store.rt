@@ -58,7 +58,8 @@ impl Model for Store {
 impl Store {
     /// The store that holds nothing, at a moment. It takes no memory.
     pub fn new(alloc: Global, now: Moment) -> Store
-        ensures { result ≡ record { entries = []; moment = now; reads = 0 } }
+        ensures value { result ≡ record { entries = []; moment = now; reads = 0 } }
+        ensures alive { NoneDead result }
     {
         Store {
             entries: Entries::new(alloc),
@@ -134,6 +135,7 @@ impl Store {
     pub fn withdraw(&mut self, key: &Key) -> bool
         ensures rest { self.new ≡ without self.old key.now }
         ensures held { result ≡ is_held self.old key.now }
+        ensures alive { NoneDead self.old → NoneDead self.new }
     {
         self.entries.remove(key)
     }
