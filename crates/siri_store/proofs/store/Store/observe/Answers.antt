@@ -1,0 +1,18 @@
+use Rattle.std.proofs.Common.{sym, ◌∙◌, ap}
+use Rattle.siri_records.specs.Ends.{is_dead}
+use Rattle.siri_store.proofs.Alive.{alive_removed, alive_put}
+use Rattle.siri_store.proofs.store.Store.observe.Goals as goal
+
+pub returns-then-dead-clause-alive : goal.returns-then-dead-clause-alive
+returns-then-dead-clause-alive c =
+    let alive = rw (← c.self.view_is) at c.requires in
+    rw c.remove.ensures.rest (alive_removed c.self.inside.moment c.self.inside.entries c.in-Ok.key alive)
+
+pub returns-clause-alive : goal.returns-clause-alive
+returns-clause-alive c =
+    let alive = rw (← c.self.view_is) at c.requires in
+    let live = ap (λ i. is_dead i c.self.inside.moment) (sym c.deref-2.ensures) ∙ (sym c.dead.ensures ∙ c.if-dead.false) in
+    rw c.in_ok-put.ensures.ok (alive_put c.self.inside.moment c.self.inside.entries c.in-Ok.key c.args.item.value alive live)
+
+pub returns-in_err-put-clause-alive : goal.returns-in_err-put-clause-alive
+returns-in_err-put-clause-alive c = rw c.in_err-put.ensures.err (rw (← c.self.view_is) at c.requires)

@@ -1,0 +1,196 @@
+// The store of current items.
+ghost use Rattle.std.specs.Prelude.{◌≡◌, ◌↔◌, max, [], length, option_map, true, false, None, OnOk, OnErr, IsErrOf, ⊤};
+ghost use mathlib.Core.Option.{none};
+ghost use Rattle.std.specs.Borrow.{sem, follows, follows_so};
+ghost use Rattle.siri_store.specs.Calls.{NoneDead, living, dead_of, item_of, is_held, without, refuses, observed, first_dead, after_leave};
+ghost use Rattle.siri_store.specs.Held.{counted};
+ghost use Rattle.siri_store.specs.contracts.counter.Counter.{the_row as counter_row};
+ghost use Rattle.siri_store.specs.contracts.store.Store.{the_row};
+
+use crate::{Counter, Entries, Selected};
+use siri_base::{Moment, OutOfMemory};
+use siri_records::{Item, Key, dead, key_of};
+use siri_topic::Topic;
+use std::alloc::Global;
+use std::marker::Model;
+use std::rc::Rc;
+
+/// The most keys that a store holds.
+pub const HELD_LIMIT: usize = 20_000;
+
+/// Why an item wasn't observed.
+#[derive(Clone, Copy, Debug, PartialEq, Eq)]
+pub enum ObserveError {
+    /// The item isn't dead, its key isn't held, and 20,000 keys are held.
+    StoreFull,
+    /// There was no memory.
+    OutOfMemory,
+}
+
+impl From<OutOfMemory> for ObserveError {
+    ghost use Rattle.std.specs.Prelude.{◌≡◌};
+    ghost use Rattle.siri_store.specs.declared.store.ObserveError.TheVariants as observing;
+
+    ghost from_gives = { λ _ e. e ≡ observing.OutOfMemory };
+
+    fn from(_: OutOfMemory) -> ObserveError {
+        ObserveError::OutOfMemory
+    }
+}
+
+/// Current items in order of key, a moment, and a counter of steps. Contracts see the keys with the items themselves,
+/// the moment and the counter.
+#[derive(Drop)]
+pub struct Store {
+    entries: Entries,
+    moment: Moment,
+    counter: Counter,
+}
+
+impl Model for Store {
+    ghost use Rattle.siri_store.specs.Held.{Held};
+
+    ghost Value = { Held };
+
+    ghost view = { λ s. record { entries = s.entries; moment = s.moment; reads = s.counter } };
+}
+
+impl Store {
+    /// The store that holds nothing, at a moment. It takes no memory.
+    pub fn new(alloc: Global, now: Moment) -> Store
+        ensures value { result ≡ record { entries = []; moment = now; reads = 0 } }
+        ensures alive { NoneDead result }
+    {
+        Store {
+            entries: Entries::new(alloc),
+            moment: now,
+            counter: Counter::new(),
+        }
+    }
+
+    /// The store's moment becomes the later one.
+    pub fn advance(&mut self, now: Moment)
+        ensures { self.new ≡ record self.old { moment = max self.old.moment now } }
+    {
+        self.moment = self.moment.max(now);
+    }
+
+    /// Lets all dead items go at once, and tells how many there were. It goes over the items once and takes no memory.
+    pub fn expire(&mut self) -> usize
+        ensures rest { self.new ≡ record self.old { entries = living self.old.moment self.old.entries } }
+        ensures number { result ≡ length (dead_of self.old.moment self.old.entries) }
+        ensures alive { NoneDead self.new }
+    {
+        let before = self.entries.len();
+        self.entries.keep_living(self.moment);
+        before - self.entries.len()
+    }
+
+    /// Lets the first dead item by end and then key go, and gives its key: `None` exactly where none is dead. A closed
+    /// item that has no end goes before all others. It takes no memory.
+    pub fn expire_one(&mut self) -> Option<Key>
+        ensures key { result ≡ option_map (λ e. e.0) (first_dead self.old) }
+        ensures rest { self.new ≡ after_leave self.old result }
+        ensures none { (result ≡ None) ↔ NoneDead self.old }
+    {
+        match self.entries.first_dead(self.moment) {
+            None => None,
+            Some(place) => Some(self.entries.remove_at(place)),
+        }
+    }
+
+    /// The item becomes the one of its key; a dead item removes its key instead. After `StoreFull` and after want of
+    /// memory the store is as it was. No held item may be dead: let dead items go before.
+    pub fn observe(&mut self, item: Rc<Item>) -> Result<(), ObserveError>
+        requires { NoneDead self.old }
+        ensures ok { OnOk result (self.new ≡ observed self.old item.value) }
+        ensures err { OnErr result (self.new ≡ self.old) }
+        ensures taken { OnOk result (refuses self.old item.value ≡ false) }
+        ensures full { IsErrOf result ObserveError.StoreFull → refuses self.old item.value ≡ true }
+        ensures alive { NoneDead self.new }
+    {
+        let key = match key_of(&item) {
+            Ok(key) => key,
+            Err(_) => {
+                discard_item(item);
+                return Err(ObserveError::OutOfMemory);
+            }
+        };
+        if dead(&item, self.moment) {
+            let _ = self.entries.remove(&key);
+            discard_key(key);
+            discard_item(item);
+            return Ok(());
+        }
+        if self.entries.len() >= HELD_LIMIT && !self.entries.has(&key) {
+            discard_key(key);
+            discard_item(item);
+            return Err(ObserveError::StoreFull);
+        }
+        self.entries.put(key, item)?;
+        Ok(())
+    }
+
+    /// Removes a key: true exactly where it was held. It takes no memory.
+    pub fn withdraw(&mut self, key: &Key) -> bool
+        ensures rest { self.new ≡ without self.old key.now }
+        ensures held { result ≡ is_held self.old key.now }
+        ensures alive { NoneDead self.old → NoneDead self.new }
+    {
+        self.entries.remove(key)
+    }
+
+    /// The steps that were counted, 0 in a new store. A step is one held item that `look` or `select` looks at.
+    pub fn reads(&self) -> u64
+        ensures { result ≡ self.now.reads }
+    {
+        self.counter.steps()
+    }
+
+    /// The item of a key. It takes one step.
+    pub fn look(&mut self, key: &Key) -> Option<&Rc<Item>>
+        ensures* step { sem 𝓛 (follows_so the_row the_row self.entry.ghost_name none (λ _ _. ⊤) (λ new. new ≡ record self.old { reads = counted self.old.reads 1 })) }
+        ensures item { option_map (λ item. item.now.value) result ≡ item_of self.old key.now }
+    {
+        self.counter.count();
+        self.entries.get(key)
+    }
+
+    /// Lends, in order of key, the held items that are shown to a topic at the store's moment. Each held item that the
+    /// walk looks at is a step. The store holds still as long as the walk is alive.
+    pub fn select<'a>(&'a mut self, topic: &'a Topic) -> Selected<'a>
+        ensures* keeps { sem 𝓛 (follows the_row counter_row self.entry.ghost_name result.counter.ghost_name (λ steps. record self.old { reads = steps })) }
+        ensures counter { result.counter.now ≡ self.old.reads }
+        ensures topic { result.topic.now ≡ topic.now }
+        ensures moment { result.moment ≡ self.old.moment }
+        ensures entries { result.entries.now ≡ self.old.entries }
+        ensures place { result.place ≡ 0 }
+    {
+        let moment = self.moment;
+        Selected {
+            counter: &mut self.counter,
+            topic,
+            moment,
+            entries: &self.entries,
+            place: 0,
+        }
+    }
+
+    /// How many keys are held.
+    pub fn held(&self) -> usize
+        ensures { result ≡ length self.now.entries }
+    {
+        self.entries.len()
+    }
+
+    /// The store's moment.
+    pub fn now(&self) -> Moment
+        ensures { result ≡ self.now.moment }
+    {
+        self.moment
+    }
+}
+
+fn discard_item(_item: Rc<Item>) {}
+
+fn discard_key(_key: Key) {}
