@@ -58,10 +58,14 @@ subscription s requestor d = do
 
 -- ---- requests
 
+-- how often a heartbeat is wanted
+unfoldable pub heartbeat_interval : Data → Result (Option ℤ) Refusal
+heartbeat_interval d = row (inside span0 HEARTBEAT_INTERVAL.now) SUBSCRIPTION_CONTEXT.now d
+
 -- what is wanted: the heartbeat, and the subscriptions of the four services
 unfoldable pub wanted_rows : Option (List ℕ) → Data → Result Wanted Refusal
 wanted_rows requestor d = do
-  heartbeat_interval ← row (inside span0 HEARTBEAT_INTERVAL.now) SUBSCRIPTION_CONTEXT.now d
+  heartbeat_interval ← heartbeat_interval d
   stops ← list (table (subscription service.Stop requestor)) 200 STOP_MONITORING_SUBSCRIPTION_REQUEST.now d
   timetables ← list (table (subscription service.Timetable requestor)) 200 ESTIMATED_TIMETABLE_SUBSCRIPTION_REQUEST.now d
   vehicles ← list (table (subscription service.Vehicle requestor)) 200 VEHICLE_MONITORING_SUBSCRIPTION_REQUEST.now d

@@ -5,7 +5,7 @@ ghost use Rattle.serde_json.specs.Data.{Data};
 ghost use Rattle.serde_json.specs.View.{view};
 ghost use Rattle.siri_items.specs.Refusals.{Gives, is_key};
 ghost use Rattle.siri_items.specs.Rules.{at_most, row, inside, present, entries_from, list_of, list, table};
-ghost use Rattle.siri_wire.specs.Subscriptions.{topic_of, slack_of, is_fetched, subscription, wanted_rows, wants_nothing, wanted, subscription_request, response_status, subscription_response};
+ghost use Rattle.siri_wire.specs.Subscriptions.{topic_of, slack_of, is_fetched, subscription, heartbeat_interval, wanted_rows, wants_nothing, wanted, subscription_request, response_status, subscription_response};
 ghost use Rattle.siri_records.specs.declared.item.Service.TheVariants as service;
 
 use crate::names;
@@ -32,6 +32,7 @@ const MOST_SUBSCRIPTIONS: usize = 200;
 
 const MOST_STATUSES: usize = 800;
 
+// A row of an object that is a row itself.
 #[tactic(auto, unfolding(siri_items::specs::Rules::row))]
 fn row_inside<R: Rule>(
     alloc: Global,
@@ -203,17 +204,24 @@ pub struct Wanted {
     pub situations: List<Subscription>,
 }
 
+#[tactic(auto, unfolding(crate::specs::Subscriptions::heartbeat_interval))]
+fn heartbeat_interval(alloc: Global, tree: &Value) -> Result<Option<Span>, ItemError>
+    ensures { Gives result (heartbeat_interval (view tree.now)) }
+{
+    row_inside::<LengthRule>(
+        alloc,
+        tree,
+        names::SUBSCRIPTION_CONTEXT,
+        names::HEARTBEAT_INTERVAL,
+    )
+}
+
 #[tactic(auto, unfolding(crate::specs::Subscriptions::wanted_rows))]
 fn wanted_rows(alloc: Global, tree: &Value, requestor: &Option<Name>) -> Result<Wanted, ItemError>
     ensures { Gives result (wanted_rows requestor.now (view tree.now)) }
 {
     Ok(Wanted {
-        heartbeat_interval: row_inside::<LengthRule>(
-            alloc,
-            tree,
-            names::SUBSCRIPTION_CONTEXT,
-            names::HEARTBEAT_INTERVAL,
-        )?,
+        heartbeat_interval: heartbeat_interval(alloc, tree)?,
         stops: subscriptions(
             alloc,
             tree,
