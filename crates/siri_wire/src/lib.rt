@@ -26,3 +26,6 @@ mod read_terminations;
 mod read_topics;
 
 pub use document::{DecodeError, Refusal, decode};
+
+#[cfg(test)]
+mod decode_tests;
