@@ -1,6 +1,6 @@
 -- The message that a document spells, or the first refusal: the document's length and tree, its one member Siri with exactly
 -- one of the messages in it, and then that message's table (EN 15531-2).
-use Rattle.std.specs.Prelude.{◌≡◌, ℕ, List, [], ◌∷◌, length, filter, not, nat_lt, Bool, true, false, if◌then◌else◌, Option, Some, None, Result, Ok, Err}
+use Rattle.std.specs.Prelude.{◌≡◌, ℕ, List, [], ◌∷◌, length, filter, nat_lt, Bool, true, false, if◌then◌else◌, Option, Some, None, Result, Ok, Err}
 use Rattle.serde_json.specs.Data.{Data, object}
 use Rattle.siri_base.specs.declared.reason.Reason.TheVariants.{TooLong, NotJson, WrongKind, UnknownMessage}
 use Rattle.siri_json.specs.Tree.{tree_of}

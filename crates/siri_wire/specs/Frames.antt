@@ -1,5 +1,5 @@
 -- The table of EstimatedJourneyVersionFrame (EN 15531-3): the journeys of all frames as one list.
-use Rattle.std.specs.Prelude.{ℕ, List, [], length, map, flat_map, nat_le, if◌then◌else◌, Option, Some, None, Result, Ok}
+use Rattle.std.specs.Prelude.{ℕ, List, length, map, flat_map, nat_le, if◌then◌else◌, Option, Some, None, Result, Ok}
 use Rattle.serde_json.specs.Data.{Data}
 use Rattle.siri_base.specs.declared.reason.Reason.TheVariants.{TooMany}
 use Rattle.siri_json.specs.Values.{member_of}

@@ -1,6 +1,6 @@
 -- What the functional deliveries of all services have: the rows before their items, and where in a round a delivery stands,
 -- which its Extensions tell in this profile's own way.
-use Rattle.std.specs.Prelude.{ℕ, List, [], true, if◌then◌else◌, Option, Some, None, unwrap_or, Result, Ok}
+use Rattle.std.specs.Prelude.{List, [], true, if◌then◌else◌, Option, Some, None, unwrap_or, Result, Ok}
 use Rattle.serde_json.specs.Data.{Data}
 use Rattle.siri_records.specs.declared.item.Item.{Item}
 use Rattle.siri_records.specs.declared.key.Key.{Key}

@@ -61,53 +61,56 @@ impl From<ItemError> for DecodeError {
 fn message_at(alloc: Global, tree: &Value, kind: Kind) -> Result<Message, ItemError>
     ensures { Gives result (message_at kind (view tree.now)) }
 {
-    match kind {
-        Kind::ServiceRequest => Ok(Message::ServiceRequest(needed::<ServiceRequestTable>(
-            alloc,
-            tree,
-            names::SERVICE_REQUEST,
-        )?)),
-        Kind::ServiceDelivery => Ok(Message::ServiceDelivery(needed::<ServiceDeliveryTable>(
-            alloc,
-            tree,
-            names::SERVICE_DELIVERY,
-        )?)),
-        Kind::SubscriptionRequest => Ok(Message::SubscriptionRequest(needed::<
-            SubscriptionRequestTable,
-        >(alloc, tree, names::SUBSCRIPTION_REQUEST)?)),
-        Kind::SubscriptionResponse => Ok(Message::SubscriptionResponse(needed::<
-            SubscriptionResponseTable,
-        >(alloc, tree, names::SUBSCRIPTION_RESPONSE)?)),
-        Kind::TerminateSubscriptionRequest => Ok(Message::TerminateSubscriptionRequest(needed::<
-            TerminateSubscriptionRequestTable,
-        >(alloc, tree, names::TERMINATE_SUBSCRIPTION_REQUEST)?)),
-        Kind::TerminateSubscriptionResponse => Ok(Message::TerminateSubscriptionResponse(needed::<
-            TerminateSubscriptionResponseTable,
-        >(alloc, tree, names::TERMINATE_SUBSCRIPTION_RESPONSE)?)),
-        Kind::DataReadyNotification => Ok(Message::DataReadyNotification(needed::<
-            DataReadyNotificationTable,
-        >(alloc, tree, names::DATA_READY_NOTIFICATION)?)),
-        Kind::DataReadyAcknowledgement => Ok(Message::DataReadyAcknowledgement(needed::<
-            DataReadyAcknowledgementTable,
-        >(alloc, tree, names::DATA_READY_ACKNOWLEDGEMENT)?)),
-        Kind::DataSupplyRequest => Ok(Message::DataSupplyRequest(needed::<DataSupplyRequestTable>(
-            alloc,
-            tree,
-            names::DATA_SUPPLY_REQUEST,
-        )?)),
-        Kind::DataReceivedAcknowledgement => Ok(Message::DataReceivedAcknowledgement(needed::<
-            DataReceivedAcknowledgementTable,
-        >(alloc, tree, names::DATA_RECEIVED_ACKNOWLEDGEMENT)?)),
-        Kind::CheckStatusRequest => Ok(Message::CheckStatusRequest(needed::<
-            CheckStatusRequestTable,
-        >(alloc, tree, names::CHECK_STATUS_REQUEST)?)),
-        Kind::CheckStatusResponse => Ok(Message::CheckStatusResponse(needed::<
-            CheckStatusResponseTable,
-        >(alloc, tree, names::CHECK_STATUS_RESPONSE)?)),
-        Kind::HeartbeatNotification => Ok(Message::HeartbeatNotification(needed::<
-            HeartbeatNotificationTable,
-        >(alloc, tree, names::HEARTBEAT_NOTIFICATION)?)),
-    }
+    let name = kind.name();
+    Ok(match kind {
+        Kind::ServiceRequest => {
+            Message::ServiceRequest(needed::<ServiceRequestTable>(alloc, tree, name)?)
+        }
+        Kind::ServiceDelivery => {
+            Message::ServiceDelivery(needed::<ServiceDeliveryTable>(alloc, tree, name)?)
+        }
+        Kind::SubscriptionRequest => {
+            Message::SubscriptionRequest(needed::<SubscriptionRequestTable>(alloc, tree, name)?)
+        }
+        Kind::SubscriptionResponse => {
+            Message::SubscriptionResponse(needed::<SubscriptionResponseTable>(alloc, tree, name)?)
+        }
+        Kind::TerminateSubscriptionRequest => {
+            Message::TerminateSubscriptionRequest(needed::<TerminateSubscriptionRequestTable>(
+                alloc, tree, name,
+            )?)
+        }
+        Kind::TerminateSubscriptionResponse => {
+            Message::TerminateSubscriptionResponse(needed::<TerminateSubscriptionResponseTable>(
+                alloc, tree, name,
+            )?)
+        }
+        Kind::DataReadyNotification => {
+            Message::DataReadyNotification(needed::<DataReadyNotificationTable>(alloc, tree, name)?)
+        }
+        Kind::DataReadyAcknowledgement => {
+            Message::DataReadyAcknowledgement(needed::<DataReadyAcknowledgementTable>(
+                alloc, tree, name,
+            )?)
+        }
+        Kind::DataSupplyRequest => {
+            Message::DataSupplyRequest(needed::<DataSupplyRequestTable>(alloc, tree, name)?)
+        }
+        Kind::DataReceivedAcknowledgement => {
+            Message::DataReceivedAcknowledgement(needed::<DataReceivedAcknowledgementTable>(
+                alloc, tree, name,
+            )?)
+        }
+        Kind::CheckStatusRequest => {
+            Message::CheckStatusRequest(needed::<CheckStatusRequestTable>(alloc, tree, name)?)
+        }
+        Kind::CheckStatusResponse => {
+            Message::CheckStatusResponse(needed::<CheckStatusResponseTable>(alloc, tree, name)?)
+        }
+        Kind::HeartbeatNotification => {
+            Message::HeartbeatNotification(needed::<HeartbeatNotificationTable>(alloc, tree, name)?)
+        }
+    })
 }
 
 /// The one message in Siri; `UnknownMessage` where there isn't exactly one.
