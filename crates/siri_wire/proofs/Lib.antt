@@ -6,3 +6,4 @@ pub mod PlainDeliveries
 pub mod PlainSubscriptions
 pub mod PlainRequests
 pub mod PlainMessages
+pub mod MessageValues
