@@ -19,3 +19,5 @@ pub mod WrittenRequests
 pub mod Canonical
 pub mod ProperValues
 pub mod SpellingValues
+pub mod ProperRequests
+pub mod SpellingRequests
