@@ -7,3 +7,8 @@ pub mod PlainSubscriptions
 pub mod PlainRequests
 pub mod PlainMessages
 pub mod Documents
+pub mod MessageValues
+pub mod ReadsRequests
+pub mod BackRequests
+pub mod CanonicalRequests
+pub mod SpelledRequests

@@ -17,3 +17,7 @@ pub mod WrittenDeliveries
 pub mod WrittenSubscriptions
 pub mod WrittenRequests
 pub mod Canonical
+pub mod ProperValues
+pub mod SpellingValues
+pub mod ProperRequests
+pub mod SpellingRequests

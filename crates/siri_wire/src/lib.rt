@@ -25,6 +25,7 @@ mod read_subscriptions;
 mod read_supplies;
 mod read_terminations;
 mod read_topics;
+mod request_laws;
 mod write_deliveries;
 mod write_entries;
 mod write_requests;
@@ -35,6 +36,7 @@ mod write_values;
 
 pub use document::{DecodeError, Refusal, decode};
 pub use encoding::encode;
+pub use request_laws::{statuses_are_spelled, subscriptions_are_spelled, topics_are_spelled};
 
 #[cfg(test)]
 mod encoding_tests;
