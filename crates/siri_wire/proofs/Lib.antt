@@ -12,3 +12,6 @@ pub mod ReadsRequests
 pub mod BackRequests
 pub mod CanonicalRequests
 pub mod SpelledRequests
+pub mod ReadsDeliveries
+pub mod BackSupplies
+pub mod BackDeliveries

@@ -21,3 +21,5 @@ pub mod ProperValues
 pub mod SpellingValues
 pub mod ProperRequests
 pub mod SpellingRequests
+pub mod ProperDeliveries
+pub mod SpellingDeliveries
