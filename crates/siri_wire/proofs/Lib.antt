@@ -15,3 +15,5 @@ pub mod SpelledRequests
 pub mod ReadsDeliveries
 pub mod BackSupplies
 pub mod BackDeliveries
+pub mod CanonicalSupplies
+pub mod CanonicalDeliveries

@@ -23,3 +23,4 @@ pub mod ProperRequests
 pub mod SpellingRequests
 pub mod ProperDeliveries
 pub mod SpellingDeliveries
+pub mod ProperMessages
