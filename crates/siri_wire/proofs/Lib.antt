@@ -17,3 +17,4 @@ pub mod BackSupplies
 pub mod BackDeliveries
 pub mod CanonicalSupplies
 pub mod CanonicalDeliveries
+pub mod BackDocuments

@@ -12,6 +12,7 @@
 mod document;
 mod encoding;
 mod kinds;
+mod laws;
 pub mod names;
 mod read_deliveries;
 mod read_error;
@@ -36,6 +37,7 @@ mod write_values;
 
 pub use document::{DecodeError, Refusal, decode};
 pub use encoding::encode;
+pub use laws::{canonical_is_read, written_is_canonical};
 pub use request_laws::{statuses_are_spelled, subscriptions_are_spelled, topics_are_spelled};
 
 #[cfg(test)]
