@@ -17,3 +17,10 @@ pub mod WrittenDeliveries
 pub mod WrittenSubscriptions
 pub mod WrittenRequests
 pub mod Canonical
+pub mod ProperValues
+pub mod SpellingValues
+pub mod ProperRequests
+pub mod SpellingRequests
+pub mod ProperDeliveries
+pub mod SpellingDeliveries
+pub mod ProperMessages

@@ -12,6 +12,7 @@
 mod document;
 mod encoding;
 mod kinds;
+mod laws;
 pub mod names;
 mod read_deliveries;
 mod read_error;
@@ -25,6 +26,7 @@ mod read_subscriptions;
 mod read_supplies;
 mod read_terminations;
 mod read_topics;
+mod request_laws;
 mod write_deliveries;
 mod write_entries;
 mod write_requests;
@@ -35,3 +37,5 @@ mod write_values;
 
 pub use document::{DecodeError, Refusal, decode};
 pub use encoding::encode;
+pub use laws::{canonical_is_read, written_is_canonical};
+pub use request_laws::{statuses_are_spelled, subscriptions_are_spelled, topics_are_spelled};

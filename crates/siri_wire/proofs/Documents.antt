@@ -1,0 +1,12 @@
+-- Documents from their bytes on.
+use Rattle.std.proofs.Common.{◌≡◌, ℕ, ◌<◌, true, nat_lt, List, [], length, Err, refl}
+use Rattle.std.proofs.lemmas.Bool.{lt-ltb}
+use Rattle.siri_base.specs.declared.reason.Reason.TheVariants.{TooLong}
+use Rattle.siri_wire.specs.Documents.{message_of}
+
+-- a document above the bound is refused for it, at its root
+pub document_too_long : (bytes : List ℕ) → 8388608 < length bytes → message_of bytes ≡ Err (record { path = []; reason = TooLong })
+unfolding message_of
+document_too_long bytes long =
+    let above : nat_lt 8388608 (length bytes) ≡ true = lt-ltb _ _ long in
+    rw above refl
