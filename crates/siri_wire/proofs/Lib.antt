@@ -19,3 +19,4 @@ pub mod CanonicalSupplies
 pub mod CanonicalDeliveries
 pub mod BackDocuments
 pub mod SpelledDeliveries
+pub mod SpelledDocuments
