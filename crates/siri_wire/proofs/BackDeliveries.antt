@@ -46,7 +46,7 @@ use Rattle.siri_wire.specs.WrittenDeliveries.{spelled_item, frame_rows, written_
 use Rattle.siri_wire.specs.WrittenValues.{written_error}
 use Rattle.siri_wire.proofs.MessageValues.{all_map, some_error_back, flag_again}
 use Rattle.siri_wire.proofs.BackSupplies.{where_true_again}
-use Rattle.siri_wire.proofs.ReadsDeliveries.{standing_reads, extended_reads, stop_delivery_reads, timetable_delivery_reads, vehicle_delivery_reads, situation_delivery_reads, frame_reads, service_delivery_reads}
+use Rattle.siri_wire.proofs.ReadsDeliveries.{standing_read, extended_read, stop_delivery_read, timetable_delivery_read, vehicle_delivery_read, situation_delivery_read, frame_read, service_delivery_read}
 
 -- ---- items
 
@@ -127,7 +127,7 @@ singles_together (i ∷ is) = rw (singles_together is) refl
 
 frame_entry : (i : Item) → IsProperOf service.Timetable i → EntryBack (table frame) written_single (single i)
 unfolding written_frame
-frame_entry (item.Journey j) p = table_entry frame written_single (with_rows no_members (frame_rows (item.Journey j))) (single (item.Journey j)) refl (frame_reads _ (single (item.Journey j)) (frame_again j p.proper))
+frame_entry (item.Journey j) p = table_entry frame written_single (with_rows no_members (frame_rows (item.Journey j))) (single (item.Journey j)) refl (frame_read _ (single (item.Journey j)) (frame_again j p.proper))
 frame_entry (item.Visit v) p = absurd (cc p.of_service)
 frame_entry (item.Vehicle v) p = absurd (cc p.of_service)
 frame_entry (item.Situation s) p = absurd (cc p.of_service)
@@ -269,7 +269,7 @@ place_back : (s : Service) (f : FunctionalDelivery) (d : Data) → IsProperDeliv
 unfolding written_place
 place_back s f d p at_extensions =
     let rs = place_rows f [] in
-    let reads = standing_reads _ (standing_of f) (standing_again rs f.start f.round f.part p.start p.round p.part p.start_stands p.part_stands refl refl refl) in
+    let reads = standing_read _ (standing_of f) (standing_again rs f.start f.round f.part p.start p.round p.part p.start_stands p.part_stands refl refl refl) in
     elim (object_back_or_empty standing (with_rows no_members rs) (standing_of f) outside standing_of_none reads) [
       | inl back ↦ record { given = Some (standing_of f); spelled = rw at_extensions back; start_is = refl; round_is = refl; part_is = refl }
       | inr empty ↦ record {
@@ -297,7 +297,7 @@ extended_again : (removed : Data → Result Key Refusal) (s : Service) (f : Func
 unfolding removed_rows
 extended_again removed s f p entries =
     let rs = removed_rows f in
-    extended_reads removed _ (extended_of f) (record {
+    extended_read removed _ (extended_of f) (record {
       standing = standing_again rs f.start f.round f.part p.start p.round p.part p.start_stands p.part_stands refl refl refl;
       removals = list_back (table removed) written_removal 20000 REMOVED.now _ f.removals entries p.removals.bound (member_again REMOVED.now rs _ refl);
     })
@@ -349,7 +349,7 @@ stop_delivery_again f p = record {
 
 stop_delivery_entry : (f : FunctionalDelivery) → IsProperDelivery service.Stop f → EntryBack (table stop_monitoring_delivery) written_stop_delivery f
 unfolding written_stop_delivery
-stop_delivery_entry f p = table_entry stop_monitoring_delivery written_stop_delivery (with_rows no_members (stop_rows f)) f refl (stop_delivery_reads _ f (stop_delivery_again f p))
+stop_delivery_entry f p = table_entry stop_monitoring_delivery written_stop_delivery (with_rows no_members (stop_rows f)) f refl (stop_delivery_read _ f (stop_delivery_again f p))
 
 abbrev pub timetable_rows : FunctionalDelivery → List Row
 timetable_rows f =
@@ -365,7 +365,7 @@ timetable_delivery_again f p = record {
 
 timetable_delivery_entry : (f : FunctionalDelivery) → IsProperDelivery service.Timetable f → EntryBack (table estimated_timetable_delivery) written_timetable_delivery f
 unfolding written_timetable_delivery
-timetable_delivery_entry f p = table_entry estimated_timetable_delivery written_timetable_delivery (with_rows no_members (timetable_rows f)) f refl (timetable_delivery_reads _ f (timetable_delivery_again f p))
+timetable_delivery_entry f p = table_entry estimated_timetable_delivery written_timetable_delivery (with_rows no_members (timetable_rows f)) f refl (timetable_delivery_read _ f (timetable_delivery_again f p))
 
 abbrev pub vehicle_delivery_rows : FunctionalDelivery → List Row
 vehicle_delivery_rows f =
@@ -384,7 +384,7 @@ vehicle_delivery_again f p = record {
 
 vehicle_delivery_entry : (f : FunctionalDelivery) → IsProperDelivery service.Vehicle f → EntryBack (table vehicle_monitoring_delivery) written_vehicle_delivery f
 unfolding written_vehicle_delivery
-vehicle_delivery_entry f p = table_entry vehicle_monitoring_delivery written_vehicle_delivery (with_rows no_members (vehicle_delivery_rows f)) f refl (vehicle_delivery_reads _ f (vehicle_delivery_again f p))
+vehicle_delivery_entry f p = table_entry vehicle_monitoring_delivery written_vehicle_delivery (with_rows no_members (vehicle_delivery_rows f)) f refl (vehicle_delivery_read _ f (vehicle_delivery_again f p))
 
 abbrev pub situation_delivery_rows : FunctionalDelivery → List Row
 situation_delivery_rows f =
@@ -405,7 +405,7 @@ situation_delivery_again f p = record {
 
 situation_delivery_entry : (f : FunctionalDelivery) → IsProperDelivery service.Situation f → EntryBack (table situation_exchange_delivery) written_situation_delivery f
 unfolding written_situation_delivery
-situation_delivery_entry f p = table_entry situation_exchange_delivery written_situation_delivery (with_rows no_members (situation_delivery_rows f)) f refl (situation_delivery_reads _ f (situation_delivery_again f p))
+situation_delivery_entry f p = table_entry situation_exchange_delivery written_situation_delivery (with_rows no_members (situation_delivery_rows f)) f refl (situation_delivery_read _ f (situation_delivery_again f p))
 
 -- ---- all services
 
@@ -430,4 +430,4 @@ service_delivery_again s p = record {
 
 pub service_delivery_back : (s : ServiceDelivery) → IsProperServiceDelivery s → service_delivery (as_texts (written_service_delivery s)) ≡ Ok s
 unfolding written_service_delivery
-service_delivery_back s p = service_delivery_reads _ s (service_delivery_again s p)
+service_delivery_back s p = service_delivery_read _ s (service_delivery_again s p)

@@ -26,6 +26,7 @@ use Rattle.siri_wire.specs.Deliveries.{service_delivery}
 use Rattle.siri_wire.specs.Documents.{kinds, name_of, message_at, message_or, is_member_there, holds, held, only, only_held, siri, root, message_in, message_of}
 use Rattle.siri_wire.specs.ProperMessages.{IsProper}
 use Rattle.siri_wire.specs.Requests.{service_request}
+use Rattle.siri_wire.specs.SpellingDocuments.{kind_in}
 use Rattle.siri_wire.specs.Statuses.{check_status_request, check_status_response, heartbeat_notification}
 use Rattle.siri_wire.specs.Subscriptions.{subscription_request, subscription_response}
 use Rattle.siri_wire.specs.Supplies.{data_ready_notification, data_ready_acknowledgement, data_supply_request, data_received_acknowledgement}
@@ -73,22 +74,6 @@ unfolding only_held kind_named
 only_named key ms = ap only (held_named key ms kinds)
 
 -- ---- the message in it
-
--- the kind of a message
-abbrev pub kind_in : Message → Kind
-kind_in (message.ServiceRequest m) = kind.ServiceRequest
-kind_in (message.ServiceDelivery m) = kind.ServiceDelivery
-kind_in (message.SubscriptionRequest m) = kind.SubscriptionRequest
-kind_in (message.SubscriptionResponse m) = kind.SubscriptionResponse
-kind_in (message.TerminateSubscriptionRequest m) = kind.TerminateSubscriptionRequest
-kind_in (message.TerminateSubscriptionResponse m) = kind.TerminateSubscriptionResponse
-kind_in (message.DataReadyNotification m) = kind.DataReadyNotification
-kind_in (message.DataReadyAcknowledgement m) = kind.DataReadyAcknowledgement
-kind_in (message.DataSupplyRequest m) = kind.DataSupplyRequest
-kind_in (message.DataReceivedAcknowledgement m) = kind.DataReceivedAcknowledgement
-kind_in (message.CheckStatusRequest m) = kind.CheckStatusRequest
-kind_in (message.CheckStatusResponse m) = kind.CheckStatusResponse
-kind_in (message.HeartbeatNotification m) = kind.HeartbeatNotification
 
 kind_is : (m : Message) → kind_named (kind_of m) ≡ Some (kind_in m)
 unfolding kind_named

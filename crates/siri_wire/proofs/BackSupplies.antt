@@ -27,7 +27,7 @@ use Rattle.siri_wire.specs.Supplies.{mark, is_text_absent, lacks, lacks_mark, ma
 use Rattle.siri_wire.specs.WrittenRequests.{data_ready_rows, written_data_ready, ready_acknowledgement_rows, written_ready_acknowledgement, supply_rows as written_supply_rows, written_supply, received_rows, written_received, check_status_rows, written_check_status, status_response_rows, written_status_response, heartbeat_rows, written_heartbeat}
 use Rattle.siri_wire.specs.WrittenValues.{mark_rows, written_mark, written_where_true}
 use Rattle.siri_wire.proofs.MessageValues.{some_error_back, flag_again}
-use Rattle.siri_wire.proofs.ReadsDeliveries.{something_spelled, mark_reads, ready_reads, ready_acknowledgement_reads, supply_request_reads, received_reads, check_reads, check_response_reads, heartbeat_reads}
+use Rattle.siri_wire.proofs.ReadsDeliveries.{something_spelled, mark_read, ready_read, ready_acknowledgement_read, supply_request_read, received_read, check_read, check_response_read, heartbeat_read}
 
 -- a flag that is written only where it is true
 pub where_true_again : (key : List ℕ) (rs : List Row) (b : Bool) → in_rows key None rs ≡ written_where_true b → SpellsOr flag key (as_texts (row_object rs)) false b
@@ -47,7 +47,7 @@ mark_again m p = record {
 
 pub mark_back : (m : Mark) → IsProperMark m → GivesBack (table mark) (written_mark m) (Some m)
 unfolding written_mark
-mark_back m p = table_back mark (with_rows no_members (mark_rows m)) m (mark_reads _ m (mark_again m p))
+mark_back m p = table_back mark (with_rows no_members (mark_rows m)) m (mark_read _ m (mark_again m p))
 
 -- a mark has rows, so that it doesn't count as absent
 pub has_mark : (d : Data) (m : Mark) → SpellsMark d m → lacks_mark d ≡ false
@@ -58,7 +58,7 @@ has_mark d m s_ =
 
 pub optional_mark_again : (ms : Members) (m : Mark) → SpellsMark (as_texts (object ms)) m → GivesBack optional_mark (Some (object ms)) (Some m)
 unfolding optional_mark mark_if_any object_in
-optional_mark_again ms m s_ = rw (has_mark (as_texts (object ms)) m s_, mark_reads (as_texts (object ms)) m s_) refl
+optional_mark_again ms m s_ = rw (has_mark (as_texts (object ms)) m s_, mark_read (as_texts (object ms)) m s_) refl
 
 pub some_mark_back : (o : Option Mark) → IfSome o IsProperMark → GivesBack optional_mark (option_and_then written_mark o) o
 unfolding written_mark
@@ -126,29 +126,29 @@ heartbeat_again h p = record {
 
 pub ready_back : (n : DataReadyNotification) → IsProperReady n → data_ready_notification (as_texts (written_data_ready n)) ≡ Ok n
 unfolding written_data_ready
-ready_back n p = ready_reads _ n (ready_again n p)
+ready_back n p = ready_read _ n (ready_again n p)
 
 pub ready_acknowledgement_back : (a : DataReadyAcknowledgement) → IsProperReadyAcknowledgement a → data_ready_acknowledgement (as_texts (written_ready_acknowledgement a)) ≡ Ok a
 unfolding written_ready_acknowledgement
-ready_acknowledgement_back a p = ready_acknowledgement_reads _ a (ready_acknowledgement_again a p)
+ready_acknowledgement_back a p = ready_acknowledgement_read _ a (ready_acknowledgement_again a p)
 
 pub supply_back : (s : DataSupplyRequest) → IsProperSupply s → data_supply_request (as_texts (written_supply s)) ≡ Ok s
 unfolding written_supply
-supply_back s p = supply_request_reads _ s (supply_again s p)
+supply_back s p = supply_request_read _ s (supply_again s p)
 
 pub received_back : (a : DataReceivedAcknowledgement) → IsProperReceived a → data_received_acknowledgement (as_texts (written_received a)) ≡ Ok a
 unfolding written_received
-received_back a p = received_reads _ a (received_again a p)
+received_back a p = received_read _ a (received_again a p)
 
 pub check_back : (c : CheckStatusRequest) → IsProperCheck c → check_status_request (as_texts (written_check_status c)) ≡ Ok c
 unfolding written_check_status
-check_back c p = check_reads _ c (check_again c p)
+check_back c p = check_read _ c (check_again c p)
 
 pub check_response_back : (c : CheckStatusResponse) → IsProperCheckResponse c → check_status_response (as_texts (written_status_response c)) ≡ Ok c
 unfolding written_status_response
-check_response_back c p = check_response_reads _ c (check_response_again c p)
+check_response_back c p = check_response_read _ c (check_response_again c p)
 
 pub heartbeat_back : (h : HeartbeatNotification) → IsProperHeartbeat h → heartbeat_notification (as_texts (written_heartbeat h)) ≡ Ok h
 unfolding written_heartbeat
-heartbeat_back h p = heartbeat_reads _ h (heartbeat_again h p)
+heartbeat_back h p = heartbeat_read _ h (heartbeat_again h p)
 

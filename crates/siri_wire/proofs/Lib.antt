@@ -18,3 +18,5 @@ pub mod BackDeliveries
 pub mod CanonicalSupplies
 pub mod CanonicalDeliveries
 pub mod BackDocuments
+pub mod SpelledDeliveries
+pub mod SpelledDocuments

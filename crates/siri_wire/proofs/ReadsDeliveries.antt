@@ -59,9 +59,9 @@ something_spelled read (Some d) x e = some_read read (text_in d) x e
 
 -- ---- rounds and statuses
 
-pub mark_reads : (d : Data) (m : Mark) → SpellsMark d m → mark d ≡ Ok m
+pub mark_read : (d : Data) (m : Mark) → SpellsMark d m → mark d ≡ Ok m
 unfolding mark
-mark_reads d m s_ =
+mark_read d m s_ =
     rw (
       needed_ok name SUBSCRIPTION_REF.now d m.subscription s_.subscription,
       needed_ok number NUMBER.now d m.number s_.subscription_number,
@@ -70,18 +70,18 @@ mark_reads d m s_ =
       needed_ok number PART.now d m.part s_.part,
     ) refl
 
-pub ready_reads : (d : Data) (n : DataReadyNotification) → SpellsReady d n → data_ready_notification d ≡ Ok n
+pub ready_read : (d : Data) (n : DataReadyNotification) → SpellsReady d n → data_ready_notification d ≡ Ok n
 unfolding data_ready_notification
-ready_reads d n s_ =
+ready_read d n s_ =
     rw (
       row_ok moment REQUEST_TIMESTAMP.now d n.request_timestamp s_.request_timestamp,
       row_ok name PRODUCER_REF.now d n.producer_ref s_.producer_ref,
       needed_ok (table mark) EXTENSIONS.now d n.extensions s_.extensions,
     ) refl
 
-pub ready_acknowledgement_reads : (d : Data) (a : DataReadyAcknowledgement) → SpellsReadyAcknowledgement d a → data_ready_acknowledgement d ≡ Ok a
+pub ready_acknowledgement_read : (d : Data) (a : DataReadyAcknowledgement) → SpellsReadyAcknowledgement d a → data_ready_acknowledgement d ≡ Ok a
 unfolding data_ready_acknowledgement
-ready_acknowledgement_reads d a s_ =
+ready_acknowledgement_read d a s_ =
     rw (
       row_ok moment RESPONSE_TIMESTAMP.now d a.response_timestamp s_.response_timestamp,
       row_ok name CONSUMER_REF.now d a.consumer_ref s_.consumer_ref,
@@ -89,9 +89,9 @@ ready_acknowledgement_reads d a s_ =
       s_.status.is,
     ) refl
 
-pub supply_reads : (d : Data) (s : DataSupplyRequest) → SpellsSupply d s → supply_rows d ≡ Ok s
+pub supply_read : (d : Data) (s : DataSupplyRequest) → SpellsSupply d s → supply_rows d ≡ Ok s
 unfolding supply_rows
-supply_reads d s s_ =
+supply_read d s s_ =
     rw (
       row_ok moment REQUEST_TIMESTAMP.now d s.request_timestamp s_.request_timestamp,
       needed_ok name CONSUMER_REF.now d s.consumer_ref s_.consumer_ref,
@@ -100,9 +100,9 @@ supply_reads d s s_ =
       s_.all_data.is,
     ) refl
 
-pub received_reads : (d : Data) (a : DataReceivedAcknowledgement) → SpellsReceived d a → data_received_acknowledgement d ≡ Ok a
+pub received_read : (d : Data) (a : DataReceivedAcknowledgement) → SpellsReceived d a → data_received_acknowledgement d ≡ Ok a
 unfolding data_received_acknowledgement
-received_reads d a s_ =
+received_read d a s_ =
     rw (
       row_ok moment RESPONSE_TIMESTAMP.now d a.response_timestamp s_.response_timestamp,
       row_ok name CONSUMER_REF.now d a.consumer_ref s_.consumer_ref,
@@ -113,18 +113,18 @@ received_reads d a s_ =
       s_.status.is,
     ) refl
 
-pub check_reads : (d : Data) (c : CheckStatusRequest) → SpellsCheck d c → check_status_request d ≡ Ok c
+pub check_read : (d : Data) (c : CheckStatusRequest) → SpellsCheck d c → check_status_request d ≡ Ok c
 unfolding check_status_request
-check_reads d c s_ =
+check_read d c s_ =
     rw (
       row_ok moment REQUEST_TIMESTAMP.now d c.request_timestamp s_.request_timestamp,
       row_ok name REQUESTOR_REF.now d c.requestor_ref s_.requestor_ref,
       row_ok name MESSAGE_IDENTIFIER.now d c.message_identifier s_.message_identifier,
     ) refl
 
-pub check_response_reads : (d : Data) (c : CheckStatusResponse) → SpellsCheckResponse d c → check_status_response d ≡ Ok c
+pub check_response_read : (d : Data) (c : CheckStatusResponse) → SpellsCheckResponse d c → check_status_response d ≡ Ok c
 unfolding check_status_response
-check_response_reads d c s_ =
+check_response_read d c s_ =
     rw (
       row_ok moment RESPONSE_TIMESTAMP.now d c.response_timestamp s_.response_timestamp,
       row_ok name PRODUCER_REF.now d c.producer_ref s_.producer_ref,
@@ -134,9 +134,9 @@ check_response_reads d c s_ =
       s_.status.is,
     ) refl
 
-pub heartbeat_reads : (d : Data) (h : HeartbeatNotification) → SpellsHeartbeat d h → heartbeat_notification d ≡ Ok h
+pub heartbeat_read : (d : Data) (h : HeartbeatNotification) → SpellsHeartbeat d h → heartbeat_notification d ≡ Ok h
 unfolding heartbeat_notification
-heartbeat_reads d h s_ =
+heartbeat_read d h s_ =
     rw (
       row_ok moment REQUEST_TIMESTAMP.now d h.request_timestamp s_.request_timestamp,
       row_ok name PRODUCER_REF.now d h.producer_ref s_.producer_ref,
@@ -148,9 +148,9 @@ heartbeat_reads d h s_ =
 not_all_ok : (m : DataSupplyRequest) → m.all_data ≡ false → unless_all m ≡ Ok m
 not_all_ok m h = rw h refl
 
-pub supply_request_reads : (d : Data) (s : DataSupplyRequest) → SpellsSupply d s → data_supply_request d ≡ Ok s
+pub supply_request_read : (d : Data) (s : DataSupplyRequest) → SpellsSupply d s → data_supply_request d ≡ Ok s
 unfolding data_supply_request
-supply_request_reads d s s_ = rw (supply_reads d s s_) (not_all_ok s s_.not_all)
+supply_request_read d s s_ = rw (supply_read d s s_) (not_all_ok s s_.not_all)
 
 -- ---- where in a round a delivery stands
 
@@ -166,12 +166,12 @@ standing_at d (Some start) (Some round) (Some part) at_round at_start at_part =
     let a_round : is_text_absent (member_of ROUND.now d) ≡ false = something_spelled _ (member_of ROUND.now d) round at_round in
     rw (a_round, needed_ok number START.now d start at_start.0, needed_ok number ROUND.now d round at_round, needed_ok number PART.now d part at_part.0) refl
 
-pub standing_reads : (d : Data) (s : Standing) → SpellsStanding d s → standing d ≡ Ok s
-standing_reads d s s_ = standing_at d s.start s.round s.part s_.round s_.start s_.part
+pub standing_read : (d : Data) (s : Standing) → SpellsStanding d s → standing d ≡ Ok s
+standing_read d s s_ = standing_at d s.start s.round s.part s_.round s_.start s_.part
 
-pub extended_reads : (removed : Data → Result Key Refusal) (d : Data) (e : Extended) → SpellsExtended removed d e → extended removed d ≡ Ok e
+pub extended_read : (removed : Data → Result Key Refusal) (d : Data) (e : Extended) → SpellsExtended removed d e → extended removed d ≡ Ok e
 unfolding extended
-extended_reads removed d e s_ = rw (standing_reads d e.standing s_.standing, s_.removals) refl
+extended_read removed d e s_ = rw (standing_read d e.standing s_.standing, s_.removals) refl
 
 -- ---- functional deliveries
 
@@ -179,9 +179,9 @@ extended_reads removed d e s_ = rw (standing_reads d e.standing s_.standing, s_.
 abbrev pub heading_of : FunctionalDelivery → Heading
 heading_of f = record { response_timestamp = f.response_timestamp; subscriber_ref = f.subscriber_ref; subscription_ref = f.subscription_ref; status = f.status; error_condition = f.error_condition }
 
-pub heading_reads : (d : Data) (f : FunctionalDelivery) → SpellsHeading d f → heading d ≡ Ok (heading_of f)
+pub heading_read : (d : Data) (f : FunctionalDelivery) → SpellsHeading d f → heading d ≡ Ok (heading_of f)
 unfolding heading
-heading_reads d f s_ =
+heading_read d f s_ =
     rw (
       row_ok moment RESPONSE_TIMESTAMP.now d f.response_timestamp s_.response_timestamp,
       row_ok name SUBSCRIBER_REF.now d f.subscriber_ref s_.subscriber_ref,
@@ -191,11 +191,11 @@ heading_reads d f s_ =
       s_.status.is,
     ) refl
 
-pub stop_delivery_reads : (d : Data) (f : FunctionalDelivery) → SpellsStopDelivery d f → stop_monitoring_delivery d ≡ Ok f
+pub stop_delivery_read : (d : Data) (f : FunctionalDelivery) → SpellsStopDelivery d f → stop_monitoring_delivery d ≡ Ok f
 unfolding stop_monitoring_delivery
-stop_delivery_reads d f s_ =
+stop_delivery_read d f s_ =
     rw (
-      heading_reads d f s_.heading,
+      heading_read d f s_.heading,
       row_ok (table standing) EXTENSIONS.now d s_.extensions.given s_.extensions.spelled,
       s_.items,
       s_.removals,
@@ -204,11 +204,11 @@ stop_delivery_reads d f s_ =
       s_.extensions.part_is,
     ) refl
 
-pub timetable_delivery_reads : (d : Data) (f : FunctionalDelivery) → SpellsTimetableDelivery d f → estimated_timetable_delivery d ≡ Ok f
+pub timetable_delivery_read : (d : Data) (f : FunctionalDelivery) → SpellsTimetableDelivery d f → estimated_timetable_delivery d ≡ Ok f
 unfolding estimated_timetable_delivery
-timetable_delivery_reads d f s_ =
+timetable_delivery_read d f s_ =
     rw (
-      heading_reads d f s_.heading,
+      heading_read d f s_.heading,
       row_ok (table (extended removed_journey)) EXTENSIONS.now d s_.extensions.given s_.extensions.spelled,
       s_.items,
       s_.extensions.start_is,
@@ -217,11 +217,11 @@ timetable_delivery_reads d f s_ =
       s_.extensions.removals_are,
     ) refl
 
-pub vehicle_delivery_reads : (d : Data) (f : FunctionalDelivery) → SpellsVehicleDelivery d f → vehicle_monitoring_delivery d ≡ Ok f
+pub vehicle_delivery_read : (d : Data) (f : FunctionalDelivery) → SpellsVehicleDelivery d f → vehicle_monitoring_delivery d ≡ Ok f
 unfolding vehicle_monitoring_delivery
-vehicle_delivery_reads d f s_ =
+vehicle_delivery_read d f s_ =
     rw (
-      heading_reads d f s_.heading,
+      heading_read d f s_.heading,
       row_ok (table standing) EXTENSIONS.now d s_.extensions.given s_.extensions.spelled,
       s_.items,
       s_.removals,
@@ -230,11 +230,11 @@ vehicle_delivery_reads d f s_ =
       s_.extensions.part_is,
     ) refl
 
-pub situation_delivery_reads : (d : Data) (f : FunctionalDelivery) → SpellsSituationDelivery d f → situation_exchange_delivery d ≡ Ok f
+pub situation_delivery_read : (d : Data) (f : FunctionalDelivery) → SpellsSituationDelivery d f → situation_exchange_delivery d ≡ Ok f
 unfolding situation_exchange_delivery
-situation_delivery_reads d f s_ =
+situation_delivery_read d f s_ =
     rw (
-      heading_reads d f s_.heading,
+      heading_read d f s_.heading,
       row_ok (table (extended removed_situation)) EXTENSIONS.now d s_.extensions.given s_.extensions.spelled,
       s_.items,
       s_.extensions.start_is,
@@ -243,15 +243,15 @@ situation_delivery_reads d f s_ =
       s_.extensions.removals_are,
     ) refl
 
-pub frame_reads : (d : Data) (items : List Item) → SpellsFrame d items → frame d ≡ Ok items
+pub frame_read : (d : Data) (items : List Item) → SpellsFrame d items → frame d ≡ Ok items
 unfolding frame
-frame_reads d items s_ = rw (row_ok moment RECORDED_AT_TIME.now d s_.recorded_at_time s_.spelled, s_.journeys, s_.are) refl
+frame_read d items s_ = rw (row_ok moment RECORDED_AT_TIME.now d s_.recorded_at_time s_.spelled, s_.journeys, s_.are) refl
 
 -- ---- all services
 
-pub service_delivery_reads : (d : Data) (s : ServiceDelivery) → SpellsServiceDelivery d s → service_delivery d ≡ Ok s
+pub service_delivery_read : (d : Data) (s : ServiceDelivery) → SpellsServiceDelivery d s → service_delivery d ≡ Ok s
 unfolding service_delivery
-service_delivery_reads d s s_ =
+service_delivery_read d s s_ =
     rw (
       row_ok moment RESPONSE_TIMESTAMP.now d s.response_timestamp s_.response_timestamp,
       row_ok name PRODUCER_REF.now d s.producer_ref s_.producer_ref,

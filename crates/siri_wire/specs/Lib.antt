@@ -24,3 +24,4 @@ pub mod SpellingRequests
 pub mod ProperDeliveries
 pub mod SpellingDeliveries
 pub mod ProperMessages
+pub mod SpellingDocuments

@@ -9,6 +9,7 @@
 //! inside them. The rules of rows and the tables of items are those of `siri_items`.
 #![tactic(auto)]
 
+mod delivery_laws;
 mod document;
 mod encoding;
 mod kinds;
@@ -35,7 +36,8 @@ mod write_subscriptions;
 mod write_topics;
 mod write_values;
 
+pub use delivery_laws::{deliveries_are_spelled, places_are_spelled};
 pub use document::{DecodeError, Refusal, decode};
 pub use encoding::encode;
-pub use laws::{canonical_is_read, written_is_canonical};
+pub use laws::{canonical_is_read, document_is_spelled, encoded_is_decoded, written_is_canonical};
 pub use request_laws::{statuses_are_spelled, subscriptions_are_spelled, topics_are_spelled};
