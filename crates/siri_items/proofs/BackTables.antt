@@ -171,9 +171,13 @@ visit_spelled v p = record {
   monitored_vehicle_journey = row_again (table visit_journey) MONITORED_VEHICLE_JOURNEY.now (visit_rows v) _ (Some v.monitored_vehicle_journey) refl (visit_journey_back v.monitored_vehicle_journey p.monitored_vehicle_journey);
 }
 
+pub visit_object : (v : Visit) → IsProperVisit v → visit (as_texts (written_visit v)) ≡ Ok v
+unfolding written_visit
+visit_object v p = visit_reads _ v (visit_spelled v p)
+
 pub visit_back : (v : Visit) → IsProperVisit v → GivesBack (table visit) (Some (written_visit v)) (Some v)
 unfolding written_visit
-visit_back v p = table_back visit (with_rows no_members (visit_rows v)) v (visit_reads _ v (visit_spelled v p))
+visit_back v p = table_back visit (with_rows no_members (visit_rows v)) v (visit_object v p)
 
 -- ---- vehicle activities
 
@@ -207,9 +211,13 @@ vehicle_spelled v p = record {
   monitored_vehicle_journey = row_again (table vehicle_journey) MONITORED_VEHICLE_JOURNEY.now (vehicle_rows v) _ (Some v.monitored_vehicle_journey) refl (vehicle_journey_back v.monitored_vehicle_journey p.monitored_vehicle_journey);
 }
 
+pub vehicle_object : (v : Vehicle) → IsProperVehicle v → vehicle (as_texts (written_vehicle v)) ≡ Ok v
+unfolding written_vehicle
+vehicle_object v p = vehicle_reads _ v (vehicle_spelled v p)
+
 pub vehicle_back : (v : Vehicle) → IsProperVehicle v → GivesBack (table vehicle) (Some (written_vehicle v)) (Some v)
 unfolding written_vehicle
-vehicle_back v p = table_back vehicle (with_rows no_members (vehicle_rows v)) v (vehicle_reads _ v (vehicle_spelled v p))
+vehicle_back v p = table_back vehicle (with_rows no_members (vehicle_rows v)) v (vehicle_object v p)
 
 -- ---- journeys
 
@@ -237,11 +245,13 @@ journey_rows_spelled j p = record {
   estimated_calls = calls_back ESTIMATED_CALLS.now ESTIMATED_CALL.now _ j.estimated_calls p.estimated_calls (member_again ESTIMATED_CALLS.now (journey_rows j) _ refl);
 }
 
+pub journey_object : (j : Journey) → IsProperJourney j → journey (as_texts (written_journey j)) ≡ Ok (without_time j)
+unfolding written_journey
+journey_object j p = journey_reads _ (without_time j) (record { rows = journey_rows_spelled j p; timed = p.timed })
+
 pub journey_back : (j : Journey) → IsProperJourney j → GivesBack (table journey) (Some (written_journey j)) (Some (without_time j))
 unfolding written_journey
-journey_back j p =
-    table_back journey (with_rows no_members (journey_rows j)) (without_time j)
-    (journey_reads _ (without_time j) (record { rows = journey_rows_spelled j p; timed = p.timed }))
+journey_back j p = table_back journey (with_rows no_members (journey_rows j)) (without_time j) (journey_object j p)
 
 -- ---- situations
 
@@ -369,9 +379,13 @@ situation_spelled s p = record {
   affects = affects_back _ s.affected_operators s.affected_lines s.affected_stop_points p.affected_operators p.affected_lines p.affected_stop_points (member_again AFFECTS.now (situation_rows s) _ refl);
 }
 
+pub situation_object : (s : Situation) → IsProperSituation s → situation (as_texts (written_situation s)) ≡ Ok s
+unfolding written_situation
+situation_object s p = situation_reads _ s (situation_spelled s p)
+
 pub situation_back : (s : Situation) → IsProperSituation s → GivesBack (table situation) (Some (written_situation s)) (Some s)
 unfolding written_situation
-situation_back s p = table_back situation (with_rows no_members (situation_rows s)) s (situation_reads _ s (situation_spelled s p))
+situation_back s p = table_back situation (with_rows no_members (situation_rows s)) s (situation_object s p)
 
 -- ---- items
 
@@ -388,3 +402,12 @@ item_back (item.Visit v) p = rw (table_given visit (with_rows no_members (visit_
 item_back (item.Journey j) p = rw (table_given journey (with_rows no_members (journey_rows j)) (without_time j) (journey_back j p)) refl
 item_back (item.Vehicle v) p = rw (table_given vehicle (with_rows no_members (vehicle_rows v)) v (vehicle_back v p)) refl
 item_back (item.Situation s) p = rw (table_given situation (with_rows no_members (situation_rows s)) s (situation_back s p)) refl
+
+-- an entry that is a written item, read by a table of any crate
+pub item_entry : {A : Type 0} (rows : Data → Result A Refusal) (spelling : A → Option Data) (x : A) (i : Item)
+    → spelling x ≡ Some (written_item i) → rows (as_texts (written_item i)) ≡ Ok x → EntryBack (table rows) spelling x
+unfolding written_visit written_journey written_vehicle written_situation
+item_entry rows spelling x (item.Visit v) written is = table_entry rows spelling (with_rows no_members (visit_rows v)) x written is
+item_entry rows spelling x (item.Journey j) written is = table_entry rows spelling (with_rows no_members (journey_rows j)) x written is
+item_entry rows spelling x (item.Vehicle v) written is = table_entry rows spelling (with_rows no_members (vehicle_rows v)) x written is
+item_entry rows spelling x (item.Situation s) written is = table_entry rows spelling (with_rows no_members (situation_rows s)) x written is

@@ -9,6 +9,8 @@ mod Capped
 pub mod DecimalRead
 pub mod Entries
 pub mod Nonempty
+pub mod ProperParts
+pub mod ProperTables
 pub mod ReadSpelled
 pub mod SpelledReads
 pub mod Steps

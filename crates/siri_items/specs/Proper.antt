@@ -1,7 +1,8 @@
 -- Proper items: each field has a value that its row can give, what has to be there is there, and no object that need not be
 -- there is there with all its rows absent.
-use Rattle.std.specs.Prelude.{◌≡◌, ℕ, ◌<◌, ◌≤◌, ◌^◌, ℤ, unsigned_abs, List, length, true, false, ◌||◌, None, IfSome, IsSome, IsUtf8}
+use Rattle.std.specs.Prelude.{◌≡◌, ℕ, ◌<◌, ◌≤◌, ◌^◌, ℤ, unsigned_abs, List, length, true, false, ◌||◌, None, IfSome, IsSome, IsUtf8, ⊤}
 use Rattle.std.specs.List.{AllByRecursion}
+use Rattle.serde_json.specs.Data.{Data, null, boolean, number, string, array, object, Items, no_items, item, Members, no_members, member}
 use Rattle.siri_records.specs.declared.call.StopCall.{StopCall}
 use Rattle.siri_records.specs.declared.visit.Visit.{Visit}
 use Rattle.siri_records.specs.declared.visit.VisitJourney.{VisitJourney}
@@ -12,7 +13,7 @@ use Rattle.siri_records.specs.declared.journey.Journey.{Journey}
 use Rattle.siri_records.specs.declared.situation.Situation.{Situation}
 use Rattle.siri_records.specs.declared.situation.Period.{Period}
 use Rattle.siri_records.specs.declared.item.Item.{Item}
-use Rattle.siri_records.specs.declared.item.Item.TheVariants as item
+use Rattle.siri_records.specs.declared.item.Item.TheVariants as items
 use Rattle.siri_records.specs.declared.item.Service.{Service}
 use Rattle.siri_records.specs.declared.item.Service.TheVariants as service
 use Rattle.siri_records.specs.Ends.{call_moment}
@@ -175,21 +176,41 @@ pub record IsProperSituation (s : Situation) : Type 0 where
 -- ---- items
 
 abbrev pub IsProper : Item → Type 0
-IsProper (item.Visit v) = IsProperVisit v
-IsProper (item.Journey j) = IsProperJourney j
-IsProper (item.Vehicle v) = IsProperVehicle v
-IsProper (item.Situation s) = IsProperSituation s
+IsProper (items.Visit v) = IsProperVisit v
+IsProper (items.Journey j) = IsProperJourney j
+IsProper (items.Vehicle v) = IsProperVehicle v
+IsProper (items.Situation s) = IsProperSituation s
 
 -- the service that tells of an item
 abbrev pub service_of : Item → Service
-service_of (item.Visit v) = service.Stop
-service_of (item.Journey j) = service.Timetable
-service_of (item.Vehicle v) = service.Vehicle
-service_of (item.Situation s) = service.Situation
+service_of (items.Visit v) = service.Stop
+service_of (items.Journey j) = service.Timetable
+service_of (items.Vehicle v) = service.Vehicle
+service_of (items.Situation s) = service.Situation
 
 -- what the written item says: a journey is written without its RecordedAtTime, which its frame carries
 abbrev pub as_written : Item → Item
-as_written (item.Visit v) = item.Visit v
-as_written (item.Journey j) = item.Journey (record j { recorded_at_time = None })
-as_written (item.Vehicle v) = item.Vehicle v
-as_written (item.Situation s) = item.Situation s
+as_written (items.Visit v) = items.Visit v
+as_written (items.Journey j) = items.Journey (record j { recorded_at_time = None })
+as_written (items.Vehicle v) = items.Vehicle v
+as_written (items.Situation s) = items.Situation s
+
+-- ---- trees
+
+-- each text of a tree is UTF-8
+abbrev mutual
+  pub TextsAreUtf8 : Data → Type 0
+  TextsAreUtf8 null = ⊤
+  TextsAreUtf8 (boolean b) = ⊤
+  TextsAreUtf8 (number n) = ⊤
+  TextsAreUtf8 (string s) = IsUtf8 s
+  TextsAreUtf8 (array ds) = ItemTextsAreUtf8 ds
+  TextsAreUtf8 (object ms) = MemberTextsAreUtf8 ms
+
+  pub ItemTextsAreUtf8 : Items → Type 0
+  ItemTextsAreUtf8 no_items = ⊤
+  ItemTextsAreUtf8 (item d ds) = TextsAreUtf8 d × ItemTextsAreUtf8 ds
+
+  pub MemberTextsAreUtf8 : Members → Type 0
+  MemberTextsAreUtf8 no_members = ⊤
+  MemberTextsAreUtf8 (member k d ms) = TextsAreUtf8 d × MemberTextsAreUtf8 ms

@@ -5,7 +5,7 @@ ghost use Rattle.serde_json.specs.Data.{Data, depth};
 ghost use Rattle.siri_records.specs.declared.item.Item.{Item};
 ghost use Rattle.siri_records.specs.declared.item.Service.{Service};
 ghost use Rattle.siri_items.specs.Items.{item_of};
-ghost use Rattle.siri_items.specs.Proper.{IsProper, as_written, service_of};
+ghost use Rattle.siri_items.specs.Proper.{IsProper, TextsAreUtf8, as_written, service_of};
 ghost use Rattle.siri_items.specs.Spelling.{SpellsItem};
 ghost use Rattle.siri_items.specs.Written.{written_item};
 ghost use Rattle.siri_json.specs.Canonical.{IsCanonical, as_texts};
@@ -32,4 +32,10 @@ pub fn written_is_canonical()
 /// The compact text of what is written of a proper item, read as a document, is read as that item.
 pub fn written_text_is_read()
     ensures { (i : Item) → IsProper i → option_map (item_of (service_of i)) (tree_of (compact_text (written_item i))) ≡ Some (Ok (as_written i)) }
+{}
+
+/// An item that is read of a tree whose texts are UTF-8 is proper: so the laws of written items speak of each item that
+/// can be read.
+pub fn read_is_proper()
+    ensures { (service : Service) (d : Data) (i : Item) → TextsAreUtf8 d → item_of service d ≡ Ok i → IsProper i }
 {}

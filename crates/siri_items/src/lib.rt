@@ -21,7 +21,9 @@ mod write_journey;
 mod write_situation;
 pub mod writing;
 
-pub use laws::{read_is_spelled, written_is_canonical, written_is_read, written_text_is_read};
+pub use laws::{
+    read_is_proper, read_is_spelled, written_is_canonical, written_is_read, written_text_is_read,
+};
 pub use read::read_item;
 pub use read_call::{LocationRule, OptionalCallRule, StopCallTable};
 pub use read_journey::JourneyTable;
