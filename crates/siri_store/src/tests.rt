@@ -1,6 +1,9 @@
-// Each call once. The answers are those that the calls' meaning gives for a few situations.
+// Each call once. The answers are those that the calls' meaning gives for three situations.
+ghost use Rattle.std.specs.Prelude.{IfOk};
+ghost use Rattle.siri_store.specs.Calls.{NoneDead};
+
 use crate::{Selected, Store};
-use siri_base::{List, Moment, Name, Text};
+use siri_base::{List, Moment, Name};
 use siri_records::{Item, Key, Period, Situation};
 use siri_topic::{SituationTopic, Topic};
 use std::alloc::Global;
@@ -11,40 +14,38 @@ fn moment(ms: i64) -> Result<Moment, Fail> {
     Ok(Moment::new(ms).ok_or("no moment")?)
 }
 
-// A situation from 0 to a moment, on a line.
-fn situation(alloc: Global, number: &str, end: i64, line: &str) -> Result<Situation, Fail> {
-    let mut validity_period = List::new(alloc);
-    validity_period.push(Period {
+// A situation from 0 to a moment.
+fn period(alloc: Global, end: i64) -> Result<List<Period>, Fail> {
+    let mut periods = List::new(alloc);
+    periods.push(Period {
         start_time: moment(0)?,
         end_time: Some(moment(end)?),
     })?;
-    let mut affected_lines = List::new(alloc);
-    affected_lines.push(Name::new(alloc, line)?)?;
-    Ok(Situation {
+    Ok(periods)
+}
+
+fn lines(alloc: Global, line: &str) -> Result<List<Name>, Fail> {
+    let mut lines = List::new(alloc);
+    lines.push(Name::new(alloc, line)?)?;
+    Ok(lines)
+}
+
+fn situation(alloc: Global, number: Name, period: List<Period>, lines: List<Name>) -> Item {
+    Item::Situation(Situation {
         creation_time: None,
         participant_ref: None,
-        situation_number: Name::new(alloc, number)?,
+        situation_number: number,
         version: None,
         versioned_at_time: None,
         progress: None,
-        validity_period,
+        validity_period: period,
         severity: None,
         summary: None,
         description: None,
         affected_operators: List::new(alloc),
-        affected_lines,
+        affected_lines: lines,
         affected_stop_points: List::new(alloc),
     })
-}
-
-fn shared(alloc: Global, number: &str, end: i64, line: &str) -> Result<Rc<Item>, Fail> {
-    Ok(Rc::new(alloc, Item::Situation(situation(alloc, number, end, line)?))?)
-}
-
-fn closed(alloc: Global, number: &str) -> Result<Rc<Item>, Fail> {
-    let mut closed = situation(alloc, number, 900, "L1")?;
-    closed.progress = Some(Text::new(alloc, "closed")?);
-    Ok(Rc::new(alloc, Item::Situation(closed))?)
 }
 
 fn key(alloc: Global, number: &str) -> Result<Key, Fail> {
@@ -54,24 +55,74 @@ fn key(alloc: Global, number: &str) -> Result<Key, Fail> {
     })
 }
 
-#[test]
-fn holds_what_is_current(rt: HostRuntime) -> Result<(), Fail> {
-    let alloc = rt.alloc();
+fn number_of(key: &Option<Key>) -> &str {
+    match key {
+        Some(Key::Situation { number, .. }) => number.text(),
+        _ => "",
+    }
+}
+
+// Whether a situation from 0 to a moment on a line is observed.
+fn observe(
+    store: &mut Store,
+    alloc: Global,
+    number: &str,
+    end: i64,
+    line: &str,
+) -> Result<bool, Fail>
+    requires { NoneDead store.old }
+    ensures { NoneDead store.new }
+{
+    let name = Name::new(alloc, number)?;
+    let period = period(alloc, end)?;
+    let lines = lines(alloc, line)?;
+    let item = Rc::new(alloc, situation(alloc, name, period, lines))?;
+    Ok(store.observe(item).is_ok())
+}
+
+fn withdraw(store: &mut Store, alloc: Global, number: &str) -> Result<bool, Fail> {
+    let key = key(alloc, number)?;
+    Ok(store.withdraw(&key))
+}
+
+fn is_held(store: &mut Store, alloc: Global, number: &str) -> Result<bool, Fail> {
+    let key = key(alloc, number)?;
+    Ok(store.look(&key).is_some())
+}
+
+fn three(alloc: Global) -> Result<Store, Fail>
+    ensures { IfOk result (λ store. NoneDead store) }
+{
     let mut store = Store::new(alloc, moment(100)?);
-    assert_eq!(rt; store.observe(shared(alloc, "b", 300, "L1")?), Ok(()));
-    assert_eq!(rt; store.observe(shared(alloc, "a", 200, "L1")?), Ok(()));
-    assert_eq!(rt; store.observe(shared(alloc, "c", 400, "L1")?), Ok(()));
-    assert_eq!(rt; store.observe(shared(alloc, "b", 350, "L2")?), Ok(()));
+    observe(&mut store, alloc, "c", 200, "L1")?;
+    observe(&mut store, alloc, "a", 300, "L1")?;
+    observe(&mut store, alloc, "b", 200, "L2")?;
+    Ok(store)
+}
+
+fn topic(line: Option<Name>) -> Topic {
+    Topic::Situation(SituationTopic {
+        line_ref: line,
+        stop_point_ref: None,
+        operator_ref: None,
+        preview_interval: None,
+        start_time: None,
+    })
+}
+
+#[test]
+fn holds_what_was_observed_last(rt: HostRuntime) -> Result<(), Fail> {
+    let alloc = rt.alloc();
+    let mut store = three(alloc)?;
+    assert!(rt; observe(&mut store, alloc, "a", 400, "L1")?);
     assert_eq!(rt; store.held(), 3);
-    assert_eq!(rt; store.observe(shared(alloc, "c", 99, "L1")?), Ok(()));
-    assert_eq!(rt; store.observe(closed(alloc, "d")?), Ok(()));
+    assert!(rt; observe(&mut store, alloc, "b", 99, "L1")?);
     assert_eq!(rt; store.held(), 2);
-    assert_eq!(rt; store.withdraw(&key(alloc, "c")?), false);
-    assert_eq!(rt; store.withdraw(&key(alloc, "a")?), true);
-    assert_eq!(rt; store.held(), 1);
+    assert!(rt; !withdraw(&mut store, alloc, "b")?);
+    assert!(rt; withdraw(&mut store, alloc, "c")?);
     assert_eq!(rt; store.reads(), 0);
-    assert!(rt; store.look(&key(alloc, "a")?).is_none());
-    assert!(rt; store.look(&key(alloc, "b")?).is_some());
+    assert!(rt; is_held(&mut store, alloc, "a")?);
+    assert!(rt; !is_held(&mut store, alloc, "c")?);
     assert_eq!(rt; store.reads(), 2);
     Ok(())
 }
@@ -79,20 +130,14 @@ fn holds_what_is_current(rt: HostRuntime) -> Result<(), Fail> {
 #[test]
 fn lets_dead_items_go(rt: HostRuntime) -> Result<(), Fail> {
     let alloc = rt.alloc();
-    let mut store = Store::new(alloc, moment(100)?);
-    assert_eq!(rt; store.observe(shared(alloc, "a", 300, "L1")?), Ok(()));
-    assert_eq!(rt; store.observe(shared(alloc, "b", 200, "L1")?), Ok(()));
-    assert_eq!(rt; store.observe(shared(alloc, "c", 200, "L1")?), Ok(()));
-    assert_eq!(rt; store.observe(shared(alloc, "d", 400, "L1")?), Ok(()));
+    let mut store = three(alloc)?;
     store.advance(moment(200)?);
-    assert_eq!(rt; store.expire_one(), None);
-    store.advance(moment(301)?);
-    store.advance(moment(250)?);
-    assert_eq!(rt; store.now(), moment(301)?);
-    assert_eq!(rt; store.expire_one(), Some(key(alloc, "b")?));
-    assert_eq!(rt; store.expire_one(), Some(key(alloc, "c")?));
+    assert_eq!(rt; number_of(&store.expire_one()), "");
+    store.advance(moment(201)?);
+    store.advance(moment(150)?);
+    assert_eq!(rt; store.now(), moment(201)?);
+    assert_eq!(rt; number_of(&store.expire_one()), "b");
     assert_eq!(rt; store.expire(), 1);
-    assert_eq!(rt; store.expire_one(), None);
     assert_eq!(rt; store.held(), 1);
     Ok(())
 }
@@ -100,17 +145,8 @@ fn lets_dead_items_go(rt: HostRuntime) -> Result<(), Fail> {
 #[test]
 fn lends_what_is_shown(rt: HostRuntime) -> Result<(), Fail> {
     let alloc = rt.alloc();
-    let mut store = Store::new(alloc, moment(100)?);
-    assert_eq!(rt; store.observe(shared(alloc, "c", 300, "L1")?), Ok(()));
-    assert_eq!(rt; store.observe(shared(alloc, "b", 300, "L2")?), Ok(()));
-    assert_eq!(rt; store.observe(shared(alloc, "a", 300, "L1")?), Ok(()));
-    let topic = Topic::Situation(SituationTopic {
-        line_ref: Some(Name::new(alloc, "L1")?),
-        stop_point_ref: None,
-        operator_ref: None,
-        preview_interval: None,
-        start_time: None,
-    });
+    let mut store = three(alloc)?;
+    let topic = topic(Some(Name::new(alloc, "L1")?));
     let mut numbers = String::new(alloc);
     for item in store.select(&topic) {
         if let Item::Situation(situation) = &**item {
@@ -125,15 +161,8 @@ fn lends_what_is_shown(rt: HostRuntime) -> Result<(), Fail> {
 #[test]
 fn goes_on_over_a_loan_of_the_counter(rt: HostRuntime) -> Result<(), Fail> {
     let alloc = rt.alloc();
-    let mut store = Store::new(alloc, moment(100)?);
-    assert_eq!(rt; store.observe(shared(alloc, "a", 300, "L1")?), Ok(()));
-    let topic = Topic::Situation(SituationTopic {
-        line_ref: None,
-        stop_point_ref: None,
-        operator_ref: None,
-        preview_interval: None,
-        start_time: None,
-    });
+    let mut store = three(alloc)?;
+    let topic = topic(None);
     let Selected {
         counter,
         topic,
@@ -143,8 +172,8 @@ fn goes_on_over_a_loan_of_the_counter(rt: HostRuntime) -> Result<(), Fail> {
     } = store.select(&topic);
     assert_eq!(rt;
         Selected::over(&mut *counter, topic, moment, entries).count(),
-        1
+        3
     );
-    assert_eq!(rt; counter.steps(), 1);
+    assert_eq!(rt; counter.steps(), 3);
     Ok(())
 }

@@ -1,10 +1,6 @@
-use Rattle.std.proofs.Common.{◌≡◌, ◌<◌, length, Some, slice_get, option_map, nat_lt, true, false, arith, sym, ap, ◌∙◌}
-use Rattle.std.specs.Option.{option_and_then}
-use Rattle.siri_records.specs.declared.key.Key.{Key}
-use Rattle.siri_records.specs.declared.item.Item.{Item}
-use Rattle.siri_store.specs.Calls.{past_end, sooner}
+use Rattle.std.proofs.Common.{arith, ap, ◌∙◌}
+use Rattle.siri_store.specs.Calls.{past_end}
 use Rattle.siri_store.specs.Held.{entries_view}
-use Rattle.siri_store.proofs.Edited.{Shared}
 use Rattle.siri_store.proofs.Leaving.{entry_within, sooner_later, sooner_here}
 use Rattle.siri_store.proofs.entries.Entries.sooner.Goals as goal
 
