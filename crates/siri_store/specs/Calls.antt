@@ -54,7 +54,7 @@ refuses s i = not (is_dead i s.moment) && (is_full s && not (is_held s (key_of i
 abbrev pub observed : Held → Item → Held
 observed s i = if is_dead i s.moment then without s (key_of i) else with_item s i
 
--- the moment by which dead items leave in turn: an item's end; a closed item that has none ended before all others
+-- the moment by which dead items leave in turn: an item's end; a closed item that has none counts as ended at 0
 abbrev pub past_end : Item → ℕ
 past_end i = option_map_or (λ end. end) (end_of i) 0
 

@@ -212,7 +212,7 @@ fn insert(
     Ok(())
 }
 
-// The moment by which dead items leave in turn. A closed item without an end leaves before all others.
+// The moment by which dead items leave in turn. A closed item without an end counts as ended at 0.
 fn past_end(item: &Item) -> u64
     ensures { result ≡ past_end item.now }
 {

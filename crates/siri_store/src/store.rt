@@ -87,7 +87,7 @@ impl Store {
     }
 
     /// Lets the first dead item by end and then key go, and gives its key: `None` exactly where none is dead. A closed
-    /// item that has no end goes before all others. It takes no memory.
+    /// item that has no end counts as ended at moment 0. It takes no memory.
     pub fn expire_one(&mut self) -> Option<Key>
         ensures key { result ≡ option_map (λ e. e.0) (first_dead self.old) }
         ensures rest { self.new ≡ after_leave self.old result }
