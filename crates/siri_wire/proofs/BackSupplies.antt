@@ -151,4 +151,3 @@ check_response_back c p = check_response_read _ c (check_response_again c p)
 pub heartbeat_back : (h : HeartbeatNotification) → IsProperHeartbeat h → heartbeat_notification (as_texts (written_heartbeat h)) ≡ Ok h
 unfolding written_heartbeat
 heartbeat_back h p = heartbeat_read _ h (heartbeat_again h p)
-

@@ -111,4 +111,3 @@ heartbeat_within h p =
     row_within 0 STATUS.now _ refl (some_flag_within 0 (Some h.status)) then
     row_within 0 SERVICE_STARTED_TIME.now _ refl (some_moment_within 0 h.service_started_time p.service_started_time) then
     tt)
-
