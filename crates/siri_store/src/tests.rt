@@ -2,7 +2,7 @@
 ghost use Rattle.std.specs.Prelude.{IfOk};
 ghost use Rattle.siri_store.specs.Calls.{NoneDead};
 
-use crate::{Selected, Store};
+use crate::{HELD_LIMIT, ObserveError, Selected, Store};
 use siri_base::{List, Moment, Name};
 use siri_records::{Item, Key, Period, Situation};
 use siri_topic::{SituationTopic, Topic};
@@ -62,7 +62,25 @@ fn number_of(key: &Option<Key>) -> &str {
     }
 }
 
-// Whether a situation from 0 to a moment on a line is observed.
+// A situation from 0 to a moment on a line is observed, or refused.
+fn try_observe(
+    store: &mut Store,
+    alloc: Global,
+    number: &str,
+    end: i64,
+    line: &str,
+) -> Result<Result<(), ObserveError>, Fail>
+    requires { NoneDead store.old }
+    ensures { NoneDead store.new }
+{
+    let name = Name::new(alloc, number)?;
+    let period = period(alloc, end)?;
+    let lines = lines(alloc, line)?;
+    let item = Rc::new(alloc, situation(alloc, name, period, lines))?;
+    Ok(store.observe(item))
+}
+
+// Whether it is observed.
 fn observe(
     store: &mut Store,
     alloc: Global,
@@ -73,11 +91,7 @@ fn observe(
     requires { NoneDead store.old }
     ensures { NoneDead store.new }
 {
-    let name = Name::new(alloc, number)?;
-    let period = period(alloc, end)?;
-    let lines = lines(alloc, line)?;
-    let item = Rc::new(alloc, situation(alloc, name, period, lines))?;
-    Ok(store.observe(item).is_ok())
+    Ok(try_observe(store, alloc, number, end, line)?.is_ok())
 }
 
 fn withdraw(store: &mut Store, alloc: Global, number: &str) -> Result<bool, Fail> {
@@ -97,6 +111,18 @@ fn three(alloc: Global) -> Result<Store, Fail>
     observe(&mut store, alloc, "c", 200, "L1")?;
     observe(&mut store, alloc, "a", 300, "L1")?;
     observe(&mut store, alloc, "b", 200, "L2")?;
+    Ok(store)
+}
+
+// As many situations as may be held.
+fn full(alloc: Global) -> Result<Store, Fail>
+    ensures { IfOk result (λ store. NoneDead store) }
+{
+    let mut store = Store::new(alloc, moment(100)?);
+    for number in 0..HELD_LIMIT {
+        let name = format!(in alloc; "{number}")?;
+        observe(&mut store, alloc, &name, 200, "L1")?;
+    }
     Ok(store)
 }
 
@@ -175,5 +201,21 @@ fn goes_on_over_a_loan_of_the_counter(rt: HostRuntime) -> Result<(), Fail> {
         3
     );
     assert_eq!(rt; counter.steps(), 3);
+    Ok(())
+}
+
+#[test]
+fn no_more_are_held_than_may_be(rt: HostRuntime) -> Result<(), Fail> {
+    let alloc = rt.alloc();
+    let mut store = full(alloc)?;
+    assert_eq!(rt; store.held(), 20_000);
+    assert_eq!(rt;
+        try_observe(&mut store, alloc, "new", 200, "L1")?,
+        Err(ObserveError::StoreFull)
+    );
+    assert_eq!(rt; store.held(), 20_000);
+    assert!(rt; observe(&mut store, alloc, "0", 300, "L1")?);
+    assert!(rt; observe(&mut store, alloc, "late", 99, "L1")?);
+    assert_eq!(rt; store.held(), 20_000);
     Ok(())
 }
