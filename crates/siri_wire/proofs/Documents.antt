@@ -1,12 +1,8 @@
 -- Documents from their bytes on.
-use Rattle.std.proofs.Common.{◌≡◌, ℕ, ◌<◌, ◌⊎◌, inl, inr, true, nat_lt, List, [], length, Result, Ok, Err, refl, sym, ◌∙◌}
+use Rattle.std.proofs.Common.{◌≡◌, ℕ, ◌<◌, true, nat_lt, List, [], length, Err, refl}
 use Rattle.std.proofs.lemmas.Bool.{lt-ltb}
 use Rattle.siri_base.specs.declared.reason.Reason.TheVariants.{TooLong}
-use Rattle.siri_messages.specs.declared.message.Message.{Message}
-use Rattle.siri_items.specs.Refusals.{Refusal}
-use Rattle.siri_wire.specs.declared.document.DecodeError.{DecodeError}
-use Rattle.siri_wire.specs.declared.document.DecodeError.TheVariants as errors
-use Rattle.siri_wire.specs.Documents.{message_of, Decodes}
+use Rattle.siri_wire.specs.Documents.{message_of}
 
 -- a document above the bound is refused for it, at its root
 pub document_too_long : (bytes : List ℕ) → 8388608 < length bytes → message_of bytes ≡ Err (record { path = []; reason = TooLong })
@@ -14,15 +10,3 @@ unfolding message_of
 document_too_long bytes long =
     let above : nat_lt 8388608 (length bytes) ≡ true = lt-ltb _ _ long in
     rw above refl
-
-abbrev done : Message → Result Message Refusal
-done m = Ok m
-
-same_message : (m n : Message) → done m ≡ done n → m ≡ n
-same_message m n e = cc
-
--- what decoding returned where a message is spelled: that message, unless there was no memory
-pub decoded_is : (decoded : Result Message DecodeError) (read : Result Message Refusal) (m : Message) → read ≡ Ok m → Decodes decoded read → (decoded ≡ Ok m) ⊎ (decoded ≡ Err errors.OutOfMemory)
-decoded_is (Ok n) read m is decodes = inl (rw (same_message n m (sym decodes ∙ is)) refl)
-decoded_is (Err errors.OutOfMemory) read m is decodes = inr refl
-decoded_is (Err (errors.Refused r)) read m is decodes = absurd (cc (sym decodes ∙ is))

@@ -7,16 +7,3 @@ pub mod PlainSubscriptions
 pub mod PlainRequests
 pub mod PlainMessages
 pub mod Documents
-pub mod MessageValues
-pub mod ReadsRequests
-pub mod BackRequests
-pub mod CanonicalRequests
-pub mod SpelledRequests
-pub mod ReadsDeliveries
-pub mod BackSupplies
-pub mod BackDeliveries
-pub mod CanonicalSupplies
-pub mod CanonicalDeliveries
-pub mod BackDocuments
-pub mod SpelledDeliveries
-pub mod SpelledDocuments

@@ -17,11 +17,3 @@ pub mod WrittenDeliveries
 pub mod WrittenSubscriptions
 pub mod WrittenRequests
 pub mod Canonical
-pub mod ProperValues
-pub mod SpellingValues
-pub mod ProperRequests
-pub mod SpellingRequests
-pub mod ProperDeliveries
-pub mod SpellingDeliveries
-pub mod ProperMessages
-pub mod SpellingDocuments

@@ -9,11 +9,9 @@
 //! inside them. The rules of rows and the tables of items are those of `siri_items`.
 #![tactic(auto)]
 
-mod delivery_laws;
 mod document;
 mod encoding;
 mod kinds;
-mod laws;
 pub mod names;
 mod read_deliveries;
 mod read_error;
@@ -27,7 +25,6 @@ mod read_subscriptions;
 mod read_supplies;
 mod read_terminations;
 mod read_topics;
-mod request_laws;
 mod write_deliveries;
 mod write_entries;
 mod write_requests;
@@ -36,8 +33,5 @@ mod write_subscriptions;
 mod write_topics;
 mod write_values;
 
-pub use delivery_laws::{deliveries_are_spelled, places_are_spelled};
 pub use document::{DecodeError, Refusal, decode};
 pub use encoding::encode;
-pub use laws::{canonical_is_read, document_is_spelled, encoded_is_decoded, written_is_canonical};
-pub use request_laws::{statuses_are_spelled, subscriptions_are_spelled, topics_are_spelled};

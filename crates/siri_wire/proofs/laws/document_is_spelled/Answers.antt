@@ -1,5 +1,0 @@
-use Rattle.siri_wire.proofs.SpelledDocuments.{document_spelled, document_read}
-use Rattle.siri_wire.proofs.laws.document_is_spelled.Goals as goal
-
-pub returns : goal.returns
-returns c = λ document m. (document_spelled document m, document_read document m)

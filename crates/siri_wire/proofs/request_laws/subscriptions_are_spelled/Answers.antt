@@ -1,6 +1,0 @@
-use Rattle.siri_wire.proofs.ReadsRequests.{subscription_read}
-use Rattle.siri_wire.proofs.SpelledRequests.{subscription_spelled}
-use Rattle.siri_wire.proofs.request_laws.subscriptions_are_spelled.Goals as goal
-
-pub returns : goal.returns
-returns c = λ s requestor d x. (subscription_spelled s requestor d x, subscription_read s requestor d x)

@@ -1,0 +1,85 @@
+-- A message that a document spells is proper, so that its canonical text is a document of it.
+use Rattle.std.proofs.Common.{◌≡◌, ℕ, ◌≤◌, Bool, true, false, nat_lt, List, length, Option, Some, None, Ok, refl}
+use Rattle.std.specs.Prelude.{IfSome, IsSomeAnd, if◌then◌else◌}
+use Rattle.serde_json.specs.Data.{Data, null, boolean, number, string, array, object}
+use Rattle.siri_base.specs.declared.reason.Reason.TheVariants.{TooLong}
+use Rattle.siri_json.specs.Tree.{tree_of}
+use Rattle.siri_json.specs.Values.{Found, found, absent, wrong, member_of, object_in}
+use Rattle.siri_messages.specs.declared.message.Message.{Message}
+use Rattle.siri_messages.specs.declared.message.Message.TheVariants as message
+use Rattle.siri_messages.specs.Kinds.{kind_of}
+use Rattle.siri_items.specs.Refusals.{refused}
+use Rattle.siri_items.specs.Spelling.{IfFound}
+use Rattle.siri_items.specs.Proper.{TextsAreUtf8}
+use Rattle.siri_items.proofs.ProperParts.{OnFound, member_is, object_is}
+use Rattle.siri_wire.specs.declared.names.TheConstants.{SIRI}
+use Rattle.siri_wire.specs.Canonical.{canonical}
+use Rattle.siri_wire.specs.Documents.{root, message_in, message_of}
+use Rattle.siri_wire_laws.specs.ProperMessages.{IsProper}
+use Rattle.siri_wire_laws.specs.SpellingDocuments.{HasObject, SpellsBody, SpellsSiri, SpellsRoot}
+use Rattle.siri_wire_laws.proofs.BackDocuments.{canonical_read}
+use Rattle.siri_wire_laws.proofs.ProperReadDeliveries.{ready_proper, ready_acknowledgement_proper, supply_proper, received_proper, check_proper, check_response_proper, heartbeat_proper, service_delivery_proper}
+use Rattle.siri_wire_laws.proofs.ProperReadRequests.{service_request_proper, subscription_request_proper, subscription_response_proper, termination_request_proper, termination_response_proper}
+use Rattle.siri_wire_laws.proofs.SpelledDocuments.{root_spelled}
+use Rattle.siri_wire_laws.proofs.TreeTexts.{tree_is_utf8}
+
+body_proper : (d : Data) (m : Message) → TextsAreUtf8 d → SpellsBody d m → IsProper m
+body_proper d (message.ServiceRequest m) u s_ = service_request_proper d m u s_
+body_proper d (message.ServiceDelivery m) u s_ = service_delivery_proper d m u s_
+body_proper d (message.SubscriptionRequest m) u s_ = subscription_request_proper d m u s_
+body_proper d (message.SubscriptionResponse m) u s_ = subscription_response_proper d m u s_
+body_proper d (message.TerminateSubscriptionRequest m) u s_ = termination_request_proper d m u s_
+body_proper d (message.TerminateSubscriptionResponse m) u s_ = termination_response_proper d m u s_
+body_proper d (message.DataReadyNotification m) u s_ = ready_proper d m u s_
+body_proper d (message.DataReadyAcknowledgement m) u s_ = ready_acknowledgement_proper d m u s_
+body_proper d (message.DataSupplyRequest m) u s_ = supply_proper d m u s_
+body_proper d (message.DataReceivedAcknowledgement m) u s_ = received_proper d m u s_
+body_proper d (message.CheckStatusRequest m) u s_ = check_proper d m u s_
+body_proper d (message.CheckStatusResponse m) u s_ = check_response_proper d m u s_
+body_proper d (message.HeartbeatNotification m) u s_ = heartbeat_proper d m u s_
+
+-- ---- objects at a name
+
+found_then : {Q : Type 0} (f : Found Data) (P : Data → Type 0) → OnFound f TextsAreUtf8 → IfFound f P → ((d : Data) → TextsAreUtf8 d → P d → Q) → Q
+found_then (found d) P u is h = h d u is
+found_then absent P u is h = absurd is
+found_then wrong P u is h = absurd is
+
+some_then : {Q : Type 0} (o : Option Data) (P : Data → Type 0) → IfSome o TextsAreUtf8 → IsSomeAnd o (λ e. IfFound (object_in e) P) → ((d : Data) → TextsAreUtf8 d → P d → Q) → Q
+some_then None P u is h = absurd is
+some_then (Some d) P u is h = found_then (object_in d) P (object_is d u) is h
+
+object_then : {Q : Type 0} (key : List ℕ) (d : Data) (P : Data → Type 0) → TextsAreUtf8 d → HasObject key d P → ((e : Data) → TextsAreUtf8 e → P e → Q) → Q
+object_then key d P u is h = some_then (member_of key d) P (member_is key d u) is h
+
+-- ---- documents
+
+siri_proper : (d : Data) (m : Message) → TextsAreUtf8 d → SpellsSiri d m → IsProper m
+siri_proper d m u s_ = object_then (kind_of m) d (λ o. SpellsBody o m) u s_.body (λ e v is. body_proper e m v is)
+
+root_proper : (d : Data) (m : Message) → TextsAreUtf8 d → SpellsRoot d m → IsProper m
+root_proper (object ms) m u s_ = object_then SIRI.now (object ms) (λ o. SpellsSiri o m) u s_ (λ e v is. siri_proper e m v is)
+root_proper null m u s_ = absurd s_
+root_proper (boolean b) m u s_ = absurd s_
+root_proper (number n) m u s_ = absurd s_
+root_proper (string s) m u s_ = absurd s_
+root_proper (array ds) m u s_ = absurd s_
+
+-- what is read of a tree with UTF-8 texts is proper
+pub message_proper : (d : Data) (m : Message) → TextsAreUtf8 d → root d ≡ Ok m → IsProper m
+message_proper d m u e = root_proper d m u (root_spelled d m e)
+
+tree_proper : (o : Option Data) (m : Message) → ((d : Data) → o ≡ Some d → TextsAreUtf8 d) → message_in o ≡ Ok m → IsProper m
+tree_proper None m u e = absurd cc
+tree_proper (Some d) m u e = message_proper d m (u d refl) e
+
+document_by : (document : List ℕ) (m : Message) (long : Bool) → (if long then refused TooLong else message_in (tree_of document)) ≡ Ok m → IsProper m
+document_by document m true e = absurd cc
+document_by document m false e = tree_proper (tree_of document) m (tree_is_utf8 document) e
+
+pub document_proper : (document : List ℕ) (m : Message) → message_of document ≡ Ok m → IsProper m
+unfolding message_of
+document_proper document m e = document_by document m (nat_lt 8388608 (length document)) e
+
+pub converted_read : (document : List ℕ) (m : Message) → message_of document ≡ Ok m → length (canonical m) ≤ 8388608 → message_of (canonical m) ≡ Ok m
+converted_read document m e le = canonical_read m (document_proper document m e) le

@@ -1,0 +1,75 @@
+-- What is read is proper where the texts of its tree are UTF-8: values, rows and lists that items have none of.
+use Rattle.std.proofs.Common.{◌≡◌, ℕ, ℤ, pos, negsuc, Bool, true, false, List, [], ◌∷◌, ◌++◌, Option, Some, None, Result, Ok, Err, arith}
+use Rattle.std.specs.Prelude.{IfSome, unwrap_or, if◌then◌else◌}
+use Rattle.std.specs.List.{AllByRecursion}
+use Rattle.serde_json.specs.Data.{Data}
+use Rattle.siri_json.specs.Values.{Found, found, absent, wrong, text_in}
+use Rattle.siri_json.specs.declared.path.Step.TheVariants.{Member}
+use Rattle.siri_time.specs.Span.{span_of}
+use Rattle.siri_items.specs.Refusals.{Refusal, ◌>>=◌, each}
+use Rattle.siri_items.specs.Rules.{unless_wrong, spelled, span_or, unless_negative, span0, text, table, row, needed, there, inside, list}
+use Rattle.siri_items.specs.Proper.{TextsAreUtf8, IsSpan, IsText, IsListWithin}
+use Rattle.siri_items.proofs.ProperParts.{OnRead, Yields, reads_to, on_ok, on_bind, there_on, text_yields, span_yields, table_yields, row_on, row_is, inside_on, list_on}
+use Rattle.siri_wire.specs.declared.names.TheConstants.{ERROR_CONDITION, ERROR_TEXT, OTHER_ERROR}
+use Rattle.siri_wire.specs.Errors.{other_error}
+use Rattle.siri_wire_laws.specs.ProperValues.{IsSpan0}
+use Rattle.siri_wire_laws.specs.SpellingValues.{SpellsError}
+
+-- ---- spans that aren't negative
+
+span0_after : (r : Result ℤ Refusal) → OnRead (r >>= λ y. Ok (Some y)) (λ o. IfSome o IsSpan) → OnRead ((r >>= unless_negative) >>= λ y. Ok (Some y)) (λ o. IfSome o IsSpan0)
+span0_after (Ok (pos n)) is = is
+span0_after (Ok (negsuc n)) is = tt
+span0_after (Err e) is = tt
+
+span0_found : (read : List ℕ → Result ℤ Refusal) (f : Found (List ℕ)) → OnRead (unless_wrong f >>= each read) (λ o. IfSome o IsSpan)
+    → OnRead (unless_wrong f >>= each (λ t. read t >>= unless_negative)) (λ o. IfSome o IsSpan0)
+span0_found read (found t) is = span0_after (read t) is
+span0_found read absent is = tt
+span0_found read wrong is = tt
+
+pub span0_yields : Yields span0 IsSpan0
+unfolding spelled
+span0_yields = λ d u. span0_found (λ t. span_or (span_of t)) (text_in d) (span_yields d u)
+
+pub zero_or : (o : Option ℤ) → IfSome o IsSpan0 → IsSpan0 (unwrap_or o (pos 0))
+zero_or None is = omega arith
+zero_or (Some s) is = is
+
+-- ---- rows and lists
+
+pub needed_on : {A : Type 0} (rule : Data → Result (Option A) Refusal) (P : A → Type 0) → Yields rule P → (key : List ℕ) (d : Data) → TextsAreUtf8 d → OnRead (needed rule key d) P
+unfolding needed
+needed_on rule P y key d u = on_bind (λ o. IfSome o P) P (row rule key d) (there (Member key ∷ [])) (row_on rule P y key d u) (λ o is. there_on P (Member key ∷ []) o is)
+
+pub inside_yields : {A : Type 0} (rule : Data → Result (Option A) Refusal) (P : A → Type 0) → Yields rule P → (key : List ℕ) → Yields (inside rule key) P
+unfolding inside
+inside_yields rule P y key = λ d u. inside_on P (row rule key) (λ e v. row_on rule P y key e v) d u
+
+-- an object that is spelled
+pub spelled_yields : {A : Type 0} (rows : Data → Result A Refusal) (P : A → Type 0) → ((d : Data) (x : A) → TextsAreUtf8 d → rows d ≡ Ok x → P x) → Yields (table rows) P
+spelled_yields rows P h = table_yields rows P (λ d u. reads_to P (rows d) (λ x e. h d x u e))
+
+-- a list that was read
+pub list_is : {A : Type 0} (rule : Data → Result (Option A) Refusal) (P : A → Type 0) → Yields rule P → (most : ℕ) (key : List ℕ) (d : Data) (xs : List A) → TextsAreUtf8 d → list rule most key d ≡ Ok xs
+    → IsListWithin most P xs
+list_is rule P y most key d xs u e = on_ok (IsListWithin most P) (list rule most key d) xs (list_on rule P y most key d u) e
+
+pub all_joined : {A : Type 0} (P : A → Type 0) (xs ys : List A) → AllByRecursion P xs → AllByRecursion P ys → AllByRecursion P (xs ++ ys)
+all_joined P [] ys first rest = rest
+all_joined P (x ∷ xs) ys first rest = (first.0, all_joined P xs ys first.1 rest)
+
+-- what is read of an object, unless it counts as absent
+pub unless_absent : {A : Type 0} (P : A → Type 0) (b : Bool) (r : Result A Refusal) → OnRead r P → OnRead (if b then Ok None else r >>= λ x. Ok (Some x)) (λ o. IfSome o P)
+unless_absent P true r is = tt
+unless_absent P false (Ok x) is = is
+unless_absent P false (Err e) is = tt
+
+-- ---- errors
+
+error_yields : Yields other_error IsText
+unfolding other_error
+error_yields = λ d u. inside_yields (inside text ERROR_TEXT.now) IsText (inside_yields text IsText text_yields ERROR_TEXT.now) OTHER_ERROR.now d u
+
+pub error_is : (d : Data) (error : Option (List ℕ)) → TextsAreUtf8 d → SpellsError d error → IfSome error IsText
+error_is d error u s_ = row_is other_error IsText error_yields ERROR_CONDITION.now d error u s_

@@ -1,0 +1,6 @@
+use Rattle.siri_wire_laws.proofs.ReadsRequests.{subscription_read}
+use Rattle.siri_wire_laws.proofs.SpelledRequests.{subscription_spelled}
+use Rattle.siri_wire_laws.proofs.request_laws.subscriptions_are_spelled.Goals as goal
+
+pub returns : goal.returns
+returns c = λ s requestor d x. (subscription_spelled s requestor d x, subscription_read s requestor d x)

@@ -1,0 +1,8 @@
+pub mod ProperValues
+pub mod SpellingValues
+pub mod ProperRequests
+pub mod SpellingRequests
+pub mod ProperDeliveries
+pub mod SpellingDeliveries
+pub mod ProperMessages
+pub mod SpellingDocuments

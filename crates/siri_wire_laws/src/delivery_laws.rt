@@ -1,0 +1,35 @@
+//! What holds of the tables inside deliveries and of marks: each function has laws for its clauses, and does nothing when
+//! it is called.
+
+ghost use Rattle.std.specs.Prelude.{◌≡◌, ◌↔◌, List, Result, Ok};
+ghost use Rattle.serde_json.specs.Data.{Data};
+ghost use Rattle.siri_records.specs.declared.item.Item.{Item};
+ghost use Rattle.siri_records.specs.declared.key.Key.{Key};
+ghost use Rattle.siri_messages.specs.declared.deliveries.FunctionalDelivery.{FunctionalDelivery};
+ghost use Rattle.siri_messages.specs.declared.supplies.Mark.{Mark};
+ghost use Rattle.siri_items.specs.Refusals.{Refusal};
+ghost use Rattle.siri_wire.specs.declared.read_parts.Extended.{Extended};
+ghost use Rattle.siri_wire.specs.declared.read_parts.Standing.{Standing};
+ghost use Rattle.siri_wire.specs.Deliveries.{stop_monitoring_delivery, estimated_timetable_delivery, vehicle_monitoring_delivery, situation_exchange_delivery};
+ghost use Rattle.siri_wire.specs.Frames.{frame};
+ghost use Rattle.siri_wire.specs.Parts.{standing, extended};
+ghost use Rattle.siri_wire_laws.specs.SpellingDeliveries.{SpellsMark, SpellsStanding, SpellsExtended, SpellsFrame, SpellsStopDelivery, SpellsTimetableDelivery, SpellsVehicleDelivery, SpellsSituationDelivery};
+ghost use Rattle.siri_wire.specs.Supplies.{mark};
+
+/// A mark, where in a round a delivery stands, and what it removes besides, is read from an object exactly where the
+/// object spells it.
+pub fn places_are_spelled()
+    ensures of_mark { (d : Data) (m : Mark) → (mark d ≡ Ok m) ↔ SpellsMark d m }
+    ensures of_standing { (d : Data) (s : Standing) → (standing d ≡ Ok s) ↔ SpellsStanding d s }
+    ensures of_extended { (removed : Data → Result Key Refusal) (d : Data) (e : Extended) → (extended removed d ≡ Ok e) ↔ SpellsExtended removed d e }
+{}
+
+/// The delivery of each service, and the items of a frame of journeys, are read from an object exactly where the object
+/// spells them.
+pub fn deliveries_are_spelled()
+    ensures of_stop { (d : Data) (f : FunctionalDelivery) → (stop_monitoring_delivery d ≡ Ok f) ↔ SpellsStopDelivery d f }
+    ensures of_timetable { (d : Data) (f : FunctionalDelivery) → (estimated_timetable_delivery d ≡ Ok f) ↔ SpellsTimetableDelivery d f }
+    ensures of_vehicle { (d : Data) (f : FunctionalDelivery) → (vehicle_monitoring_delivery d ≡ Ok f) ↔ SpellsVehicleDelivery d f }
+    ensures of_situation { (d : Data) (f : FunctionalDelivery) → (situation_exchange_delivery d ≡ Ok f) ↔ SpellsSituationDelivery d f }
+    ensures of_frame { (d : Data) (items : List Item) → (frame d ≡ Ok items) ↔ SpellsFrame d items }
+{}

@@ -1,0 +1,22 @@
+//! What holds of documents: laws of reading and writing, each the contract of a function that does nothing when it is
+//! called.
+//!
+//! ```text
+//!   document --message_of--> message                    exactly where the document spells the message, row by row
+//!   message  --canonical---> text --message_of--> the same message, where it is proper and its text isn't too long
+//! ```
+//!
+//! A message that is read is proper, so converting twice is converting once. `siri_wire` reads and writes; the relation of
+//! spelling and what a proper message is are defined here.
+#![tactic(auto)]
+
+mod delivery_laws;
+mod laws;
+mod request_laws;
+
+pub use delivery_laws::{deliveries_are_spelled, places_are_spelled};
+pub use laws::{
+    canonical_is_read, converted_is_read, document_is_spelled, encoded_is_decoded, read_is_proper,
+    written_is_canonical,
+};
+pub use request_laws::{statuses_are_spelled, subscriptions_are_spelled, topics_are_spelled};
