@@ -1,53 +1,84 @@
--- The direct response to a request (EN 15531-2, request and response; EN 15531-3, Stop Monitoring).
-use Rattle.std.specs.Prelude.{ℕ, ℤ, pos, ◌+ℤ◌, List, Bool, true, false, ◌&&◌, not, nat_eq, Option, Some, None, option_map, filter}
-use Rattle.std.specs.Int.Signed.{lt_z}
-use Rattle.std.specs.Cmp.Lexicographic.{pointwise}
+-- The direct response to a request (EN 15531-2, request and response).
+use Rattle.std.specs.Prelude.{ℕ, List, [], map, filter, count_by, nat_lt, true, false, Option, Some, None}
+use Rattle.std.specs.Ordering.{nat_cmp, on, then_cmp, is_lt}
+use Rattle.std.specs.Option.{option_cmp}
+use Rattle.std.specs.declared.cmp.Ordering.{Ordering}
 use Rattle.siri_records.specs.declared.item.Item.{Item}
-use Rattle.siri_records.specs.declared.item.Item.TheVariants as item
-use Rattle.siri_records.specs.Ends.{entry_of, end_of, is_closed}
+use Rattle.siri_records.specs.declared.key.Key.{Key}
+use Rattle.siri_records.specs.Ends.{entry_of}
+use Rattle.siri_records.specs.Order.{key_cmp}
+use Rattle.siri_topic.specs.declared.topics.Topic.{Topic}
+use Rattle.siri_topic.specs.declared.topics.Topic.TheVariants as topic
+use Rattle.siri_topic.specs.Shown.{is_shown}
+use Rattle.siri_messages.specs.declared.deliveries.ServiceDelivery.{ServiceDelivery}
+use Rattle.siri_messages.specs.declared.deliveries.FunctionalDelivery.{FunctionalDelivery}
+use Rattle.siri_messages.specs.declared.requests.ServiceRequest.{ServiceRequest}
 use Rattle.siri_model.specs.History.{History, State, Items, state_of}
 
--- what is asked of Stop Monitoring: a monitoring point, and how far ahead, in milliseconds, where that is given
-pub record StopTopic : Type 0 where
-  pub monitoring_ref : List ℕ
-  pub preview_interval : Option ℤ
-
--- the moments in which an item is shown: from one on, and up to another, which is out, where there is one
-pub record Window : Type 0 where
-  pub from : ℤ
-  pub to : Option ℤ
-
-abbrev pub window_of : StopTopic → ℕ → Window
-window_of topic now = record { from = pos now; to = option_map (λ preview. pos now +ℤ preview) topic.preview_interval }
-
--- the moment is at or after this one
-abbrev pub is_from : ℤ → Option ℕ → Bool
-is_from from None = false
-is_from from (Some moment) = not (lt_z (pos moment) from)
-
--- the moment is before this one, where there is one
-abbrev pub is_before : Option ℤ → Option ℕ → Bool
-is_before to None = false
-is_before None (Some moment) = true
-is_before (Some to) (Some moment) = lt_z (pos moment) to
-
--- the item ends at or after the window's near edge, and begins before its far edge
-abbrev pub is_in : Window → Item → Bool
-is_in window item = is_from window.from (end_of item) && is_before window.to (entry_of item)
-
--- a visit agrees with a topic where its monitoring point is the topic's; no other item does
-abbrev pub agrees : StopTopic → Item → Bool
-agrees topic (item.Visit visit) = pointwise nat_eq visit.monitoring_ref topic.monitoring_ref
-agrees topic other = false
-
--- an item is shown at a moment where it agrees with the topic, isn't closed, and is in the window
-abbrev pub is_shown : StopTopic → ℕ → Item → Bool
-is_shown topic now item = agrees topic item && not (is_closed item) && is_in (window_of topic now) item
-
--- all current items that are shown, in order of key
-abbrev pub shown : StopTopic → State → Items
-shown topic state = filter (λ entry. is_shown topic state.now entry.1) state.current
+-- all current items that are shown to a topic, in order of key
+abbrev pub shown : Topic → State → Items
+shown topic state = filter (λ entry. is_shown topic entry.1 state.now) state.current
 
 -- the direct response to a topic after a history
-abbrev pub direct : History → StopTopic → Items
+abbrev pub direct : History → Topic → Items
 direct history topic = shown topic (state_of history)
+
+-- ---- MaximumStopVisits (EN 15531-3)
+
+-- by call moment, and then by key
+abbrev pub soonest_cmp : Key × Item → Key × Item → Ordering
+soonest_cmp = then_cmp (on (λ entry. entry_of entry.1) (option_cmp nat_cmp)) (on (λ entry. entry.0) key_cmp)
+
+-- how many of the items come sooner than one
+abbrev pub sooner : Items → Key × Item → ℕ
+sooner items entry = count_by (λ other. is_lt (soonest_cmp other entry)) items
+
+-- the first so many by call moment and then key, in order of key
+abbrev pub soonest : ℕ → Items → Items
+soonest most items = filter (λ entry. nat_lt (sooner items entry) most) items
+
+abbrev pub at_most : Option ℕ → Items → Items
+at_most None items = items
+at_most (Some most) items = soonest most items
+
+-- the most items that the answer to a topic has, where it names a number
+abbrev pub most_of : Topic → Option ℕ
+most_of (topic.Stop t) = t.maximum_stop_visits
+most_of other = None
+
+-- ---- the answer to a request
+
+-- the items that answer a topic
+unfoldable pub answering : Topic → State → List Item
+answering topic state = map (λ entry. entry.1) (at_most (most_of topic) (shown topic state))
+
+-- the functional delivery that answers a topic: the producer's moment, Status and the items
+unfoldable pub answer : State → Topic → FunctionalDelivery
+answer state topic = record {
+  response_timestamp = Some state.now;
+  subscriber_ref = None;
+  subscription_ref = None;
+  status = true;
+  error_condition = None;
+  start = None;
+  round = None;
+  part = None;
+  items = answering topic state;
+  removals = [];
+}
+
+-- the delivery that answers a request: one functional delivery for each topic, in the order of the lists
+unfoldable pub response : List ℕ → State → ServiceRequest → ServiceDelivery
+response name state request = record {
+  response_timestamp = Some state.now;
+  producer_ref = Some name;
+  response_message_identifier = None;
+  request_message_ref = request.message_identifier;
+  status = true;
+  error_condition = None;
+  more_data = false;
+  stop_monitoring_delivery = map (answer state) request.stop_monitoring_request;
+  estimated_timetable_delivery = map (answer state) request.estimated_timetable_request;
+  vehicle_monitoring_delivery = map (answer state) request.vehicle_monitoring_request;
+  situation_exchange_delivery = map (answer state) request.situation_exchange_request;
+}

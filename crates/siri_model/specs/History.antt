@@ -1,16 +1,27 @@
 -- The history of a producer, and what is current after it.
-use Rattle.std.specs.Prelude.{ℕ, List, [], ◌∷◌, max, Option, fold, map}
+use Rattle.std.specs.Prelude.{ℕ, List, [], ◌++◌, length, max, map, filter, flat_map, fold, Bool, ◌&&◌, not, nat_le, is_some, if◌then◌else◌, Option}
 use Rattle.std.specs.Map.{lookup, remove_entry}
 use Rattle.std.specs.BTreeMap.{insert_entry, is_at}
 use Rattle.siri_records.specs.declared.item.Item.{Item}
 use Rattle.siri_records.specs.declared.key.Key.{Key}
+use Rattle.siri_records.specs.Ends.{is_dead}
 use Rattle.siri_records.specs.Keys.{key_of}
 use Rattle.siri_records.specs.Order.{key_cmp}
+use Rattle.siri_messages.specs.declared.deliveries.ServiceDelivery.{ServiceDelivery}
+use Rattle.siri_messages.specs.declared.deliveries.FunctionalDelivery.{FunctionalDelivery}
 
 -- an entry of a feed: an item that was observed, or a key that was withdrawn
 pub data Entry : Type 0 where
   Observed : Item → Entry
   Withdrawn : Key → Entry
+
+-- the entries of a functional delivery: its items, and then its removals
+abbrev pub entries_in : FunctionalDelivery → List Entry
+entries_in d = map Observed d.items ++ map Withdrawn d.removals
+
+-- the entries of a delivery, in the order Stop Monitoring, Estimated Timetable, Vehicle Monitoring, Situation Exchange
+abbrev pub entries_of : ServiceDelivery → List Entry
+entries_of d = flat_map entries_in (d.stop_monitoring_delivery ++ d.estimated_timetable_delivery ++ d.vehicle_monitoring_delivery ++ d.situation_exchange_delivery)
 
 -- a step of a producer: its start, with its start number and moment; a moment of its clock; the entries of a feed in
 -- their order; the end of an event
@@ -28,24 +39,43 @@ History = List Step
 abbrev pub Items : Type 0
 Items = List (Key × Item)
 
--- the items with one more entry: an observed item becomes the one of its key, a withdrawn key has none
-abbrev pub after_entry : Items → Entry → Items
-after_entry items (Observed item) = insert_entry key_cmp items (key_of item) item
-after_entry items (Withdrawn key) = remove_entry (is_at (key_cmp key)) items
+-- those that aren't dead
+abbrev pub live : ℕ → Items → Items
+live now items = filter (λ entry. not (is_dead entry.1 now)) items
 
--- what a producer knows: its moment, which is the greatest that it was given, and the current items, dead ones among them
+-- a key is live where its current item isn't dead
+abbrev pub is_live : ℕ → Items → Key → Bool
+is_live now items key = is_some (lookup (is_at (key_cmp key)) (live now items))
+
+-- the most keys that are live at once
+abbrev pub most_live : ℕ
+most_live = 20000
+
+-- an observation is refused where it isn't dead, its key isn't live, and as many keys are live as may be
+abbrev pub is_refused : ℕ → Items → Item → Bool
+is_refused now items item = not (is_dead item now) && (not (is_live now items (key_of item)) && nat_le most_live (length (live now items)))
+
+-- the items after an entry: an observed item becomes the one of its key, unless it is refused; a withdrawn key has none
+abbrev pub after_entry : ℕ → Items → Entry → Items
+after_entry now items (Observed item) = if is_refused now items item then items else insert_entry key_cmp items (key_of item) item
+after_entry now items (Withdrawn key) = remove_entry (is_at (key_cmp key)) items
+
+-- what a producer knows: its start number, the moment of its start, its moment, which is the greatest that it was given,
+-- and the current items, dead ones among them
 pub record State : Type 0 where
+  pub start : ℕ
+  pub started : ℕ
   pub now : ℕ
   pub current : Items
 
 -- what it knows before its first step
 abbrev pub nothing : State
-nothing = record { now = 0; current = [] }
+nothing = record { start = 0; started = 0; now = 0; current = [] }
 
-abbrev pub after_step : State → Step → State
-after_step state (Start number moment) = record state { now = max state.now moment }
+unfoldable pub after_step : State → Step → State
+after_step state (Start number moment) = record { start = number; started = moment; now = max state.now moment; current = state.current }
 after_step state (Clock moment) = record state { now = max state.now moment }
-after_step state (Feed entries) = record state { current = fold after_entry state.current entries }
+after_step state (Feed entries) = record state { current = fold (after_entry state.now) state.current entries }
 after_step state Settle = state
 
 -- what it knows after its history
@@ -60,6 +90,6 @@ now_of history = (state_of history).now
 abbrev pub current : History → Items
 current history = (state_of history).current
 
--- the current item of a key: the last that was observed of it, unless the key was withdrawn after that
+-- the current item of a key: the last that was observed of it and taken, unless the key was withdrawn after that
 abbrev pub current_at : History → Key → Option Item
 current_at history key = lookup (is_at (key_cmp key)) (current history)

@@ -1,0 +1,7 @@
+pub mod Entries
+pub mod Fold
+pub mod Living
+pub mod Ranks
+pub mod Reached
+pub mod Shown
+pub mod Stands

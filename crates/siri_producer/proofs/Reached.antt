@@ -1,0 +1,102 @@
+-- How far a feed came.
+use Rattle.std.proofs.Common.{◌≡◌, List, [], ◌∷◌, ◌++◌, flat_map, Result, Ok, Err, Bool, true, false, refl, sym, ap, ◌∙◌, append_assoc, append-nil}
+use Rattle.std.specs.Prelude.{OnErr}
+use Rattle.std.proofs.lemmas.List.Sums.{fold-append}
+use Rattle.std.proofs.lemmas.List.Concat.{flat_map-append}
+use Rattle.siri_records.specs.declared.item.Item.{Item}
+use Rattle.siri_records.specs.Ends.{is_dead}
+use Rattle.siri_records.specs.Keys.{key_of}
+use Rattle.siri_records.proofs.Order.{key_cmp_total}
+use Rattle.siri_messages.specs.declared.deliveries.FunctionalDelivery.{FunctionalDelivery}
+use Rattle.siri_model.specs.History.{Entry, Observed, Withdrawn, entries_in}
+use Rattle.siri_store.specs.Calls.{refuses}
+use Rattle.siri_store.specs.Held.{Held}
+use Rattle.siri_producer.specs.Answering.{InOrder}
+use Rattle.siri_producer.specs.Feeding.{Feeding, after, after_all, Reaches, ReachesSome}
+use Rattle.siri_producer.proofs.Entries.{sorted_inserted, sorted_removed}
+
+pub reached_none : (f : Feeding) (entries : List Entry) → Reaches f f entries entries
+reached_none f entries = record { taken = []; apart = refl; stands = refl }
+
+-- some of those that were left were taken as well
+pub reached_more : (a b c : Feeding) (entries front left : List Entry) → Reaches a b entries (front ++ left) → c ≡ after_all b front → Reaches a c entries left
+reached_more a b c entries front left r is = record {
+  taken = r.taken ++ front;
+  apart = r.apart ∙ sym (append_assoc r.taken front left);
+  stands = is ∙ ap (λ f. after_all f front) r.stands ∙ sym (fold-append after a r.taken front);
+}
+
+-- it came no further within those that were left
+pub reached_some : (a b c : Feeding) (entries front left : List Entry) → Reaches a b entries (front ++ left) → ReachesSome b c front → ReachesSome a c entries
+reached_some a b c entries front left r some =
+    let part = some.1 in
+    (some.0 ++ left, reached_more a b c entries part.taken (some.0 ++ left) (rw (part.apart, append_assoc) at r) part.stands)
+
+-- it came to the end
+pub reached_all : (a b : Feeding) (entries : List Entry) → Reaches a b entries [] → b ≡ after_all a entries
+reached_all a b entries r = r.stands ∙ ap (after_all a) (sym (r.apart ∙ append-nil r.taken))
+
+-- one call came no further within the front of all entries
+pub front_some : (a b : Feeding) (front left : List Entry) → ReachesSome a b front → ReachesSome a b (front ++ left)
+front_some a b front left some = reached_some a a b (front ++ left) front left (reached_none a (front ++ left)) some
+
+-- the call after it did
+pub later_some : (a b c : Feeding) (front next : List Entry) → b ≡ after_all a front → ReachesSome b c next → ReachesSome a c (front ++ next)
+later_some a b c front next is some =
+    let r = some.1 in (
+      some.0,
+      record {
+        taken = front ++ r.taken;
+        apart = ap (λ l. front ++ l) r.apart ∙ sym (append_assoc front r.taken some.0);
+        stands = r.stands ∙ ap (λ f. after_all f r.taken) is ∙ sym (fold-append after a front r.taken);
+      },
+    )
+
+-- ---- the same of deliveries
+
+pub deliveries_front : (a b : Feeding) (ds es : List FunctionalDelivery) → ReachesSome a b (flat_map entries_in ds) → ReachesSome a b (flat_map entries_in (ds ++ es))
+deliveries_front a b ds es some = rw (flat_map-append entries_in ds es) (front_some a b (flat_map entries_in ds) (flat_map entries_in es) some)
+
+pub deliveries_later : (a b c : Feeding) (ds es : List FunctionalDelivery) → b ≡ after_all a (flat_map entries_in ds) → ReachesSome b c (flat_map entries_in es) → ReachesSome a c (flat_map entries_in (ds ++ es))
+deliveries_later a b c ds es is some = rw (flat_map-append entries_in ds es) (later_some a b c (flat_map entries_in ds) (flat_map entries_in es) is some)
+
+pub deliveries_both : (a b c : Feeding) (ds es : List FunctionalDelivery) → b ≡ after_all a (flat_map entries_in ds) → c ≡ after_all b (flat_map entries_in es) → c ≡ after_all a (flat_map entries_in (ds ++ es))
+deliveries_both a b c ds es first later =
+    later
+    ∙ ap (λ f. after_all f (flat_map entries_in es)) first
+    ∙ sym (fold-append after a (flat_map entries_in ds) (flat_map entries_in es))
+    ∙ ap (after_all a) (sym (flat_map-append entries_in ds es))
+
+-- ---- what every entry keeps
+
+-- another store of as many steps, in order of key
+abbrev pub Kept : Held → Held → Type 0
+Kept old new = (new.reads ≡ old.reads) × (InOrder old.entries → InOrder new.entries)
+
+kept_observed : (f : Feeding) (item : Item) (refused dead : Bool) → refuses f.store item ≡ refused → is_dead item f.store.moment ≡ dead → Kept f.store (after f (Observed item)).store
+kept_observed f item true dead r d = rw r (refl, λ s. s)
+kept_observed f item false true r d = rw (r, d) (refl, sorted_removed key_cmp_total (key_of item) f.store.entries)
+kept_observed f item false false r d = rw (r, d) (refl, sorted_inserted key_cmp_total (key_of item) item f.store.entries)
+
+kept_entry : (f : Feeding) (e : Entry) → Kept f.store (after f e).store
+kept_entry f (Observed item) = kept_observed f item (refuses f.store item) (is_dead item f.store.moment) refl refl
+kept_entry f (Withdrawn key) = (refl, sorted_removed key_cmp_total key f.store.entries)
+
+pub kept_all : (f : Feeding) (entries : List Entry) → Kept f.store (after_all f entries).store
+kept_all f [] = (refl, λ s. s)
+kept_all f (e ∷ entries) =
+    let one = kept_entry f e in
+    let rest = kept_all (after f e) entries in
+    (rest.0 ∙ one.0, λ s. rest.1 (one.1 s))
+
+pub kept_some : (a b : Feeding) (entries : List Entry) → ReachesSome a b entries → Kept a.store b.store
+kept_some a b entries some =
+    let r = some.1 in
+    let kept = kept_all a r.taken in
+    (ap (λ (f : Feeding). f.store.reads) r.stands ∙ kept.0, λ s. rw (r.stands) (kept.1 s))
+
+-- ---- what holds after want of memory
+
+pub on_err : {A E P : Type 0} (r : Result A E) → P → OnErr r P
+on_err (Ok value) p = tt
+on_err (Err error) p = p

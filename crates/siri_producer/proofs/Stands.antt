@@ -1,0 +1,131 @@
+-- A producer goes on standing for its history.
+use Rattle.std.proofs.Common.{◌≡◌, ℕ, ◌≤◌, List, [], ◌∷◌, ◌++◌, length, take, fold, max, Bool, true, false, ◌||◌, not, nat_lt, Option, None, Some, refl, sym, ap, ◌∙◌, arith}
+use Rattle.std.specs.Option.{option_map_or}
+use Rattle.std.proofs.Math.Seq.{take-append_seam}
+use Rattle.std.proofs.lemmas.List.Sums.{fold-append}
+use Rattle.std.proofs.lemmas.Bool.{ltb-true, lt-ltb}
+use Rattle.std.specs.List.Sorted.{IsStrictlySortedBy}
+use Rattle.siri_records.specs.declared.item.Item.{Item}
+use Rattle.siri_records.specs.declared.key.Key.{Key}
+use Rattle.siri_records.specs.Ends.{is_dead, is_closed, end_of}
+use Rattle.siri_model.specs.History.{Entry, Items, Step, Start, Clock, Feed, Settle, History, State, nothing, live, after_entry, after_step, state_of, now_of, current}
+use Rattle.siri_model.specs.Fed.{none_fed, counts_of}
+use Rattle.siri_store.specs.Held.{Held}
+use Rattle.siri_producer.specs.declared.feeding.Fed.{Fed}
+use Rattle.siri_producer.specs.Answering.{InOrder}
+use Rattle.siri_producer.specs.Feeding.{Feeding, after_all, ReachesSome}
+use Rattle.siri_producer.specs.Known.{Known, StandsFor, TookSome}
+use Rattle.siri_producer.specs.Told.{told}
+use Rattle.siri_producer.proofs.Entries.{filter_stronger}
+use Rattle.siri_producer.proofs.Fold.{in_order_after, fitting, entries_alike}
+
+-- ---- the current items are in order of key
+
+in_order_all : (now : ℕ) (items : Items) (entries : List Entry) → InOrder items → InOrder (fold (after_entry now) items entries)
+in_order_all now items [] s = s
+in_order_all now items (e ∷ entries) s = in_order_all now (after_entry now items e) entries (in_order_after now items e s)
+
+in_order_step : (state : State) (step : Step) → InOrder state.current → InOrder (after_step state step).current
+unfolding after_step
+in_order_step state (Start n m) s = s
+in_order_step state (Clock m) s = s
+in_order_step state (Feed entries) s = in_order_all state.now state.current entries s
+in_order_step state Settle s = s
+
+in_order_from : (state : State) (steps : History) → InOrder state.current → InOrder (fold after_step state steps).current
+in_order_from state [] s = s
+in_order_from state (step ∷ steps) s = in_order_from (after_step state step) steps (in_order_step state step s)
+
+none_in_order : InOrder []
+unfolding IsStrictlySortedBy
+none_in_order = tt
+
+pub current_in_order : (h : History) → InOrder (current h)
+current_in_order h = in_order_from nothing h none_in_order
+
+-- ---- one more step
+
+more_steps : (h : History) (step : Step) → state_of (h ++ step ∷ []) ≡ after_step (state_of h) step
+more_steps h step = fold-append after_step nothing h (step ∷ [])
+
+stands_as : (known : Known) (h : History) (state : State) → state_of h ≡ state → known.start ≡ state.start → known.started ≡ state.started → known.moment ≡ state.now → known.held ≡ live state.now state.current → StandsFor known h
+stands_as known h state is start started moment held = record {
+  start = start ∙ ap (λ (s : State). s.start) (sym is);
+  started = started ∙ ap (λ (s : State). s.started) (sym is);
+  moment = moment ∙ ap (λ (s : State). s.now) (sym is);
+  held = held ∙ ap (λ (s : State). live s.now s.current) (sym is);
+}
+
+-- ---- the start
+
+pub stands_new : (known : Known) (number now : ℕ) → known.start ≡ number → known.started ≡ now → known.moment ≡ now → known.held ≡ [] → StandsFor known (Start number now ∷ [])
+unfolding after_step
+stands_new known number now start started moment held = record {
+  start = start;
+  started = started;
+  moment = moment ∙ omega arith;
+  held = held;
+}
+
+-- ---- the clock
+
+-- what has not ended later has not ended now
+ended_later : (end : Option ℕ) (now later : ℕ) → now ≤ later → not (option_map_or (λ e. nat_lt e later) end false) ≡ true → not (option_map_or (λ e. nat_lt e now) end false) ≡ true
+ended_later None now later le h = refl
+ended_later (Some e) now later le h = grind (arith, ltb-true, lt-ltb)
+
+alive_later_at : (closed : Bool) (end : Option ℕ) (now later : ℕ) → now ≤ later → not (closed || option_map_or (λ e. nat_lt e later) end false) ≡ true → not (closed || option_map_or (λ e. nat_lt e now) end false) ≡ true
+alive_later_at true end now later le h = h
+alive_later_at false end now later le h = ended_later end now later le h
+
+pub live_later : (now later : ℕ) (items : Items) → now ≤ later → live later (live now items) ≡ live later items
+live_later now later items le = filter_stronger (λ (e : Key × Item). not (is_dead e.1 now)) (λ (e : Key × Item). not (is_dead e.1 later)) (λ e h. alive_later_at (is_closed e.1) (end_of e.1) now later le h) items
+
+pub stands_clock : (old new : Known) (moment : ℕ) (h : History) → StandsFor old h → new.start ≡ old.start → new.started ≡ old.started → new.moment ≡ max old.moment moment → new.held ≡ live (max old.moment moment) old.held → StandsFor new (h ++ Clock moment ∷ [])
+unfolding after_step
+stands_clock old new moment h s start started now held = stands_as new (h ++ Clock moment ∷ []) (after_step (state_of h) (Clock moment)) (more_steps h (Clock moment))
+    (start ∙ s.start)
+    (started ∙ s.started)
+    (now ∙ ap (λ n. max n moment) s.moment)
+    (held ∙ ap (λ n. live (max n moment) old.held) s.moment ∙ ap (live (max (now_of h) moment)) s.held ∙ live_later (now_of h) (max (now_of h) moment) (current h) (omega arith))
+
+-- ---- a feed
+
+abbrev pub nothing_told : Fed
+nothing_told = record { observed = 0; withdrawn = 0; full = 0 }
+
+-- what a producer holds, as a store that told nothing yet
+abbrev pub store_of : Known → Feeding
+store_of k = record { store = record { entries = k.held; moment = k.moment; reads = k.reads }; fed = nothing_told }
+
+told_none : told none_fed ≡ nothing_told
+told_none = refl
+
+store_fits : (k : Known) (h : History) → StandsFor k h → store_of k ≡ fitting (now_of h) k.reads (current h) none_fed
+store_fits k h s = λ i. record { store = record { entries = s.held i; moment = s.moment i; reads = k.reads }; fed = told_none i }
+
+fed_is : (k : Known) (h : History) (entries : List Entry) → StandsFor k h → after_all (store_of k) entries ≡ fitting (now_of h) k.reads (fold (after_entry (now_of h)) (current h) entries) (counts_of (now_of h) (current h) entries)
+fed_is k h entries s = ap (λ f. after_all f entries) (store_fits k h s) ∙ entries_alike (now_of h) k.reads (current h) none_fed entries (current_in_order h)
+
+pub stands_fed : (old new : Known) (entries : List Entry) (h : History) → StandsFor old h → new.start ≡ old.start → new.started ≡ old.started → record { entries = new.held; moment = new.moment; reads = new.reads } ≡ (after_all (store_of old) entries).store → StandsFor new (h ++ Feed entries ∷ [])
+unfolding after_step
+stands_fed old new entries h s start started is =
+    let fed = is ∙ ap (λ (f : Feeding). f.store) (fed_is old h entries s) in
+    stands_as new (h ++ Feed entries ∷ []) (after_step (state_of h) (Feed entries)) (more_steps h (Feed entries))
+    (start ∙ s.start)
+    (started ∙ s.started)
+    (ap (λ (t : Held). t.moment) fed)
+    (ap (λ (t : Held). t.entries) fed)
+
+pub told_fed : (old : Known) (fed : Fed) (entries : List Entry) (h : History) → StandsFor old h → fed ≡ (after_all (store_of old) entries).fed → fed ≡ told (counts_of (now_of h) (current h) entries)
+told_fed old fed entries h s is = is ∙ ap (λ (f : Feeding). f.fed) (fed_is old h entries s)
+
+pub took_some : (old new : Known) (fed : Fed) (entries : List Entry) → new.start ≡ old.start → new.started ≡ old.started → ReachesSome (store_of old) (record { store = record { entries = new.held; moment = new.moment; reads = new.reads }; fed = fed }) entries → TookSome old new entries
+took_some old new fed entries start started some =
+    let r = some.1 in
+    let front = ap (take (length r.taken)) r.apart ∙ take-append_seam r.taken some.0 in
+    (length r.taken, λ h s. stands_fed old new (take (length r.taken) entries) h s start started (ap (λ (f : Feeding). f.store) r.stands ∙ ap (λ es. (after_all (store_of old) es).store) (sym front)))
+
+-- nothing was fed
+pub took_none : (known : Known) (entries : List Entry) → TookSome known known entries
+took_none known entries = (0, λ h s. stands_fed known known [] h s refl refl refl)

@@ -1,0 +1,5 @@
+pub mod Answering
+pub mod Feeding
+pub mod Known
+pub mod Living
+pub mod Told

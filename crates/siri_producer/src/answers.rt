@@ -1,0 +1,115 @@
+// Answers to requests.
+ghost use Rattle.std.specs.Prelude.{◌≡◌, ◌+◌, ◌*◌, ◌≤◌, IfOk, length, map};
+ghost use Rattle.siri_model.specs.Direct as direct;
+ghost use Rattle.siri_store.specs.Walk.{shown_of};
+ghost use Rattle.siri_producer.specs.Answering.{InOrder, state_in, unshared};
+
+use crate::soonest::{copies, soonest};
+use siri_base::{List, OutOfMemory};
+use siri_messages::FunctionalDelivery;
+use siri_records::Item;
+use siri_store::{Selected, Store};
+use siri_topic::Topic;
+use std::alloc::Global;
+use std::rc::Rc;
+
+// One functional delivery for each topic, in their order. Nothing but the counter changes.
+pub(crate) fn answer_all(
+    alloc: Global,
+    store: &mut Store,
+    topics: &List<Topic>,
+) -> Result<List<FunctionalDelivery>, OutOfMemory>
+    requires { InOrder store.old.entries }
+    ensures ok { IfOk result (λ answers. answers ≡ map (direct.answer (state_in store.old)) topics.now) }
+    ensures rest { store.new ≡ record store.old { reads = store.new.reads } }
+    ensures risen { store.old.reads ≤ store.new.reads }
+    ensures reads { store.new.reads ≤ store.old.reads + length store.old.entries * length topics.now }
+{
+    let mut answers = List::new(alloc);
+    for topic in topics.slice() {
+        let delivery = answer(alloc, store, topic)?;
+        answers.push(delivery)?;
+    }
+    Ok(answers)
+}
+
+// The moment, Status and the items.
+#[tactic(auto, unfolding(siri_model::specs::Direct::answer))]
+fn answer(
+    alloc: Global,
+    store: &mut Store,
+    topic: &Topic,
+) -> Result<FunctionalDelivery, OutOfMemory>
+    requires { InOrder store.old.entries }
+    ensures ok { IfOk result (λ answer. answer ≡ direct.answer (state_in store.old) topic.now) }
+    ensures rest { store.new ≡ record store.old { reads = store.new.reads } }
+    ensures risen { store.old.reads ≤ store.new.reads }
+    ensures reads { store.new.reads ≤ store.old.reads + length store.old.entries }
+{
+    let items = answering(alloc, store, topic)?;
+    Ok(FunctionalDelivery {
+        response_timestamp: Some(store.now()),
+        subscriber_ref: None,
+        subscription_ref: None,
+        status: true,
+        error_condition: None,
+        start: None,
+        round: None,
+        part: None,
+        items,
+        removals: List::new(alloc),
+    })
+}
+
+// Copies of the items that answer a topic, in order of key.
+fn answering(alloc: Global, store: &mut Store, topic: &Topic) -> Result<List<Item>, OutOfMemory>
+    requires { InOrder store.old.entries }
+    ensures ok { IfOk result (λ items. items ≡ direct.answering topic.now (state_in store.old)) }
+    ensures rest { store.new ≡ record store.old { reads = store.new.reads } }
+    ensures risen { store.old.reads ≤ store.new.reads }
+    ensures reads { store.new.reads ≤ store.old.reads + length store.old.entries }
+{
+    let shown = shown_items(alloc, store, topic)?;
+    match most_of(topic) {
+        Some(most) => soonest(alloc, &shown, most),
+        None => copies(alloc, &shown),
+    }
+}
+
+// The held items that are shown to a topic, shared with the store.
+fn shown_items(
+    alloc: Global,
+    store: &mut Store,
+    topic: &Topic,
+) -> Result<Vec<Rc<Item>>, OutOfMemory>
+    ensures ok { IfOk result (λ items. unshared items.items ≡ shown_of topic.now store.old.moment store.old.entries) }
+    ensures rest { store.new ≡ record store.old { reads = store.new.reads } }
+    ensures risen { store.old.reads ≤ store.new.reads }
+    ensures reads { store.new.reads ≤ store.old.reads + length store.old.entries }
+{
+    let mut items = Vec::new(alloc);
+    let Selected {
+        counter,
+        topic,
+        moment,
+        entries,
+        place: _,
+    } = store.select(topic);
+    // the counter is lent again, so that its last value is known once the walk is over
+    for item in Selected::over(&mut *counter, topic, moment, entries) {
+        let shared = item.clone()?;
+        items.push(shared)?;
+    }
+    let _steps = counter.steps();
+    Ok(items)
+}
+
+// MaximumStopVisits, where the topic has it.
+fn most_of(topic: &Topic) -> Option<u64>
+    ensures { result ≡ direct.most_of topic.now }
+{
+    match topic {
+        Topic::Stop(topic) => topic.maximum_stop_visits,
+        _ => None,
+    }
+}
