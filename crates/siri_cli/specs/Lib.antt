@@ -5,9 +5,6 @@ pub mod Reading
 pub mod Reports
 pub mod Words
 pub mod Run
-pub mod Refused
-pub mod Documents
-pub mod Producer
 pub mod Answers
 pub mod Lines
 pub mod Report

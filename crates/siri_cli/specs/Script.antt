@@ -1,32 +1,31 @@
 -- The script of the command as a state.
-use Rattle.std.specs.Prelude.{◌≡◌, ℕ, ◌-◌, ◌*◌, ◌≤◌, length, Option, None, Result, IsErrOf}
+use Rattle.std.specs.Prelude.{◌≡◌, ℕ, ◌-◌, ◌*◌, ◌≤◌, length, Option, None, option_map, Result, IsErrOf}
 use Rattle.siri_base.specs.Causes.{Rose}
 use Rattle.siri_base.specs.declared.status.Status.{Status}
 use Rattle.siri_base.specs.declared.status.Status.TheVariants as status
 use Rattle.siri_cli.specs.declared.script.Script.{Script}
 use Rattle.siri_cli.specs.declared.stop.Stop.{Stop}
 use Rattle.siri_cli.specs.declared.stop.Stop.TheVariants as stop
-use Rattle.siri_cli.specs.Events.{known_event}
-use Rattle.siri_cli.specs.Producer.{Known}
+use Rattle.siri_cli.specs.Events.{Seen, seen, seen_event}
 use Rattle.siri_cli.specs.Told.{Events, verdict}
 use Rattle.siri_cli.specs.Reading.{Progress, HasNoBreak}
 
 -- what the lines of a script made: nothing before its `start`
 abbrev pub World : Type 0
-World = Option Known
+World = Option Seen
 
 abbrev pub fresh : World
 fresh = None
 
 abbrev pub event : Events World
-event = known_event
+event = seen_event
 
 abbrev pub verdict_of : Events World
 verdict_of = verdict event
 
 -- how far the script was read
 abbrev pub progress : Script → Progress World
-progress s = record { lines = s.lines; world = s.world; line = s.line.items }
+progress s = record { lines = s.lines; world = option_map seen s.world; line = s.line.items }
 
 -- how many bytes may come before a limit is met
 abbrev pub room : Script → ℕ

@@ -1,26 +1,20 @@
 // What the lines of a script bring.
-ghost use Rattle.std.specs.Prelude.{◌≡◌, IfOk, false, map, filter};
-ghost use Rattle.serde_json.specs.View.{view};
-ghost use Rattle.serde_json.specs.Written.{compact_text, has_float};
-ghost use Rattle.siri_model.specs.Direct.{is_shown};
-ghost use Rattle.siri_cli.specs.Answers.{answer_data, answer_text, fed_text, item_data, started_text};
-ghost use Rattle.siri_cli.specs.Events.{known_event, tells};
-ghost use Rattle.siri_cli.specs.Producer.{topic_of};
+ghost use Rattle.std.specs.Prelude.{◌≡◌, IfOk, OnOk, option_map};
+ghost use Rattle.siri_model.specs.Direct.{response};
+ghost use Rattle.siri_cli.specs.Answers.{answer_text, fed_text, started_text};
+ghost use Rattle.siri_cli.specs.Events.{seen, seen_event, tells};
 ghost use Rattle.siri_cli.specs.Reading.{Brings};
 
 use crate::lines::{Line, read_line};
-use crate::producer::{Producer, is_shown};
 use crate::stop::Stop;
-use crate::topic::StopTopic;
-use crate::trees::{answer_value, item_value};
-use siri_base::{List, Moment, OutOfMemory, ScriptReason, append, append_number};
-use siri_json::{Value, write_tree};
-use siri_records::{Item, Key};
+use siri_base::{Moment, Name, OutOfMemory, ScriptReason, TextError, append, append_number};
+use siri_messages::{Message, ServiceDelivery, ServiceRequest};
+use siri_producer::{Fed, Producer};
+use siri_wire::encode;
 use std::alloc::Global;
-use std::collections::BTreeMap;
 
-/// The most visits that the feeds of a script may have together.
-const VISITS: u64 = 20_000;
+/// The name of a script's producer.
+pub const PRODUCER: &str = "producer";
 
 /// The report of line `number`, by what the lines before it made.
 pub fn event(
@@ -29,25 +23,25 @@ pub fn event(
     world: &mut Option<Producer>,
     line: &[u8],
 ) -> Result<Vec<u8>, Stop>
-    ensures { Brings result world.new (known_event number world.old line.now) }
+    ensures { Brings result (option_map seen world.new) (seen_event number (option_map seen world.old) line.now) }
 {
-    let said = read_line(alloc, line)?;
+    let said = read_line(alloc, world.is_some(), line)?;
     match said {
         Line::Passed => Ok(Vec::new(alloc)),
         Line::Start(moment) => start(alloc, number, world, moment),
         Line::Clock(moment) => clock(alloc, number, world, moment),
-        Line::Feed(items) => feed(alloc, number, world, items),
-        Line::Ask(topic) => ask(alloc, number, world, &topic),
-        Line::NotYet => Err(not_yet(number)),
+        Line::Feed(delivery) => feed(alloc, number, world, delivery),
+        Line::Ask(request) => ask(alloc, number, world, &request),
+        Line::Refused(reason) => Err(refused(number, reason)),
     }
 }
 
-fn not_yet(number: u64) -> Stop
-    ensures { result ≡ Stop.Script number ScriptReason.NotYet }
+fn refused(number: u64, reason: ScriptReason) -> Stop
+    ensures { result ≡ Stop.Script number reason }
 {
     Stop::Script {
         line: number,
-        reason: ScriptReason::NotYet,
+        reason,
     }
 }
 
@@ -57,14 +51,25 @@ fn start(
     world: &mut Option<Producer>,
     moment: Moment,
 ) -> Result<Vec<u8>, Stop>
-    ensures { Brings result world.new (tells number world.old (Line.Start moment)) }
+    ensures { Brings result (option_map seen world.new) (tells number (option_map seen world.old) (Line.Start moment)) }
 {
     if world.is_some() {
-        return Err(not_yet(number));
+        return Err(refused(number, ScriptReason::NotYet));
     }
+    let name = producer_name(alloc)?;
     let text = started(alloc, 1)?;
-    *world = Some(Producer::new(alloc, moment));
+    *world = Some(Producer::new(alloc, name, 1, moment));
     Ok(text)
+}
+
+fn producer_name(alloc: Global) -> Result<Name, OutOfMemory>
+    ensures { IfOk result (λ name. name ≡ PRODUCER.now) }
+{
+    match Name::new(alloc, PRODUCER) {
+        Ok(name) => Ok(name),
+        Err(TextError::OutOfMemory) => Err(OutOfMemory),
+        Err(_) => unreachable!(),
+    }
 }
 
 fn clock(
@@ -73,14 +78,14 @@ fn clock(
     world: &mut Option<Producer>,
     moment: Moment,
 ) -> Result<Vec<u8>, Stop>
-    ensures { Brings result world.new (tells number world.old (Line.Clock moment)) }
+    ensures { Brings result (option_map seen world.new) (tells number (option_map seen world.old) (Line.Clock moment)) }
 {
     match world {
         Some(producer) => {
             producer.clock(moment);
             Ok(Vec::new(alloc))
         }
-        None => Err(not_yet(number)),
+        None => Err(refused(number, ScriptReason::NotStarted)),
     }
 }
 
@@ -88,20 +93,16 @@ fn feed(
     alloc: Global,
     number: u64,
     world: &mut Option<Producer>,
-    items: List<Item>,
+    delivery: ServiceDelivery,
 ) -> Result<Vec<u8>, Stop>
-    ensures { Brings result world.new (tells number world.old (Line.Feed items)) }
+    ensures { Brings result (option_map seen world.new) (tells number (option_map seen world.old) (Line.Feed delivery)) }
 {
     match world {
         Some(producer) => {
-            let count = items.len() as u64;
-            if count > VISITS || producer.visits() > VISITS - count {
-                return Err(not_yet(number));
-            }
-            producer.feed(items)?;
-            Ok(fed(alloc, count)?)
+            let told = producer.feed(delivery)?;
+            Ok(fed(alloc, told)?)
         }
-        None => Err(not_yet(number)),
+        None => Err(refused(number, ScriptReason::NotStarted)),
     }
 }
 
@@ -109,13 +110,13 @@ fn ask(
     alloc: Global,
     number: u64,
     world: &mut Option<Producer>,
-    topic: &StopTopic,
+    request: &ServiceRequest,
 ) -> Result<Vec<u8>, Stop>
-    ensures { Brings result world.new (tells number world.old (Line.Ask topic.now)) }
+    ensures { Brings result (option_map seen world.new) (tells number (option_map seen world.old) (Line.Ask request.now)) }
 {
     match world {
-        Some(producer) => Ok(answer(alloc, producer, topic)?),
-        None => Err(not_yet(number)),
+        Some(producer) => Ok(answer(alloc, producer, request)?),
+        None => Err(refused(number, ScriptReason::NotStarted)),
     }
 }
 
@@ -131,54 +132,41 @@ fn started(alloc: Global, number: u64) -> Result<Vec<u8>, OutOfMemory>
 }
 
 /// `fed OBSERVED WITHDRAWN FULL`
-fn fed(alloc: Global, count: u64) -> Result<Vec<u8>, OutOfMemory>
-    ensures { IfOk result (λ text. text.items ≡ fed_text count) }
+fn fed(alloc: Global, told: Fed) -> Result<Vec<u8>, OutOfMemory>
+    ensures { IfOk result (λ text. text.items ≡ fed_text told) }
 {
     let mut text = Vec::new(alloc);
     append(&mut text, b"fed ")?;
-    append_number(alloc, &mut text, count)?;
-    append(&mut text, b" 0 0\n")?;
+    append_number(alloc, &mut text, told.observed)?;
+    append(&mut text, b" ")?;
+    append_number(alloc, &mut text, told.withdrawn)?;
+    append(&mut text, b" ")?;
+    append_number(alloc, &mut text, told.full)?;
+    append(&mut text, b"\n")?;
     Ok(text)
 }
 
 /// `answer DOC`
-fn answer(alloc: Global, producer: &Producer, topic: &StopTopic) -> Result<Vec<u8>, OutOfMemory>
-    ensures { IfOk result (λ text. text.items ≡ answer_text producer.now.state.now
-        (filter (λ entry. is_shown (topic_of topic.now) producer.now.state.now entry.1) producer.now.state.current)) }
+fn answer(
+    alloc: Global,
+    producer: &mut Producer,
+    request: &ServiceRequest,
+) -> Result<Vec<u8>, OutOfMemory>
+    ensures text { IfOk result (λ text. text.items ≡ answer_text (response (seen producer.old).name (seen producer.old).state request.now)) }
+    ensures same { seen producer.new ≡ seen producer.old }
 {
-    let now = producer.now();
-    let visits = shown(alloc, producer.items(), topic, now)?;
-    let document = answer_document(alloc, now, visits)?;
+    let delivery = producer.direct(request)?;
+    answered(alloc, delivery)
+}
+
+/// The line of an answer.
+fn answered(alloc: Global, delivery: ServiceDelivery) -> Result<Vec<u8>, OutOfMemory>
+    ensures { IfOk result (λ text. text.items ≡ answer_text delivery) }
+{
+    let document = encode(alloc, &Message::ServiceDelivery(delivery))?;
     let mut text = Vec::new(alloc);
     append(&mut text, b"answer ")?;
     append(&mut text, &document)?;
     append(&mut text, b"\n")?;
     Ok(text)
-}
-
-/// The trees of the items that are shown to a topic at a moment.
-fn shown(
-    alloc: Global,
-    items: &BTreeMap<Key, Item>,
-    topic: &StopTopic,
-    now: Moment,
-) -> Result<Vec<Value>, OutOfMemory>
-    ensures { IfOk result (λ values. map view values.items ≡ map (λ entry. item_data entry.1) (filter (λ entry. is_shown (topic_of topic.now) now entry.1) items.now.entries)) }
-{
-    let mut values = Vec::new(alloc);
-    for (_, item) in items {
-        if is_shown(topic, now, item) {
-            values.push(item_value(alloc, item)?)?;
-        }
-    }
-    Ok(values)
-}
-
-/// The text of the document that answers a request with these visits.
-fn answer_document(alloc: Global, now: Moment, visits: Vec<Value>) -> Result<Vec<u8>, OutOfMemory>
-    ensures { IfOk result (λ text. has_float (answer_data now (map view visits.items)) ≡ false
-        → text.items ≡ compact_text (answer_data now (map view visits.items))) }
-{
-    let tree = answer_value(alloc, now, visits)?;
-    write_tree(alloc, &tree)
 }

@@ -18,16 +18,11 @@ mod check;
 mod command;
 mod convert;
 mod document;
-mod documents;
 mod events;
 mod lines;
-mod names;
-mod producer;
 mod replay;
 mod script;
 mod stop;
-mod topic;
-mod trees;
 mod words;
 mod writing;
 

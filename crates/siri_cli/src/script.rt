@@ -1,15 +1,16 @@
 // A script that comes in pieces.
-ghost use Rattle.std.specs.Prelude.{◌≡◌, ◌≢◌, ◌≤◌, ◌<◌, ◌+◌, ◌∷◌, [], ℕ, List, length, take, OnOk, IfErr};
+ghost use Rattle.std.specs.Prelude.{◌≡◌, ◌≢◌, ◌≤◌, ◌<◌, ◌+◌, ◌∷◌, [], ℕ, List, length, take, option_map, OnOk, IfErr};
 ghost use Rattle.std.specs.Str.Lines.{strip_carriage_return};
 ghost use Rattle.siri_base.specs.Causes.{Rose, HasCause};
+ghost use Rattle.siri_cli.specs.Events.{seen};
 ghost use Rattle.siri_cli.specs.Reading.{Advances, Breaks, Brings, Continues, Finishes, HasNoBreak, LineBreaks, beginning, to_come};
 ghost use Rattle.siri_cli.specs.Script.{IsWithin, progress, room, World, fresh, StopCause, EndCause, verdict_of, event};
 
 use crate::events::event;
-use crate::producer::Producer;
 use crate::stop::Stop;
 use crate::writing::write_text;
 use siri_base::{Sink, Status};
+use siri_producer::Producer;
 use std::alloc::Global;
 
 /// The most bytes that a line may have, its end left out.
@@ -126,7 +127,7 @@ fn take_line(
     world: &mut Option<Producer>,
     line: &[u8],
 ) -> Result<Vec<u8>, Stop>
-    ensures verdict { Brings result world.new (verdict_of number world.old line.now) }
+    ensures verdict { Brings result (option_map seen world.new) (verdict_of number (option_map seen world.old) line.now) }
     ensures number { OnOk result (number ≤ 1000000) }
 {
     if line.len() > LINE_BYTES || number > LINES {

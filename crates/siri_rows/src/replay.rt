@@ -2,7 +2,10 @@
 ghost use Rattle.std.specs.Prelude.{Some};
 
 use crate::running::run_words;
-use siri_base::{Failed, MemorySink, MemorySource, PlainSink, PlainSource, Sink, Source};
+use siri_base::{
+    Failed, MemorySink, MemorySource, OutOfMemory, PlainSink, PlainSource, Sink, Source,
+    append_number,
+};
 use std::alloc::{AllocError, Global};
 use std::test::Fail;
 
@@ -40,6 +43,52 @@ const LATER: &str = concat!(
     "answer {\"Siri\":{\"ServiceDelivery\":{\"ProducerRef\":\"producer\",\"ResponseTimestamp\":\"2024-05-01T08:00:00Z\",\"Status\":true,\"StopMonitoringDelivery\":[{\"MonitoredStopVisit\":[{\"ItemIdentifier\":\"a\",\"MonitoredVehicleJourney\":{\"LineRef\":\"L1\",\"MonitoredCall\":{\"ExpectedDepartureTime\":\"2024-05-01T08:20:00Z\"}},\"MonitoringRef\":\"S1\",\"RecordedAtTime\":\"2024-05-01T07:50:00Z\"}],\"ResponseTimestamp\":\"2024-05-01T08:00:00Z\",\"Status\":true}]}}}\n",
 );
 
+// A delivery of all four services as it may come from elsewhere, and a request for all of it.
+const SERVICES: &str = concat!(
+    "start 2024-05-01T08:00:00Z\n",
+    "feed {\"Siri\":{\"ServiceDelivery\":{\"ResponseTimestamp\":\"2024-05-01T10:00:00.000+02:00\",\"ProducerRef\":{\"value\":\"AGENCY\"},\"ResponseMessageIdentifier\":\"r-1\",\"Version\":\"2.0\",\"StopMonitoringDelivery\":[{\"ResponseTimestamp\":\"2024-05-01T08:00:00Z\",\"Version\":\"2.0\",\"Status\":\"true\",\"MonitoredStopVisit\":[{\"RecordedAtTime\":\"2024-05-01T07:59:30.123456Z\",\"ItemIdentifier\":\"v1\",\"MonitoringRef\":{\"value\":\"S1\"},\"MonitoredVehicleJourney\":{\"LineRef\":{\"value\":\"L1\"},\"FramedVehicleJourneyRef\":{\"DataFrameRef\":{\"value\":\"any\"},\"DatedVehicleJourneyRef\":\"J1\"},\"DestinationName\":[{\"value\":\"Nord\"}],\"JourneyNote\":[],\"MonitoredCall\":{\"StopPointName\":[{\"value\":\"Gare\"}],\"VehicleAtStop\":false,\"ExpectedDepartureTime\":\"2024-05-01T10:05:00+02:00\"}}}]}],\"EstimatedTimetableDelivery\":[{\"EstimatedJourneyVersionFrame\":[{\"RecordedAtTime\":\"2024-05-01T07:58:00Z\",\"EstimatedVehicleJourney\":[{\"LineRef\":\"L1\",\"DirectionRef\":\"out\",\"DatedVehicleJourneyRef\":{\"value\":\"J1\"},\"RecordedCalls\":{\"RecordedCall\":[{\"StopPointRef\":\"S0\",\"Order\":1,\"ActualDepartureTime\":\"2024-05-01T07:50:00Z\"}]},\"EstimatedCalls\":{\"EstimatedCall\":[{\"StopPointRef\":\"S1\",\"Order\":2,\"AimedArrivalTime\":\"2024-05-01T08:04:00Z\",\"ExpectedArrivalTime\":\"2024-05-01T08:04:30Z\"}]}}]}]}],\"VehicleMonitoringDelivery\":[{\"VehicleActivity\":[{\"ValidUntilTime\":\"2024-05-01T08:10:00Z\",\"MonitoredVehicleJourney\":{\"LineRef\":\"L1\",\"VehicleRef\":\"7\",\"Delay\":\"-PT90S\",\"VehicleLocation\":{\"Longitude\":2.35219999999,\"Latitude\":48.85}}}]}],\"SituationExchangeDelivery\":[{\"Situations\":{\"PtSituationElement\":[{\"CreationTime\":\"2023-11-02T12:00:00Z\",\"ParticipantRef\":\"AGENCY\",\"SituationNumber\":\"12\",\"ValidityPeriod\":[{\"StartTime\":\"2023-11-03T00:00:00Z\"}],\"Severity\":\"slight\",\"Summary\":[{\"value\":\"Works\",\"lang\":\"EN\"}],\"Affects\":{\"Networks\":{\"AffectedNetwork\":[{\"AffectedLine\":[{\"LineRef\":\"L1\"}]}]}}}]}}]}}}\n",
+    "ask {\"Siri\":{\"ServiceRequest\":{\"StopMonitoringRequest\":{\"MonitoringRef\":\"S1\",\"PreviewInterval\":\"PT1H\"},\"EstimatedTimetableRequest\":{\"PreviewInterval\":\"PT1H\"},\"VehicleMonitoringRequest\":{\"LineRef\":\"L1\"},\"SituationExchangeRequest\":{\"LineRef\":\"L1\"}}}}\n",
+);
+
+// What is told of them.
+const SERVED: &str = concat!(
+    "started 1\n",
+    "fed 4 0 0\n",
+    "answer {\"Siri\":{\"ServiceDelivery\":{\"EstimatedTimetableDelivery\":[{\"EstimatedJourneyVersionFrame\":[{\"EstimatedVehicleJourney\":[{\"DatedVehicleJourneyRef\":\"J1\",\"DirectionRef\":\"out\",\"EstimatedCalls\":{\"EstimatedCall\":[{\"AimedArrivalTime\":\"2024-05-01T08:04:00Z\",\"ExpectedArrivalTime\":\"2024-05-01T08:04:30Z\",\"Order\":2,\"StopPointRef\":\"S1\"}]},\"LineRef\":\"L1\",\"RecordedCalls\":{\"RecordedCall\":[{\"ActualDepartureTime\":\"2024-05-01T07:50:00Z\",\"Order\":1,\"StopPointRef\":\"S0\"}]}}],\"RecordedAtTime\":\"2024-05-01T07:58:00Z\"}],\"ResponseTimestamp\":\"2024-05-01T08:00:00Z\",\"Status\":true}],\"ProducerRef\":\"producer\",\"ResponseTimestamp\":\"2024-05-01T08:00:00Z\",\"SituationExchangeDelivery\":[{\"ResponseTimestamp\":\"2024-05-01T08:00:00Z\",\"Situations\":{\"PtSituationElement\":[{\"Affects\":{\"Networks\":{\"AffectedNetwork\":[{\"AffectedLine\":[{\"LineRef\":\"L1\"}]}]}},\"CreationTime\":\"2023-11-02T12:00:00Z\",\"ParticipantRef\":\"AGENCY\",\"Severity\":\"slight\",\"SituationNumber\":\"12\",\"Summary\":\"Works\",\"ValidityPeriod\":[{\"StartTime\":\"2023-11-03T00:00:00Z\"}]}]},\"Status\":true}],\"Status\":true,\"StopMonitoringDelivery\":[{\"MonitoredStopVisit\":[{\"ItemIdentifier\":\"v1\",\"MonitoredVehicleJourney\":{\"DestinationName\":\"Nord\",\"FramedVehicleJourneyRef\":{\"DataFrameRef\":\"any\",\"DatedVehicleJourneyRef\":\"J1\"},\"LineRef\":\"L1\",\"MonitoredCall\":{\"ExpectedDepartureTime\":\"2024-05-01T08:05:00Z\",\"StopPointName\":\"Gare\",\"VehicleAtStop\":false}},\"MonitoringRef\":\"S1\",\"RecordedAtTime\":\"2024-05-01T07:59:30.123Z\"}],\"ResponseTimestamp\":\"2024-05-01T08:00:00Z\",\"Status\":true}],\"VehicleMonitoringDelivery\":[{\"ResponseTimestamp\":\"2024-05-01T08:00:00Z\",\"Status\":true,\"VehicleActivity\":[{\"MonitoredVehicleJourney\":{\"Delay\":\"-PT1M30S\",\"LineRef\":\"L1\",\"VehicleLocation\":{\"Latitude\":\"48.85\",\"Longitude\":\"2.3521999\"},\"VehicleRef\":\"7\"},\"ValidUntilTime\":\"2024-05-01T08:10:00Z\"}]}]}}}\n",
+);
+
+// Requests for the two visits that come first, and for none.
+const SOONEST: &str = concat!(
+    "start 2024-05-01T08:00:00Z\n",
+    "feed {\"Siri\":{\"ServiceDelivery\":{\"StopMonitoringDelivery\":[{\"MonitoredStopVisit\":[{\"ItemIdentifier\":\"a\",\"MonitoredVehicleJourney\":{\"LineRef\":\"L1\",\"MonitoredCall\":{\"ExpectedDepartureTime\":\"2024-05-01T08:30:00Z\"}},\"MonitoringRef\":\"S1\"},{\"ItemIdentifier\":\"b\",\"MonitoredVehicleJourney\":{\"LineRef\":\"L1\",\"MonitoredCall\":{\"ExpectedDepartureTime\":\"2024-05-01T08:10:00Z\"}},\"MonitoringRef\":\"S1\"},{\"ItemIdentifier\":\"c\",\"MonitoredVehicleJourney\":{\"LineRef\":\"L1\",\"MonitoredCall\":{\"ExpectedDepartureTime\":\"2024-05-01T08:20:00Z\"}},\"MonitoringRef\":\"S1\"}]}]}}}\n",
+    "ask {\"Siri\":{\"ServiceRequest\":{\"StopMonitoringRequest\":[{\"MaximumStopVisits\":2,\"MonitoringRef\":\"S1\"}]}}}\n",
+    "ask {\"Siri\":{\"ServiceRequest\":{\"StopMonitoringRequest\":[{\"MaximumStopVisits\":0,\"MonitoringRef\":\"S1\"}]}}}\n",
+);
+
+// What is told of them.
+const SOONEST_TOLD: &str = concat!(
+    "started 1\n",
+    "fed 3 0 0\n",
+    "answer {\"Siri\":{\"ServiceDelivery\":{\"ProducerRef\":\"producer\",\"ResponseTimestamp\":\"2024-05-01T08:00:00Z\",\"Status\":true,\"StopMonitoringDelivery\":[{\"MonitoredStopVisit\":[{\"ItemIdentifier\":\"b\",\"MonitoredVehicleJourney\":{\"LineRef\":\"L1\",\"MonitoredCall\":{\"ExpectedDepartureTime\":\"2024-05-01T08:10:00Z\"}},\"MonitoringRef\":\"S1\"},{\"ItemIdentifier\":\"c\",\"MonitoredVehicleJourney\":{\"LineRef\":\"L1\",\"MonitoredCall\":{\"ExpectedDepartureTime\":\"2024-05-01T08:20:00Z\"}},\"MonitoringRef\":\"S1\"}],\"ResponseTimestamp\":\"2024-05-01T08:00:00Z\",\"Status\":true}]}}}\n",
+    "answer {\"Siri\":{\"ServiceDelivery\":{\"ProducerRef\":\"producer\",\"ResponseTimestamp\":\"2024-05-01T08:00:00Z\",\"Status\":true,\"StopMonitoringDelivery\":[{\"ResponseTimestamp\":\"2024-05-01T08:00:00Z\",\"Status\":true}]}}}\n",
+);
+
+// A delivery of which one part belongs to a round.
+const IN_A_ROUND: &str =
+    "feed {\"Siri\":{\"ServiceDelivery\":{\"VehicleMonitoringDelivery\":[{}],\"StopMonitoringDelivery\":[{},{\"Extensions\":{\"Start\":1,\"Round\":1,\"Part\":1}}]}}}\n";
+
+// A visit, and cancellations of one that is there and of one that isn't.
+const CANCELLED: &str =
+    "feed {\"Siri\":{\"ServiceDelivery\":{\"StopMonitoringDelivery\":[{\"MonitoredStopVisitCancellation\":[{\"ItemRef\":\"a\",\"MonitoringRef\":\"S1\"},{\"ItemRef\":\"z\",\"MonitoringRef\":\"S1\"}],\"MonitoredStopVisit\":[{\"ItemIdentifier\":\"d\",\"MonitoredVehicleJourney\":{\"LineRef\":\"L1\",\"MonitoredCall\":{\"ExpectedDepartureTime\":\"2024-05-01T08:20:00Z\"}},\"MonitoringRef\":\"S1\"}]}]}}}\n";
+
+// What is told of them after the visits at the edges.
+const CANCELLED_TOLD: &str = concat!(
+    "started 1\n",
+    "fed 3 0 0\n",
+    "fed 1 2 0\n",
+    "answer {\"Siri\":{\"ServiceDelivery\":{\"ProducerRef\":\"producer\",\"ResponseTimestamp\":\"2024-05-01T08:00:00Z\",\"Status\":true,\"StopMonitoringDelivery\":[{\"MonitoredStopVisit\":[{\"ItemIdentifier\":\"c\",\"MonitoredVehicleJourney\":{\"LineRef\":\"L1\",\"MonitoredCall\":{\"ExpectedDepartureTime\":\"2024-05-01T08:29:59.999Z\"}},\"MonitoringRef\":\"S1\"},{\"ItemIdentifier\":\"d\",\"MonitoredVehicleJourney\":{\"LineRef\":\"L1\",\"MonitoredCall\":{\"ExpectedDepartureTime\":\"2024-05-01T08:20:00Z\"}},\"MonitoringRef\":\"S1\"}],\"ResponseTimestamp\":\"2024-05-01T08:00:00Z\",\"Status\":true}]}}}\n",
+);
+
 // What a run is given, and what it brings.
 struct Case {
     words: &'static [&'static str],
@@ -49,7 +98,7 @@ struct Case {
     text: &'static str,
 }
 
-const CASES: [Case; 13] = [
+const CASES: [Case; 30] = [
     Case {
         words: &["replay"],
         script: &[],
@@ -73,10 +122,129 @@ const CASES: [Case; 13] = [
     },
     Case {
         words: &["replay"],
-        script: &[EIGHT, "feed {}\n"],
+        script: &[SERVICES],
+        report: SERVED,
+        number: 0,
+        text: "",
+    },
+    Case {
+        words: &["replay"],
+        script: &[SOONEST],
+        report: SOONEST_TOLD,
+        number: 0,
+        text: "",
+    },
+    Case {
+        words: &["replay"],
+        script: &["# nothing\n", "\n", EIGHT, "clok 2024-05-01T08:01:00Z\n"],
+        report: "started 1\n",
+        number: 65,
+        text: "siri: line 4: BadWord",
+    },
+    Case {
+        words: &["replay"],
+        script: &["clock 2024-05-01T08:00:00Z\n"],
+        report: "",
+        number: 65,
+        text: "siri: line 1: NotStarted",
+    },
+    Case {
+        words: &["replay"],
+        script: &["clok\n"],
+        report: "",
+        number: 65,
+        text: "siri: line 1: BadWord",
+    },
+    Case {
+        words: &["replay"],
+        script: &["view c1 S\n"],
+        report: "",
+        number: 65,
+        text: "siri: line 1: NotStarted",
+    },
+    Case {
+        words: &["replay"],
+        script: &[EIGHT, "view\n"],
         report: "started 1\n",
         number: 65,
         text: "siri: line 2: NotYet",
+    },
+    Case {
+        words: &["replay"],
+        script: &[EIGHT, EIGHT],
+        report: "started 1\n",
+        number: 65,
+        text: "siri: line 2: NotYet",
+    },
+    Case {
+        words: &["replay"],
+        script: &[EIGHT, "clock\n"],
+        report: "started 1\n",
+        number: 65,
+        text: "siri: line 2: BadArgument",
+    },
+    Case {
+        words: &["replay"],
+        script: &[EIGHT, "clock  2024-05-01T08:01:00Z\n"],
+        report: "started 1\n",
+        number: 65,
+        text: "siri: line 2: BadArgument",
+    },
+    Case {
+        words: &["replay"],
+        script: &[EIGHT, "feed\n"],
+        report: "started 1\n",
+        number: 65,
+        text: "siri: line 2: BadArgument",
+    },
+    Case {
+        words: &["replay"],
+        script: &[EIGHT, "feed \n"],
+        report: "started 1\n",
+        number: 65,
+        text: "siri: line 2: BadDocument .: NotJson",
+    },
+    Case {
+        words: &["replay"],
+        script: &[EIGHT, "feed {}\n"],
+        report: "started 1\n",
+        number: 65,
+        text: "siri: line 2: BadDocument Siri: Missing",
+    },
+    Case {
+        words: &["replay"],
+        script: &[EIGHT, "ask {\"Siri\":{\"ServiceRequest\":{}}}\n"],
+        report: "started 1\n",
+        number: 65,
+        text: "siri: line 2: BadDocument Siri.ServiceRequest: NotCarried",
+    },
+    Case {
+        words: &["replay"],
+        script: &[EIGHT, "feed {\"Siri\":{\"CheckStatusRequest\":{}}}\n"],
+        report: "started 1\n",
+        number: 65,
+        text: "siri: line 2: WrongMessage",
+    },
+    Case {
+        words: &["replay"],
+        script: &[EIGHT, "ask {\"Siri\":{\"ServiceDelivery\":{}}}\n"],
+        report: "started 1\n",
+        number: 65,
+        text: "siri: line 2: WrongMessage",
+    },
+    Case {
+        words: &["replay"],
+        script: &[EIGHT, IN_A_ROUND],
+        report: "started 1\n",
+        number: 65,
+        text: "siri: line 2: WrongMessage",
+    },
+    Case {
+        words: &["replay"],
+        script: &[EIGHT, EDGES, CANCELLED, ASK, "PT30M", END],
+        report: CANCELLED_TOLD,
+        number: 0,
+        text: "",
     },
     Case {
         words: &["replay"],
@@ -109,7 +277,7 @@ const CASES: [Case; 13] = [
         script: &["start 2024-05-01T08:00:00\n", EDGES, ASK, "PT30M", END],
         report: "",
         number: 65,
-        text: "siri: line 1: NotYet",
+        text: "siri: line 1: BadArgument",
     },
     Case {
         words: &["replay"],
@@ -130,14 +298,14 @@ const CASES: [Case; 13] = [
         script: &[EIGHT, EDGES, ASK, "PT0.5H", END],
         report: "started 1\nfed 3 0 0\n",
         number: 65,
-        text: "siri: line 3: NotYet",
+        text: "siri: line 3: BadDocument Siri.ServiceRequest.StopMonitoringRequest[0].PreviewInterval: BadSpan",
     },
     Case {
         words: &["replay"],
         script: &[EIGHT, EDGES, ASK, "-PT1M", END],
         report: "started 1\nfed 3 0 0\n",
         number: 65,
-        text: "siri: line 3: NotYet",
+        text: "siri: line 3: BadDocument Siri.ServiceRequest.StopMonitoringRequest[0].PreviewInterval: BadSpan",
     },
     Case {
         words: &["serve"],
@@ -265,5 +433,112 @@ fn a_failed_write_ends_the_run(rt: HostRuntime) -> Result<(), Fail> {
         // The one failure is over: the next write is taken.
         assert_eq!(rt; sink.write(b"..")?, 2, "at {place}");
     }
+    Ok(())
+}
+
+// A line that feeds visits, before and after them.
+const FEED: &str =
+    "feed {\"Siri\":{\"ServiceDelivery\":{\"StopMonitoringDelivery\":[{\"MonitoredStopVisit\":[";
+
+const FED: &str = "]}]}}}\n";
+
+// A visit, before its name, between its name and its time, and after that.
+const NAMED: &str = "{\"ItemIdentifier\":\"";
+
+const AT: &str =
+    "\",\"MonitoredVehicleJourney\":{\"LineRef\":\"L1\",\"MonitoredCall\":{\"ExpectedDepartureTime\":\"2024-05-01T";
+
+const STOP: &str = "Z\"}},\"MonitoringRef\":\"S1\"}";
+
+fn add(script: &mut Vec<u8>, pieces: &[&str]) -> Result<(), AllocError> {
+    for piece in pieces {
+        script.extend_from_slice(piece.as_bytes())?;
+    }
+    Ok(())
+}
+
+// A feed of 5,000 visits at half past eight, whose names begin with its own number.
+fn add_many(alloc: Global, script: &mut Vec<u8>, feed: u64) -> Result<(), OutOfMemory> {
+    add(script, &[FEED])?;
+    for number in 0..5_000u64 {
+        if number > 0 {
+            add(script, &[","])?;
+        }
+        add(script, &[NAMED])?;
+        append_number(alloc, script, feed)?;
+        add(script, &["-"])?;
+        append_number(alloc, script, number)?;
+        add(script, &[AT, "08:30:00", STOP])?;
+    }
+    add(script, &[FED])?;
+    Ok(())
+}
+
+#[test]
+fn as_many_items_are_live_as_may_be(rt: HostRuntime) -> Result<(), Fail> {
+    let mut script = joined(rt.alloc(), &[EIGHT])?;
+    for feed in 0..4u64 {
+        add_many(rt.alloc(), &mut script, feed)?;
+    }
+    add(
+        &mut script,
+        &[
+            FEED,
+            NAMED,
+            "new",
+            AT,
+            "08:30:00",
+            STOP,
+            FED,
+            FEED,
+            NAMED,
+            "0-0",
+            AT,
+            "08:45:00",
+            STOP,
+            FED,
+            FEED,
+            NAMED,
+            "late",
+            AT,
+            "07:00:00",
+            STOP,
+            FED,
+            "clock 2024-05-01T08:30:00.001Z\n",
+            FEED,
+            NAMED,
+            "new",
+            AT,
+            "09:00:00",
+            STOP,
+            FED,
+        ],
+    )?;
+    let mut source = PlainSource::new(&script);
+    let mut sink = PlainSink::new(rt.alloc());
+    let status = run_words(rt.alloc(), &["replay"], &mut source, &mut sink)?;
+    assert_eq!(rt; status.number(), 0);
+    assert!(rt;
+        sink.bytes()
+            == concat!(
+                "started 1\nfed 5000 0 0\nfed 5000 0 0\nfed 5000 0 0\nfed 5000 0 0\n",
+                "fed 0 0 1\nfed 1 0 0\nfed 1 0 0\nfed 1 0 0\n",
+            )
+            .as_bytes()
+    );
+    Ok(())
+}
+
+// A line that is no UTF-8 is refused for it before its word is looked at.
+#[test]
+fn a_line_is_text(rt: HostRuntime) -> Result<(), Fail> {
+    let mut script = joined(rt.alloc(), &[EIGHT])?;
+    script.extend_from_slice(b"\xff\n")?;
+    let mut source = PlainSource::new(&script);
+    let mut sink = PlainSink::new(rt.alloc());
+    let status = run_words(rt.alloc(), &["replay"], &mut source, &mut sink)?;
+    let text = status.text(rt.alloc())?;
+    assert_eq!(rt; status.number(), 65);
+    assert!(rt; text.slice() == b"siri: line 2: NotText".as_slice());
     Ok(())
 }
