@@ -1,7 +1,8 @@
 #!/usr/bin/env python3
 """Makes an input of the benchmark: `make.py lines N` is a script of N lines that are passed over, `make.py visits N`
 one with N visits fed in four lines and asked for once, `make.py delivery N` a ServiceDelivery of N visits with the rows
-that feeds have, about 600 bytes each. It goes to standard output."""
+that feeds have, about 600 bytes each, and `make.py stops N A` a script that feeds N such visits, 200 to a stop and 100 to a
+line, and asks A times for those of a stop. It goes to standard output."""
 import json
 import sys
 
@@ -43,13 +44,17 @@ def clock(seconds):
     return "2024-05-01T%02d:%02d:%02d+02:00" % (seconds // 3600 % 24, seconds // 60 % 60, seconds % 60)
 
 
-def realistic_visit(number):
+def stop_name(stop):
+    return "STIF:StopPoint:Q:%d:" % (41000 + stop)
+
+
+def realistic_visit(number, stops=500):
     """A visit in the spellings of feeds: names as objects with a value, texts in lists, numbers as numbers."""
-    due = 6 * 3600 + number * 7
+    due = 6 * 3600 + number * 7 % (16 * 3600)
     return {
         "RecordedAtTime": "2024-05-01T05:59:%02d.123456Z" % (number % 60),
         "ItemIdentifier": "visit-%08d" % (number * 7919 % 100_000_007),
-        "MonitoringRef": {"value": "STIF:StopPoint:Q:%d:" % (41000 + number % 500)},
+        "MonitoringRef": {"value": stop_name(number % stops)},
         "MonitoredVehicleJourney": {
             "LineRef": {"value": "STIF:Line::C%05d:" % (number % 40)},
             "DirectionRef": "out" if number % 2 else "in",
@@ -77,4 +82,14 @@ def delivery(count):
     print(json.dumps({"Siri": {"ServiceDelivery": document}}, separators=(",", ":"), ensure_ascii=False))
 
 
-{"lines": lines, "visits": visits, "delivery": delivery}[sys.argv[1]](int(sys.argv[2]))
+def stops(count, asks):
+    print("start 2024-05-01T04:00:00Z")
+    number_of_stops = count // 200
+    for first in range(0, count, 100):
+        entries = [realistic_visit(number, number_of_stops) for number in range(first, first + 100)]
+        put("feed", {"ServiceDelivery": {"StopMonitoringDelivery": [{"MonitoredStopVisit": entries}]}})
+    for ask in range(asks):
+        put("ask", {"ServiceRequest": {"StopMonitoringRequest": [{"MonitoringRef": stop_name(ask % number_of_stops)}]}})
+
+
+{"lines": lines, "visits": visits, "delivery": delivery, "stops": stops}[sys.argv[1]](*map(int, sys.argv[2:]))

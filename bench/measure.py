@@ -78,7 +78,7 @@ def documents(program, yardstick, folder):
     """`siri convert` and `siri check` of one document, beside a program on serde_json in the same runs."""
     path = os.path.join(folder, "delivery.8000")
     megabytes = os.path.getsize(path) / 1e6
-    commands = [("convert", [program, "convert"]), ("check", [program, "check"]), ("yardstick", [yardstick])]
+    commands = [("convert", [program, "convert"]), ("check", [program, "check"]), ("yardstick", [yardstick, "convert"])]
     runs = [[run_once(command, path) for _, command in commands] for _ in range(PHASE_RUNS)]
     least = min(run[-1][0] for run in runs)
     row = "%-9s %7s %9s %8s %9s %9s %7s"
@@ -90,6 +90,33 @@ def documents(program, yardstick, folder):
         print(row % ((name, "%.1f" % megabytes) + figures + ("%.2f" % (seconds / least),)))
 
 
+STOPS = [(10_000, 0), (20_000, 0), (20_000, 100)]
+
+
+def producer(program, yardstick, folder):
+    """What a fed visit and an ask take, as differences of runs: of 20,000 live visits the second 10,000, and 100 asks of
+    which each shows 200 of them. The bytes of a visit are those of its canonical text, as the answers have it."""
+    def path(size):
+        return os.path.join(folder, "stops.%d.%d" % size)
+    programs = [("siri", [program, "replay"]), ("yardstick", [yardstick, "replay"])]
+    runs = [[[run_once(command, path(size)) for size in STOPS] for _, command in programs] for _ in range(RUNS)]
+    run_once(programs[0][1], path(STOPS[2]))
+    with open(path(STOPS[2]) + ".output") as report:
+        answers = [line for line in report if line.startswith("answer ")]
+    canonical = sum(map(len, answers)) / sum(line.count('"ItemIdentifier"') for line in answers)
+    row = "%-10s %14s %12s %14s %15s %15s"
+    print("canonical text of a visit: %.0f bytes; %d asks" % (canonical, len(answers)))
+    print(row % ("program", "us a fed visit", "us an ask", "us an item", "bytes a visit", "bytes/canonical"))
+    for place, (name, _) in enumerate(programs):
+        half, whole, asked = [min(run[place][size][0] for run in runs) for size in range(3)]
+        half_peak, peak = [max(run[place][size][1] for run in runs) for size in range(2)]
+        fed = (whole - half) / (STOPS[1][0] - STOPS[0][0]) * 1e6
+        ask = (asked - whole) / len(answers) * 1e6
+        each = (peak - half_peak) * 1e6 / (STOPS[1][0] - STOPS[0][0])
+        figures = ("%.1f" % fed, "%.0f" % ask, "%.2f" % (ask / 200), "%.0f" % each, "%.2f" % (each / canonical))
+        print(row % ((name,) + figures))
+
+
 def main(crates, yardstick, folder):
     siri = os.path.join(crates, "siri/out/siri")
     replay_beside_yardsticks(siri, folder)
@@ -97,6 +124,8 @@ def main(crates, yardstick, folder):
     phases(os.path.join(crates, "siri_speed/out/siri_speed"), folder)
     print()
     documents(siri, yardstick, folder)
+    print()
+    producer(siri, yardstick, folder)
 
 
 main(*sys.argv[1:])

@@ -1,12 +1,14 @@
 #!/usr/bin/env bash
-# Measures three things, each beside a yardstick in the same run, and prints processor seconds (user and system, the least
+# Measures four things, each beside a yardstick in the same run, and prints processor seconds (user and system, the least
 # of several runs), megabytes of input a second, and the peak memory:
 #
 # - `siri replay` on two kinds of script, at half the size and at the whole one, beside `grep -c '^#'` over the script of
 #   passed-over lines, and for the visits python's json, which reads the same four documents and writes them;
 # - the phases of reading and writing items of a delivery of 5.5 MB, as differences of runs of `siri_speed`;
 # - `siri convert` and `siri check` of that delivery, beside a program on Rust's serde_json (bench/yardstick), which wants
-#   cargo and Debian's package librust-serde-json-dev.
+#   cargo and Debian's package librust-serde-json-dev;
+# - `siri replay` of 20,000 live visits and 100 asks that show 200 of them each, beside the same program, which keeps the
+#   visits as trees: time and memory of a fed visit and time of an ask, as differences of runs.
 set -eu
 here=$(dirname -- "$(readlink -f -- "${BASH_SOURCE[0]}")")
 "$here/../siri" replay </dev/null # builds it, where it isn't there
@@ -18,6 +20,8 @@ trap 'rm -r -- "$inputs"' EXIT
 for size in 500000 1000000; do python3 "$here/make.py" lines "$size" >"$inputs/lines.$size"; done
 for size in 10000 20000; do python3 "$here/make.py" visits "$size" >"$inputs/visits.$size"; done
 python3 "$here/make.py" delivery 8000 >"$inputs/delivery.8000"
+python3 "$here/make.py" stops 10000 0 >"$inputs/stops.10000.0"
+for asks in 0 100; do python3 "$here/make.py" stops 20000 "$asks" >"$inputs/stops.20000.$asks"; done
 
 echo "$(nproc) cores; $(rt version)"
 python3 "$here/measure.py" "$here/../crates" "$here/yardstick/target/release/yardstick" "$inputs"
