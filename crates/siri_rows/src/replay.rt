@@ -89,238 +89,117 @@ const CANCELLED_TOLD: &str = concat!(
     "answer {\"Siri\":{\"ServiceDelivery\":{\"ProducerRef\":\"producer\",\"ResponseTimestamp\":\"2024-05-01T08:00:00Z\",\"Status\":true,\"StopMonitoringDelivery\":[{\"MonitoredStopVisit\":[{\"ItemIdentifier\":\"c\",\"MonitoredVehicleJourney\":{\"LineRef\":\"L1\",\"MonitoredCall\":{\"ExpectedDepartureTime\":\"2024-05-01T08:29:59.999Z\"}},\"MonitoringRef\":\"S1\"},{\"ItemIdentifier\":\"d\",\"MonitoredVehicleJourney\":{\"LineRef\":\"L1\",\"MonitoredCall\":{\"ExpectedDepartureTime\":\"2024-05-01T08:20:00Z\"}},\"MonitoringRef\":\"S1\"}],\"ResponseTimestamp\":\"2024-05-01T08:00:00Z\",\"Status\":true}]}}}\n",
 );
 
-// What a run is given, and what it brings.
-struct Case {
-    words: &'static [&'static str],
-    script: &'static [&'static str],
-    report: &'static str,
-    number: u8,
-    text: &'static str,
-}
-
-const CASES: [Case; 30] = [
-    Case {
-        words: &["replay"],
-        script: &[],
-        report: "",
-        number: 0,
-        text: "",
-    },
-    Case {
-        words: &["replay"],
-        script: &[EIGHT, EDGES, ASK, "PT30M", END],
-        report: SHOWN,
-        number: 0,
-        text: "",
-    },
-    Case {
-        words: &["replay"],
-        script: &[EIGHT, TWICE, ASK, "PT30M", END],
-        report: LATER,
-        number: 0,
-        text: "",
-    },
-    Case {
-        words: &["replay"],
-        script: &[SERVICES],
-        report: SERVED,
-        number: 0,
-        text: "",
-    },
-    Case {
-        words: &["replay"],
-        script: &[SOONEST],
-        report: SOONEST_TOLD,
-        number: 0,
-        text: "",
-    },
-    Case {
-        words: &["replay"],
-        script: &["# nothing\n", "\n", EIGHT, "clok 2024-05-01T08:01:00Z\n"],
-        report: "started 1\n",
-        number: 65,
-        text: "siri: line 4: BadWord",
-    },
-    Case {
-        words: &["replay"],
-        script: &["clock 2024-05-01T08:00:00Z\n"],
-        report: "",
-        number: 65,
-        text: "siri: line 1: NotStarted",
-    },
-    Case {
-        words: &["replay"],
-        script: &["clok\n"],
-        report: "",
-        number: 65,
-        text: "siri: line 1: BadWord",
-    },
-    Case {
-        words: &["replay"],
-        script: &["view c1 S\n"],
-        report: "",
-        number: 65,
-        text: "siri: line 1: NotStarted",
-    },
-    Case {
-        words: &["replay"],
-        script: &[EIGHT, "view\n"],
-        report: "started 1\n",
-        number: 65,
-        text: "siri: line 2: NotYet",
-    },
-    Case {
-        words: &["replay"],
-        script: &[EIGHT, EIGHT],
-        report: "started 1\n",
-        number: 65,
-        text: "siri: line 2: NotYet",
-    },
-    Case {
-        words: &["replay"],
-        script: &[EIGHT, "clock\n"],
-        report: "started 1\n",
-        number: 65,
-        text: "siri: line 2: BadArgument",
-    },
-    Case {
-        words: &["replay"],
-        script: &[EIGHT, "clock  2024-05-01T08:01:00Z\n"],
-        report: "started 1\n",
-        number: 65,
-        text: "siri: line 2: BadArgument",
-    },
-    Case {
-        words: &["replay"],
-        script: &[EIGHT, "feed\n"],
-        report: "started 1\n",
-        number: 65,
-        text: "siri: line 2: BadArgument",
-    },
-    Case {
-        words: &["replay"],
-        script: &[EIGHT, "feed \n"],
-        report: "started 1\n",
-        number: 65,
-        text: "siri: line 2: BadDocument .: NotJson",
-    },
-    Case {
-        words: &["replay"],
-        script: &[EIGHT, "feed {}\n"],
-        report: "started 1\n",
-        number: 65,
-        text: "siri: line 2: BadDocument Siri: Missing",
-    },
-    Case {
-        words: &["replay"],
-        script: &[EIGHT, "ask {\"Siri\":{\"ServiceRequest\":{}}}\n"],
-        report: "started 1\n",
-        number: 65,
-        text: "siri: line 2: BadDocument Siri.ServiceRequest: NotCarried",
-    },
-    Case {
-        words: &["replay"],
-        script: &[EIGHT, "feed {\"Siri\":{\"CheckStatusRequest\":{}}}\n"],
-        report: "started 1\n",
-        number: 65,
-        text: "siri: line 2: WrongMessage",
-    },
-    Case {
-        words: &["replay"],
-        script: &[EIGHT, "ask {\"Siri\":{\"ServiceDelivery\":{}}}\n"],
-        report: "started 1\n",
-        number: 65,
-        text: "siri: line 2: WrongMessage",
-    },
-    Case {
-        words: &["replay"],
-        script: &[EIGHT, IN_A_ROUND],
-        report: "started 1\n",
-        number: 65,
-        text: "siri: line 2: WrongMessage",
-    },
-    Case {
-        words: &["replay"],
-        script: &[EIGHT, EDGES, CANCELLED, ASK, "PT30M", END],
-        report: CANCELLED_TOLD,
-        number: 0,
-        text: "",
-    },
-    Case {
-        words: &["replay"],
-        script: &[
+// Scripts that are whole, and their reports.
+const WHOLE: [(&[&str], &str); 10] = [
+    (&[], ""),
+    (&[EIGHT, EDGES, ASK, "PT30M", END], SHOWN),
+    (&[EIGHT, TWICE, ASK, "PT30M", END], LATER),
+    (&[SERVICES], SERVED),
+    (&[SOONEST], SOONEST_TOLD),
+    (
+        &[EIGHT, EDGES, CANCELLED, ASK, "PT30M", END],
+        CANCELLED_TOLD,
+    ),
+    (
+        &[
             "start 2024-05-01T10:00:00.0009+02:00\n",
             EDGES,
             ASK,
             "PT30M",
             END,
         ],
-        report: SHOWN,
-        number: 0,
-        text: "",
-    },
-    Case {
-        words: &["replay"],
-        script: &[
+        SHOWN,
+    ),
+    (
+        &[
             "start 2024-04-30T23:30:00.000-08:30\n",
             EDGES,
             ASK,
             "PT30M",
             END,
         ],
-        report: SHOWN,
-        number: 0,
-        text: "",
-    },
-    Case {
-        words: &["replay"],
-        script: &["start 2024-05-01T08:00:00\n", EDGES, ASK, "PT30M", END],
-        report: "",
-        number: 65,
-        text: "siri: line 1: BadArgument",
-    },
-    Case {
-        words: &["replay"],
-        script: &[EIGHT, EDGES, ASK, "PT1800S", END],
-        report: SHOWN,
-        number: 0,
-        text: "",
-    },
-    Case {
-        words: &["replay"],
-        script: &[EIGHT, EDGES, ASK, "P0DT30M", END],
-        report: SHOWN,
-        number: 0,
-        text: "",
-    },
-    Case {
-        words: &["replay"],
-        script: &[EIGHT, EDGES, ASK, "PT0.5H", END],
-        report: "started 1\nfed 3 0 0\n",
-        number: 65,
-        text: "siri: line 3: BadDocument Siri.ServiceRequest.StopMonitoringRequest[0].PreviewInterval: BadSpan",
-    },
-    Case {
-        words: &["replay"],
-        script: &[EIGHT, EDGES, ASK, "-PT1M", END],
-        report: "started 1\nfed 3 0 0\n",
-        number: 65,
-        text: "siri: line 3: BadDocument Siri.ServiceRequest.StopMonitoringRequest[0].PreviewInterval: BadSpan",
-    },
-    Case {
-        words: &["serve"],
-        script: &[EIGHT],
-        report: "",
-        number: 64,
-        text: "siri: usage",
-    },
-    Case {
-        words: &[],
-        script: &[EIGHT],
-        report: "",
-        number: 64,
-        text: "siri: usage",
-    },
+        SHOWN,
+    ),
+    (&[EIGHT, EDGES, ASK, "PT1800S", END], SHOWN),
+    (&[EIGHT, EDGES, ASK, "P0DT30M", END], SHOWN),
+];
+
+// Scripts in which a line is refused, the reports before it, and what is told of it.
+const REFUSED: [(&[&str], &str, &str); 18] = [
+    (
+        &["# nothing\n", "\n", EIGHT, "clok 2024-05-01T08:01:00Z\n"],
+        "started 1\n",
+        "siri: line 4: BadWord",
+    ),
+    (
+        &["clock 2024-05-01T08:00:00Z\n"],
+        "",
+        "siri: line 1: NotStarted",
+    ),
+    (&["clok\n"], "", "siri: line 1: BadWord"),
+    (&["view c1 S\n"], "", "siri: line 1: NotStarted"),
+    (&[EIGHT, "view\n"], "started 1\n", "siri: line 2: NotYet"),
+    (&[EIGHT, EIGHT], "started 1\n", "siri: line 2: NotYet"),
+    (
+        &[EIGHT, "clock\n"],
+        "started 1\n",
+        "siri: line 2: BadArgument",
+    ),
+    (
+        &[EIGHT, "clock  2024-05-01T08:01:00Z\n"],
+        "started 1\n",
+        "siri: line 2: BadArgument",
+    ),
+    (
+        &[EIGHT, "feed\n"],
+        "started 1\n",
+        "siri: line 2: BadArgument",
+    ),
+    (
+        &[EIGHT, "feed \n"],
+        "started 1\n",
+        "siri: line 2: BadDocument .: NotJson",
+    ),
+    (
+        &[EIGHT, "feed {}\n"],
+        "started 1\n",
+        "siri: line 2: BadDocument Siri: Missing",
+    ),
+    (
+        &[EIGHT, "ask {\"Siri\":{\"ServiceRequest\":{}}}\n"],
+        "started 1\n",
+        "siri: line 2: BadDocument Siri.ServiceRequest: NotCarried",
+    ),
+    (
+        &[EIGHT, "feed {\"Siri\":{\"CheckStatusRequest\":{}}}\n"],
+        "started 1\n",
+        "siri: line 2: WrongMessage",
+    ),
+    (
+        &[EIGHT, "ask {\"Siri\":{\"ServiceDelivery\":{}}}\n"],
+        "started 1\n",
+        "siri: line 2: WrongMessage",
+    ),
+    (
+        &[EIGHT, IN_A_ROUND],
+        "started 1\n",
+        "siri: line 2: WrongMessage",
+    ),
+    (
+        &["start 2024-05-01T08:00:00\n", EDGES, ASK, "PT30M", END],
+        "",
+        "siri: line 1: BadArgument",
+    ),
+    (
+        &[EIGHT, EDGES, ASK, "PT0.5H", END],
+        "started 1\nfed 3 0 0\n",
+        "siri: line 3: BadDocument Siri.ServiceRequest.StopMonitoringRequest[0].PreviewInterval: BadSpan",
+    ),
+    (
+        &[EIGHT, EDGES, ASK, "-PT1M", END],
+        "started 1\nfed 3 0 0\n",
+        "siri: line 3: BadDocument Siri.ServiceRequest.StopMonitoringRequest[0].PreviewInterval: BadSpan",
+    ),
 ];
 
 fn joined(alloc: Global, pieces: &[&str]) -> Result<Vec<u8>, AllocError> {
@@ -336,17 +215,57 @@ fn edges(alloc: Global) -> Result<Vec<u8>, AllocError> {
     joined(alloc, &[EIGHT, EDGES, ASK, "PT30M", END])
 }
 
+// Whether the words over a script bring this report, and end with the status of this number and text.
+fn brings(
+    alloc: Global,
+    words: &[&str],
+    script: &[&str],
+    report: &str,
+    number: u8,
+    text: &str,
+) -> Result<bool, Fail> {
+    let script = joined(alloc, script)?;
+    let mut source = PlainSource::new(&script);
+    let mut sink = PlainSink::new(alloc);
+    let status = run_words(alloc, words, &mut source, &mut sink)?;
+    let told = status.text(alloc)?;
+    Ok(
+        status.number() == number
+            && told.slice() == text.as_bytes()
+            && sink.bytes() == report.as_bytes(),
+    )
+}
+
 #[test]
-fn scripts_bring_their_reports(rt: HostRuntime) -> Result<(), Fail> {
-    for (place, case) in CASES.iter().enumerate() {
-        let script = joined(rt.alloc(), case.script)?;
-        let mut source = PlainSource::new(&script);
-        let mut sink = PlainSink::new(rt.alloc());
-        let status = run_words(rt.alloc(), case.words, &mut source, &mut sink)?;
-        let text = status.text(rt.alloc())?;
-        assert_eq!(rt; status.number(), case.number, "case {place}");
-        assert!(rt; text.slice() == case.text.as_bytes(), "case {place}");
-        assert!(rt; sink.bytes() == case.report.as_bytes(), "case {place}");
+fn whole_scripts_bring_their_reports(rt: HostRuntime) -> Result<(), Fail> {
+    for (place, (script, report)) in WHOLE.iter().enumerate() {
+        assert!(rt;
+            brings(rt.alloc(), &["replay"], script, report, 0, "")?,
+            "script {place}"
+        );
+    }
+    Ok(())
+}
+
+#[test]
+fn refused_lines_end_the_report(rt: HostRuntime) -> Result<(), Fail> {
+    for (place, (script, report, text)) in REFUSED.iter().enumerate() {
+        assert!(rt;
+            brings(rt.alloc(), &["replay"], script, report, 65, text)?,
+            "script {place}"
+        );
+    }
+    Ok(())
+}
+
+#[test]
+fn words_of_no_command_are_a_usage(rt: HostRuntime) -> Result<(), Fail> {
+    let wrong: [&[&str]; 2] = [&["serve"], &[]];
+    for (place, words) in wrong.iter().enumerate() {
+        assert!(rt;
+            brings(rt.alloc(), words, &[EIGHT], "", 64, "siri: usage")?,
+            "words {place}"
+        );
     }
     Ok(())
 }
