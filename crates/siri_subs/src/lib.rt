@@ -1,0 +1,29 @@
+//! The subscription table: what a producer holds of each subscription, in order of first acceptance (EN 15531-2).
+//!
+//! ```text
+//!     a request under a number   -> accept  ---+
+//!     a termination              -> end     ---+--> the entries, each subscription once
+//!     a moment                   -> expire  ---+
+//!
+//!     a place                    -> at, at_mut    ---> what is held there
+//!     subscriber, identifier     -> place_of      ---> where it is held
+//! ```
+//!
+//! A subscription is known by its subscriber and its identifier. Its subscriber numbers its requests, so that a request
+//! that comes again isn't taken for a renewal, and one that comes late doesn't undo a later one. At most 200 subscriptions
+//! are held, and the memory for them is taken when the table is made.
+//!
+//! With each entry the table keeps a slot, which is its owner's own: the table never looks into it.
+//!
+//! Stands on `siri_base` and `siri_topic`. It knows no item, no message and no clock: moments are handed in.
+#![tactic(auto)]
+
+mod entry;
+mod errors;
+mod table;
+#[cfg(test)]
+mod tests;
+
+pub use entry::{Entry, Held};
+pub use errors::{AcceptError, Accepted, EndError};
+pub use table::{TABLE_LIMIT, Table};
