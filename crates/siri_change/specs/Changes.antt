@@ -1,0 +1,67 @@
+-- How views differ, and what leads from one to another (incremental updates of EN 15531-2; ChangeBeforeUpdates of
+-- EN 15531-3 is the slack).
+use Rattle.std.specs.Prelude.{◌≡◌, ℤ, Bool, true, not, List, [], map, filter, fold, Option, Some, None, is_some, if◌then◌else◌}
+use Rattle.std.specs.List.{list_all}
+use Rattle.std.specs.Option.{option_eq}
+use Rattle.std.specs.Map.{keys_of, remove_entry}
+use Rattle.std.specs.BTreeMap.{insert_entry, is_at}
+use Rattle.siri_records.specs.declared.key.Key.{Key}
+use Rattle.siri_records.specs.declared.item.Item.{Item}
+use Rattle.siri_records.specs.Near.{is_near}
+use Rattle.siri_records.specs.Order.{key_cmp}
+use Rattle.siri_change.specs.Views.{Items, item_of}
+use Rattle.siri_change.specs.Same.{is_same}
+
+-- a key with its new item, or with none where it is removed
+abbrev pub KeyChange : Type 0
+KeyChange = Key × Option Item
+
+-- a view with an item as the one of its key
+abbrev pub with_item : Items → Key × Item → Items
+with_item view entry = insert_entry key_cmp view entry.0 entry.1
+
+-- the keys of either view, in order
+abbrev pub keys_of_both : Items → Items → List Key
+keys_of_both a b = keys_of (fold with_item a b)
+
+-- two views agree on a key by a test: both have no item of it, or the two items pass
+abbrev pub agree_on : (Item → Item → Bool) → Items → Items → Key → Bool
+agree_on test a b key = option_eq test (item_of a key) (item_of b key)
+
+-- ---- meets
+
+-- a view meets a list where they have the same keys, and the two items of each key are near
+pub record Meets (slack : ℤ) (view list : Items) : Type 0 where
+  pub keys : (key : Key) → is_some (item_of view key) ≡ is_some (item_of list key)
+  pub near : (key : Key) (held listed : Item) → item_of view key ≡ Some held → item_of list key ≡ Some listed → is_near slack held listed ≡ true
+
+-- the same as a test
+abbrev pub meets : ℤ → Items → Items → Bool
+meets slack view list = list_all (agree_on (is_near slack) view list) (keys_of_both view list)
+
+-- ---- the target of a round
+
+-- the acknowledged item of a key where there is one and it is near, else the new one
+abbrev pub kept_or_new : ℤ → Option Item → Item → Item
+kept_or_new slack None listed = listed
+kept_or_new slack (Some held) listed = if is_near slack held listed then held else listed
+
+-- the direct response itself, or for incremental updates, for each of its items the acknowledged one that is near
+abbrev pub target : ℤ → Bool → Items → Items → Items
+target slack incremental acknowledged direct =
+    if incremental then map (λ entry. (entry.0, kept_or_new slack (item_of acknowledged entry.0) entry.1)) direct else direct
+
+-- ---- changes
+
+-- in order of key, each key on which two views differ, with the item that the second has of it or none
+abbrev pub changes : Items → Items → List KeyChange
+changes before after = map (λ key. (key, item_of after key)) (filter (λ key. not (agree_on is_same before after key)) (keys_of_both before after))
+
+-- a view after a change of one key
+abbrev pub after_change : Items → KeyChange → Items
+after_change view (key, None) = remove_entry (is_at (key_cmp key)) view
+after_change view (key, Some item) = insert_entry key_cmp view key item
+
+-- a view after changes, one after the other
+abbrev pub apply : Items → List KeyChange → Items
+apply view list = fold after_change view list

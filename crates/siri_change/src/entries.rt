@@ -1,0 +1,106 @@
+// Shared items in a vector, in order of key.
+ghost use Rattle.std.specs.Prelude.{◌≡◌, ◌<◌, ◌≤◌, ◌+◌, vec_len, IsOk, OnOk, OnErr};
+ghost use Rattle.std.specs.Vec.{vec_capacity};
+ghost use Rattle.std.specs.List as list;
+ghost use Rattle.std.specs.Map.{remove_entry};
+ghost use Rattle.std.specs.BTreeMap.{insert_entry, is_at};
+ghost use Rattle.siri_records.specs.Order.{key_cmp};
+ghost use Rattle.siri_change.specs.Views.{InOrder, Finds, set_value_at, entries_view};
+ghost use Rattle.siri_change.specs.Changes.{after_change};
+
+use crate::Change;
+use siri_base::OutOfMemory;
+use siri_records::{Item, Key};
+use std::cmp::Ordering;
+use std::rc::Rc;
+
+pub(crate) type Entry = (Key, Rc<Item>);
+
+// Where the key stands, or where it would.
+pub(crate) fn find(entries: &Vec<Entry>, key: &Key) -> Result<usize, usize>
+    requires { InOrder entries.now.items }
+    ensures { Finds (key_cmp key.now) entries.now.items result }
+{
+    entries.binary_search_by(
+        |entry: &Entry| -> Ordering
+            ensures { result ≡ key_cmp entry.now.0 key.entry.now }
+        { compare(&entry.0, key) },
+    )
+}
+
+pub(crate) fn compare(a: &Key, b: &Key) -> Ordering
+    ensures { result ≡ key_cmp a.now b.now }
+{
+    a.cmp(b)
+}
+
+// The change is made. It takes no memory where there is room for one more entry.
+pub(crate) fn make(entries: &mut Vec<Entry>, change: Change) -> Result<(), OutOfMemory>
+    requires { InOrder entries.old.items }
+    ensures ok { OnOk result (entries_view entries.new.items ≡ after_change (entries_view entries.old.items) change) }
+    ensures err { OnErr result (entries.new.items ≡ entries.old.items) }
+    ensures ordered { InOrder entries.new.items }
+    ensures room { vec_len entries.old < vec_capacity entries.old → IsOk result }
+    ensures len { vec_len entries.new ≤ vec_len entries.old + 1 }
+    ensures capacity { vec_capacity entries.old ≤ vec_capacity entries.new }
+{
+    let Change { key, item } = change;
+    match item {
+        Some(item) => put(entries, key, item),
+        None => {
+            remove(entries, &key);
+            discard_key(key);
+            Ok(())
+        }
+    }
+}
+
+// The item becomes the one of the key.
+fn put(entries: &mut Vec<Entry>, key: Key, item: Rc<Item>) -> Result<(), OutOfMemory>
+    requires { InOrder entries.old.items }
+    ensures ok { OnOk result (entries_view entries.new.items ≡ insert_entry key_cmp (entries_view entries.old.items) key item.value) }
+    ensures err { OnErr result (entries.new.items ≡ entries.old.items) }
+    ensures ordered { InOrder entries.new.items }
+    ensures room { vec_len entries.old < vec_capacity entries.old → IsOk result }
+    ensures len { vec_len entries.new ≤ vec_len entries.old + 1 }
+    ensures capacity { vec_capacity entries.old ≤ vec_capacity entries.new }
+{
+    match find(entries, &key) {
+        Ok(at) => {
+            discard_key(key);
+            replace(entries, at, item);
+            Ok(())
+        }
+        Err(at) => {
+            entries.insert(at, (key, item))?;
+            Ok(())
+        }
+    }
+}
+
+// The key is no longer held.
+fn remove(entries: &mut Vec<Entry>, key: &Key)
+    requires { InOrder entries.old.items }
+    ensures rest { entries_view entries.new.items ≡ remove_entry (is_at (key_cmp key.now)) (entries_view entries.old.items) }
+    ensures ordered { InOrder entries.new.items }
+    ensures len { vec_len entries.new ≤ vec_len entries.old }
+    ensures capacity { vec_capacity entries.old ≤ vec_capacity entries.new }
+{
+    match find(entries, key) {
+        Ok(at) => discard(entries.remove(at)),
+        Err(_) => {}
+    }
+}
+
+fn replace(entries: &mut Vec<Entry>, at: usize, item: Rc<Item>)
+    requires { at < vec_len entries.old }
+    ensures items { entries.new.items ≡ set_value_at entries.old.items at item }
+    ensures len { vec_len entries.new ≡ vec_len entries.old }
+    ensures capacity { vec_capacity entries.new ≡ vec_capacity entries.old }
+{
+    entries[at].1 = item;
+}
+
+pub(crate) fn discard_key(_key: Key) {}
+
+fn discard(_entry: Entry) {}
