@@ -75,7 +75,7 @@ unfolding first_of rest_of
 calls_same [] [] s e = refl
 calls_same (a ∷ as') (b ∷ bs) s e =
     λ i. call_same a b (ap (first_of (steady_call a)) s) (left (is_near_call (pos 0) a b) (pointwise (is_near_call (pos 0)) as' bs) e) i
-        ∷ calls_same as' bs (ap rest_of s) (right (is_near_call (pos 0) a b) (pointwise (is_near_call (pos 0)) as' bs) e) i
+    ∷ calls_same as' bs (ap rest_of s) (right (is_near_call (pos 0) a b) (pointwise (is_near_call (pos 0)) as' bs) e) i
 calls_same [] (b ∷ bs) s e = cc
 calls_same (a ∷ as') [] s e = cc
 

@@ -40,7 +40,7 @@ above_case k e a f Less o above here rest = rw o (here, above)
 above_case k e a f Equal o above here rest = rw o above
 above_case k e a f Greater o above here rest = rw o (above.0, rest)
 
-above_with : (k : Key) (a : Items) (f : Key × Item) → Above k a → key_cmp k f.0 ≡ Less → Above k (with_item a f)
+pub above_with : (k : Key) (a : Items) (f : Key × Item) → Above k a → key_cmp k f.0 ≡ Less → Above k (with_item a f)
 above_with k [] f above here = (here, tt)
 above_with k (e ∷ a) f above here = above_case k e a f (key_cmp f.0 e.0) refl above here (above_with k a f above.1 here)
 
@@ -104,10 +104,10 @@ changed a b key = not (agree_on is_same a b key)
 abbrev pub changes_on : List Key → Items → Items → List KeyChange
 changes_on ks a b = map (λ key. (key, item_of b key)) (filter (changed a b) ks)
 
-on_changed : (k : Key) (ks : List Key) (a b : Items) → agree_on is_same a b k ≡ false → changes_on (k ∷ ks) a b ≡ (k, item_of b k) ∷ changes_on ks a b
+pub on_changed : (k : Key) (ks : List Key) (a b : Items) → agree_on is_same a b k ≡ false → changes_on (k ∷ ks) a b ≡ (k, item_of b k) ∷ changes_on ks a b
 on_changed k ks a b apart = rw apart refl
 
-on_same : (k : Key) (ks : List Key) (a b : Items) → agree_on is_same a b k ≡ true → changes_on (k ∷ ks) a b ≡ changes_on ks a b
+pub on_same : (k : Key) (ks : List Key) (a b : Items) → agree_on is_same a b k ≡ true → changes_on (k ∷ ks) a b ≡ changes_on ks a b
 on_same k ks a b agree = rw agree refl
 
 agree_alike : (test : Item → Item → Bool) (k : Key) (a a' b b' : Items) → item_of a k ≡ item_of a' k → item_of b k ≡ item_of b' k → agree_on test a b k ≡ agree_on test a' b' k
@@ -173,7 +173,7 @@ order_drop [] (suc i) s = tt
 order_drop (e ∷ a) zero s = s
 order_drop (e ∷ a) (suc i) s = order_drop a i s.1
 
-above_first : (e : Key × Item) (a : Items) → InOrder (e ∷ a) → Above e.0 a
+pub above_first : (e : Key × Item) (a : Items) → InOrder (e ∷ a) → Above e.0 a
 unfolding IsStrictlySortedBy
 above_first e a s = s.0
 
@@ -190,7 +190,6 @@ pub above_past : (k : Key) (a : Items) (i : ℕ) → None ≡ slice_get a i → 
 above_past k a i is = subst (λ (l : Items). Above k l) (sym (drop_past a i (sym is))) tt
 
 module _ (a b : Items) (i j : ℕ) where
-
   pub removed_at : (e : Key × Item) → InOrder a → Some e ≡ slice_get a i → Above e.0 (drop j b) → changes (drop i a) (drop j b) ≡ (e.0, None) ∷ changes (drop (i + 1) a) (drop j b)
   removed_at e s is above =
       ap (λ l. changes l (drop j b)) (drop_at a i e (sym is)) ∙ changes_removed e (drop (i + 1) a) (drop j b) (above_rest a i e s is) above
@@ -281,7 +280,7 @@ unmet_shorter slack a b i f t is also =
 abbrev pub chosen : ℤ → Items → Key × Item → Key × Item
 chosen slack acknowledged entry = (entry.0, kept_or_new slack (item_of acknowledged entry.0) entry.1)
 
-keys_chosen : (slack : ℤ) (acknowledged l : Items) → keys_of (map (chosen slack acknowledged) l) ≡ keys_of l
+pub keys_chosen : (slack : ℤ) (acknowledged l : Items) → keys_of (map (chosen slack acknowledged) l) ≡ keys_of l
 keys_chosen slack acknowledged [] = refl
 keys_chosen slack acknowledged (e ∷ l) = ap (λ ks. e.0 ∷ ks) (keys_chosen slack acknowledged l)
 
@@ -306,9 +305,9 @@ order_taken (e ∷ l) (suc i) s = (above_taken e.0 l i s.0, order_taken l i s.1)
 pub next_in_order : (slack : ℤ) (acknowledged direct target : Items) (i : ℕ) (e : Key × Item) (k : Key) → InOrder direct → Some e ≡ slice_get direct i → target ≡ map (chosen slack acknowledged) (take i direct) → k ≡ e.0 → IsStrictlySortedBy key_cmp (keys_of target ++ k ∷ [])
 next_in_order slack acknowledged direct target i e k s is so_far same =
     let keys : keys_of target ++ k ∷ [] ≡ keys_of (take (i + 1) direct) =
-        (λ t. keys_of (so_far t) ++ same t ∷ [])
-        ∙ (ap (λ ks. ks ++ e.0 ∷ []) (keys_chosen slack acknowledged (take i direct))
-        ∙ (sym (keys_append (take i direct) e) ∙ ap keys_of (sym (take_at direct i e (sym is))))) in
+    (λ t. keys_of (so_far t) ++ same t ∷ [])
+    ∙ (ap (λ ks. ks ++ e.0 ∷ []) (keys_chosen slack acknowledged (take i direct))
+    ∙ (sym (keys_append (take i direct) e) ∙ ap keys_of (sym (take_at direct i e (sym is))))) in
     rw keys (order_taken direct (i + 1) s)
 
 pub chosen_next : (slack : ℤ) (acknowledged direct target more : Items) (i : ℕ) (e : Key × Item) (k : Key) (x : Item) → Some e ≡ slice_get direct i → target ≡ map (chosen slack acknowledged) (take i direct) → more ≡ target ++ (k, x) ∷ [] → k ≡ e.0 → x ≡ kept_or_new slack (item_of acknowledged e.0) e.1 → more ≡ map (chosen slack acknowledged) (take (i + 1) direct)

@@ -1,3 +1,4 @@
 pub mod Changes
+pub mod Parts
 pub mod Same
 pub mod Views

@@ -18,10 +18,18 @@
 mod change;
 mod difference;
 mod entries;
+mod laws;
 mod sameness;
 mod view;
 
 pub use change::Change;
 pub use difference::{changes, differ, target};
+pub use laws::{
+    changes_lead_to_the_view, parts_lead_to_the_target, same_items_are_equal,
+    targets_meet_the_response, views_stay_in_order, views_that_meet_are_near,
+};
 pub use sameness::same;
 pub use view::{View, patch};
+
+#[cfg(test)]
+mod tests;

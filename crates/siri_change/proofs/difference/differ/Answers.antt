@@ -7,8 +7,8 @@ use Rattle.siri_change.proofs.difference.differ.Goals as goal
 pub returns-then-not-near_entries : goal.returns-then-not-near_entries
 returns-then-not-near_entries c =
     apart_here c.args.slack c.args.view.now c.args.wanted.now c.loop-held.place (deref_entry c.in-Some-Some.held) (deref_entry c.in-Some-Some.entry) c.near_entries.result
-        c.in-Some-Some.ensures.ordered c.in-Some-Some.ensures'.ordered c.in-Some-Some.ensures.entry c.in-Some-Some.ensures'.entry
-        c.near_entries.ensures c.if-not-near_entries.true c.loop-held.invariant
+    c.in-Some-Some.ensures.ordered c.in-Some-Some.ensures'.ordered c.in-Some-Some.ensures.entry c.in-Some-Some.ensures'.entry
+    c.near_entries.ensures c.if-not-near_entries.true c.loop-held.invariant
 
 pub returns-in-None-None : goal.returns-in-None-None
 returns-in-None-None c =
@@ -30,5 +30,5 @@ loop-held-smaller c =
 pub loop-held-preserved : goal.loop-held-preserved
 loop-held-preserved c =
     met_here c.args.slack c.args.view.now c.args.wanted.now c.loop-held.place (deref_entry c.in-Some-Some.held) (deref_entry c.in-Some-Some.entry) c.near_entries.result
-        c.in-Some-Some.ensures.ordered c.in-Some-Some.ensures'.ordered c.in-Some-Some.ensures.entry c.in-Some-Some.ensures'.entry
-        c.near_entries.ensures c.if-not-near_entries.false c.loop-held.invariant
+    c.in-Some-Some.ensures.ordered c.in-Some-Some.ensures'.ordered c.in-Some-Some.ensures.entry c.in-Some-Some.ensures'.entry
+    c.near_entries.ensures c.if-not-near_entries.false c.loop-held.invariant
