@@ -1,11 +1,11 @@
 // Shared items in a vector, in order of key.
-ghost use Rattle.std.specs.Prelude.{◌≡◌, ◌<◌, ◌≤◌, ◌+◌, vec_len, IsOk, OnOk, OnErr};
+ghost use Rattle.std.specs.Prelude.{◌≡◌, ◌<◌, ◌≤◌, ◌+◌, vec_len, IsNone, IsSome, IsOk, OnOk, OnErr};
 ghost use Rattle.std.specs.Vec.{vec_capacity};
 ghost use Rattle.std.specs.List as list;
 ghost use Rattle.std.specs.Map.{remove_entry};
 ghost use Rattle.std.specs.BTreeMap.{insert_entry, is_at};
 ghost use Rattle.siri_records.specs.Order.{key_cmp};
-ghost use Rattle.siri_change.specs.Views.{InOrder, Finds, set_value_at, entries_view};
+ghost use Rattle.siri_change.specs.Views.{InOrder, item_of, Finds, set_value_at, entries_view};
 ghost use Rattle.siri_change.specs.Changes.{after_change};
 
 use crate::Change;
@@ -40,6 +40,8 @@ pub(crate) fn make(entries: &mut Vec<Entry>, change: Change) -> Result<(), OutOf
     ensures ok { OnOk result (entries_view entries.new.items ≡ after_change (entries_view entries.old.items) change) }
     ensures err { OnErr result (entries.new.items ≡ entries.old.items) }
     ensures ordered { InOrder entries.new.items }
+    ensures removal { IsNone change.1 → IsOk result }
+    ensures held { IsSome (item_of (entries_view entries.old.items) change.0) → IsOk result }
     ensures room { vec_len entries.old < vec_capacity entries.old → IsOk result }
     ensures len { vec_len entries.new ≤ vec_len entries.old + 1 }
     ensures capacity { vec_capacity entries.old ≤ vec_capacity entries.new }
@@ -61,6 +63,7 @@ fn put(entries: &mut Vec<Entry>, key: Key, item: Rc<Item>) -> Result<(), OutOfMe
     ensures ok { OnOk result (entries_view entries.new.items ≡ insert_entry key_cmp (entries_view entries.old.items) key item.value) }
     ensures err { OnErr result (entries.new.items ≡ entries.old.items) }
     ensures ordered { InOrder entries.new.items }
+    ensures held { IsSome (item_of (entries_view entries.old.items) key) → IsOk result }
     ensures room { vec_len entries.old < vec_capacity entries.old → IsOk result }
     ensures len { vec_len entries.new ≤ vec_len entries.old + 1 }
     ensures capacity { vec_capacity entries.old ≤ vec_capacity entries.new }

@@ -1,5 +1,5 @@
 // Views of current items.
-ghost use Rattle.std.specs.Prelude.{◌≡◌, vec_len, [], ◌∷◌, ◌++◌, length, option_map, slice_get, ◌+◌, ◌<◌, ◌^◌, OnSome, OnOk, OnErr, IfOk};
+ghost use Rattle.std.specs.Prelude.{◌≡◌, vec_len, [], ◌∷◌, ◌++◌, length, option_map, slice_get, ◌+◌, ◌<◌, ◌^◌, IsNone, IsSome, IsOk, OnSome, OnOk, OnErr, IfOk};
 ghost use Rattle.std.specs.List.Sorted.{IsStrictlySortedBy};
 ghost use Rattle.std.specs.Map.{keys_of};
 ghost use Rattle.siri_records.specs.Order.{key_cmp};
@@ -86,6 +86,8 @@ impl View {
     pub fn put_change(&mut self, change: Change) -> Result<(), OutOfMemory>
         ensures ok { OnOk result (self.new ≡ after_change self.old change) }
         ensures err { OnErr result (self.new ≡ self.old) }
+        ensures removal { IsNone change.1 → IsOk result }
+        ensures held { IsSome (item_of self.old change.0) → IsOk result }
     {
         make(&mut self.entries, change)
     }

@@ -1,8 +1,11 @@
-use Rattle.std.proofs.Common.{arith, ap, ◌∙◌}
+use Rattle.std.proofs.Common.{arith, ap, sym, ◌∙◌}
+use Rattle.std.proofs.lemmas.Map.{lookup-none}
+use Rattle.std.specs.Prelude.{is_some}
+use mathlib.Core.Bool.{false≢true}
 use Rattle.siri_records.specs.Order.{key_cmp}
 use Rattle.siri_records.proofs.Order.{key_cmp_total}
 use Rattle.siri_change.specs.Views.{entries_view}
-use Rattle.siri_change.proofs.Edited.{here_below, gap_within, put_here, put_gap, keys_set, sorted_gap}
+use Rattle.siri_change.proofs.Edited.{here_below, gap_within, put_here, put_gap, keys_set, none_held, sorted_gap}
 use Rattle.siri_change.proofs.entries.put.Goals as goal
 
 pub replace-requires : goal.replace-requires
@@ -22,3 +25,8 @@ returns-in_ok-insert-in-Err-clause-ok c = ap entries_view c.in_ok-insert-in-Err.
 
 pub returns-in_ok-insert-in-Err-clause-ordered : goal.returns-in_ok-insert-in-Err-clause-ordered
 returns-in_ok-insert-in-Err-clause-ordered c = rw c.in_ok-insert-in-Err.ensures.items (sorted_gap key_cmp_total c.args.key c.args.item _ _ c.requires c.in-Err.ensures)
+
+pub returns-in_err-insert-in-Err-clause-held : goal.returns-in_err-insert-in-Err-clause-held
+returns-in_err-insert-in-Err-clause-held c held =
+    let none = lookup-none _ _ (none_held key_cmp_total c.args.key _ _ c.requires c.in-Err.ensures) in
+    absurd (false≢true (ap is_some (sym none) ∙ held))
