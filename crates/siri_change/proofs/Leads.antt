@@ -1,25 +1,25 @@
 -- The changes from one view to another lead to it, in parts too.
-use Rattle.std.proofs.Common.{◌≡◌, ℕ, zero, suc, ◌+◌, ◌*◌, ◌<◌, ◌≤◌, List, [], ◌∷◌, ◌++◌, length, map, filter, fold, Bool, true, false, not, cond, ◌&&◌, ◌||◌, Option, Some, None, refl, ap, sym, ◌∙◌, subst, arith, append_assoc, length-append}
-use Rattle.std.specs.List.{AllByRecursion, list_all, list_any, flat_map}
+use Rattle.std.proofs.Common.{◌≡◌, List, [], ◌∷◌, Bool, true, false, cond, ◌&&◌, ◌||◌, Option, Some, None, refl, ap, sym, ◌∙◌, subst}
+use Rattle.std.specs.List.{AllByRecursion, list_all, list_any}
 use Rattle.std.specs.List.Sorted.{IsStrictlySortedBy}
-use Rattle.std.specs.Prelude.{if◌then◌else◌, ◌↔◌, is_some, ℤ}
+use Rattle.std.specs.Prelude.{◌↔◌, is_some, ℤ}
 use Rattle.std.specs.Option.{option_eq}
-use Rattle.std.specs.Map.{keys_of, lookup, remove_entry}
+use Rattle.std.specs.Map.{keys_of, remove_entry}
 use Rattle.std.specs.BTreeMap.{insert_entry, is_at}
-use Rattle.std.specs.Ordering.{is_eq, ordering_reverse}
+use Rattle.std.specs.Ordering.{is_eq}
 use Rattle.std.specs.declared.cmp.Ordering.{Ordering}
 use Rattle.std.specs.declared.cmp.Ordering.TheVariants.{Less, Equal, Greater}
 use Rattle.siri_records.specs.declared.key.Key.{Key}
 use Rattle.siri_records.specs.declared.item.Item.{Item}
 use Rattle.siri_records.specs.Near.{is_near}
 use Rattle.siri_records.specs.Order.{key_cmp}
-use Rattle.siri_records.proofs.Order.{key_cmp_total, key_cmp_exact, key_cmp_same}
+use Rattle.siri_records.proofs.Order.{key_cmp_exact, key_cmp_same}
 use Rattle.siri_change.specs.Views.{Items, InOrder, item_of}
 use Rattle.siri_change.specs.Same.{is_same}
 use Rattle.siri_change.specs.Changes.{KeyChange, with_item, keys_of_both, agree_on, Meets, meets, changes, after_change, apply}
 use Rattle.std.proofs.lemmas.Bool.{and_parts, and_from}
 use Rattle.siri_change.proofs.SameItems.{same_exact}
-use Rattle.siri_change.proofs.Walks.{AllAbove, Above, reversed, above_trans, above_with, none_below, item_here, item_later, changed, changes_on, on_same, on_changed, above_first, changes_added}
+use Rattle.siri_change.proofs.Walks.{Above, reversed, above_trans, above_with, none_below, item_here, changes_on, on_same, on_changed}
 
 -- ---- views with the same items
 

@@ -1,6 +1,5 @@
 -- What stands at a place.
-use Rattle.std.proofs.Common.{◌≡◌, ℕ, suc, zero, ◌<◌, ◌≤◌, List, [], ◌∷◌, ◌++◌, length, get_or, drop, take, map, Some, None, slice_get, ◌+◌, refl, ap, sym, ◌∙◌, arith, add-one}
-use Rattle.std.specs.List.Sorted.{IsStrictlySortedBy}
+use Rattle.std.proofs.Common.{◌≡◌, ℕ, suc, zero, ◌<◌, ◌≤◌, List, [], ◌∷◌, ◌++◌, length, get_or, drop, take, Some, None, slice_get, ◌+◌, refl, ap, sym, ◌∙◌, arith, add-one}
 use Rattle.std.specs.Map.{keys_of}
 use Rattle.siri_records.specs.declared.key.Key.{Key}
 use Rattle.siri_records.specs.declared.item.Item.{Item}

@@ -1,7 +1,7 @@
 -- Items that are recorded at one time and near with no slack are equal in every field.
 use Rattle.std.proofs.Common.{◌≡◌, ℕ, ℤ, pos, List, [], ◌∷◌, map, subst, Option, None, Some, Bool, true, false, ◌&&◌, ◌||◌, nat_eq, unsigned_abs, int_lt, ◌-ℤ◌, refl, ap, ◌∙◌, sym, eqb-true, eq-eqb, arith}
 use Rattle.std.proofs.lemmas.Bool.{le-ltb}
-use Rattle.std.specs.Bool.{beq, IsTrue}
+use Rattle.std.specs.Bool.{IsTrue}
 use Rattle.std.specs.Prelude.{◌↔◌}
 use Rattle.std.specs.Ordering.{int_eq}
 use Rattle.std.specs.Option.{option_eq, option_map}
@@ -15,7 +15,7 @@ use Rattle.siri_records.specs.declared.vehicle.Vehicle.{Vehicle}
 use Rattle.siri_records.specs.declared.vehicle.VehicleJourney.{VehicleJourney}
 use Rattle.siri_records.specs.declared.visit.Visit.{Visit}
 use Rattle.siri_records.specs.declared.visit.VisitJourney.{VisitJourney}
-use Rattle.siri_records.specs.Near.{same_text, same_location, is_close, are_close_moments, is_near_call, is_near_visit_journey, is_near_visit, is_near_journey, is_near_vehicle_journey, is_near_vehicle, is_near, steady_call, steady_visit_journey, steady_visit, steady_journey, steady_vehicle_journey, steady_vehicle, steady}
+use Rattle.siri_records.specs.Near.{is_close, are_close_moments, is_near_call, is_near_visit_journey, is_near_visit, is_near_journey, is_near_vehicle_journey, is_near_vehicle, is_near, steady_call, steady_visit_journey, steady_visit, steady_journey, steady_vehicle_journey, steady_vehicle}
 use Rattle.siri_records.proofs.NearLaws.{near_agrees, near_itself}
 use Rattle.siri_change.specs.Same.{recorded_at, is_same}
 

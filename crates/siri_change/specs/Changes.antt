@@ -1,6 +1,6 @@
 -- How views differ, and what leads from one to another (incremental updates of EN 15531-2; ChangeBeforeUpdates of
 -- EN 15531-3 is the slack).
-use Rattle.std.specs.Prelude.{◌≡◌, ℤ, Bool, true, not, List, [], map, filter, fold, Option, Some, None, is_some, if◌then◌else◌}
+use Rattle.std.specs.Prelude.{◌≡◌, ℤ, Bool, true, not, List, map, filter, fold, Option, Some, None, is_some, if◌then◌else◌}
 use Rattle.std.specs.List.{list_all}
 use Rattle.std.specs.Option.{option_eq}
 use Rattle.std.specs.Map.{keys_of, remove_entry}

@@ -1,5 +1,5 @@
 use Rattle.std.proofs.Common.{sym}
-use Rattle.siri_change.proofs.Placed.{order_viewed, entry_at, none_at}
+use Rattle.siri_change.proofs.Placed.{order_viewed, none_at}
 use Rattle.siri_change.proofs.view.View.entry.Goals as goal
 
 pub returns-in-Some-clause-ordered : goal.returns-in-Some-clause-ordered
