@@ -1,4 +1,6 @@
 pub mod Ends
+pub mod Keyed
 pub mod Keys
 pub mod Near
 pub mod Order
+pub mod Places

@@ -1,23 +1,31 @@
 //! Visits, journeys, vehicles and situations: what each holds, what it is known by, when it is over, and when two are near.
 //!
+//! `KeyedItems` holds shared items in order of key, each key once: a store's current items and a subscription's views
+//! stand on it.
+//!
 //! Stands on `siri_base`. It reads and writes no text, and knows no topic, no store and no subscription.
 #![tactic(auto)]
 
 mod call;
+mod change;
 mod ends;
+mod entries;
 mod item;
 mod journey;
 mod key;
+mod keyed;
 mod nearness;
 mod situation;
 mod vehicle;
 mod visit;
 
 pub use call::StopCall;
+pub use change::Change;
 pub use ends::{closed, dead, end_of, entry_of, moment_of};
 pub use item::{Item, Service};
 pub use journey::Journey;
 pub use key::{Key, key_of, keys_are_in_order};
+pub use keyed::KeyedItems;
 pub use nearness::{near, near_items_agree};
 pub use situation::{Period, Situation};
 pub use vehicle::{Vehicle, VehicleJourney};

@@ -1,0 +1,26 @@
+use Rattle.std.proofs.Common.{arith, sym, ap, ◌∙◌}
+use Rattle.std.specs.Prelude.{is_some}
+use Rattle.std.proofs.lemmas.Map.{lookup-none}
+use Rattle.siri_records.specs.Order.{key_cmp}
+use Rattle.siri_records.specs.Keyed.{entries_view}
+use Rattle.siri_records.proofs.Order.{key_cmp_total}
+use Rattle.siri_records.proofs.Edited.{here_below, lookup_here, none_held, remove_here, remove_none, sorted_remove}
+use Rattle.siri_records.proofs.entries.remove.Goals as goal
+
+pub remove-requires : goal.remove-requires
+remove-requires c = omega (arith, here_below _ _ _ c.in-Ok.ensures)
+
+pub returns-in-Ok-clause-rest : goal.returns-in-Ok-clause-rest
+returns-in-Ok-clause-rest c = ap entries_view c.remove.ensures.items ∙ remove_here key_cmp c.args.key.now _ _ c.in-Ok.ensures
+
+pub returns-in-Ok-clause-held : goal.returns-in-Ok-clause-held
+returns-in-Ok-clause-held c = sym (ap is_some (lookup_here key_cmp c.args.key.now _ c.in-Ok.at c.remove.result c.in-Ok.ensures))
+
+pub returns-in-Ok-clause-ordered : goal.returns-in-Ok-clause-ordered
+returns-in-Ok-clause-ordered c = rw c.remove.ensures.items (sorted_remove key_cmp _ c.in-Ok.at c.requires)
+
+pub returns-in-Err-clause-rest : goal.returns-in-Err-clause-rest
+returns-in-Err-clause-rest c = sym (remove_none _ _ (none_held key_cmp_total _ _ _ c.requires c.in-Err.ensures))
+
+pub returns-in-Err-clause-held : goal.returns-in-Err-clause-held
+returns-in-Err-clause-held c = sym (ap is_some (lookup-none _ _ (none_held key_cmp_total _ _ _ c.requires c.in-Err.ensures)))

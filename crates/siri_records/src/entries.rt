@@ -1,0 +1,124 @@
+// Shared items in a vector, in order of key.
+ghost use Rattle.std.specs.Prelude.{◌≡◌, ◌<◌, ◌≤◌, ◌+◌, vec_len, is_some, IsNone, IsSome, IsOk, OnOk, OnErr, IfOk};
+ghost use Rattle.std.specs.Vec.{vec_capacity};
+ghost use Rattle.std.specs.Map.{remove_entry};
+ghost use Rattle.std.specs.BTreeMap.{insert_entry, is_at};
+ghost use Rattle.siri_records.specs.Order.{key_cmp};
+ghost use Rattle.siri_records.specs.Keyed.{InOrder, item_of, after_change, entries_view};
+ghost use Rattle.siri_records.specs.Places.{Finds, set_value_at};
+
+use crate::{Change, Item, Key};
+use siri_base::{Copies, OutOfMemory};
+use std::cmp::Ordering;
+use std::rc::Rc;
+
+pub(crate) type Entry = (Key, Rc<Item>);
+
+// Where the key stands, or where it would.
+pub(crate) fn find(entries: &Vec<Entry>, key: &Key) -> Result<usize, usize>
+    requires { InOrder entries.now.items }
+    ensures { Finds (key_cmp key.now) entries.now.items result }
+{
+    entries.binary_search_by(
+        |entry: &Entry| -> Ordering
+            ensures { result ≡ key_cmp entry.now.0 key.entry.now }
+        { compare(&entry.0, key) },
+    )
+}
+
+fn compare(a: &Key, b: &Key) -> Ordering
+    ensures { result ≡ key_cmp a.now b.now }
+{
+    a.cmp(b)
+}
+
+// The change is made. It takes no memory where there is room for one more entry.
+pub(crate) fn make(entries: &mut Vec<Entry>, change: Change) -> Result<(), OutOfMemory>
+    requires { InOrder entries.old.items }
+    ensures ok { OnOk result (entries_view entries.new.items ≡ after_change (entries_view entries.old.items) change) }
+    ensures err { OnErr result (entries.new.items ≡ entries.old.items) }
+    ensures ordered { InOrder entries.new.items }
+    ensures removal { IsNone change.1 → IsOk result }
+    ensures held { IsSome (item_of (entries_view entries.old.items) change.0) → IsOk result }
+    ensures room { vec_len entries.old < vec_capacity entries.old → IsOk result }
+    ensures len { vec_len entries.new ≤ vec_len entries.old + 1 }
+    ensures capacity { vec_capacity entries.old ≤ vec_capacity entries.new }
+{
+    let Change { key, item } = change;
+    match item {
+        Some(item) => put(entries, key, item),
+        None => {
+            let _ = remove(entries, &key);
+            discard_key(key);
+            Ok(())
+        }
+    }
+}
+
+// The item becomes the one of the key. Room for a key that isn't held is taken before anything changes.
+pub(crate) fn put(entries: &mut Vec<Entry>, key: Key, item: Rc<Item>) -> Result<(), OutOfMemory>
+    requires { InOrder entries.old.items }
+    ensures ok { OnOk result (entries_view entries.new.items ≡ insert_entry key_cmp (entries_view entries.old.items) key item.value) }
+    ensures err { OnErr result (entries.new.items ≡ entries.old.items) }
+    ensures ordered { InOrder entries.new.items }
+    ensures held { IsSome (item_of (entries_view entries.old.items) key) → IsOk result }
+    ensures room { vec_len entries.old < vec_capacity entries.old → IsOk result }
+    ensures len { vec_len entries.new ≤ vec_len entries.old + 1 }
+    ensures capacity { vec_capacity entries.old ≤ vec_capacity entries.new }
+{
+    match find(entries, &key) {
+        Ok(at) => {
+            discard_key(key);
+            replace(entries, at, item);
+            Ok(())
+        }
+        Err(at) => {
+            entries.insert(at, (key, item))?;
+            Ok(())
+        }
+    }
+}
+
+// Whether the key was held. It isn't afterwards.
+pub(crate) fn remove(entries: &mut Vec<Entry>, key: &Key) -> bool
+    requires { InOrder entries.old.items }
+    ensures rest { entries_view entries.new.items ≡ remove_entry (is_at (key_cmp key.now)) (entries_view entries.old.items) }
+    ensures held { result ≡ is_some (item_of (entries_view entries.old.items) key.now) }
+    ensures ordered { InOrder entries.new.items }
+    ensures len { vec_len entries.new ≤ vec_len entries.old }
+    ensures capacity { vec_capacity entries.old ≤ vec_capacity entries.new }
+{
+    match find(entries, key) {
+        Ok(at) => {
+            discard(entries.remove(at));
+            true
+        }
+        Err(_) => false,
+    }
+}
+
+fn replace(entries: &mut Vec<Entry>, at: usize, item: Rc<Item>)
+    requires { at < vec_len entries.old }
+    ensures items { entries.new.items ≡ set_value_at entries.old.items at item }
+    ensures len { vec_len entries.new ≡ vec_len entries.old }
+    ensures capacity { vec_capacity entries.new ≡ vec_capacity entries.old }
+{
+    entries[at].1 = item;
+}
+
+// The same shared item under a copy of its key.
+pub(crate) fn copy_entry(entry: &Entry) -> Result<Entry, OutOfMemory>
+    ensures { IfOk result (λ copy. (copy.0 ≡ entry.now.0) × (copy.1.value ≡ entry.now.1.value)) }
+{
+    let item = entry.1.clone()?;
+    Ok((entry.0.copy()?, item))
+}
+
+// Each of these lets one value go and does nothing else. A value of these types that goes at the end of a longer function
+// opens, in that function's proof, the letting go of each of its fields on each path: minutes in place of seconds.
+
+pub(crate) fn discard_item(_item: Rc<Item>) {}
+
+fn discard_key(_key: Key) {}
+
+fn discard(_entry: Entry) {}

@@ -1,0 +1,171 @@
+// Shared items by their keys.
+ghost use Rattle.std.specs.Prelude.{◌≡◌, ◌<◌, ◌+◌, ◌^◌, [], ◌∷◌, ◌++◌, length, option_map, is_some, slice_get, not, Some, IsNone, IsSome, IsOk, OnSome, OnOk, OnErr};
+ghost use Rattle.std.specs.List.Sorted.{IsStrictlySortedBy};
+ghost use Rattle.std.specs.Map.{keys_of, lookup, remove_entry};
+ghost use Rattle.std.specs.BTreeMap.{insert_entry, is_at};
+ghost use Rattle.siri_records.specs.Ends.{is_dead};
+ghost use Rattle.siri_records.specs.Order.{key_cmp};
+ghost use Rattle.siri_records.specs.Keyed.{InOrder, PlacedAt, living, deref_entry, after_change, apply};
+
+use crate::entries::{copy_entry, discard_item, find, make, put, remove};
+use crate::{Change, Item, Key, dead};
+use siri_base::{Copies, List, Moment, OutOfMemory};
+use std::alloc::Global;
+use std::marker::Model;
+use std::rc::Rc;
+
+/// Shared items by their keys, in order of key, each key once. Contracts see the keys with the items themselves.
+///
+/// A key is found by halves. An item of a key that isn't held moves those behind it up, and a removal moves them down.
+#[derive(Drop)]
+pub struct KeyedItems {
+    entries: Vec<(Key, Rc<Item>)>,
+}
+
+impl Model for KeyedItems {
+    ghost use Rattle.siri_records.specs.Keyed.{Items, InOrder, entries_view};
+
+    ghost Value = { Items };
+
+    ghost view = { λ s. entries_view s.entries.items };
+
+    ghost invariant = { λ s. InOrder s.entries.items };
+}
+
+impl KeyedItems {
+    /// Those that hold nothing. It takes no memory.
+    pub fn new(alloc: Global) -> KeyedItems
+        ensures { result ≡ [] }
+    {
+        KeyedItems {
+            entries: Vec::new(alloc),
+        }
+    }
+
+    /// How many keys are held.
+    pub fn len(&self) -> usize
+        ensures number { result ≡ length self.now }
+        ensures ordered { InOrder self.now }
+    {
+        self.entries.len()
+    }
+
+    /// The key and the item at a place in order of key, counted from 0, or `None` exactly where the place isn't below
+    /// the length.
+    pub fn entry(&self, place: usize) -> Option<&(Key, Rc<Item>)>
+        ensures entry { option_map deref_entry result ≡ slice_get self.now place }
+        ensures onward { PlacedAt self.now place (option_map deref_entry result) }
+        ensures small { OnSome result (place + 1 < 2 ^ 64) }
+        ensures ordered { InOrder self.now }
+    {
+        match self.entries.get(place) {
+            Some(entry) => Some(entry),
+            None => None,
+        }
+    }
+
+    /// The item of a key, or `None` exactly where the key isn't held.
+    pub fn get(&self, key: &Key) -> Option<&Rc<Item>>
+        ensures { option_map (λ item. item.now.value) result ≡ lookup (is_at (key_cmp key.now)) self.now }
+    {
+        match find(&self.entries, key) {
+            Ok(at) => Some(&self.entries[at].1),
+            Err(_) => None,
+        }
+    }
+
+    /// Whether a key is held.
+    pub fn has(&self, key: &Key) -> bool
+        ensures { result ≡ is_some (lookup (is_at (key_cmp key.now)) self.now) }
+    {
+        self.get(key).is_some()
+    }
+
+    /// An item becomes the one of a key. After want of memory all is as before; an item of a held key takes none.
+    pub fn put(&mut self, key: Key, item: Rc<Item>) -> Result<(), OutOfMemory>
+        ensures ok { OnOk result (self.new ≡ insert_entry key_cmp self.old key item.value) }
+        ensures err { OnErr result (self.new ≡ self.old) }
+        ensures held { IsSome (lookup (is_at (key_cmp key)) self.old) → IsOk result }
+    {
+        put(&mut self.entries, key, item)
+    }
+
+    /// Puts an item at the end: its key is above those that are held. After want of memory all is as before.
+    pub fn push_last(&mut self, key: Key, item: Rc<Item>) -> Result<(), OutOfMemory>
+        requires { IsStrictlySortedBy key_cmp (keys_of self.old ++ key ∷ []) }
+        ensures ok { OnOk result (self.new ≡ self.old ++ (key, item.value) ∷ []) }
+        ensures err { OnErr result (self.new ≡ self.old) }
+    {
+        self.entries.push((key, item))?;
+        Ok(())
+    }
+
+    /// Removes a key: true exactly where it was held. It takes no memory.
+    pub fn remove(&mut self, key: &Key) -> bool
+        ensures rest { self.new ≡ remove_entry (is_at (key_cmp key.now)) self.old }
+        ensures held { result ≡ is_some (lookup (is_at (key_cmp key.now)) self.old) }
+    {
+        remove(&mut self.entries, key)
+    }
+
+    /// Takes out the entry at a place, and gives its key. It takes no memory.
+    pub fn remove_at(&mut self, place: usize) -> Key
+        requires { place < length self.old }
+        ensures key { option_map (λ e. e.0) (slice_get self.old place) ≡ Some result }
+        ensures rest { self.new ≡ remove_entry (is_at (key_cmp result)) self.old }
+    {
+        let (key, item) = self.entries.remove(place);
+        discard_item(item);
+        key
+    }
+
+    /// Lets those go that are dead at a moment. It goes over them once and takes no memory.
+    pub fn keep_living(&mut self, now: Moment)
+        ensures { self.new ≡ living now self.old }
+    {
+        self.entries.retain(
+            |entry: &(Key, Rc<Item>)| -> bool
+                ensures { result ≡ not (is_dead entry.now.1.value now) }
+            { !dead(&entry.1, now) },
+        );
+    }
+
+    /// Makes a change: an item becomes the one of its key, and a removal removes the key, where it is held. After want of
+    /// memory all is as before; a removal, and an item of a held key, take none.
+    pub fn change(&mut self, change: Change) -> Result<(), OutOfMemory>
+        ensures ok { OnOk result (self.new ≡ after_change self.old change) }
+        ensures err { OnErr result (self.new ≡ self.old) }
+        ensures removal { IsNone change.1 → IsOk result }
+        ensures held { IsSome (lookup (is_at (key_cmp change.0)) self.old) → IsOk result }
+    {
+        make(&mut self.entries, change)
+    }
+
+    /// Makes changes, one after the other. Room for all of them is taken first: after want of memory all is as before.
+    pub fn change_all(&mut self, list: List<Change>) -> Result<(), OutOfMemory>
+        ensures ok { OnOk result (self.new ≡ apply self.old list) }
+        ensures err { OnErr result (self.new ≡ self.old) }
+    {
+        let ready = list.into_vec();
+        self.entries.reserve(ready.len())?;
+        for change in ready {
+            make(&mut self.entries, change)?;
+        }
+        Ok(())
+    }
+
+    /// Where the memory for more of them comes from.
+    pub fn allocator(&self) -> Global {
+        *self.entries.allocator()
+    }
+}
+
+impl Copies for KeyedItems {
+    fn copy(&self) -> Result<Self, OutOfMemory> {
+        let mut entries = Vec::new(self.allocator());
+        for entry in &self.entries {
+            entries.push(copy_entry(entry)?)?;
+        }
+        Ok(KeyedItems { entries })
+    }
+}
