@@ -1,5 +1,7 @@
 // Deliveries of items.
 ghost use Rattle.std.specs.Prelude.{◌≡◌};
+ghost use Rattle.std.specs.List.{list_any};
+ghost use Rattle.siri_messages.specs.Rounds.{has_round, in_a_round};
 
 use siri_base::{Copies, List, Moment, Name, OutOfMemory, Text};
 use siri_records::{Item, Key};
@@ -41,6 +43,26 @@ pub struct FunctionalDelivery {
     pub items: List<Item>,
     /// What its cancellations, or its removed journeys or situations, name.
     pub removals: List<Key>,
+}
+
+impl ServiceDelivery {
+    /// Whether some functional delivery of the four services belongs to a round, whether it has items or not. One that
+    /// belongs to none is a feed, or the answer to a request.
+    pub fn has_round(&self) -> bool
+        ensures { result ≡ has_round self.now }
+    {
+        has_part(self.stop_monitoring_delivery.slice())
+            || has_part(self.estimated_timetable_delivery.slice())
+            || has_part(self.vehicle_monitoring_delivery.slice())
+            || has_part(self.situation_exchange_delivery.slice())
+    }
+}
+
+/// Whether one of these belongs to a round.
+fn has_part(deliveries: &[FunctionalDelivery]) -> bool
+    ensures { result ≡ list_any in_a_round deliveries.now }
+{
+    deliveries.iter().any(|delivery| delivery.round.is_some())
 }
 
 impl Copies for ServiceDelivery {
