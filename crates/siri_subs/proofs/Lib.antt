@@ -1,3 +1,5 @@
 pub mod Answered
+pub mod Mapped
+pub mod Named
 pub mod Once
 pub mod Placed

@@ -1,8 +1,8 @@
 -- What is lent of a table.
 use Rattle.std.specs.Option.{option_copied}
 use Rattle.siri_subs.specs.declared.entry.Entry.{Entry}
-use Rattle.siri_subs.specs.declared.entry.Held.{Held}
+use Rattle.siri_subs.specs.declared.entry.Row.{Row}
 
 -- a lent entry is what is held
-abbrev pub entry_of : {E : Type 0} → Entry E → Held E
+abbrev pub entry_of : {E : Type 0} → Entry E → Row E
 entry_of e = record { wanted = e.wanted.now; number = e.number; address = option_copied e.address; beat = e.beat; slot = e.slot.now }

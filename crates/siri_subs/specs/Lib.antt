@@ -1,3 +1,4 @@
 pub mod Lent
 pub mod Loans
+pub mod Mapped
 pub mod Table

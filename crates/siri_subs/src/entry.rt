@@ -6,9 +6,9 @@ ghost use Rattle.siri_subs.specs.Lent.{entry_of};
 use siri_base::{Moment, Name, Span};
 use siri_topic::Subscription;
 
-/// What is held of a subscription. Contracts see a table as the list of these.
+/// What is held of a subscription: a row of the table. Contracts see a table as the list of these.
 #[derive(Drop)]
-pub struct Held<E> {
+pub struct Row<E> {
     /// The subscription as its subscriber asked for it last.
     pub wanted: Subscription,
     /// The number of that request.
@@ -36,15 +36,15 @@ pub struct Entry<'a, E> {
     pub slot: &'a E,
 }
 
-impl<E> Held<E> {
+impl<E> Row<E> {
     pub(crate) fn is_of(&self, subscriber: &Name, identifier: &Name) -> bool
         ensures { result ≡ definition.is_of subscriber.now identifier.now self.now }
     {
         self.wanted.subscriber == *subscriber && self.wanted.identifier == *identifier
     }
 
-    pub(crate) fn is_over(&self, now: Moment) -> bool
-        ensures { result ≡ definition.is_over now self.now }
+    pub(crate) fn is_terminated(&self, now: Moment) -> bool
+        ensures { result ≡ definition.is_terminated now self.now }
     {
         self.wanted.termination.ms() <= now.ms()
     }

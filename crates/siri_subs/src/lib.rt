@@ -7,6 +7,7 @@
 //!
 //!     a place                    -> at, at_mut    ---> what is held there
 //!     subscriber, identifier     -> place_of      ---> where it is held
+//!     subscriber, identifier     -> set_slot      ---> another slot of it
 //! ```
 //!
 //! A subscription is known by its subscriber and its identifier. Its subscriber numbers its requests, so that a request
@@ -20,10 +21,12 @@
 
 mod entry;
 mod errors;
+mod laws;
 mod table;
 #[cfg(test)]
 mod tests;
 
-pub use entry::{Entry, Held};
+pub use entry::{Entry, Row};
 pub use errors::{AcceptError, Accepted, EndError};
+pub use laws::{slots_are_written_by_name, slots_decide_nothing};
 pub use table::{TABLE_LIMIT, Table};

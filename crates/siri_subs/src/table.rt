@@ -5,7 +5,7 @@ ghost use Rattle.std.specs.Borrow.{sem};
 ghost use Rattle.siri_subs.specs.Lent.{entry_of};
 ghost use Rattle.siri_subs.specs.Table as definition;
 
-use crate::{AcceptError, Accepted, EndError, Entry, Held};
+use crate::{AcceptError, Accepted, EndError, Entry, Row};
 use siri_base::{Moment, Name, OutOfMemory, Span};
 use siri_topic::Subscription;
 use std::alloc::Global;
@@ -19,12 +19,12 @@ pub const TABLE_LIMIT: usize = 200;
 /// slot. Contracts see the list of the entries.
 #[derive(Drop)]
 pub struct Table<E> {
-    entries: Vec<Held<E>>,
+    entries: Vec<Row<E>>,
 }
 
 impl<E> Model for Table<E> {
     ghost use Rattle.std.specs.Prelude.{List, vec_capacity};
-    ghost use Rattle.siri_subs.specs.declared.entry.Held.{Held as Kept};
+    ghost use Rattle.siri_subs.specs.declared.entry.Row.{Row as Kept};
     ghost use Rattle.siri_subs.specs.Table.{IsKept};
 
     ghost Value = { List (Kept E) };
@@ -75,8 +75,9 @@ impl<E> Table<E> {
         ensures table_full { (result ≡ Err AcceptError.TableFull)
             ↔ ((definition.number_of wanted.subscriber wanted.identifier self.old ≡ None) × (length self.old ≡ 200) × (now < wanted.termination)) }
         ensures refused { OnErr result (self.new ≡ self.old) }
+        ensures once { definition.EachOnce self.new }
     {
-        let entry = Held {
+        let entry = Row {
             wanted,
             number,
             address,
@@ -99,6 +100,7 @@ impl<E> Table<E> {
         ensures known { is_ok result ≡ definition.is_ended_by number subscriber.now identifier.now self.old }
         ensures table { self.new ≡ definition.ended number subscriber.now identifier.now self.old }
         ensures refused { OnErr result (self.new ≡ self.old) }
+        ensures once { definition.EachOnce self.new }
     {
         match self.place_of(subscriber, identifier) {
             Some(place) if self.entries[place].number < number => {
@@ -109,13 +111,14 @@ impl<E> Table<E> {
         }
     }
 
-    /// Lets each subscription go that is over: its termination time is at or before now. It takes no memory.
+    /// Lets each subscription go that is terminated: its termination time is at or before now. It takes no memory.
     pub fn expire(&mut self, now: Moment)
     where
         E: Drop,
-        ensures { self.new ≡ definition.expired now self.old }
+        ensures table { self.new ≡ definition.expired now self.old }
+        ensures once { definition.EachOnce self.new }
     {
-        self.entries.retain(|entry| !entry.is_over(now));
+        self.entries.retain(|entry| !entry.is_terminated(now));
     }
 
     /// How many subscriptions are held, at most 200.
@@ -150,9 +153,30 @@ impl<E> Table<E> {
         }
     }
 
+    /// Writes the slot of a subscription, and says whether it is held: where it isn't, nothing changes. It takes no memory.
+    pub fn set_slot(&mut self, subscriber: &Name, identifier: &Name, slot: E) -> bool
+    where
+        E: Drop,
+        ensures held { result ≡ definition.is_held subscriber.now identifier.now self.old }
+        ensures table { self.new ≡ definition.with_slot_of subscriber.now identifier.now slot self.old }
+        ensures once { definition.EachOnce self.new }
+    {
+        let Some(place) = self.place_of(subscriber, identifier) else {
+            return false;
+        };
+        match self.at_mut(place) {
+            Some(kept) => {
+                *kept = slot;
+                true
+            }
+            None => false,
+        }
+    }
+
     /// The place of a subscription, counted from 0: `None` exactly where it isn't held.
     pub fn place_of(&self, subscriber: &Name, identifier: &Name) -> Option<usize>
-        ensures { result ≡ definition.place_of subscriber.now identifier.now self.now }
+        ensures place { result ≡ definition.place_of subscriber.now identifier.now self.now }
+        ensures once { definition.EachOnce self.now }
     {
         self.entries
             .iter()
@@ -169,14 +193,15 @@ impl<E> Table<E> {
     }
 
     // What the request for an entry's subscription is answered.
-    fn answer(&self, entry: &Held<E>, now: Moment) -> Result<Accepted, AcceptError>
+    fn answer(&self, entry: &Row<E>, now: Moment) -> Result<Accepted, AcceptError>
         ensures value { result ≡ definition.answer now entry.now self.now }
         ensures bound { length self.now ≤ 200 }
+        ensures once { definition.EachOnce self.now }
     {
-        let is_over = entry.is_over(now);
+        let is_terminated = entry.is_terminated(now);
         match self.number_of(&entry.wanted.subscriber, &entry.wanted.identifier) {
             Some(held) if held == entry.number => Ok(Accepted::Again),
-            _ if is_over => Err(AcceptError::PastTermination),
+            _ if is_terminated => Err(AcceptError::PastTermination),
             Some(held) if held > entry.number => Err(AcceptError::Superseded { held }),
             Some(_) => Ok(Accepted::Renewed),
             None if self.entries.len() >= TABLE_LIMIT => Err(AcceptError::TableFull),
@@ -195,11 +220,12 @@ impl<E> Table<E> {
     }
 
     // Puts an entry in the place of its subscription's, or at the end where it isn't held and there is room.
-    fn put(&mut self, entry: Held<E>)
+    fn put(&mut self, entry: Row<E>)
     where
         E: Drop,
         requires { definition.number_of entry.wanted.subscriber entry.wanted.identifier self.old ≡ None → length self.old < 200 }
-        ensures { self.new ≡ definition.put entry self.old }
+        ensures table { self.new ≡ definition.put entry self.old }
+        ensures once { definition.EachOnce self.new }
     {
         match self.place_of(&entry.wanted.subscriber, &entry.wanted.identifier) {
             Some(place) => discard(replace(&mut self.entries[place], entry)),
@@ -208,4 +234,4 @@ impl<E> Table<E> {
     }
 }
 
-fn discard<E: Drop>(_entry: Held<E>) {}
+fn discard<E: Drop>(_entry: Row<E>) {}

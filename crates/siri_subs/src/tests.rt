@@ -57,6 +57,17 @@ fn place_of(table: &Table<u8>, alloc: Global, identifier: &str) -> Result<Option
     Ok(table.place_of(&subscriber, &identifier))
 }
 
+fn set_slot(
+    table: &mut Table<u8>,
+    alloc: Global,
+    identifier: &str,
+    slot: u8,
+) -> Result<bool, Fail> {
+    let subscriber = Name::new(alloc, "c1")?;
+    let identifier = Name::new(alloc, identifier)?;
+    Ok(table.set_slot(&subscriber, &identifier, slot))
+}
+
 #[test]
 fn numbers_decide(rt: HostRuntime) -> Result<(), Fail> {
     let alloc = rt.alloc();
@@ -112,6 +123,9 @@ fn keeps_places(rt: HostRuntime) -> Result<(), Fail> {
     if let Some(slot) = table.at_mut(1) {
         *slot = 9;
     }
+    assert!(rt; set_slot(&mut table, alloc, "a", 8)?);
+    assert!(rt; !set_slot(&mut table, alloc, "c", 7)?);
+    assert_eq!(rt; slot_at(&table, 0), Some(8));
     table.expire(moment(150)?);
     assert_eq!(rt; place_of(&table, alloc, "a")?, None);
     assert_eq!(rt; slot_at(&table, 0), Some(9));
