@@ -90,7 +90,7 @@ pub record IsProperVisitJourney (j : VisitJourney) : Type 0 where
   pub direction_ref : IfSome j.direction_ref IsName
   pub data_frame_ref : IfSome j.data_frame_ref IsName
   pub dated_vehicle_journey_ref : IfSome j.dated_vehicle_journey_ref IsName
-  pub framed : IsSome j.data_frame_ref → IsSome j.dated_vehicle_journey_ref
+  pub framed_ref : IsSome j.data_frame_ref → IsSome j.dated_vehicle_journey_ref
   pub published_line_name : IfSome j.published_line_name IsText
   pub operator_ref : IfSome j.operator_ref IsName
   pub destination_ref : IfSome j.destination_ref IsName
@@ -115,7 +115,7 @@ pub record IsProperVehicleJourney (j : VehicleJourney) : Type 0 where
   pub direction_ref : IfSome j.direction_ref IsName
   pub data_frame_ref : IfSome j.data_frame_ref IsName
   pub dated_vehicle_journey_ref : IfSome j.dated_vehicle_journey_ref IsName
-  pub framed : IsSome j.data_frame_ref → IsSome j.dated_vehicle_journey_ref
+  pub framed_ref : IsSome j.data_frame_ref → IsSome j.dated_vehicle_journey_ref
   pub published_line_name : IfSome j.published_line_name IsText
   pub operator_ref : IfSome j.operator_ref IsName
   pub destination_ref : IfSome j.destination_ref IsName

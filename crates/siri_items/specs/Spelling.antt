@@ -20,8 +20,8 @@ use Rattle.siri_records.specs.Ends.{call_moment}
 use Rattle.siri_items.specs.declared.names.TheConstants.{ACTUAL_ARRIVAL_TIME, ACTUAL_DEPARTURE_TIME, AFFECTS, AIMED_ARRIVAL_TIME, AIMED_DEPARTURE_TIME, ARRIVAL_PLATFORM_NAME, ARRIVAL_STATUS, CANCELLATION, CREATION_TIME, DELAY, DEPARTURE_PLATFORM_NAME, DEPARTURE_STATUS, DESCRIPTION, DESTINATION_NAME, DESTINATION_REF, DIRECTION_REF, END_TIME, ESTIMATED_CALL, ESTIMATED_CALLS, EXPECTED_ARRIVAL_TIME, EXPECTED_DEPARTURE_TIME, ITEM_IDENTIFIER, LATITUDE, LINE_REF, LONGITUDE, MONITORED, MONITORED_CALL, MONITORED_VEHICLE_JOURNEY, MONITORING_REF, OCCUPANCY, OPERATOR_REF, ORDER, PARTICIPANT_REF, PROGRESS, PUBLISHED_LINE_NAME, RECORDED_AT_TIME, RECORDED_CALL, RECORDED_CALLS, SEVERITY, SITUATION_NUMBER, START_TIME, STOP_POINT_NAME, STOP_POINT_REF, SUMMARY, VALIDITY_PERIOD, VALID_UNTIL_TIME, VEHICLE_AT_STOP, VEHICLE_LOCATION, VEHICLE_REF, VERSION, VERSIONED_AT_TIME}
 use Rattle.siri_items.specs.declared.read_situation.Affected.{Affected}
 use Rattle.siri_items.specs.Refusals.{Refusal}
-use Rattle.siri_items.specs.Rules.{name, text, moment, span, number, decimal, flag, table, maybe, list, some_list, list_inside}
-use Rattle.siri_items.specs.Calls.{stop_call, optional_location, optional_call, reference, needed_reference}
+use Rattle.siri_items.specs.Rules.{name, text, moment, span, number, decimal, flag, table, maybe, list, nonempty_list, list_inside}
+use Rattle.siri_items.specs.Calls.{stop_call, optional_location, optional_call, journey_ref, required_journey_ref}
 use Rattle.siri_items.specs.Visits.{visit_journey}
 use Rattle.siri_items.specs.Vehicles.{vehicle_journey}
 use Rattle.siri_items.specs.Journeys.{has_time}
@@ -63,7 +63,7 @@ pub record SpellsLocation (d : Data) (l : VehicleLocation) : Type 0 where
 pub record SpellsVisitJourney (d : Data) (j : VisitJourney) : Type 0 where
   pub line_ref : Spells name LINE_REF.now d j.line_ref
   pub direction_ref : Spells name DIRECTION_REF.now d j.direction_ref
-  pub reference : reference d ≡ Ok (record { data_frame_ref = j.data_frame_ref; dated_vehicle_journey_ref = j.dated_vehicle_journey_ref })
+  pub journey_ref : journey_ref d ≡ Ok (record { data_frame_ref = j.data_frame_ref; dated_vehicle_journey_ref = j.dated_vehicle_journey_ref })
   pub published_line_name : Spells text PUBLISHED_LINE_NAME.now d j.published_line_name
   pub operator_ref : Spells name OPERATOR_REF.now d j.operator_ref
   pub destination_ref : Spells name DESTINATION_REF.now d j.destination_ref
@@ -87,7 +87,7 @@ pub record SpellsVisit (d : Data) (v : Visit) : Type 0 where
 pub record SpellsVehicleJourney (d : Data) (j : VehicleJourney) : Type 0 where
   pub line_ref : Spells name LINE_REF.now d j.line_ref
   pub direction_ref : Spells name DIRECTION_REF.now d j.direction_ref
-  pub reference : reference d ≡ Ok (record { data_frame_ref = j.data_frame_ref; dated_vehicle_journey_ref = j.dated_vehicle_journey_ref })
+  pub journey_ref : journey_ref d ≡ Ok (record { data_frame_ref = j.data_frame_ref; dated_vehicle_journey_ref = j.dated_vehicle_journey_ref })
   pub published_line_name : Spells text PUBLISHED_LINE_NAME.now d j.published_line_name
   pub operator_ref : Spells name OPERATOR_REF.now d j.operator_ref
   pub destination_ref : Spells name DESTINATION_REF.now d j.destination_ref
@@ -111,7 +111,7 @@ pub record SpellsJourneyRows (d : Data) (j : Journey) : Type 0 where
   pub recorded_at_time : Spells moment RECORDED_AT_TIME.now d j.recorded_at_time
   pub line_ref : Spells name LINE_REF.now d (Some j.line_ref)
   pub direction_ref : Spells name DIRECTION_REF.now d j.direction_ref
-  pub reference : needed_reference d ≡ Ok (record { data_frame_ref = j.data_frame_ref; dated_vehicle_journey_ref = j.dated_vehicle_journey_ref })
+  pub journey_ref : required_journey_ref d ≡ Ok (record { data_frame_ref = j.data_frame_ref; dated_vehicle_journey_ref = j.dated_vehicle_journey_ref })
   pub cancellation : Spells flag CANCELLATION.now d j.cancellation
   pub published_line_name : Spells text PUBLISHED_LINE_NAME.now d j.published_line_name
   pub operator_ref : Spells name OPERATOR_REF.now d j.operator_ref
@@ -145,7 +145,7 @@ pub record SpellsSituation (d : Data) (s : Situation) : Type 0 where
   pub version : Spells name VERSION.now d s.version
   pub versioned_at_time : Spells moment VERSIONED_AT_TIME.now d s.versioned_at_time
   pub progress : Spells text PROGRESS.now d s.progress
-  pub validity_period : some_list (table period) 100 VALIDITY_PERIOD.now d ≡ Ok s.validity_period
+  pub validity_period : nonempty_list (table period) 100 VALIDITY_PERIOD.now d ≡ Ok s.validity_period
   pub severity : Spells text SEVERITY.now d s.severity
   pub summary : Spells text SUMMARY.now d s.summary
   pub description : Spells text DESCRIPTION.now d s.description

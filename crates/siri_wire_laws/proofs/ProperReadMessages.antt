@@ -20,7 +20,7 @@ use Rattle.siri_wire_laws.specs.SpellingDocuments.{HasObject, SpellsBody, Spells
 use Rattle.siri_wire_laws.proofs.BackDocuments.{canonical_read}
 use Rattle.siri_wire_laws.proofs.ProperReadDeliveries.{ready_proper, ready_acknowledgement_proper, supply_proper, received_proper, check_proper, check_response_proper, heartbeat_proper, service_delivery_proper}
 use Rattle.siri_wire_laws.proofs.ProperReadRequests.{service_request_proper, subscription_request_proper, subscription_response_proper, termination_request_proper, termination_response_proper}
-use Rattle.siri_wire_laws.proofs.SpelledDocuments.{root_spelled}
+use Rattle.siri_wire_laws.proofs.ReadIffSpells.{root_spelled}
 use Rattle.siri_wire_laws.proofs.TreeTexts.{tree_is_utf8}
 
 body_proper : (d : Data) (m : Message) → TextsAreUtf8 d → SpellsBody d m → IsProper m

@@ -16,21 +16,21 @@ use Rattle.siri_messages.specs.declared.supplies.DataSupplyRequest.{DataSupplyRe
 use Rattle.siri_messages.specs.declared.supplies.Mark.{Mark}
 use Rattle.siri_items.specs.declared.names.TheConstants.{RECORDED_AT_TIME}
 use Rattle.siri_items.specs.Refusals.{Refusal, ◌>>=◌, each}
-use Rattle.siri_items.specs.Rules.{name, moment, number, flag, table, spelled, unless_wrong, maybe}
+use Rattle.siri_items.specs.Rules.{name, moment, number, flag, table, read_from_text, unless_wrong, maybe}
 use Rattle.siri_items.specs.Spelling.{Spells}
-use Rattle.siri_items.proofs.SpelledReads.{row_ok, needed_ok}
-use Rattle.siri_items.proofs.ReadSpelled.{bind_ok}
+use Rattle.siri_items.proofs.SpellsImpliesRead.{row_ok, required_row_ok}
+use Rattle.siri_items.proofs.ReadImpliesSpells.{bind_ok}
 use Rattle.siri_wire.specs.declared.names.TheConstants.{ALL_DATA, CONSUMER_REF, EXTENSIONS, MESSAGE_IDENTIFIER, MORE_DATA, NUMBER, PART, PRODUCER_REF, REQUESTOR_REF, REQUEST_MESSAGE_REF, REQUEST_TIMESTAMP, RESPONSE_MESSAGE_IDENTIFIER, RESPONSE_TIMESTAMP, ROUND, SERVICE_STARTED_TIME, START, STATUS, SUBSCRIBER_REF, SUBSCRIPTION_REF}
-use Rattle.siri_wire.specs.declared.read_parts.Extended.{Extended}
+use Rattle.siri_wire.specs.declared.read_parts.DeliveryExtensions.{DeliveryExtensions}
 use Rattle.siri_wire.specs.declared.read_parts.Heading.{Heading}
-use Rattle.siri_wire.specs.declared.read_parts.Standing.{Standing}
+use Rattle.siri_wire.specs.declared.read_parts.RoundPosition.{RoundPosition}
 use Rattle.siri_wire.specs.Deliveries.{stop_monitoring_delivery, estimated_timetable_delivery, vehicle_monitoring_delivery, situation_exchange_delivery, service_delivery}
 use Rattle.siri_wire.specs.Frames.{frame}
-use Rattle.siri_wire.specs.Parts.{heading, within_round, standing, extended}
+use Rattle.siri_wire.specs.Parts.{heading, within_round, round_position, delivery_extensions}
 use Rattle.siri_wire.specs.Removals.{removed_journey, removed_situation}
-use Rattle.siri_wire_laws.specs.SpellingDeliveries.{SpellsMark, SpellsReady, SpellsReadyAcknowledgement, SpellsSupply, SpellsReceived, SpellsCheck, SpellsCheckResponse, SpellsHeartbeat, SpellsBeside, SpellsStanding, SpellsExtended, SpellsHeading, SpellsStopDelivery, SpellsTimetableDelivery, SpellsVehicleDelivery, SpellsSituationDelivery, SpellsFrame, SpellsServiceDelivery}
+use Rattle.siri_wire_laws.specs.SpellingDeliveries.{SpellsMark, SpellsReady, SpellsReadyAcknowledgement, SpellsSupply, SpellsReceived, SpellsCheck, SpellsCheckResponse, SpellsHeartbeat, SpellsBeside, SpellsRoundPosition, SpellsDeliveryExtensions, SpellsHeading, SpellsStopDelivery, SpellsTimetableDelivery, SpellsVehicleDelivery, SpellsSituationDelivery, SpellsFrame, SpellsServiceDelivery}
 use Rattle.siri_wire.specs.Statuses.{check_status_request, check_status_response, heartbeat_notification}
-use Rattle.siri_wire.specs.Supplies.{mark, is_no_text, is_text_absent, lacks, optional_mark, data_ready_notification, data_ready_acknowledgement, supply_rows, unless_all, data_supply_request, data_received_acknowledgement}
+use Rattle.siri_wire.specs.Supplies.{mark, is_no_text, is_text_absent, lacks, optional_mark, data_ready_notification, data_ready_acknowledgement, read_supply_rows, unless_all, data_supply_request, data_received_acknowledgement}
 use Rattle.siri_wire_laws.proofs.MessageValues.{error_ok}
 
 -- ---- texts that are there
@@ -46,14 +46,14 @@ some_read read absent x e = absurd cc
 some_read read wrong x e = refl
 
 -- what is spelled as nothing is absent where a text is wanted
-pub nothing_spelled : {A : Type 0} (read : List ℕ → Result A Refusal) (o : Option Data) → maybe (spelled read) o ≡ Ok None → is_text_absent o ≡ true
-unfolding spelled
+pub nothing_spelled : {A : Type 0} (read : List ℕ → Result A Refusal) (o : Option Data) → maybe (read_from_text read) o ≡ Ok None → is_text_absent o ≡ true
+unfolding read_from_text
 nothing_spelled read None e = refl
 nothing_spelled read (Some d) e = none_read read (text_in d) e
 
 -- what is spelled as something is there
-pub something_spelled : {A : Type 0} (read : List ℕ → Result A Refusal) (o : Option Data) (x : A) → maybe (spelled read) o ≡ Ok (Some x) → is_text_absent o ≡ false
-unfolding spelled
+pub something_spelled : {A : Type 0} (read : List ℕ → Result A Refusal) (o : Option Data) (x : A) → maybe (read_from_text read) o ≡ Ok (Some x) → is_text_absent o ≡ false
+unfolding read_from_text
 something_spelled read None x e = absurd cc
 something_spelled read (Some d) x e = some_read read (text_in d) x e
 
@@ -63,11 +63,11 @@ pub mark_read : (d : Data) (m : Mark) → SpellsMark d m → mark d ≡ Ok m
 unfolding mark
 mark_read d m s_ =
     rw (
-      needed_ok name SUBSCRIPTION_REF.now d m.subscription s_.subscription,
-      needed_ok number NUMBER.now d m.number s_.subscription_number,
-      needed_ok number START.now d m.start s_.start,
-      needed_ok number ROUND.now d m.round s_.round,
-      needed_ok number PART.now d m.part s_.part,
+      required_row_ok name SUBSCRIPTION_REF.now d m.subscription s_.subscription,
+      required_row_ok number NUMBER.now d m.number s_.subscription_number,
+      required_row_ok number START.now d m.start s_.start,
+      required_row_ok number ROUND.now d m.round s_.round,
+      required_row_ok number PART.now d m.part s_.part,
     ) refl
 
 pub ready_read : (d : Data) (n : DataReadyNotification) → SpellsReady d n → data_ready_notification d ≡ Ok n
@@ -76,7 +76,7 @@ ready_read d n s_ =
     rw (
       row_ok moment REQUEST_TIMESTAMP.now d n.request_timestamp s_.request_timestamp,
       row_ok name PRODUCER_REF.now d n.producer_ref s_.producer_ref,
-      needed_ok (table mark) EXTENSIONS.now d n.extensions s_.extensions,
+      required_row_ok (table mark) EXTENSIONS.now d n.extensions s_.extensions,
     ) refl
 
 pub ready_acknowledgement_read : (d : Data) (a : DataReadyAcknowledgement) → SpellsReadyAcknowledgement d a → data_ready_acknowledgement d ≡ Ok a
@@ -89,14 +89,14 @@ ready_acknowledgement_read d a s_ =
       s_.status.is,
     ) refl
 
-pub supply_read : (d : Data) (s : DataSupplyRequest) → SpellsSupply d s → supply_rows d ≡ Ok s
-unfolding supply_rows
+pub supply_read : (d : Data) (s : DataSupplyRequest) → SpellsSupply d s → read_supply_rows d ≡ Ok s
+unfolding read_supply_rows
 supply_read d s s_ =
     rw (
       row_ok moment REQUEST_TIMESTAMP.now d s.request_timestamp s_.request_timestamp,
-      needed_ok name CONSUMER_REF.now d s.consumer_ref s_.consumer_ref,
+      required_row_ok name CONSUMER_REF.now d s.consumer_ref s_.consumer_ref,
       row_ok flag ALL_DATA.now d s_.all_data.given s_.all_data.spelled,
-      needed_ok (table mark) EXTENSIONS.now d s.extensions s_.extensions,
+      required_row_ok (table mark) EXTENSIONS.now d s.extensions s_.extensions,
       s_.all_data.is,
     ) refl
 
@@ -154,24 +154,24 @@ supply_request_read d s s_ = rw (supply_read d s s_) (not_all_ok s s_.not_all)
 
 -- ---- where in a round a delivery stands
 
-standing_at : (d : Data) (start round part : Option ℕ) → Spells number ROUND.now d round → SpellsBeside round START.now d start → SpellsBeside round PART.now d part
-    → standing d ≡ Ok (record { start = start; round = round; part = part })
-unfolding standing within_round lacks
-standing_at d start None part at_round at_start at_part =
+round_position_at : (d : Data) (start round part : Option ℕ) → Spells number ROUND.now d round → SpellsBeside round START.now d start → SpellsBeside round PART.now d part
+    → round_position d ≡ Ok (record { start = start; round = round; part = part })
+unfolding round_position within_round lacks
+round_position_at d start None part at_round at_start at_part =
     let no_round : is_text_absent (member_of ROUND.now d) ≡ true = nothing_spelled _ (member_of ROUND.now d) at_round in
     rw (no_round, at_start, at_part) refl
-standing_at d None (Some round) part at_round at_start at_part = absurd (cc at_start.1)
-standing_at d (Some start) (Some round) None at_round at_start at_part = absurd (cc at_part.1)
-standing_at d (Some start) (Some round) (Some part) at_round at_start at_part =
+round_position_at d None (Some round) part at_round at_start at_part = absurd (cc at_start.1)
+round_position_at d (Some start) (Some round) None at_round at_start at_part = absurd (cc at_part.1)
+round_position_at d (Some start) (Some round) (Some part) at_round at_start at_part =
     let a_round : is_text_absent (member_of ROUND.now d) ≡ false = something_spelled _ (member_of ROUND.now d) round at_round in
-    rw (a_round, needed_ok number START.now d start at_start.0, needed_ok number ROUND.now d round at_round, needed_ok number PART.now d part at_part.0) refl
+    rw (a_round, required_row_ok number START.now d start at_start.0, required_row_ok number ROUND.now d round at_round, required_row_ok number PART.now d part at_part.0) refl
 
-pub standing_read : (d : Data) (s : Standing) → SpellsStanding d s → standing d ≡ Ok s
-standing_read d s s_ = standing_at d s.start s.round s.part s_.round s_.start s_.part
+pub round_position_read : (d : Data) (s : RoundPosition) → SpellsRoundPosition d s → round_position d ≡ Ok s
+round_position_read d s s_ = round_position_at d s.start s.round s.part s_.round s_.start s_.part
 
-pub extended_read : (removed : Data → Result Key Refusal) (d : Data) (e : Extended) → SpellsExtended removed d e → extended removed d ≡ Ok e
-unfolding extended
-extended_read removed d e s_ = rw (standing_read d e.standing s_.standing, s_.removals) refl
+pub delivery_extensions_read : (removed : Data → Result Key Refusal) (d : Data) (e : DeliveryExtensions) → SpellsDeliveryExtensions removed d e → delivery_extensions removed d ≡ Ok e
+unfolding delivery_extensions
+delivery_extensions_read removed d e s_ = rw (round_position_read d e.round_position s_.round_position, s_.removals) refl
 
 -- ---- functional deliveries
 
@@ -196,7 +196,7 @@ unfolding stop_monitoring_delivery
 stop_delivery_read d f s_ =
     rw (
       heading_read d f s_.heading,
-      row_ok (table standing) EXTENSIONS.now d s_.extensions.given s_.extensions.spelled,
+      row_ok (table round_position) EXTENSIONS.now d s_.extensions.given s_.extensions.spelled,
       s_.items,
       s_.removals,
       s_.extensions.start_is,
@@ -209,7 +209,7 @@ unfolding estimated_timetable_delivery
 timetable_delivery_read d f s_ =
     rw (
       heading_read d f s_.heading,
-      row_ok (table (extended removed_journey)) EXTENSIONS.now d s_.extensions.given s_.extensions.spelled,
+      row_ok (table (delivery_extensions removed_journey)) EXTENSIONS.now d s_.extensions.given s_.extensions.spelled,
       s_.items,
       s_.extensions.start_is,
       s_.extensions.round_is,
@@ -222,7 +222,7 @@ unfolding vehicle_monitoring_delivery
 vehicle_delivery_read d f s_ =
     rw (
       heading_read d f s_.heading,
-      row_ok (table standing) EXTENSIONS.now d s_.extensions.given s_.extensions.spelled,
+      row_ok (table round_position) EXTENSIONS.now d s_.extensions.given s_.extensions.spelled,
       s_.items,
       s_.removals,
       s_.extensions.start_is,
@@ -235,7 +235,7 @@ unfolding situation_exchange_delivery
 situation_delivery_read d f s_ =
     rw (
       heading_read d f s_.heading,
-      row_ok (table (extended removed_situation)) EXTENSIONS.now d s_.extensions.given s_.extensions.spelled,
+      row_ok (table (delivery_extensions removed_situation)) EXTENSIONS.now d s_.extensions.given s_.extensions.spelled,
       s_.items,
       s_.extensions.start_is,
       s_.extensions.round_is,

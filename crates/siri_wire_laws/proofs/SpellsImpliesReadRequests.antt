@@ -17,31 +17,31 @@ use Rattle.siri_messages.specs.declared.terminations.TerminateSubscriptionReques
 use Rattle.siri_messages.specs.declared.terminations.TerminateSubscriptionResponse.{TerminateSubscriptionResponse}
 use Rattle.siri_messages.specs.declared.terminations.TerminationResponseStatus.{TerminationResponseStatus}
 use Rattle.siri_items.specs.declared.names.TheConstants.{MONITORING_REF, LINE_REF, DIRECTION_REF, OPERATOR_REF, DESTINATION_REF, START_TIME, VEHICLE_REF, STOP_POINT_REF}
-use Rattle.siri_items.specs.Rules.{name, text, moment, span0, number, flag, table, inside}
-use Rattle.siri_items.proofs.SpelledReads.{row_ok, needed_ok}
+use Rattle.siri_items.specs.Rules.{name, text, moment, non_negative_span, number, flag, table, inside}
+use Rattle.siri_items.proofs.SpellsImpliesRead.{row_ok, required_row_ok}
 use Rattle.siri_wire.specs.declared.names.TheConstants.{CHANGE_BEFORE_UPDATES, CONSUMER_ADDRESS, DELIVERY_METHOD, ESTIMATED_TIMETABLE_REQUEST, EXTENSIONS, HEARTBEAT_INTERVAL, INCREMENTAL_UPDATES, INITIAL_TERMINATION_TIME, MAXIMUM_STOP_VISITS, MESSAGE_IDENTIFIER, PREVIEW_INTERVAL, REQUESTOR_REF, REQUEST_MESSAGE_REF, REQUEST_TIMESTAMP, RESPONSE_TIMESTAMP, SITUATION_EXCHANGE_REQUEST, STATUS, STOP_MONITORING_REQUEST, SUBSCRIBER_REF, SUBSCRIPTION_CONTEXT, SUBSCRIPTION_IDENTIFIER, SUBSCRIPTION_REF, VALID_UNTIL, VEHICLE_MONITORING_REQUEST}
 use Rattle.siri_wire.specs.declared.read_subscriptions.Wanted.{Wanted}
 use Rattle.siri_wire_laws.specs.ProperRequests.{wanted_by}
 use Rattle.siri_wire_laws.specs.SpellingRequests.{SpellsStopTopic, SpellsLineDirection, SpellsTopic, SpellsSubscribed, SpellsServiceRequest, SpellsSubscriber, SpellsAsked, SpellsSlack, SpellsSubscription, SpellsSubscriptionRequest, SpellsResponseStatus, SpellsSubscriptionResponse, SpellsTerminationRequest, SpellsTerminationStatus, SpellsTerminationResponse}
-use Rattle.siri_wire.specs.Topics.{stop_rows, stop_topic, without_maximum, subscribed_stop_topic, line_direction, timetable_topic, vehicle_topic, situation_topic}
-use Rattle.siri_wire.specs.Requests.{service_request, service_request_rows, unless_for_nothing, asks_nothing}
+use Rattle.siri_wire.specs.Topics.{read_stop_topic_rows, stop_topic, without_maximum, subscribed_stop_topic, line_direction, timetable_topic, vehicle_topic, situation_topic}
+use Rattle.siri_wire.specs.Requests.{service_request, read_service_request_rows, unless_for_nothing, asks_nothing}
 use Rattle.siri_wire.specs.Subscribers.{subscriber_or}
-use Rattle.siri_wire.specs.Subscriptions.{topic_of, slack_of, subscription, heartbeat_interval, wanted_rows, wants_nothing, unless_for_none, wanted, subscription_request, response_status, subscription_response}
+use Rattle.siri_wire.specs.Subscriptions.{topic_of, slack_of, subscription, heartbeat_interval, read_wanted_rows, wants_nothing, unless_for_none, wanted, subscription_request, response_status, subscription_response}
 use Rattle.siri_wire.specs.Terminations.{termination_request, termination_status, termination_response}
 use Rattle.siri_wire_laws.proofs.MessageValues.{error_ok}
 
 -- ---- topics
 
-stop_rows_read : (d : Data) (t : StopTopic) → SpellsStopTopic d t → stop_rows d ≡ Ok t
-unfolding stop_rows
+stop_rows_read : (d : Data) (t : StopTopic) → SpellsStopTopic d t → read_stop_topic_rows d ≡ Ok t
+unfolding read_stop_topic_rows
 stop_rows_read d t s_ =
     rw (
-      needed_ok name MONITORING_REF.now d t.monitoring_ref s_.monitoring_ref,
+      required_row_ok name MONITORING_REF.now d t.monitoring_ref s_.monitoring_ref,
       row_ok name LINE_REF.now d t.line_ref s_.line_ref,
       row_ok name DIRECTION_REF.now d t.direction_ref s_.direction_ref,
       row_ok name OPERATOR_REF.now d t.operator_ref s_.operator_ref,
       row_ok name DESTINATION_REF.now d t.destination_ref s_.destination_ref,
-      row_ok span0 PREVIEW_INTERVAL.now d t.preview_interval s_.preview_interval,
+      row_ok non_negative_span PREVIEW_INTERVAL.now d t.preview_interval s_.preview_interval,
       row_ok moment START_TIME.now d t.start_time s_.start_time,
       row_ok number MAXIMUM_STOP_VISITS.now d t.maximum_stop_visits s_.maximum_stop_visits,
     ) refl
@@ -68,7 +68,7 @@ pub line_direction_read : (d : Data) (l : LineDirection) → SpellsLineDirection
 unfolding line_direction
 line_direction_read d l s_ =
     rw (
-      needed_ok name LINE_REF.now d l.line_ref s_.line_ref,
+      required_row_ok name LINE_REF.now d l.line_ref s_.line_ref,
       row_ok name DIRECTION_REF.now d l.direction_ref s_.direction_ref,
     ) refl
 
@@ -76,7 +76,7 @@ pub timetable_topic_read : (d : Data) (t : Topic) → SpellsTopic service.Timeta
 unfolding timetable_topic
 timetable_topic_read d (topics.Timetable t) s_ =
     rw (
-      row_ok span0 PREVIEW_INTERVAL.now d t.preview_interval s_.preview_interval,
+      row_ok non_negative_span PREVIEW_INTERVAL.now d t.preview_interval s_.preview_interval,
       row_ok name OPERATOR_REF.now d t.operator_ref s_.operator_ref,
       s_.lines,
     ) refl
@@ -103,7 +103,7 @@ situation_topic_read d (topics.Situation t) s_ =
       row_ok name LINE_REF.now d t.line_ref s_.line_ref,
       row_ok name STOP_POINT_REF.now d t.stop_point_ref s_.stop_point_ref,
       row_ok name OPERATOR_REF.now d t.operator_ref s_.operator_ref,
-      row_ok span0 PREVIEW_INTERVAL.now d t.preview_interval s_.preview_interval,
+      row_ok non_negative_span PREVIEW_INTERVAL.now d t.preview_interval s_.preview_interval,
       row_ok moment START_TIME.now d t.start_time s_.start_time,
     ) refl
 situation_topic_read d (topics.Stop t) s_ = absurd s_
@@ -116,7 +116,7 @@ for_something_ok : (m : ServiceRequest) → asks_nothing m ≡ false → unless_
 for_something_ok m h = rw h refl
 
 pub service_request_read : (d : Data) (m : ServiceRequest) → SpellsServiceRequest d m → service_request d ≡ Ok m
-unfolding service_request service_request_rows
+unfolding service_request read_service_request_rows
 service_request_read d m s_ =
     rw (
       row_ok moment REQUEST_TIMESTAMP.now d m.request_timestamp s_.request_timestamp,
@@ -137,10 +137,10 @@ subscriber_ok requestor d subscriber (inr is) = rw (row_ok name SUBSCRIBER_REF.n
 
 asked_ok : (s : Service) (d : Data) (t : Topic) → SpellsAsked s d t → topic_of s d ≡ Ok t
 unfolding topic_of
-asked_ok service.Stop d t spells = needed_ok (table subscribed_stop_topic) STOP_MONITORING_REQUEST.now d t spells
-asked_ok service.Timetable d t spells = needed_ok (table timetable_topic) ESTIMATED_TIMETABLE_REQUEST.now d t spells
-asked_ok service.Vehicle d t spells = needed_ok (table vehicle_topic) VEHICLE_MONITORING_REQUEST.now d t spells
-asked_ok service.Situation d t spells = needed_ok (table situation_topic) SITUATION_EXCHANGE_REQUEST.now d t spells
+asked_ok service.Stop d t spells = required_row_ok (table subscribed_stop_topic) STOP_MONITORING_REQUEST.now d t spells
+asked_ok service.Timetable d t spells = required_row_ok (table timetable_topic) ESTIMATED_TIMETABLE_REQUEST.now d t spells
+asked_ok service.Vehicle d t spells = required_row_ok (table vehicle_topic) VEHICLE_MONITORING_REQUEST.now d t spells
+asked_ok service.Situation d t spells = required_row_ok (table situation_topic) SITUATION_EXCHANGE_REQUEST.now d t spells
 
 -- the row of ChangeBeforeUpdates, and what is made of it
 record Slack (s : Service) (d : Data) (slack : ℤ) : Type 0 where
@@ -150,9 +150,9 @@ record Slack (s : Service) (d : Data) (slack : ℤ) : Type 0 where
 
 slack_ok : (s : Service) (d : Data) (slack : ℤ) → SpellsSlack s d slack → Slack s d slack
 unfolding slack_of
-slack_ok service.Stop d slack s_ = record { given = s_.given; read = row_ok span0 CHANGE_BEFORE_UPDATES.now d s_.given s_.spelled; is = s_.is }
-slack_ok service.Timetable d slack s_ = record { given = s_.given; read = row_ok span0 CHANGE_BEFORE_UPDATES.now d s_.given s_.spelled; is = s_.is }
-slack_ok service.Vehicle d slack s_ = record { given = s_.given; read = row_ok span0 CHANGE_BEFORE_UPDATES.now d s_.given s_.spelled; is = s_.is }
+slack_ok service.Stop d slack s_ = record { given = s_.given; read = row_ok non_negative_span CHANGE_BEFORE_UPDATES.now d s_.given s_.spelled; is = s_.is }
+slack_ok service.Timetable d slack s_ = record { given = s_.given; read = row_ok non_negative_span CHANGE_BEFORE_UPDATES.now d s_.given s_.spelled; is = s_.is }
+slack_ok service.Vehicle d slack s_ = record { given = s_.given; read = row_ok non_negative_span CHANGE_BEFORE_UPDATES.now d s_.given s_.spelled; is = s_.is }
 slack_ok service.Situation d slack is = record { given = None; read = refl; is = is }
 
 -- a subscription, whose row of ChangeBeforeUpdates was read
@@ -162,8 +162,8 @@ unfolding subscription
 with_slack s requestor d x given read is s_ =
     rw (
       subscriber_ok requestor d x.subscriber s_.subscriber,
-      needed_ok name SUBSCRIPTION_IDENTIFIER.now d x.identifier s_.identifier,
-      needed_ok moment INITIAL_TERMINATION_TIME.now d x.termination s_.termination,
+      required_row_ok name SUBSCRIPTION_IDENTIFIER.now d x.identifier s_.identifier,
+      required_row_ok moment INITIAL_TERMINATION_TIME.now d x.termination s_.termination,
       asked_ok s d x.topic s_.topic,
       row_ok flag INCREMENTAL_UPDATES.now d s_.incremental.given s_.incremental.spelled,
       read,
@@ -180,10 +180,10 @@ for_some_ok : (w : Wanted) → wants_nothing w ≡ false → unless_for_none w �
 for_some_ok w h = rw h refl
 
 wanted_read : (d : Data) (m : SubscriptionRequest) → SpellsSubscriptionRequest d m → wanted m.requestor_ref d ≡ Ok (wanted_by m)
-unfolding wanted wanted_rows heartbeat_interval
+unfolding wanted read_wanted_rows heartbeat_interval
 wanted_read d m s_ =
     rw (
-      row_ok (inside span0 HEARTBEAT_INTERVAL.now) SUBSCRIPTION_CONTEXT.now d m.heartbeat_interval s_.heartbeat_interval,
+      row_ok (inside non_negative_span HEARTBEAT_INTERVAL.now) SUBSCRIPTION_CONTEXT.now d m.heartbeat_interval s_.heartbeat_interval,
       s_.stop_monitoring_subscription_request,
       s_.estimated_timetable_subscription_request,
       s_.vehicle_monitoring_subscription_request,
@@ -196,7 +196,7 @@ subscription_request_read d m s_ =
     rw (
       row_ok moment REQUEST_TIMESTAMP.now d m.request_timestamp s_.request_timestamp,
       row_ok name REQUESTOR_REF.now d m.requestor_ref s_.requestor_ref,
-      needed_ok number MESSAGE_IDENTIFIER.now d m.message_identifier s_.message_identifier,
+      required_row_ok number MESSAGE_IDENTIFIER.now d m.message_identifier s_.message_identifier,
       row_ok name CONSUMER_ADDRESS.now d m.consumer_address s_.consumer_address,
       wanted_read d m s_,
     ) refl
@@ -230,7 +230,7 @@ termination_request_read d m s_ =
     rw (
       row_ok moment REQUEST_TIMESTAMP.now d m.request_timestamp s_.request_timestamp,
       row_ok name REQUESTOR_REF.now d m.requestor_ref s_.requestor_ref,
-      needed_ok number MESSAGE_IDENTIFIER.now d m.message_identifier s_.message_identifier,
+      required_row_ok number MESSAGE_IDENTIFIER.now d m.message_identifier s_.message_identifier,
       subscriber_ok m.requestor_ref d m.subscriber_ref s_.subscriber_ref,
       s_.subscription_ref,
     ) refl

@@ -19,21 +19,21 @@ use Rattle.siri_messages.specs.declared.supplies.DataSupplyRequest.{DataSupplyRe
 use Rattle.siri_messages.specs.declared.supplies.Mark.{Mark}
 use Rattle.siri_items.specs.declared.names.TheConstants.{RECORDED_AT_TIME}
 use Rattle.siri_items.specs.Refusals.{Refusal, ◌>>=◌, each}
-use Rattle.siri_items.specs.Rules.{name, moment, number, flag, table, list, list_inside, row, needed, spelled, unless_wrong, maybe}
+use Rattle.siri_items.specs.Rules.{name, moment, number, flag, table, list, list_inside, row, required_row, read_from_text, unless_wrong, maybe}
 use Rattle.siri_items.specs.Spelling.{Spells}
-use Rattle.siri_items.proofs.ReadSpelled.{bind_ok, row_spelled, needed_spelled}
+use Rattle.siri_items.proofs.ReadImpliesSpells.{bind_ok, row_spelled, required_row_spelled}
 use Rattle.siri_wire.specs.declared.names.TheConstants.{ALL_DATA, CONSUMER_REF, ESTIMATED_TIMETABLE_DELIVERY, EXTENSIONS, MESSAGE_IDENTIFIER, MONITORED_STOP_VISIT, MONITORED_STOP_VISIT_CANCELLATION, MORE_DATA, NUMBER, PART, PRODUCER_REF, PT_SITUATION_ELEMENT, REMOVED, REQUESTOR_REF, REQUEST_MESSAGE_REF, REQUEST_TIMESTAMP, RESPONSE_MESSAGE_IDENTIFIER, RESPONSE_TIMESTAMP, ROUND, SERVICE_STARTED_TIME, SITUATIONS, SITUATION_EXCHANGE_DELIVERY, START, STATUS, STOP_MONITORING_DELIVERY, SUBSCRIBER_REF, SUBSCRIPTION_REF, VEHICLE_ACTIVITY, VEHICLE_ACTIVITY_CANCELLATION, VEHICLE_MONITORING_DELIVERY}
-use Rattle.siri_wire.specs.declared.read_parts.Extended.{Extended}
+use Rattle.siri_wire.specs.declared.read_parts.DeliveryExtensions.{DeliveryExtensions}
 use Rattle.siri_wire.specs.declared.read_parts.Heading.{Heading}
-use Rattle.siri_wire.specs.declared.read_parts.Standing.{Standing}
+use Rattle.siri_wire.specs.declared.read_parts.RoundPosition.{RoundPosition}
 use Rattle.siri_wire.specs.Deliveries.{visit_item, vehicle_item, situation_item, stop_monitoring_delivery, estimated_timetable_delivery, vehicle_monitoring_delivery, situation_exchange_delivery, service_delivery}
 use Rattle.siri_wire.specs.Errors.{error_condition}
-use Rattle.siri_wire.specs.Frames.{frame, journeys, framed_journeys}
-use Rattle.siri_wire.specs.Parts.{heading, outside, within_round, standing, extended, or_outside, or_none, delivery_of}
+use Rattle.siri_wire.specs.Frames.{frame, journeys, journeys_of_frames}
+use Rattle.siri_wire.specs.Parts.{heading, no_round, within_round, round_position, delivery_extensions, or_no_round, extensions_or_empty, delivery_of}
 use Rattle.siri_wire.specs.Removals.{visit_cancellation, vehicle_cancellation, removed_journey, removed_situation}
-use Rattle.siri_wire_laws.specs.SpellingDeliveries.{SpellsMark, SpellsReady, SpellsReadyAcknowledgement, SpellsSupply, SpellsReceived, SpellsCheck, SpellsCheckResponse, SpellsHeartbeat, SpellsStanding, SpellsExtended, SpellsHeading, SpellsStopDelivery, SpellsTimetableDelivery, SpellsVehicleDelivery, SpellsSituationDelivery, SpellsFrame, SpellsServiceDelivery}
+use Rattle.siri_wire_laws.specs.SpellingDeliveries.{SpellsMark, SpellsReady, SpellsReadyAcknowledgement, SpellsSupply, SpellsReceived, SpellsCheck, SpellsCheckResponse, SpellsHeartbeat, SpellsRoundPosition, SpellsDeliveryExtensions, SpellsHeading, SpellsStopDelivery, SpellsTimetableDelivery, SpellsVehicleDelivery, SpellsSituationDelivery, SpellsFrame, SpellsServiceDelivery}
 use Rattle.siri_wire.specs.Statuses.{check_status_request, check_status_response, heartbeat_notification}
-use Rattle.siri_wire.specs.Supplies.{mark, is_no_text, is_text_absent, lacks, optional_mark, data_ready_notification, data_ready_acknowledgement, supply_rows, unless_all, data_supply_request, data_received_acknowledgement}
+use Rattle.siri_wire.specs.Supplies.{mark, is_no_text, is_text_absent, lacks, optional_mark, data_ready_notification, data_ready_acknowledgement, read_supply_rows, unless_all, data_supply_request, data_received_acknowledgement}
 use Rattle.siri_wire_laws.proofs.MessageValues.{error_spelled}
 
 abbrev done : {A : Type 0} → A → Result A Refusal
@@ -50,8 +50,8 @@ none_spelled read absent e = refl
 none_spelled read wrong e = absurd cc
 
 -- what is absent where a text is wanted spells nothing
-pub absent_spelled : {A : Type 0} (read : List ℕ → Result A Refusal) (o : Option Data) → is_text_absent o ≡ true → maybe (spelled read) o ≡ Ok None
-unfolding spelled
+pub absent_spelled : {A : Type 0} (read : List ℕ → Result A Refusal) (o : Option Data) → is_text_absent o ≡ true → maybe (read_from_text read) o ≡ Ok None
+unfolding read_from_text
 absent_spelled read None e = refl
 absent_spelled read (Some d) e = none_spelled read (text_in d) e
 
@@ -60,17 +60,17 @@ absent_spelled read (Some d) e = none_spelled read (text_in d) e
 pub mark_spelled : (d : Data) (m : Mark) → mark d ≡ Ok m → SpellsMark d m
 unfolding mark
 mark_spelled d m e =
-    let r1 = bind_ok (needed name SUBSCRIPTION_REF.now d) _ m e in
-    let r2 = bind_ok (needed number NUMBER.now d) _ m r1.2 in
-    let r3 = bind_ok (needed number START.now d) _ m r2.2 in
-    let r4 = bind_ok (needed number ROUND.now d) _ m r3.2 in
-    let r5 = bind_ok (needed number PART.now d) _ m r4.2 in
+    let r1 = bind_ok (required_row name SUBSCRIPTION_REF.now d) _ m e in
+    let r2 = bind_ok (required_row number NUMBER.now d) _ m r1.2 in
+    let r3 = bind_ok (required_row number START.now d) _ m r2.2 in
+    let r4 = bind_ok (required_row number ROUND.now d) _ m r3.2 in
+    let r5 = bind_ok (required_row number PART.now d) _ m r4.2 in
     subst (λ (x : Mark). SpellsMark d x) (ok_is _ m r5.2) (record {
-      subscription = needed_spelled name SUBSCRIPTION_REF.now d r1.0 r1.1;
-      subscription_number = needed_spelled number NUMBER.now d r2.0 r2.1;
-      start = needed_spelled number START.now d r3.0 r3.1;
-      round = needed_spelled number ROUND.now d r4.0 r4.1;
-      part = needed_spelled number PART.now d r5.0 r5.1;
+      subscription = required_row_spelled name SUBSCRIPTION_REF.now d r1.0 r1.1;
+      subscription_number = required_row_spelled number NUMBER.now d r2.0 r2.1;
+      start = required_row_spelled number START.now d r3.0 r3.1;
+      round = required_row_spelled number ROUND.now d r4.0 r4.1;
+      part = required_row_spelled number PART.now d r5.0 r5.1;
     })
 
 pub ready_spelled : (d : Data) (n : DataReadyNotification) → data_ready_notification d ≡ Ok n → SpellsReady d n
@@ -78,11 +78,11 @@ unfolding data_ready_notification
 ready_spelled d n e =
     let r1 = bind_ok (row moment REQUEST_TIMESTAMP.now d) _ n e in
     let r2 = bind_ok (row name PRODUCER_REF.now d) _ n r1.2 in
-    let r3 = bind_ok (needed (table mark) EXTENSIONS.now d) _ n r2.2 in
+    let r3 = bind_ok (required_row (table mark) EXTENSIONS.now d) _ n r2.2 in
     subst (λ (x : DataReadyNotification). SpellsReady d x) (ok_is _ n r3.2) (record {
       request_timestamp = row_spelled moment REQUEST_TIMESTAMP.now d r1.0 r1.1;
       producer_ref = row_spelled name PRODUCER_REF.now d r2.0 r2.1;
-      extensions = needed_spelled (table mark) EXTENSIONS.now d r3.0 r3.1;
+      extensions = required_row_spelled (table mark) EXTENSIONS.now d r3.0 r3.1;
     })
 
 pub ready_acknowledgement_spelled : (d : Data) (a : DataReadyAcknowledgement) → data_ready_acknowledgement d ≡ Ok a → SpellsReadyAcknowledgement d a
@@ -97,18 +97,18 @@ ready_acknowledgement_spelled d a e =
       status = record { given = r3.0; spelled = row_spelled flag STATUS.now d r3.0 r3.1; is = refl };
     })
 
-supply_rows_spelled : (d : Data) (s : DataSupplyRequest) → supply_rows d ≡ Ok s → s.all_data ≡ false → SpellsSupply d s
-unfolding supply_rows
+supply_rows_spelled : (d : Data) (s : DataSupplyRequest) → read_supply_rows d ≡ Ok s → s.all_data ≡ false → SpellsSupply d s
+unfolding read_supply_rows
 supply_rows_spelled d s e not_all =
     let r1 = bind_ok (row moment REQUEST_TIMESTAMP.now d) _ s e in
-    let r2 = bind_ok (needed name CONSUMER_REF.now d) _ s r1.2 in
+    let r2 = bind_ok (required_row name CONSUMER_REF.now d) _ s r1.2 in
     let r3 = bind_ok (row flag ALL_DATA.now d) _ s r2.2 in
-    let r4 = bind_ok (needed (table mark) EXTENSIONS.now d) _ s r3.2 in
+    let r4 = bind_ok (required_row (table mark) EXTENSIONS.now d) _ s r3.2 in
     subst (λ (x : DataSupplyRequest). x.all_data ≡ false → SpellsSupply d x) (ok_is _ s r4.2) (λ is. record {
       request_timestamp = row_spelled moment REQUEST_TIMESTAMP.now d r1.0 r1.1;
-      consumer_ref = needed_spelled name CONSUMER_REF.now d r2.0 r2.1;
+      consumer_ref = required_row_spelled name CONSUMER_REF.now d r2.0 r2.1;
       all_data = record { given = r3.0; spelled = row_spelled flag ALL_DATA.now d r3.0 r3.1; is = refl };
-      extensions = needed_spelled (table mark) EXTENSIONS.now d r4.0 r4.1;
+      extensions = required_row_spelled (table mark) EXTENSIONS.now d r4.0 r4.1;
       not_all = is;
     }) not_all
 
@@ -179,40 +179,40 @@ not_all_is x s false at e = (refl, ok_is x s e)
 pub supply_spelled : (d : Data) (s : DataSupplyRequest) → data_supply_request d ≡ Ok s → SpellsSupply d s
 unfolding data_supply_request
 supply_spelled d s e =
-    let r = bind_ok (supply_rows d) unless_all s e in
+    let r = bind_ok (read_supply_rows d) unless_all s e in
     let t = not_all_is r.0 s r.0.all_data refl r.2 in
     subst (λ (x : DataSupplyRequest). SpellsSupply d x) t.1 (supply_rows_spelled d r.0 r.1 t.0)
 
 -- ---- where in a round a delivery stands
 
-standing_cases : (d : Data) (s : Standing) (b : Bool) → lacks ROUND.now d ≡ b → (if b then done outside else within_round d) ≡ Ok s → SpellsStanding d s
+round_position_cases : (d : Data) (s : RoundPosition) (b : Bool) → lacks ROUND.now d ≡ b → (if b then done no_round else within_round d) ≡ Ok s → SpellsRoundPosition d s
 unfolding lacks within_round
-standing_cases d s true at_round e =
-    subst (λ (x : Standing). SpellsStanding d x) (ok_is outside s e) (record { round = absent_spelled _ (member_of ROUND.now d) at_round; start = refl; part = refl })
-standing_cases d s false at_round e =
-    let r1 = bind_ok (needed number START.now d) _ s e in
-    let r2 = bind_ok (needed number ROUND.now d) _ s r1.2 in
-    let r3 = bind_ok (needed number PART.now d) _ s r2.2 in
-    subst (λ (x : Standing). SpellsStanding d x) (ok_is _ s r3.2) (record {
-      round = needed_spelled number ROUND.now d r2.0 r2.1;
-      start = (needed_spelled number START.now d r1.0 r1.1, refl);
-      part = (needed_spelled number PART.now d r3.0 r3.1, refl);
+round_position_cases d s true at_round e =
+    subst (λ (x : RoundPosition). SpellsRoundPosition d x) (ok_is no_round s e) (record { round = absent_spelled _ (member_of ROUND.now d) at_round; start = refl; part = refl })
+round_position_cases d s false at_round e =
+    let r1 = bind_ok (required_row number START.now d) _ s e in
+    let r2 = bind_ok (required_row number ROUND.now d) _ s r1.2 in
+    let r3 = bind_ok (required_row number PART.now d) _ s r2.2 in
+    subst (λ (x : RoundPosition). SpellsRoundPosition d x) (ok_is _ s r3.2) (record {
+      round = required_row_spelled number ROUND.now d r2.0 r2.1;
+      start = (required_row_spelled number START.now d r1.0 r1.1, refl);
+      part = (required_row_spelled number PART.now d r3.0 r3.1, refl);
     })
 
-pub standing_spelled : (d : Data) (s : Standing) → standing d ≡ Ok s → SpellsStanding d s
-unfolding standing
-standing_spelled d s e = standing_cases d s (lacks ROUND.now d) refl e
+pub round_position_spelled : (d : Data) (s : RoundPosition) → round_position d ≡ Ok s → SpellsRoundPosition d s
+unfolding round_position
+round_position_spelled d s e = round_position_cases d s (lacks ROUND.now d) refl e
 
-pub extended_spelled : (removed : Data → Result Key Refusal) (d : Data) (x : Extended) → extended removed d ≡ Ok x → SpellsExtended removed d x
-unfolding extended
-extended_spelled removed d x e =
-    let r1 = bind_ok (standing d) _ x e in
+pub delivery_extensions_spelled : (removed : Data → Result Key Refusal) (d : Data) (x : DeliveryExtensions) → delivery_extensions removed d ≡ Ok x → SpellsDeliveryExtensions removed d x
+unfolding delivery_extensions
+delivery_extensions_spelled removed d x e =
+    let r1 = bind_ok (round_position d) _ x e in
     let r2 = bind_ok (list (table removed) 20000 REMOVED.now d) _ x r1.2 in
-    subst (λ (y : Extended). SpellsExtended removed d y) (ok_is _ x r2.2) (record { standing = standing_spelled d r1.0 r1.1; removals = r2.1 })
+    subst (λ (y : DeliveryExtensions). SpellsDeliveryExtensions removed d y) (ok_is _ x r2.2) (record { round_position = round_position_spelled d r1.0 r1.1; removals = r2.1 })
 
 -- ---- functional deliveries
 
-heading_spelled : (d : Data) (h : Heading) (s : Standing) (items : List Item) (removals : List Key) → heading d ≡ Ok h → SpellsHeading d (delivery_of h s items removals)
+heading_spelled : (d : Data) (h : Heading) (s : RoundPosition) (items : List Item) (removals : List Key) → heading d ≡ Ok h → SpellsHeading d (delivery_of h s items removals)
 unfolding heading
 heading_spelled d h s items removals e =
     let r1 = bind_ok (row moment RESPONSE_TIMESTAMP.now d) _ h e in
@@ -232,12 +232,12 @@ pub stop_delivery_spelled : (d : Data) (f : FunctionalDelivery) → stop_monitor
 unfolding stop_monitoring_delivery
 stop_delivery_spelled d f e =
     let r1 = bind_ok (heading d) _ f e in
-    let r2 = bind_ok (row (table standing) EXTENSIONS.now d) _ f r1.2 in
+    let r2 = bind_ok (row (table round_position) EXTENSIONS.now d) _ f r1.2 in
     let r3 = bind_ok (list (table visit_item) 20000 MONITORED_STOP_VISIT.now d) _ f r2.2 in
     let r4 = bind_ok (list (table visit_cancellation) 20000 MONITORED_STOP_VISIT_CANCELLATION.now d) _ f r3.2 in
     subst (λ (x : FunctionalDelivery). SpellsStopDelivery d x) (ok_is _ f r4.2) (record {
-      heading = heading_spelled d r1.0 (or_outside r2.0) r3.0 r4.0 r1.1;
-      extensions = record { given = r2.0; spelled = row_spelled (table standing) EXTENSIONS.now d r2.0 r2.1; start_is = refl; round_is = refl; part_is = refl };
+      heading = heading_spelled d r1.0 (or_no_round r2.0) r3.0 r4.0 r1.1;
+      extensions = record { given = r2.0; spelled = row_spelled (table round_position) EXTENSIONS.now d r2.0 r2.1; start_is = refl; round_is = refl; part_is = refl };
       items = r3.1;
       removals = r4.1;
     })
@@ -246,12 +246,12 @@ pub vehicle_delivery_spelled : (d : Data) (f : FunctionalDelivery) → vehicle_m
 unfolding vehicle_monitoring_delivery
 vehicle_delivery_spelled d f e =
     let r1 = bind_ok (heading d) _ f e in
-    let r2 = bind_ok (row (table standing) EXTENSIONS.now d) _ f r1.2 in
+    let r2 = bind_ok (row (table round_position) EXTENSIONS.now d) _ f r1.2 in
     let r3 = bind_ok (list (table vehicle_item) 20000 VEHICLE_ACTIVITY.now d) _ f r2.2 in
     let r4 = bind_ok (list (table vehicle_cancellation) 20000 VEHICLE_ACTIVITY_CANCELLATION.now d) _ f r3.2 in
     subst (λ (x : FunctionalDelivery). SpellsVehicleDelivery d x) (ok_is _ f r4.2) (record {
-      heading = heading_spelled d r1.0 (or_outside r2.0) r3.0 r4.0 r1.1;
-      extensions = record { given = r2.0; spelled = row_spelled (table standing) EXTENSIONS.now d r2.0 r2.1; start_is = refl; round_is = refl; part_is = refl };
+      heading = heading_spelled d r1.0 (or_no_round r2.0) r3.0 r4.0 r1.1;
+      extensions = record { given = r2.0; spelled = row_spelled (table round_position) EXTENSIONS.now d r2.0 r2.1; start_is = refl; round_is = refl; part_is = refl };
       items = r3.1;
       removals = r4.1;
     })
@@ -260,11 +260,11 @@ pub timetable_delivery_spelled : (d : Data) (f : FunctionalDelivery) → estimat
 unfolding estimated_timetable_delivery
 timetable_delivery_spelled d f e =
     let r1 = bind_ok (heading d) _ f e in
-    let r2 = bind_ok (row (table (extended removed_journey)) EXTENSIONS.now d) _ f r1.2 in
-    let r3 = bind_ok (framed_journeys d) _ f r2.2 in
+    let r2 = bind_ok (row (table (delivery_extensions removed_journey)) EXTENSIONS.now d) _ f r1.2 in
+    let r3 = bind_ok (journeys_of_frames d) _ f r2.2 in
     subst (λ (x : FunctionalDelivery). SpellsTimetableDelivery d x) (ok_is _ f r3.2) (record {
-      heading = heading_spelled d r1.0 (or_none r2.0).standing r3.0 (or_none r2.0).removals r1.1;
-      extensions = record { given = r2.0; spelled = row_spelled (table (extended removed_journey)) EXTENSIONS.now d r2.0 r2.1; start_is = refl; round_is = refl; part_is = refl; removals_are = refl };
+      heading = heading_spelled d r1.0 (extensions_or_empty r2.0).round_position r3.0 (extensions_or_empty r2.0).removals r1.1;
+      extensions = record { given = r2.0; spelled = row_spelled (table (delivery_extensions removed_journey)) EXTENSIONS.now d r2.0 r2.1; start_is = refl; round_is = refl; part_is = refl; removals_are = refl };
       items = r3.1;
     })
 
@@ -272,11 +272,11 @@ pub situation_delivery_spelled : (d : Data) (f : FunctionalDelivery) → situati
 unfolding situation_exchange_delivery
 situation_delivery_spelled d f e =
     let r1 = bind_ok (heading d) _ f e in
-    let r2 = bind_ok (row (table (extended removed_situation)) EXTENSIONS.now d) _ f r1.2 in
+    let r2 = bind_ok (row (table (delivery_extensions removed_situation)) EXTENSIONS.now d) _ f r1.2 in
     let r3 = bind_ok (list_inside SITUATIONS.now (list (table situation_item) 20000 PT_SITUATION_ELEMENT.now) d) _ f r2.2 in
     subst (λ (x : FunctionalDelivery). SpellsSituationDelivery d x) (ok_is _ f r3.2) (record {
-      heading = heading_spelled d r1.0 (or_none r2.0).standing r3.0 (or_none r2.0).removals r1.1;
-      extensions = record { given = r2.0; spelled = row_spelled (table (extended removed_situation)) EXTENSIONS.now d r2.0 r2.1; start_is = refl; round_is = refl; part_is = refl; removals_are = refl };
+      heading = heading_spelled d r1.0 (extensions_or_empty r2.0).round_position r3.0 (extensions_or_empty r2.0).removals r1.1;
+      extensions = record { given = r2.0; spelled = row_spelled (table (delivery_extensions removed_situation)) EXTENSIONS.now d r2.0 r2.1; start_is = refl; round_is = refl; part_is = refl; removals_are = refl };
       items = r3.1;
     })
 

@@ -10,10 +10,10 @@ use Rattle.siri_messages.specs.declared.message.Message.{Message}
 use Rattle.siri_messages.specs.declared.message.Message.TheVariants as message
 use Rattle.siri_messages.specs.Kinds.{kind_of}
 use Rattle.siri_items.specs.Refusals.{Refusal, ◌>>=◌, refused, each}
-use Rattle.siri_items.specs.Rules.{table, unless_wrong, maybe, needed}
+use Rattle.siri_items.specs.Rules.{table, unless_wrong, maybe, required_row}
 use Rattle.siri_items.specs.Spelling.{Spells, IfFound}
-use Rattle.siri_items.proofs.SpelledReads.{needed_ok}
-use Rattle.siri_items.proofs.ReadSpelled.{bind_ok, needed_spelled}
+use Rattle.siri_items.proofs.SpellsImpliesRead.{required_row_ok}
+use Rattle.siri_items.proofs.ReadImpliesSpells.{bind_ok, required_row_spelled}
 use Rattle.siri_wire.specs.declared.kinds.Kind.{Kind}
 use Rattle.siri_wire.specs.declared.kinds.Kind.TheVariants as kind
 use Rattle.siri_wire.specs.declared.names.TheConstants.{SIRI, CHECK_STATUS_REQUEST, CHECK_STATUS_RESPONSE, DATA_READY_ACKNOWLEDGEMENT, DATA_READY_NOTIFICATION, DATA_RECEIVED_ACKNOWLEDGEMENT, DATA_SUPPLY_REQUEST, HEARTBEAT_NOTIFICATION, SERVICE_DELIVERY, SERVICE_REQUEST, SUBSCRIPTION_REQUEST, SUBSCRIPTION_RESPONSE, TERMINATE_SUBSCRIPTION_REQUEST, TERMINATE_SUBSCRIPTION_RESPONSE}
@@ -27,10 +27,10 @@ use Rattle.siri_wire.specs.Statuses.{check_status_request, check_status_response
 use Rattle.siri_wire.specs.Subscriptions.{subscription_request, subscription_response}
 use Rattle.siri_wire.specs.Supplies.{data_ready_notification, data_ready_acknowledgement, data_supply_request, data_received_acknowledgement}
 use Rattle.siri_wire.specs.Terminations.{termination_request, termination_response}
-use Rattle.siri_wire_laws.proofs.ReadsDeliveries.{ready_read, ready_acknowledgement_read, supply_request_read, received_read, check_read, check_response_read, heartbeat_read, service_delivery_read}
-use Rattle.siri_wire_laws.proofs.ReadsRequests.{service_request_read, subscription_request_read, subscription_response_read, termination_request_read, termination_response_read}
-use Rattle.siri_wire_laws.proofs.SpelledDeliveries.{ready_spelled, ready_acknowledgement_spelled, supply_spelled, received_spelled, check_spelled, check_response_spelled, heartbeat_spelled, service_delivery_spelled}
-use Rattle.siri_wire_laws.proofs.SpelledRequests.{service_request_spelled, subscription_request_spelled, subscription_response_spelled, termination_request_spelled, termination_response_spelled}
+use Rattle.siri_wire_laws.proofs.SpellsImpliesReadDeliveries.{ready_read, ready_acknowledgement_read, supply_request_read, received_read, check_read, check_response_read, heartbeat_read, service_delivery_read}
+use Rattle.siri_wire_laws.proofs.SpellsImpliesReadRequests.{service_request_read, subscription_request_read, subscription_response_read, termination_request_read, termination_response_read}
+use Rattle.siri_wire_laws.proofs.ReadImpliesSpellsDeliveries.{ready_spelled, ready_acknowledgement_spelled, supply_spelled, received_spelled, check_spelled, check_response_spelled, heartbeat_spelled, service_delivery_spelled}
+use Rattle.siri_wire_laws.proofs.ReadImpliesSpellsRequests.{service_request_spelled, subscription_request_spelled, subscription_response_spelled, termination_request_spelled, termination_response_spelled}
 
 abbrev some : {A : Type 0} → A → Option A
 some x = Some x
@@ -76,11 +76,11 @@ member_map None P Q h is = is
 member_map (Some d) P Q h is = found_map (object_in d) P Q h is
 
 -- what is needed at a name is an object that is read
-pub needed_is : {A : Type 0} (rows : Data → Result A Refusal) (P : Data → A → Type 0) (key : List ℕ) (d : Data) (x : A) → ((o : Data) → rows o ≡ Ok x → P o x) → needed (table rows) key d ≡ Ok x → HasObject key d (λ o. P o x)
-needed_is rows P key d x h e = member_map (member_of key d) _ _ h (table_spelled rows (member_of key d) x (needed_spelled (table rows) key d x e))
+pub required_row_is : {A : Type 0} (rows : Data → Result A Refusal) (P : Data → A → Type 0) (key : List ℕ) (d : Data) (x : A) → ((o : Data) → rows o ≡ Ok x → P o x) → required_row (table rows) key d ≡ Ok x → HasObject key d (λ o. P o x)
+required_row_is rows P key d x h e = member_map (member_of key d) _ _ h (table_spelled rows (member_of key d) x (required_row_spelled (table rows) key d x e))
 
-pub is_needed : {A : Type 0} (rows : Data → Result A Refusal) (P : Data → A → Type 0) (key : List ℕ) (d : Data) (x : A) → ((o : Data) → P o x → rows o ≡ Ok x) → HasObject key d (λ o. P o x) → needed (table rows) key d ≡ Ok x
-is_needed rows P key d x h is = needed_ok (table rows) key d x (table_read rows (member_of key d) x (member_map (member_of key d) _ _ h is))
+pub is_required : {A : Type 0} (rows : Data → Result A Refusal) (P : Data → A → Type 0) (key : List ℕ) (d : Data) (x : A) → ((o : Data) → P o x → rows o ≡ Ok x) → HasObject key d (λ o. P o x) → required_row (table rows) key d ≡ Ok x
+is_required rows P key d x h is = required_row_ok (table rows) key d x (table_read rows (member_of key d) x (member_map (member_of key d) _ _ h is))
 
 -- ---- the message of a kind
 
@@ -90,72 +90,72 @@ record SpellsAt (k : Kind) (d : Data) (m : Message) : Type 0 where
 
 at_spelled : (k : Kind) (d : Data) (m : Message) → message_at k d ≡ Ok m → SpellsAt k d m
 at_spelled kind.ServiceRequest d m e =
-    let r = bind_ok (needed (table service_request) SERVICE_REQUEST.now d) _ m e in
+    let r = bind_ok (required_row (table service_request) SERVICE_REQUEST.now d) _ m e in
     subst (λ (x : Message). SpellsAt kind.ServiceRequest d x) (ok_is (message.ServiceRequest r.0) m r.2)
-    (record { of_kind = refl; body = needed_is service_request (λ o x. SpellsServiceRequest o x) SERVICE_REQUEST.now d r.0 (λ o is. service_request_spelled o r.0 is) r.1 })
+    (record { of_kind = refl; body = required_row_is service_request (λ o x. SpellsServiceRequest o x) SERVICE_REQUEST.now d r.0 (λ o is. service_request_spelled o r.0 is) r.1 })
 at_spelled kind.ServiceDelivery d m e =
-    let r = bind_ok (needed (table service_delivery) SERVICE_DELIVERY.now d) _ m e in
+    let r = bind_ok (required_row (table service_delivery) SERVICE_DELIVERY.now d) _ m e in
     subst (λ (x : Message). SpellsAt kind.ServiceDelivery d x) (ok_is (message.ServiceDelivery r.0) m r.2)
-    (record { of_kind = refl; body = needed_is service_delivery (λ o x. SpellsServiceDelivery o x) SERVICE_DELIVERY.now d r.0 (λ o is. service_delivery_spelled o r.0 is) r.1 })
+    (record { of_kind = refl; body = required_row_is service_delivery (λ o x. SpellsServiceDelivery o x) SERVICE_DELIVERY.now d r.0 (λ o is. service_delivery_spelled o r.0 is) r.1 })
 at_spelled kind.SubscriptionRequest d m e =
-    let r = bind_ok (needed (table subscription_request) SUBSCRIPTION_REQUEST.now d) _ m e in
+    let r = bind_ok (required_row (table subscription_request) SUBSCRIPTION_REQUEST.now d) _ m e in
     subst (λ (x : Message). SpellsAt kind.SubscriptionRequest d x) (ok_is (message.SubscriptionRequest r.0) m r.2)
-    (record { of_kind = refl; body = needed_is subscription_request (λ o x. SpellsSubscriptionRequest o x) SUBSCRIPTION_REQUEST.now d r.0 (λ o is. subscription_request_spelled o r.0 is) r.1 })
+    (record { of_kind = refl; body = required_row_is subscription_request (λ o x. SpellsSubscriptionRequest o x) SUBSCRIPTION_REQUEST.now d r.0 (λ o is. subscription_request_spelled o r.0 is) r.1 })
 at_spelled kind.SubscriptionResponse d m e =
-    let r = bind_ok (needed (table subscription_response) SUBSCRIPTION_RESPONSE.now d) _ m e in
+    let r = bind_ok (required_row (table subscription_response) SUBSCRIPTION_RESPONSE.now d) _ m e in
     subst (λ (x : Message). SpellsAt kind.SubscriptionResponse d x) (ok_is (message.SubscriptionResponse r.0) m r.2)
-    (record { of_kind = refl; body = needed_is subscription_response (λ o x. SpellsSubscriptionResponse o x) SUBSCRIPTION_RESPONSE.now d r.0 (λ o is. subscription_response_spelled o r.0 is) r.1 })
+    (record { of_kind = refl; body = required_row_is subscription_response (λ o x. SpellsSubscriptionResponse o x) SUBSCRIPTION_RESPONSE.now d r.0 (λ o is. subscription_response_spelled o r.0 is) r.1 })
 at_spelled kind.TerminateSubscriptionRequest d m e =
-    let r = bind_ok (needed (table termination_request) TERMINATE_SUBSCRIPTION_REQUEST.now d) _ m e in
+    let r = bind_ok (required_row (table termination_request) TERMINATE_SUBSCRIPTION_REQUEST.now d) _ m e in
     subst (λ (x : Message). SpellsAt kind.TerminateSubscriptionRequest d x) (ok_is (message.TerminateSubscriptionRequest r.0) m r.2)
-    (record { of_kind = refl; body = needed_is termination_request (λ o x. SpellsTerminationRequest o x) TERMINATE_SUBSCRIPTION_REQUEST.now d r.0 (λ o is. termination_request_spelled o r.0 is) r.1 })
+    (record { of_kind = refl; body = required_row_is termination_request (λ o x. SpellsTerminationRequest o x) TERMINATE_SUBSCRIPTION_REQUEST.now d r.0 (λ o is. termination_request_spelled o r.0 is) r.1 })
 at_spelled kind.TerminateSubscriptionResponse d m e =
-    let r = bind_ok (needed (table termination_response) TERMINATE_SUBSCRIPTION_RESPONSE.now d) _ m e in
+    let r = bind_ok (required_row (table termination_response) TERMINATE_SUBSCRIPTION_RESPONSE.now d) _ m e in
     subst (λ (x : Message). SpellsAt kind.TerminateSubscriptionResponse d x) (ok_is (message.TerminateSubscriptionResponse r.0) m r.2)
-    (record { of_kind = refl; body = needed_is termination_response (λ o x. SpellsTerminationResponse o x) TERMINATE_SUBSCRIPTION_RESPONSE.now d r.0 (λ o is. termination_response_spelled o r.0 is) r.1 })
+    (record { of_kind = refl; body = required_row_is termination_response (λ o x. SpellsTerminationResponse o x) TERMINATE_SUBSCRIPTION_RESPONSE.now d r.0 (λ o is. termination_response_spelled o r.0 is) r.1 })
 at_spelled kind.DataReadyNotification d m e =
-    let r = bind_ok (needed (table data_ready_notification) DATA_READY_NOTIFICATION.now d) _ m e in
+    let r = bind_ok (required_row (table data_ready_notification) DATA_READY_NOTIFICATION.now d) _ m e in
     subst (λ (x : Message). SpellsAt kind.DataReadyNotification d x) (ok_is (message.DataReadyNotification r.0) m r.2)
-    (record { of_kind = refl; body = needed_is data_ready_notification (λ o x. SpellsReady o x) DATA_READY_NOTIFICATION.now d r.0 (λ o is. ready_spelled o r.0 is) r.1 })
+    (record { of_kind = refl; body = required_row_is data_ready_notification (λ o x. SpellsReady o x) DATA_READY_NOTIFICATION.now d r.0 (λ o is. ready_spelled o r.0 is) r.1 })
 at_spelled kind.DataReadyAcknowledgement d m e =
-    let r = bind_ok (needed (table data_ready_acknowledgement) DATA_READY_ACKNOWLEDGEMENT.now d) _ m e in
+    let r = bind_ok (required_row (table data_ready_acknowledgement) DATA_READY_ACKNOWLEDGEMENT.now d) _ m e in
     subst (λ (x : Message). SpellsAt kind.DataReadyAcknowledgement d x) (ok_is (message.DataReadyAcknowledgement r.0) m r.2)
-    (record { of_kind = refl; body = needed_is data_ready_acknowledgement (λ o x. SpellsReadyAcknowledgement o x) DATA_READY_ACKNOWLEDGEMENT.now d r.0 (λ o is. ready_acknowledgement_spelled o r.0 is) r.1 })
+    (record { of_kind = refl; body = required_row_is data_ready_acknowledgement (λ o x. SpellsReadyAcknowledgement o x) DATA_READY_ACKNOWLEDGEMENT.now d r.0 (λ o is. ready_acknowledgement_spelled o r.0 is) r.1 })
 at_spelled kind.DataSupplyRequest d m e =
-    let r = bind_ok (needed (table data_supply_request) DATA_SUPPLY_REQUEST.now d) _ m e in
+    let r = bind_ok (required_row (table data_supply_request) DATA_SUPPLY_REQUEST.now d) _ m e in
     subst (λ (x : Message). SpellsAt kind.DataSupplyRequest d x) (ok_is (message.DataSupplyRequest r.0) m r.2)
-    (record { of_kind = refl; body = needed_is data_supply_request (λ o x. SpellsSupply o x) DATA_SUPPLY_REQUEST.now d r.0 (λ o is. supply_spelled o r.0 is) r.1 })
+    (record { of_kind = refl; body = required_row_is data_supply_request (λ o x. SpellsSupply o x) DATA_SUPPLY_REQUEST.now d r.0 (λ o is. supply_spelled o r.0 is) r.1 })
 at_spelled kind.DataReceivedAcknowledgement d m e =
-    let r = bind_ok (needed (table data_received_acknowledgement) DATA_RECEIVED_ACKNOWLEDGEMENT.now d) _ m e in
+    let r = bind_ok (required_row (table data_received_acknowledgement) DATA_RECEIVED_ACKNOWLEDGEMENT.now d) _ m e in
     subst (λ (x : Message). SpellsAt kind.DataReceivedAcknowledgement d x) (ok_is (message.DataReceivedAcknowledgement r.0) m r.2)
-    (record { of_kind = refl; body = needed_is data_received_acknowledgement (λ o x. SpellsReceived o x) DATA_RECEIVED_ACKNOWLEDGEMENT.now d r.0 (λ o is. received_spelled o r.0 is) r.1 })
+    (record { of_kind = refl; body = required_row_is data_received_acknowledgement (λ o x. SpellsReceived o x) DATA_RECEIVED_ACKNOWLEDGEMENT.now d r.0 (λ o is. received_spelled o r.0 is) r.1 })
 at_spelled kind.CheckStatusRequest d m e =
-    let r = bind_ok (needed (table check_status_request) CHECK_STATUS_REQUEST.now d) _ m e in
+    let r = bind_ok (required_row (table check_status_request) CHECK_STATUS_REQUEST.now d) _ m e in
     subst (λ (x : Message). SpellsAt kind.CheckStatusRequest d x) (ok_is (message.CheckStatusRequest r.0) m r.2)
-    (record { of_kind = refl; body = needed_is check_status_request (λ o x. SpellsCheck o x) CHECK_STATUS_REQUEST.now d r.0 (λ o is. check_spelled o r.0 is) r.1 })
+    (record { of_kind = refl; body = required_row_is check_status_request (λ o x. SpellsCheck o x) CHECK_STATUS_REQUEST.now d r.0 (λ o is. check_spelled o r.0 is) r.1 })
 at_spelled kind.CheckStatusResponse d m e =
-    let r = bind_ok (needed (table check_status_response) CHECK_STATUS_RESPONSE.now d) _ m e in
+    let r = bind_ok (required_row (table check_status_response) CHECK_STATUS_RESPONSE.now d) _ m e in
     subst (λ (x : Message). SpellsAt kind.CheckStatusResponse d x) (ok_is (message.CheckStatusResponse r.0) m r.2)
-    (record { of_kind = refl; body = needed_is check_status_response (λ o x. SpellsCheckResponse o x) CHECK_STATUS_RESPONSE.now d r.0 (λ o is. check_response_spelled o r.0 is) r.1 })
+    (record { of_kind = refl; body = required_row_is check_status_response (λ o x. SpellsCheckResponse o x) CHECK_STATUS_RESPONSE.now d r.0 (λ o is. check_response_spelled o r.0 is) r.1 })
 at_spelled kind.HeartbeatNotification d m e =
-    let r = bind_ok (needed (table heartbeat_notification) HEARTBEAT_NOTIFICATION.now d) _ m e in
+    let r = bind_ok (required_row (table heartbeat_notification) HEARTBEAT_NOTIFICATION.now d) _ m e in
     subst (λ (x : Message). SpellsAt kind.HeartbeatNotification d x) (ok_is (message.HeartbeatNotification r.0) m r.2)
-    (record { of_kind = refl; body = needed_is heartbeat_notification (λ o x. SpellsHeartbeat o x) HEARTBEAT_NOTIFICATION.now d r.0 (λ o is. heartbeat_spelled o r.0 is) r.1 })
+    (record { of_kind = refl; body = required_row_is heartbeat_notification (λ o x. SpellsHeartbeat o x) HEARTBEAT_NOTIFICATION.now d r.0 (λ o is. heartbeat_spelled o r.0 is) r.1 })
 
 at_read : (d : Data) (m : Message) → HasObject (kind_of m) d (λ o. SpellsBody o m) → message_at (kind_in m) d ≡ Ok m
-at_read d (message.ServiceRequest m) is = rw (is_needed service_request (λ o x. SpellsServiceRequest o x) SERVICE_REQUEST.now d m (λ o s_. service_request_read o m s_) is) refl
-at_read d (message.ServiceDelivery m) is = rw (is_needed service_delivery (λ o x. SpellsServiceDelivery o x) SERVICE_DELIVERY.now d m (λ o s_. service_delivery_read o m s_) is) refl
-at_read d (message.SubscriptionRequest m) is = rw (is_needed subscription_request (λ o x. SpellsSubscriptionRequest o x) SUBSCRIPTION_REQUEST.now d m (λ o s_. subscription_request_read o m s_) is) refl
-at_read d (message.SubscriptionResponse m) is = rw (is_needed subscription_response (λ o x. SpellsSubscriptionResponse o x) SUBSCRIPTION_RESPONSE.now d m (λ o s_. subscription_response_read o m s_) is) refl
-at_read d (message.TerminateSubscriptionRequest m) is = rw (is_needed termination_request (λ o x. SpellsTerminationRequest o x) TERMINATE_SUBSCRIPTION_REQUEST.now d m (λ o s_. termination_request_read o m s_) is) refl
-at_read d (message.TerminateSubscriptionResponse m) is = rw (is_needed termination_response (λ o x. SpellsTerminationResponse o x) TERMINATE_SUBSCRIPTION_RESPONSE.now d m (λ o s_. termination_response_read o m s_) is) refl
-at_read d (message.DataReadyNotification m) is = rw (is_needed data_ready_notification (λ o x. SpellsReady o x) DATA_READY_NOTIFICATION.now d m (λ o s_. ready_read o m s_) is) refl
-at_read d (message.DataReadyAcknowledgement m) is = rw (is_needed data_ready_acknowledgement (λ o x. SpellsReadyAcknowledgement o x) DATA_READY_ACKNOWLEDGEMENT.now d m (λ o s_. ready_acknowledgement_read o m s_) is) refl
-at_read d (message.DataSupplyRequest m) is = rw (is_needed data_supply_request (λ o x. SpellsSupply o x) DATA_SUPPLY_REQUEST.now d m (λ o s_. supply_request_read o m s_) is) refl
-at_read d (message.DataReceivedAcknowledgement m) is = rw (is_needed data_received_acknowledgement (λ o x. SpellsReceived o x) DATA_RECEIVED_ACKNOWLEDGEMENT.now d m (λ o s_. received_read o m s_) is) refl
-at_read d (message.CheckStatusRequest m) is = rw (is_needed check_status_request (λ o x. SpellsCheck o x) CHECK_STATUS_REQUEST.now d m (λ o s_. check_read o m s_) is) refl
-at_read d (message.CheckStatusResponse m) is = rw (is_needed check_status_response (λ o x. SpellsCheckResponse o x) CHECK_STATUS_RESPONSE.now d m (λ o s_. check_response_read o m s_) is) refl
-at_read d (message.HeartbeatNotification m) is = rw (is_needed heartbeat_notification (λ o x. SpellsHeartbeat o x) HEARTBEAT_NOTIFICATION.now d m (λ o s_. heartbeat_read o m s_) is) refl
+at_read d (message.ServiceRequest m) is = rw (is_required service_request (λ o x. SpellsServiceRequest o x) SERVICE_REQUEST.now d m (λ o s_. service_request_read o m s_) is) refl
+at_read d (message.ServiceDelivery m) is = rw (is_required service_delivery (λ o x. SpellsServiceDelivery o x) SERVICE_DELIVERY.now d m (λ o s_. service_delivery_read o m s_) is) refl
+at_read d (message.SubscriptionRequest m) is = rw (is_required subscription_request (λ o x. SpellsSubscriptionRequest o x) SUBSCRIPTION_REQUEST.now d m (λ o s_. subscription_request_read o m s_) is) refl
+at_read d (message.SubscriptionResponse m) is = rw (is_required subscription_response (λ o x. SpellsSubscriptionResponse o x) SUBSCRIPTION_RESPONSE.now d m (λ o s_. subscription_response_read o m s_) is) refl
+at_read d (message.TerminateSubscriptionRequest m) is = rw (is_required termination_request (λ o x. SpellsTerminationRequest o x) TERMINATE_SUBSCRIPTION_REQUEST.now d m (λ o s_. termination_request_read o m s_) is) refl
+at_read d (message.TerminateSubscriptionResponse m) is = rw (is_required termination_response (λ o x. SpellsTerminationResponse o x) TERMINATE_SUBSCRIPTION_RESPONSE.now d m (λ o s_. termination_response_read o m s_) is) refl
+at_read d (message.DataReadyNotification m) is = rw (is_required data_ready_notification (λ o x. SpellsReady o x) DATA_READY_NOTIFICATION.now d m (λ o s_. ready_read o m s_) is) refl
+at_read d (message.DataReadyAcknowledgement m) is = rw (is_required data_ready_acknowledgement (λ o x. SpellsReadyAcknowledgement o x) DATA_READY_ACKNOWLEDGEMENT.now d m (λ o s_. ready_acknowledgement_read o m s_) is) refl
+at_read d (message.DataSupplyRequest m) is = rw (is_required data_supply_request (λ o x. SpellsSupply o x) DATA_SUPPLY_REQUEST.now d m (λ o s_. supply_request_read o m s_) is) refl
+at_read d (message.DataReceivedAcknowledgement m) is = rw (is_required data_received_acknowledgement (λ o x. SpellsReceived o x) DATA_RECEIVED_ACKNOWLEDGEMENT.now d m (λ o s_. received_read o m s_) is) refl
+at_read d (message.CheckStatusRequest m) is = rw (is_required check_status_request (λ o x. SpellsCheck o x) CHECK_STATUS_REQUEST.now d m (λ o s_. check_read o m s_) is) refl
+at_read d (message.CheckStatusResponse m) is = rw (is_required check_status_response (λ o x. SpellsCheckResponse o x) CHECK_STATUS_RESPONSE.now d m (λ o s_. check_response_read o m s_) is) refl
+at_read d (message.HeartbeatNotification m) is = rw (is_required heartbeat_notification (λ o x. SpellsHeartbeat o x) HEARTBEAT_NOTIFICATION.now d m (λ o s_. heartbeat_read o m s_) is) refl
 
 -- ---- documents
 
@@ -175,7 +175,7 @@ siri_read d m s_ = rw (s_.only) (at_read d m s_.body)
 
 pub root_spelled : (d : Data) (m : Message) → root d ≡ Ok m → SpellsRoot d m
 unfolding root
-root_spelled (object ms) m e = needed_is siri (λ o x. SpellsSiri o x) SIRI.now (object ms) m (λ o is. siri_spelled o m is) e
+root_spelled (object ms) m e = required_row_is siri (λ o x. SpellsSiri o x) SIRI.now (object ms) m (λ o is. siri_spelled o m is) e
 root_spelled null m e = absurd cc
 root_spelled (boolean b) m e = absurd cc
 root_spelled (number n) m e = absurd cc
@@ -184,7 +184,7 @@ root_spelled (array ds) m e = absurd cc
 
 root_read : (d : Data) (m : Message) → SpellsRoot d m → root d ≡ Ok m
 unfolding root
-root_read (object ms) m s_ = is_needed siri (λ o x. SpellsSiri o x) SIRI.now (object ms) m (λ o is. siri_read o m is) s_
+root_read (object ms) m s_ = is_required siri (λ o x. SpellsSiri o x) SIRI.now (object ms) m (λ o is. siri_read o m is) s_
 root_read null m s_ = absurd s_
 root_read (boolean b) m s_ = absurd s_
 root_read (number n) m s_ = absurd s_

@@ -19,11 +19,11 @@ use Rattle.siri_records.specs.Ends.{call_moment}
 use Rattle.siri_items.specs.declared.names.TheConstants.{ACTUAL_ARRIVAL_TIME, ACTUAL_DEPARTURE_TIME, AFFECTS, AIMED_ARRIVAL_TIME, AIMED_DEPARTURE_TIME, ARRIVAL_PLATFORM_NAME, ARRIVAL_STATUS, CANCELLATION, CREATION_TIME, DELAY, DEPARTURE_PLATFORM_NAME, DEPARTURE_STATUS, DESCRIPTION, DESTINATION_NAME, DESTINATION_REF, DIRECTION_REF, END_TIME, EXPECTED_ARRIVAL_TIME, EXPECTED_DEPARTURE_TIME, ITEM_IDENTIFIER, LATITUDE, LINE_REF, LONGITUDE, MONITORED, MONITORED_CALL, MONITORED_VEHICLE_JOURNEY, MONITORING_REF, OCCUPANCY, OPERATOR_REF, ORDER, PARTICIPANT_REF, PROGRESS, PUBLISHED_LINE_NAME, RECORDED_AT_TIME, SEVERITY, SITUATION_NUMBER, START_TIME, STOP_POINT_NAME, STOP_POINT_REF, SUMMARY, VALID_UNTIL_TIME, VEHICLE_AT_STOP, VEHICLE_LOCATION, VEHICLE_REF, VERSION, VERSIONED_AT_TIME}
 use Rattle.siri_items.specs.Refusals.{Refusal, ◌>>=◌, each}
 use Rattle.siri_items.specs.Items.{item_of}
-use Rattle.siri_items.specs.Rules.{name, text, moment, span, number, decimal, flag, table, unless_wrong, there, row, needed, present}
+use Rattle.siri_items.specs.Rules.{name, text, moment, span, number, decimal, flag, table, unless_wrong, required, row, required_row, required_value}
 use Rattle.siri_items.specs.Calls.{stop_call, location, optional_location, optional_call}
 use Rattle.siri_items.specs.Visits.{visit, visit_journey, timed_call, with_moment}
 use Rattle.siri_items.specs.Vehicles.{vehicle, vehicle_journey}
-use Rattle.siri_items.specs.Journeys.{journey, journey_rows, has_time, with_time}
+use Rattle.siri_items.specs.Journeys.{journey, read_journey_rows, has_time, with_time}
 use Rattle.siri_items.specs.Situations.{situation, period, affected}
 use Rattle.siri_items.specs.Spelling.{Spells, SpellsCall, SpellsLocation, SpellsVisitJourney, SpellsVisit, SpellsVehicleJourney, SpellsVehicle, SpellsJourneyRows, SpellsJourney, SpellsPeriod, SpellsSituation, SpellsItem, IfFound}
 
@@ -31,9 +31,9 @@ pub row_ok : {A : Type 0} (rule : Data → Result (Option A) Refusal) (key : Lis
 unfolding row
 row_ok rule key d value spells = rw spells refl
 
-pub needed_ok : {A : Type 0} (rule : Data → Result (Option A) Refusal) (key : List ℕ) (d : Data) (value : A) → Spells rule key d (Some value) → needed rule key d ≡ Ok value
-unfolding needed
-needed_ok rule key d value spells = rw (row_ok rule key d (Some value) spells) refl
+pub required_row_ok : {A : Type 0} (rule : Data → Result (Option A) Refusal) (key : List ℕ) (d : Data) (value : A) → Spells rule key d (Some value) → required_row rule key d ≡ Ok value
+unfolding required_row
+required_row_ok rule key d value spells = rw (row_ok rule key d (Some value) spells) refl
 
 timed : (c : StopCall) (m : Option ℕ) → IsSome m → with_moment c m ≡ Ok c
 timed c None h = absurd cc
@@ -41,7 +41,7 @@ timed c (Some m) h = refl
 
 pub timed_call_reads : (d : Data) (c : StopCall) → Spells (table stop_call) MONITORED_CALL.now d (Some c) → IsSome (call_moment c) → timed_call d ≡ Ok c
 unfolding timed_call
-timed_call_reads d c spells some = rw (needed_ok (table stop_call) MONITORED_CALL.now d c spells) (timed c (call_moment c) some)
+timed_call_reads d c spells some = rw (required_row_ok (table stop_call) MONITORED_CALL.now d c spells) (timed c (call_moment c) some)
 
 pub call_reads : (d : Data) (c : StopCall) → SpellsCall d c → stop_call d ≡ Ok c
 unfolding stop_call
@@ -77,7 +77,7 @@ visit_journey_reads d j s_ =
     rw (
       row_ok name LINE_REF.now d j.line_ref s_.line_ref,
       row_ok name DIRECTION_REF.now d j.direction_ref s_.direction_ref,
-      s_.reference,
+      s_.journey_ref,
       row_ok text PUBLISHED_LINE_NAME.now d j.published_line_name s_.published_line_name,
       row_ok name OPERATOR_REF.now d j.operator_ref s_.operator_ref,
       row_ok name DESTINATION_REF.now d j.destination_ref s_.destination_ref,
@@ -95,9 +95,9 @@ unfolding visit
 visit_reads d v s_ =
     rw (
       row_ok moment RECORDED_AT_TIME.now d v.recorded_at_time s_.recorded_at_time,
-      needed_ok name ITEM_IDENTIFIER.now d v.item_identifier s_.item_identifier,
-      needed_ok name MONITORING_REF.now d v.monitoring_ref s_.monitoring_ref,
-      needed_ok (table visit_journey) MONITORED_VEHICLE_JOURNEY.now d v.monitored_vehicle_journey s_.monitored_vehicle_journey,
+      required_row_ok name ITEM_IDENTIFIER.now d v.item_identifier s_.item_identifier,
+      required_row_ok name MONITORING_REF.now d v.monitoring_ref s_.monitoring_ref,
+      required_row_ok (table visit_journey) MONITORED_VEHICLE_JOURNEY.now d v.monitored_vehicle_journey s_.monitored_vehicle_journey,
     ) refl
 
 pub vehicle_journey_reads : (d : Data) (j : VehicleJourney) → SpellsVehicleJourney d j → vehicle_journey d ≡ Ok j
@@ -106,12 +106,12 @@ vehicle_journey_reads d j s_ =
     rw (
       row_ok name LINE_REF.now d j.line_ref s_.line_ref,
       row_ok name DIRECTION_REF.now d j.direction_ref s_.direction_ref,
-      s_.reference,
+      s_.journey_ref,
       row_ok text PUBLISHED_LINE_NAME.now d j.published_line_name s_.published_line_name,
       row_ok name OPERATOR_REF.now d j.operator_ref s_.operator_ref,
       row_ok name DESTINATION_REF.now d j.destination_ref s_.destination_ref,
       row_ok text DESTINATION_NAME.now d j.destination_name s_.destination_name,
-      needed_ok name VEHICLE_REF.now d j.vehicle_ref s_.vehicle_ref,
+      required_row_ok name VEHICLE_REF.now d j.vehicle_ref s_.vehicle_ref,
       row_ok flag MONITORED.now d j.monitored s_.monitored,
       row_ok text OCCUPANCY.now d j.occupancy s_.occupancy,
       row_ok span DELAY.now d j.delay s_.delay,
@@ -126,17 +126,17 @@ vehicle_reads d v s_ =
       row_ok moment RECORDED_AT_TIME.now d v.recorded_at_time s_.recorded_at_time,
       row_ok name ITEM_IDENTIFIER.now d v.item_identifier s_.item_identifier,
       row_ok moment VALID_UNTIL_TIME.now d v.valid_until_time s_.valid_until_time,
-      needed_ok (table vehicle_journey) MONITORED_VEHICLE_JOURNEY.now d v.monitored_vehicle_journey s_.monitored_vehicle_journey,
+      required_row_ok (table vehicle_journey) MONITORED_VEHICLE_JOURNEY.now d v.monitored_vehicle_journey s_.monitored_vehicle_journey,
     ) refl
 
-pub journey_rows_reads : (d : Data) (j : Journey) → SpellsJourneyRows d j → journey_rows d ≡ Ok j
-unfolding journey_rows
+pub journey_rows_reads : (d : Data) (j : Journey) → SpellsJourneyRows d j → read_journey_rows d ≡ Ok j
+unfolding read_journey_rows
 journey_rows_reads d j s_ =
     rw (
       row_ok moment RECORDED_AT_TIME.now d j.recorded_at_time s_.recorded_at_time,
-      needed_ok name LINE_REF.now d j.line_ref s_.line_ref,
+      required_row_ok name LINE_REF.now d j.line_ref s_.line_ref,
       row_ok name DIRECTION_REF.now d j.direction_ref s_.direction_ref,
-      s_.reference,
+      s_.journey_ref,
       row_ok flag CANCELLATION.now d j.cancellation s_.cancellation,
       row_ok text PUBLISHED_LINE_NAME.now d j.published_line_name s_.published_line_name,
       row_ok name OPERATOR_REF.now d j.operator_ref s_.operator_ref,
@@ -154,7 +154,7 @@ pub period_reads : (d : Data) (p : Period) → SpellsPeriod d p → period d ≡
 unfolding period
 period_reads d p s_ =
     rw (
-      needed_ok moment START_TIME.now d p.start_time s_.start_time,
+      required_row_ok moment START_TIME.now d p.start_time s_.start_time,
       row_ok moment END_TIME.now d p.end_time s_.end_time,
     ) refl
 
@@ -164,7 +164,7 @@ situation_reads d s s_ =
     rw (
       row_ok moment CREATION_TIME.now d s.creation_time s_.creation_time,
       row_ok name PARTICIPANT_REF.now d s.participant_ref s_.participant_ref,
-      needed_ok name SITUATION_NUMBER.now d s.situation_number s_.situation_number,
+      required_row_ok name SITUATION_NUMBER.now d s.situation_number s_.situation_number,
       row_ok name VERSION.now d s.version s_.version,
       row_ok moment VERSIONED_AT_TIME.now d s.versioned_at_time s_.versioned_at_time,
       row_ok text PROGRESS.now d s.progress s_.progress,
@@ -185,19 +185,19 @@ pub journey_reads : (d : Data) (j : Journey) → SpellsJourney d j → journey d
 unfolding journey
 journey_reads d j s_ = rw (journey_rows_reads d j s_.rows) (with_time_ok j s_.timed)
 
-present_ok : {A : Type 0} (rows : Data → Result A Refusal) (f : Found Data) (x : A) → IfFound f (λ o. rows o ≡ Ok x) → ((unless_wrong f >>= each rows) >>= there []) ≡ Ok x
-present_ok rows (found o) x is = rw is refl
-present_ok rows absent x is = absurd is
-present_ok rows wrong x is = absurd is
+required_value_ok : {A : Type 0} (rows : Data → Result A Refusal) (f : Found Data) (x : A) → IfFound f (λ o. rows o ≡ Ok x) → ((unless_wrong f >>= each rows) >>= required []) ≡ Ok x
+required_value_ok rows (found o) x is = rw is refl
+required_value_ok rows absent x is = absurd is
+required_value_ok rows wrong x is = absurd is
 
 found_map : (f : Found Data) (P Q : Data → Type 0) → ((o : Data) → P o → Q o) → IfFound f P → IfFound f Q
 found_map (found o) P Q h is = h o is
 found_map absent P Q h is = is
 found_map wrong P Q h is = is
 
-table_ok : {A : Type 0} (rows : Data → Result A Refusal) (d : Data) (x : A) → IfFound (object_in d) (λ o. rows o ≡ Ok x) → present (table rows) d ≡ Ok x
-unfolding present table
-table_ok rows d x is = present_ok rows (object_in d) x is
+table_ok : {A : Type 0} (rows : Data → Result A Refusal) (d : Data) (x : A) → IfFound (object_in d) (λ o. rows o ≡ Ok x) → required_value (table rows) d ≡ Ok x
+unfolding required_value table
+table_ok rows d x is = required_value_ok rows (object_in d) x is
 
 pub item_reads : (s_ : Service) (d : Data) (i : Item) → SpellsItem s_ d i → item_of s_ d ≡ Ok i
 item_reads service.Stop d (item.Visit v) is = rw (table_ok visit d v (found_map (object_in d) _ _ (λ o s_. visit_reads o v s_) is)) refl
