@@ -26,7 +26,8 @@ use Rattle.siri_items.specs.Refusals.{Refusal, ◌>>=◌, refused, below, each}
 use Rattle.siri_items.specs.Rules.{unless_wrong, read_from_text, bounded, moment_or, span_or, or_refused, name, text, moment, span, number, decimal, table, table_unless_blank, unless_blank, maybe, required, row, required_value, inside, is_null, entry_count, entries_from, found_from, at_most, list_of, names_of, or_empty, list, not_empty, nonempty_list, names, list_inside}
 use Rattle.siri_items.specs.Scalars.{number_of, within_degrees, units_of, units_after, magnitude_of, sign_at, signed, decimal_of}
 use Rattle.siri_items.specs.Spelling.{Spells}
-use Rattle.siri_items.specs.Proper.{TextsAreUtf8, ItemTextsAreUtf8, MemberTextsAreUtf8, IsTextWithin, IsName, IsText, IsMoment, IsSpan, IsNumber, IsDecimal, IsListWithin}
+use Rattle.siri_items.specs.Proper.{IsTextWithin, IsName, IsText, IsMoment, IsSpan, IsNumber, IsDecimal, IsListWithin}
+use Rattle.siri_json.specs.TextsOfTrees.{TextsAreUtf8, ItemTextsAreUtf8, MemberTextsAreUtf8}
 use Rattle.siri_items.proofs.DecimalRead.{digits_are}
 
 -- P of what was read, where it was

@@ -35,7 +35,8 @@ use Rattle.siri_items.specs.Journeys.{has_time}
 use Rattle.siri_items.specs.Situations.{period, network, lines_at, all_lines, lines_of, network_lines, affected, or_nothing}
 use Rattle.siri_items.specs.Items.{item_of}
 use Rattle.siri_items.specs.Spelling.{IfFound, SpellsCall, SpellsVisitJourney, SpellsVisit, SpellsVehicleJourney, SpellsVehicle, SpellsJourneyRows, SpellsJourney, SpellsPeriod, SpellsAffects, SpellsSituation, SpellsItem}
-use Rattle.siri_items.specs.Proper.{TextsAreUtf8, IsName, IsText, IsMoment, IsSpan, IsNumber, IsDecimal, IsListWithin, IsProperCall, IsProperOptionalCall, IsProperLocation, IsProperVisitJourney, IsProperVisit, IsProperVehicleJourney, IsProperVehicle, IsProperJourney, IsProperPeriod, IsProperSituation, IsProper}
+use Rattle.siri_items.specs.Proper.{IsName, IsText, IsMoment, IsSpan, IsNumber, IsDecimal, IsListWithin, IsProperCall, IsProperOptionalCall, IsProperLocation, IsProperVisitJourney, IsProperVisit, IsProperVehicleJourney, IsProperVehicle, IsProperJourney, IsProperPeriod, IsProperSituation, IsProper}
+use Rattle.siri_json.specs.TextsOfTrees.{TextsAreUtf8}
 use Rattle.siri_items.proofs.ReadImpliesSpells.{call_spelled, location_spelled, visit_journey_spelled, vehicle_journey_spelled, period_spelled, item_spelled}
 use Rattle.siri_items.proofs.ProperParts.{OnRead, OnFound, Yields, reads_to, on_ok, on_map, on_bind, on_below, required_on, member_is, object_is, name_yields, text_yields, moment_yields, span_yields, number_yields, decimal_yields, table_yields, table_unless_blank_yields, row_on, row_is, inside_on, AreRead, list_of_on, names_of_on, at_name, nonempty_list_on, list_inside_on, lists_inside_on, names_inside_on}
 

@@ -25,7 +25,7 @@ use Rattle.siri_items.specs.declared.names.TheConstants.{MONITORING_REF, LINE_RE
 use Rattle.siri_items.specs.Refusals.{Refusal}
 use Rattle.siri_items.specs.Rules.{name, text, moment, non_negative_span, number, read_from_text, table, inside, list, list_inside}
 use Rattle.siri_items.specs.Writing.{Row, with_rows, row_object, written_list, written_text, written_flag, written_moment, written_span}
-use Rattle.siri_items.specs.Proper.{IsName, IsListWithin}
+use Rattle.siri_items.specs.Proper.{IsName, IsListWithin, IsNonNegativeSpan}
 use Rattle.siri_items.proofs.Back.{found_again, GivesBack, in_rows, member_again, row_again}
 use Rattle.siri_items.proofs.BackValues.{name_back, some_name_back, moment_back, some_moment_back, some_number_back, table_back}
 use Rattle.siri_items.proofs.BackLists.{EntryBack, table_entry, list_back, nonempty_list_back, list_inside_back}
@@ -38,7 +38,6 @@ use Rattle.siri_wire.specs.Terminations.{termination_request, termination_status
 use Rattle.siri_wire.specs.WrittenTopics.{rows_of_stop_topic, written_stop_topic, rows_of_line_direction, written_line_direction, written_lines, rows_of_timetable_topic, written_timetable_topic, rows_of_vehicle_topic, written_vehicle_topic, rows_of_situation_topic, written_situation_topic, written_topic, topic_writing}
 use Rattle.siri_wire.specs.WrittenRequests.{rows_of_service_request, written_service_request}
 use Rattle.siri_wire.specs.WrittenSubscriptions.{written_method, rows_of_subscription, written_subscription, written_stop_subscription, written_timetable_subscription, written_vehicle_subscription, written_situation_subscription, written_context, rows_of_subscription_request, written_subscription_request, rows_of_response_status, written_response_status, rows_of_subscription_response, written_subscription_response, rows_of_termination, written_termination, rows_of_termination_status, written_termination_status, rows_of_termination_response, written_termination_response}
-use Rattle.siri_wire_laws.specs.ProperValues.{IsNonNegativeSpan}
 use Rattle.siri_wire_laws.specs.ProperRequests.{IsProperStopTopic, IsProperLineDirection, IsProperTimetableTopic, IsProperVehicleTopic, IsProperSituationTopic, IsProperTopic, maximum_of, IsProperServiceRequest, IsProperSubscription, IsProperSubscriptionRequest, IsProperResponseStatus, IsProperSubscriptionResponse, IsProperTerminationRequest, IsProperTerminationStatus, IsProperTerminationResponse}
 use Rattle.siri_wire_laws.specs.SpellingValues.{SpellsOr}
 use Rattle.siri_wire_laws.specs.SpellingRequests.{SpellsStopTopic, SpellsLineDirection, SpellsTimetableTopic, SpellsVehicleTopic, SpellsSituationTopic, SpellsServiceRequest, SpellsAsked, SpellsSlack, SpellsMethod, SpellsSubscription, SpellsSubscriptionRequest, SpellsResponseStatus, SpellsSubscriptionResponse, SpellsTerminationRequest, SpellsTerminationStatus, SpellsTerminationResponse}

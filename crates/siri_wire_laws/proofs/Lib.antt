@@ -12,7 +12,6 @@ pub mod CanonicalDeliveries
 pub mod BackDocuments
 pub mod ReadImpliesSpellsDeliveries
 pub mod ReadIffSpells
-pub mod TreeTexts
 pub mod ProperReadValues
 pub mod ProperReadRequests
 pub mod ProperReadDeliveries

@@ -12,7 +12,7 @@ use Rattle.siri_json.specs.Values.{object_in}
 use Rattle.siri_items.specs.Refusals.{Refusal}
 use Rattle.siri_items.specs.Rules.{text, flag, number, non_negative_span, inside}
 use Rattle.siri_items.specs.Writing.{Row, row_object, written_text, written_flag, written_span}
-use Rattle.siri_items.specs.Proper.{IsText, IsNumber}
+use Rattle.siri_items.specs.Proper.{IsText, IsNumber, IsNonNegativeSpan}
 use Rattle.siri_items.proofs.Back.{GivesBack, in_rows, row_again}
 use Rattle.siri_items.proofs.BackValues.{text_back, flag_back, number_back, non_negative_span_back}
 use Rattle.siri_items.proofs.BackLists.{only_row}
@@ -22,7 +22,6 @@ use Rattle.siri_items.proofs.CanonicalParts.{MayBeWithin, deeper, text_within, s
 use Rattle.siri_wire.specs.declared.names.TheConstants.{ERROR_CONDITION, ERROR_TEXT, OTHER_ERROR}
 use Rattle.siri_wire.specs.Errors.{other_error, error_condition}
 use Rattle.siri_wire.specs.WrittenValues.{written_error, written_identifier}
-use Rattle.siri_wire_laws.specs.ProperValues.{IsNonNegativeSpan}
 use Rattle.siri_wire_laws.specs.SpellingValues.{SpellsOr, SpellsError}
 
 -- ---- rules in lists and objects

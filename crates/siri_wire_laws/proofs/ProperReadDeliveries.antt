@@ -28,7 +28,8 @@ use Rattle.siri_items.specs.Visits.{visit}
 use Rattle.siri_items.specs.Vehicles.{vehicle}
 use Rattle.siri_items.specs.Journeys.{journey}
 use Rattle.siri_items.specs.Situations.{situation}
-use Rattle.siri_items.specs.Proper.{TextsAreUtf8, IsName, IsMoment, IsNumber, IsListWithin, IsProperVisit, IsProperVehicle, IsProperJourney, IsProperSituation}
+use Rattle.siri_items.specs.Proper.{IsName, IsMoment, IsNumber, IsListWithin, IsProperVisit, IsProperVehicle, IsProperJourney, IsProperSituation}
+use Rattle.siri_json.specs.TextsOfTrees.{TextsAreUtf8}
 use Rattle.siri_items.proofs.ProperParts.{OnRead, Yields, reads_to, on_ok, on_map, on_bind, name_yields, moment_yields, number_yields, table_yields, row_on, row_is, inside_on, AreRead, list_of_on, at_name, lists_inside_on}
 use Rattle.siri_items.proofs.ProperTables.{visit_proper, vehicle_proper, journey_proper, situation_proper}
 use Rattle.siri_items.proofs.ReadImpliesSpells.{visit_spelled, vehicle_spelled, journey_spelled, situation_spelled}

@@ -18,8 +18,7 @@ use Rattle.siri_messages.specs.declared.subscriptions.SubscriptionResponse.{Subs
 use Rattle.siri_messages.specs.declared.terminations.TerminateSubscriptionRequest.{TerminateSubscriptionRequest}
 use Rattle.siri_messages.specs.declared.terminations.TerminateSubscriptionResponse.{TerminateSubscriptionResponse}
 use Rattle.siri_messages.specs.declared.terminations.TerminationResponseStatus.{TerminationResponseStatus}
-use Rattle.siri_items.specs.Proper.{IsName, IsText, IsMoment, IsNumber, IsListWithin}
-use Rattle.siri_wire_laws.specs.ProperValues.{IsNonNegativeSpan}
+use Rattle.siri_items.specs.Proper.{IsName, IsText, IsMoment, IsNumber, IsListWithin, IsNonNegativeSpan}
 use Rattle.siri_wire.specs.Requests.{asks_nothing}
 use Rattle.siri_wire.specs.Subscriptions.{wants_nothing}
 use Rattle.siri_wire.specs.declared.read_subscriptions.Wanted.{Wanted}

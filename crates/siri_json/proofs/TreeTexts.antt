@@ -21,7 +21,7 @@ use Rattle.serde_json.specs.Data.{Data, number, array, object, item, Members, no
 use Rattle.serde_json.specs.Read.{number_of, of_json, of_items, of_members, max_depth, read}
 use Rattle.siri_json.specs.Quoted.{quoted}
 use Rattle.siri_json.specs.Tree.{json_of, tree_of}
-use Rattle.siri_items.specs.Proper.{TextsAreUtf8, ItemTextsAreUtf8, MemberTextsAreUtf8}
+use Rattle.siri_json.specs.TextsOfTrees.{TextsAreUtf8, ItemTextsAreUtf8, MemberTextsAreUtf8, DocumentTextsAreUtf8}
 
 -- ---- what may be absent
 
@@ -499,5 +499,5 @@ tree_texts : (document : List ℕ) → IfSome (tree_of document) TextsAreUtf8
 tree_texts document = json_texts (quoted document)
 
 -- the tree of a document has UTF-8 texts
-pub tree_is_utf8 : (document : List ℕ) (d : Data) → tree_of document ≡ Some d → TextsAreUtf8 d
+pub tree_is_utf8 : DocumentTextsAreUtf8
 tree_is_utf8 document d e = subst (λ (o : Option Data). IfSome o TextsAreUtf8) e (tree_texts document)
