@@ -19,16 +19,18 @@ use Rattle.siri_records.specs.declared.item.Item.TheVariants as item
 use Rattle.siri_records.specs.declared.item.Service.{Service}
 use Rattle.siri_records.specs.declared.item.Service.TheVariants as service
 use Rattle.siri_records.specs.Ends.{call_moment}
-use Rattle.siri_items.specs.declared.names.TheConstants.{ACTUAL_ARRIVAL_TIME, ACTUAL_DEPARTURE_TIME, AFFECTS, AIMED_ARRIVAL_TIME, AIMED_DEPARTURE_TIME, ARRIVAL_PLATFORM_NAME, ARRIVAL_STATUS, CANCELLATION, CREATION_TIME, DELAY, DEPARTURE_PLATFORM_NAME, DEPARTURE_STATUS, DESCRIPTION, DESTINATION_NAME, DESTINATION_REF, DIRECTION_REF, END_TIME, ESTIMATED_CALL, ESTIMATED_CALLS, EXPECTED_ARRIVAL_TIME, EXPECTED_DEPARTURE_TIME, ITEM_IDENTIFIER, LATITUDE, LINE_REF, LONGITUDE, MONITORED, MONITORED_CALL, MONITORED_VEHICLE_JOURNEY, MONITORING_REF, OCCUPANCY, OPERATOR_REF, ORDER, PARTICIPANT_REF, PROGRESS, PUBLISHED_LINE_NAME, RECORDED_AT_TIME, RECORDED_CALL, RECORDED_CALLS, SEVERITY, SITUATION_NUMBER, START_TIME, STOP_POINT_NAME, STOP_POINT_REF, SUMMARY, VALIDITY_PERIOD, VALID_UNTIL_TIME, VEHICLE_AT_STOP, VEHICLE_LOCATION, VEHICLE_REF, VERSION, VERSIONED_AT_TIME}
+use Rattle.siri_items.specs.declared.names.TheConstants.{ACTUAL_ARRIVAL_TIME, ACTUAL_DEPARTURE_TIME, AFFECTED_OPERATOR, AFFECTED_STOP_POINT, AFFECTS, AIMED_ARRIVAL_TIME, AIMED_DEPARTURE_TIME, ARRIVAL_PLATFORM_NAME, ARRIVAL_STATUS, CANCELLATION, CREATION_TIME, DATA_FRAME_REF, DATED_VEHICLE_JOURNEY_REF, DELAY, DEPARTURE_PLATFORM_NAME, DEPARTURE_STATUS, DESCRIPTION, DESTINATION_NAME, DESTINATION_REF, DIRECTION_REF, END_TIME, ESTIMATED_CALL, ESTIMATED_CALLS, EXPECTED_ARRIVAL_TIME, EXPECTED_DEPARTURE_TIME, ITEM_IDENTIFIER, LATITUDE, LINE_REF, LONGITUDE, MONITORED, MONITORED_CALL, MONITORED_VEHICLE_JOURNEY, MONITORING_REF, NETWORKS, OCCUPANCY, OPERATORS, OPERATOR_REF, ORDER, PARTICIPANT_REF, PROGRESS, PUBLISHED_LINE_NAME, RECORDED_AT_TIME, RECORDED_CALL, RECORDED_CALLS, SEVERITY, SITUATION_NUMBER, START_TIME, STOP_POINTS, STOP_POINT_NAME, STOP_POINT_REF, SUMMARY, VALIDITY_PERIOD, VALID_UNTIL_TIME, VEHICLE_AT_STOP, VEHICLE_LOCATION, VEHICLE_REF, VERSION, VERSIONED_AT_TIME}
+use Rattle.siri_items.specs.declared.read_call.RequiredJourneyRef.{RequiredJourneyRef}
+use Rattle.siri_items.specs.declared.read_situation.Affected.{Affected}
 use Rattle.siri_items.specs.Refusals.{Refusal, ◌>>=◌, refused, below, each}
 use Rattle.siri_items.specs.Items.{item_of}
-use Rattle.siri_items.specs.Rules.{name, text, moment, span, number, decimal, flag, table, unless_wrong, maybe, required, row, required_row, list, nonempty_list, list_inside, required_value}
-use Rattle.siri_items.specs.Calls.{stop_call, location, optional_location, optional_call, journey_ref, required_journey_ref}
+use Rattle.siri_items.specs.Rules.{name, text, moment, span, number, decimal, flag, table, unless_wrong, maybe, required, row, required_row, list, nonempty_list, list_inside, names, required_value}
+use Rattle.siri_items.specs.Calls.{stop_call, location, optional_location, optional_call, framed_ref_of, read_framed_ref_rows, journey_ref, required_journey_ref}
 use Rattle.siri_items.specs.Visits.{visit, visit_journey, timed_call, with_moment}
 use Rattle.siri_items.specs.Vehicles.{vehicle, vehicle_journey}
 use Rattle.siri_items.specs.Journeys.{journey, read_journey_rows, has_time}
-use Rattle.siri_items.specs.Situations.{situation, period, affected}
-use Rattle.siri_items.specs.Spelling.{Spells, SpellsCall, SpellsLocation, SpellsVisitJourney, SpellsVisit, SpellsVehicleJourney, SpellsVehicle, SpellsJourneyRows, SpellsJourney, SpellsPeriod, SpellsSituation, SpellsItem, IfFound}
+use Rattle.siri_items.specs.Situations.{situation, period, network_lines, affected}
+use Rattle.siri_items.specs.Spelling.{Spells, SpellsCall, SpellsLocation, SpellsVisitJourney, SpellsVisit, SpellsVehicleJourney, SpellsVehicle, SpellsJourneyRows, SpellsJourney, SpellsPeriod, SpellsAffected, SpellsFramedRef, SpellsSituation, SpellsItem, IfFound}
 
 pub bind_ok : {A B : Type 0} (r : Result A Refusal) (f : A → Result B Refusal) (y : B) → (r >>= f) ≡ Ok y → (x : A) × (r ≡ Ok x) × (f x ≡ Ok y)
 bind_ok (Ok x) f y e = (x, refl, e)
@@ -340,3 +342,32 @@ item_spelled service.Vehicle d i e =
 item_spelled service.Situation d i e =
     let r = bind_ok (required_value (table situation) d) _ i e in
     subst (λ (x : Item). SpellsItem service.Situation d x) (ok_is (item.Situation r.0) i r.2) (situation_item d r.0 r.1)
+
+pub affected_spelled : (d : Data) (a : Affected) → affected d ≡ Ok a → SpellsAffected d a
+unfolding affected
+affected_spelled d a e =
+    let r1 = bind_ok (list_inside OPERATORS.now (names OPERATOR_REF.now 2000 AFFECTED_OPERATOR.now) d) _ a e in
+    let r2 = bind_ok (list_inside NETWORKS.now network_lines d) _ a r1.2 in
+    let r3 = bind_ok (list_inside STOP_POINTS.now (names STOP_POINT_REF.now 2000 AFFECTED_STOP_POINT.now) d) _ a r2.2 in
+    subst (λ (x : Affected). SpellsAffected d x) (ok_is _ a r3.2) (record { operators = r1.1; lines = r2.1; stop_points = r3.1 })
+
+framed_ref_is : (frame dated : Option (List ℕ)) (r : RequiredJourneyRef) → framed_ref_of frame dated ≡ Ok (Some r) → (frame ≡ r.data_frame_ref) × (dated ≡ Some r.dated_vehicle_journey_ref)
+framed_ref_is None None r e = absurd cc
+framed_ref_is (Some frame) None r e = absurd cc
+framed_ref_is None (Some dated) r e =
+    let same = some_is (record { data_frame_ref = None; dated_vehicle_journey_ref = dated }) r (ok_is _ _ e) in
+    (ap (λ (x : RequiredJourneyRef). x.data_frame_ref) same, ap (λ (x : RequiredJourneyRef). Some x.dated_vehicle_journey_ref) same)
+framed_ref_is (Some frame) (Some dated) r e =
+    let same = some_is (record { data_frame_ref = Some frame; dated_vehicle_journey_ref = dated }) r (ok_is _ _ e) in
+    (ap (λ (x : RequiredJourneyRef). x.data_frame_ref) same, ap (λ (x : RequiredJourneyRef). Some x.dated_vehicle_journey_ref) same)
+
+pub framed_ref_spelled : (d : Data) (r : RequiredJourneyRef) → read_framed_ref_rows d ≡ Ok (Some r) → SpellsFramedRef d r
+unfolding read_framed_ref_rows
+framed_ref_spelled d r e =
+    let r1 = bind_ok (row name DATA_FRAME_REF.now d) _ (Some r) e in
+    let r2 = bind_ok (row name DATED_VEHICLE_JOURNEY_REF.now d) _ (Some r) r1.2 in
+    let is = framed_ref_is r1.0 r2.0 r r2.2 in
+    record {
+      data_frame_ref = row_spelled name DATA_FRAME_REF.now d r.data_frame_ref (r1.1 ∙ ap Ok is.0);
+      dated_vehicle_journey_ref = row_spelled name DATED_VEHICLE_JOURNEY_REF.now d (Some r.dated_vehicle_journey_ref) (r2.1 ∙ ap Ok is.1);
+    }

@@ -16,16 +16,18 @@ use Rattle.siri_records.specs.declared.item.Item.TheVariants as item
 use Rattle.siri_records.specs.declared.item.Service.{Service}
 use Rattle.siri_records.specs.declared.item.Service.TheVariants as service
 use Rattle.siri_records.specs.Ends.{call_moment}
-use Rattle.siri_items.specs.declared.names.TheConstants.{ACTUAL_ARRIVAL_TIME, ACTUAL_DEPARTURE_TIME, AFFECTS, AIMED_ARRIVAL_TIME, AIMED_DEPARTURE_TIME, ARRIVAL_PLATFORM_NAME, ARRIVAL_STATUS, CANCELLATION, CREATION_TIME, DELAY, DEPARTURE_PLATFORM_NAME, DEPARTURE_STATUS, DESCRIPTION, DESTINATION_NAME, DESTINATION_REF, DIRECTION_REF, END_TIME, EXPECTED_ARRIVAL_TIME, EXPECTED_DEPARTURE_TIME, ITEM_IDENTIFIER, LATITUDE, LINE_REF, LONGITUDE, MONITORED, MONITORED_CALL, MONITORED_VEHICLE_JOURNEY, MONITORING_REF, OCCUPANCY, OPERATOR_REF, ORDER, PARTICIPANT_REF, PROGRESS, PUBLISHED_LINE_NAME, RECORDED_AT_TIME, SEVERITY, SITUATION_NUMBER, START_TIME, STOP_POINT_NAME, STOP_POINT_REF, SUMMARY, VALID_UNTIL_TIME, VEHICLE_AT_STOP, VEHICLE_LOCATION, VEHICLE_REF, VERSION, VERSIONED_AT_TIME}
+use Rattle.siri_items.specs.declared.names.TheConstants.{ACTUAL_ARRIVAL_TIME, ACTUAL_DEPARTURE_TIME, AFFECTS, AIMED_ARRIVAL_TIME, AIMED_DEPARTURE_TIME, ARRIVAL_PLATFORM_NAME, ARRIVAL_STATUS, CANCELLATION, CREATION_TIME, DATA_FRAME_REF, DATED_VEHICLE_JOURNEY_REF, DELAY, DEPARTURE_PLATFORM_NAME, DEPARTURE_STATUS, DESCRIPTION, DESTINATION_NAME, DESTINATION_REF, DIRECTION_REF, END_TIME, EXPECTED_ARRIVAL_TIME, EXPECTED_DEPARTURE_TIME, ITEM_IDENTIFIER, LATITUDE, LINE_REF, LONGITUDE, MONITORED, MONITORED_CALL, MONITORED_VEHICLE_JOURNEY, MONITORING_REF, OCCUPANCY, OPERATOR_REF, ORDER, PARTICIPANT_REF, PROGRESS, PUBLISHED_LINE_NAME, RECORDED_AT_TIME, SEVERITY, SITUATION_NUMBER, START_TIME, STOP_POINT_NAME, STOP_POINT_REF, SUMMARY, VALID_UNTIL_TIME, VEHICLE_AT_STOP, VEHICLE_LOCATION, VEHICLE_REF, VERSION, VERSIONED_AT_TIME}
+use Rattle.siri_items.specs.declared.read_call.RequiredJourneyRef.{RequiredJourneyRef}
+use Rattle.siri_items.specs.declared.read_situation.Affected.{Affected}
 use Rattle.siri_items.specs.Refusals.{Refusal, ◌>>=◌, each}
 use Rattle.siri_items.specs.Items.{item_of}
 use Rattle.siri_items.specs.Rules.{name, text, moment, span, number, decimal, flag, table, unless_wrong, required, row, required_row, required_value}
-use Rattle.siri_items.specs.Calls.{stop_call, location, optional_location, optional_call}
+use Rattle.siri_items.specs.Calls.{stop_call, location, optional_location, optional_call, framed_ref_of, read_framed_ref_rows}
 use Rattle.siri_items.specs.Visits.{visit, visit_journey, timed_call, with_moment}
 use Rattle.siri_items.specs.Vehicles.{vehicle, vehicle_journey}
 use Rattle.siri_items.specs.Journeys.{journey, read_journey_rows, has_time, with_time}
 use Rattle.siri_items.specs.Situations.{situation, period, affected}
-use Rattle.siri_items.specs.Spelling.{Spells, SpellsCall, SpellsLocation, SpellsVisitJourney, SpellsVisit, SpellsVehicleJourney, SpellsVehicle, SpellsJourneyRows, SpellsJourney, SpellsPeriod, SpellsSituation, SpellsItem, IfFound}
+use Rattle.siri_items.specs.Spelling.{Spells, SpellsCall, SpellsLocation, SpellsVisitJourney, SpellsVisit, SpellsVehicleJourney, SpellsVehicle, SpellsJourneyRows, SpellsJourney, SpellsPeriod, SpellsAffected, SpellsFramedRef, SpellsSituation, SpellsItem, IfFound}
 
 pub row_ok : {A : Type 0} (rule : Data → Result (Option A) Refusal) (key : List ℕ) (d : Data) (value : Option A) → Spells rule key d value → row rule key d ≡ Ok value
 unfolding row
@@ -216,3 +218,19 @@ item_reads service.Vehicle d (item.Situation t) is = elim is [ ]
 item_reads service.Situation d (item.Visit v) is = elim is [ ]
 item_reads service.Situation d (item.Journey j) is = elim is [ ]
 item_reads service.Situation d (item.Vehicle v) is = elim is [ ]
+
+pub affected_reads : (d : Data) (a : Affected) → SpellsAffected d a → affected d ≡ Ok a
+unfolding affected
+affected_reads d a s_ = rw (s_.operators, s_.lines, s_.stop_points) refl
+
+framed_ref_by : (frame : Option (List ℕ)) (dated : List ℕ) → framed_ref_of frame (Some dated) ≡ Ok (Some (record { data_frame_ref = frame; dated_vehicle_journey_ref = dated }))
+framed_ref_by None dated = refl
+framed_ref_by (Some frame) dated = refl
+
+pub framed_ref_reads : (d : Data) (r : RequiredJourneyRef) → SpellsFramedRef d r → read_framed_ref_rows d ≡ Ok (Some r)
+unfolding read_framed_ref_rows
+framed_ref_reads d r s_ =
+    rw (
+      row_ok name DATA_FRAME_REF.now d r.data_frame_ref s_.data_frame_ref,
+      row_ok name DATED_VEHICLE_JOURNEY_REF.now d (Some r.dated_vehicle_journey_ref) s_.dated_vehicle_journey_ref,
+    ) (framed_ref_by r.data_frame_ref r.dated_vehicle_journey_ref)

@@ -17,15 +17,16 @@ use Rattle.siri_records.specs.declared.item.Item.TheVariants as item
 use Rattle.siri_records.specs.declared.item.Service.{Service}
 use Rattle.siri_records.specs.declared.item.Service.TheVariants as service
 use Rattle.siri_records.specs.Ends.{call_moment}
-use Rattle.siri_items.specs.declared.names.TheConstants.{ACTUAL_ARRIVAL_TIME, ACTUAL_DEPARTURE_TIME, AFFECTS, AIMED_ARRIVAL_TIME, AIMED_DEPARTURE_TIME, ARRIVAL_PLATFORM_NAME, ARRIVAL_STATUS, CANCELLATION, CREATION_TIME, DELAY, DEPARTURE_PLATFORM_NAME, DEPARTURE_STATUS, DESCRIPTION, DESTINATION_NAME, DESTINATION_REF, DIRECTION_REF, END_TIME, ESTIMATED_CALL, ESTIMATED_CALLS, EXPECTED_ARRIVAL_TIME, EXPECTED_DEPARTURE_TIME, ITEM_IDENTIFIER, LATITUDE, LINE_REF, LONGITUDE, MONITORED, MONITORED_CALL, MONITORED_VEHICLE_JOURNEY, MONITORING_REF, OCCUPANCY, OPERATOR_REF, ORDER, PARTICIPANT_REF, PROGRESS, PUBLISHED_LINE_NAME, RECORDED_AT_TIME, RECORDED_CALL, RECORDED_CALLS, SEVERITY, SITUATION_NUMBER, START_TIME, STOP_POINT_NAME, STOP_POINT_REF, SUMMARY, VALIDITY_PERIOD, VALID_UNTIL_TIME, VEHICLE_AT_STOP, VEHICLE_LOCATION, VEHICLE_REF, VERSION, VERSIONED_AT_TIME}
+use Rattle.siri_items.specs.declared.names.TheConstants.{ACTUAL_ARRIVAL_TIME, ACTUAL_DEPARTURE_TIME, AFFECTED_OPERATOR, AFFECTED_STOP_POINT, AFFECTS, AIMED_ARRIVAL_TIME, AIMED_DEPARTURE_TIME, ARRIVAL_PLATFORM_NAME, ARRIVAL_STATUS, CANCELLATION, CREATION_TIME, DATA_FRAME_REF, DATED_VEHICLE_JOURNEY_REF, DELAY, DEPARTURE_PLATFORM_NAME, DEPARTURE_STATUS, DESCRIPTION, DESTINATION_NAME, DESTINATION_REF, DIRECTION_REF, END_TIME, ESTIMATED_CALL, ESTIMATED_CALLS, EXPECTED_ARRIVAL_TIME, EXPECTED_DEPARTURE_TIME, ITEM_IDENTIFIER, LATITUDE, LINE_REF, LONGITUDE, MONITORED, MONITORED_CALL, MONITORED_VEHICLE_JOURNEY, MONITORING_REF, NETWORKS, OCCUPANCY, OPERATORS, OPERATOR_REF, ORDER, PARTICIPANT_REF, PROGRESS, PUBLISHED_LINE_NAME, RECORDED_AT_TIME, RECORDED_CALL, RECORDED_CALLS, SEVERITY, SITUATION_NUMBER, START_TIME, STOP_POINTS, STOP_POINT_NAME, STOP_POINT_REF, SUMMARY, VALIDITY_PERIOD, VALID_UNTIL_TIME, VEHICLE_AT_STOP, VEHICLE_LOCATION, VEHICLE_REF, VERSION, VERSIONED_AT_TIME}
+use Rattle.siri_items.specs.declared.read_call.RequiredJourneyRef.{RequiredJourneyRef}
 use Rattle.siri_items.specs.declared.read_situation.Affected.{Affected}
 use Rattle.siri_items.specs.Refusals.{Refusal}
-use Rattle.siri_items.specs.Rules.{name, text, moment, span, number, decimal, flag, table, maybe, list, nonempty_list, list_inside}
+use Rattle.siri_items.specs.Rules.{name, text, moment, span, number, decimal, flag, table, maybe, list, nonempty_list, list_inside, names}
 use Rattle.siri_items.specs.Calls.{stop_call, optional_location, optional_call, journey_ref, required_journey_ref}
 use Rattle.siri_items.specs.Visits.{visit_journey}
 use Rattle.siri_items.specs.Vehicles.{vehicle_journey}
 use Rattle.siri_items.specs.Journeys.{has_time}
-use Rattle.siri_items.specs.Situations.{period, affected, or_nothing}
+use Rattle.siri_items.specs.Situations.{period, network_lines, affected, or_nothing}
 
 -- the member of that name spells the value, or is absent where there is none
 abbrev pub Spells : {A : Type 0} → (Data → Result (Option A) Refusal) → List ℕ → Data → Option A → Type 0
@@ -58,6 +59,11 @@ pub record SpellsCall (d : Data) (c : StopCall) : Type 0 where
 pub record SpellsLocation (d : Data) (l : VehicleLocation) : Type 0 where
   pub longitude : Spells decimal LONGITUDE.now d l.longitude
   pub latitude : Spells decimal LATITUDE.now d l.latitude
+
+-- a dated journey in its data frame, or by itself
+pub record SpellsFramedRef (d : Data) (r : RequiredJourneyRef) : Type 0 where
+  pub data_frame_ref : Spells name DATA_FRAME_REF.now d r.data_frame_ref
+  pub dated_vehicle_journey_ref : Spells name DATED_VEHICLE_JOURNEY_REF.now d (Some r.dated_vehicle_journey_ref)
 
 -- the journey of a visit
 pub record SpellsVisitJourney (d : Data) (j : VisitJourney) : Type 0 where
@@ -128,6 +134,12 @@ pub record SpellsJourneyRows (d : Data) (j : Journey) : Type 0 where
 pub record SpellsPeriod (d : Data) (p : Period) : Type 0 where
   pub start_time : Spells moment START_TIME.now d (Some p.start_time)
   pub end_time : Spells moment END_TIME.now d p.end_time
+
+-- the operators, lines and stops that a situation affects
+pub record SpellsAffected (d : Data) (a : Affected) : Type 0 where
+  pub operators : list_inside OPERATORS.now (names OPERATOR_REF.now 2000 AFFECTED_OPERATOR.now) d ≡ Ok a.operators
+  pub lines : list_inside NETWORKS.now network_lines d ≡ Ok a.lines
+  pub stop_points : list_inside STOP_POINTS.now (names STOP_POINT_REF.now 2000 AFFECTED_STOP_POINT.now) d ≡ Ok a.stop_points
 
 -- what a situation affects: nothing where Affects is absent
 pub record SpellsAffects (d : Data) (operators lines stop_points : List (List ℕ)) : Type 0 where
