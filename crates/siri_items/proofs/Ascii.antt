@@ -29,8 +29,8 @@ fraction : (f : ℕ) → f < 10000000 → Low (fraction_text f)
 unfolding fraction_text
 fraction f small = elim (cases_lt 0 f) [
   | inl some ↦
-      let there : eqb f 0 ≡ false = grind (arith, nat_tests) in
-      rw there (before 46 (omega arith) (record { is = IsAscii-take _ _ (digits f small).is }))
+      let required : eqb f 0 ≡ false = grind (arith, nat_tests) in
+      rw required (before 46 (omega arith) (record { is = IsAscii-take _ _ (digits f small).is }))
   | inr zero ↦ let same : f ≡ 0 = omega arith in rw same none
 ]
 

@@ -48,8 +48,8 @@ chosen (Some e) d = refl
 found_put : (k l : List ℕ) (d : Data) (ms : Members) (b : Bool) → bytes_eq k l ≡ b → get_member k (put l d ms) ≡ cond b (or_else (get_member k ms) (Some d)) (get_member k ms)
 found_put k l d ms true e =
     let same : k ≡ l = (bytes_eq-Decides k l).0 e in
-    let there : get_member k (put k d ms) ≡ Some d = get_member-put k d ms in
-    subst (λ (x : List ℕ). get_member k (put x d ms) ≡ or_else (get_member k ms) (Some d)) same (there ∙ chosen (get_member k ms) d)
+    let required : get_member k (put k d ms) ≡ Some d = get_member-put k d ms in
+    subst (λ (x : List ℕ). get_member k (put x d ms) ≡ or_else (get_member k ms) (Some d)) same (required ∙ chosen (get_member k ms) d)
 found_put k l d ms false e = get_member-put_other k l d ms (λ same. absurd (cc ((bytes_eq-Decides k l).1 same, e)))
 
 put_none : (b : Bool) (found : Option Data) → found ≡ cond b (or_else found None) found

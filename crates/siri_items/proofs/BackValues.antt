@@ -19,7 +19,7 @@ use Rattle.siri_time.specs.SpanText.{span_text}
 use Rattle.siri_time.proofs.MomentRead.{moment_of-moment_text}
 use Rattle.siri_time.proofs.SpanRead.{span_of-span_text}
 use Rattle.siri_items.specs.Refusals.{Refusal}
-use Rattle.siri_items.specs.Rules.{spelled, bounded, name, text, moment, moment_or, span, span_or, span0, number, decimal, or_refused, flag, table, some_table}
+use Rattle.siri_items.specs.Rules.{read_from_text, bounded, name, text, moment, moment_or, span, span_or, non_negative_span, number, decimal, or_refused, flag, table, table_unless_blank}
 use Rattle.siri_items.specs.Scalars.{number_of, decimal_of}
 use Rattle.siri_items.specs.Writing.{written_text, written_number, written_moment, written_span, written_decimal, written_flag, decimal_text}
 use Rattle.siri_items.specs.Proper.{IsTextWithin, IsName, IsText, IsMoment, IsSpan, IsNumber, IsDecimal}
@@ -34,11 +34,11 @@ kept [] h = absurd (omega arith)
 kept (b ∷ bs) h = refl
 
 -- a text that isn't empty is read on
-pub text_again : {A : Type 0} (read : List ℕ → Result A Refusal) (t : List ℕ) (x : A) → 1 ≤ length t → read t ≡ Ok x → spelled read (string t) ≡ Ok (Some x)
-unfolding spelled text_in
+pub text_again : {A : Type 0} (read : List ℕ → Result A Refusal) (t : List ℕ) (x : A) → 1 ≤ length t → read t ≡ Ok x → read_from_text read (string t) ≡ Ok (Some x)
+unfolding read_from_text text_in
 text_again read t x some is = rw (kept t some, is) refl
 
-within_again : (most : ℕ) (t : List ℕ) → IsTextWithin most t → spelled (bounded most) (string t) ≡ Ok (Some t)
+within_again : (most : ℕ) (t : List ℕ) → IsTextWithin most t → read_from_text (bounded most) (string t) ≡ Ok (Some t)
 within_again most t is =
     let fits : nat_le (length t) most ≡ true = le-leb _ _ is.bound in
     text_again (bounded most) t t is.some (rw fits refl)
@@ -104,8 +104,8 @@ some_span_back None is = refl
 some_span_back (Some s) is = span_back s is
 
 -- a span that isn't negative
-pub span0_back : (n : ℕ) → IsSpan (pos n) → GivesBack span0 (written_span (pos n)) (Some (pos n))
-span0_back n is = text_again _ (span_text (pos n)) (pos n) (span_text_nonempty (pos n)) (rw (span_of-span_text (pos n) is) refl)
+pub non_negative_span_back : (n : ℕ) → IsSpan (pos n) → GivesBack non_negative_span (written_span (pos n)) (Some (pos n))
+non_negative_span_back n is = text_again _ (span_text (pos n)) (pos n) (span_text_nonempty (pos n)) (rw (span_of-span_text (pos n) is) refl)
 
 pub decimal_back : (z : ℤ) → IsDecimal z → GivesBack decimal (written_decimal z) (Some z)
 decimal_back z is = text_again (λ t. or_refused _ (decimal_of t)) (decimal_text z) z (decimal_text_nonempty z is) (ap (or_refused _) (decimal_of-decimal_text z is))
@@ -121,9 +121,9 @@ unfolding table object_in
 table_back rows ms x is = rw is refl
 
 -- one that need not be there, and has a row
-pub some_table_back : {A : Type 0} (blank : A → Bool) (rows : Data → Result A Refusal) (ms : Members) (x : A) → rows (as_texts (object ms)) ≡ Ok x → blank x ≡ false
-    → GivesBack (some_table blank rows) (Some (object ms)) (Some x)
-unfolding some_table
-some_table_back blank rows ms x is shown =
-    let there : table rows (as_texts (object ms)) ≡ Ok (Some x) = table_back rows ms x is in
-    rw (there, shown) refl
+pub table_unless_blank_back : {A : Type 0} (blank : A → Bool) (rows : Data → Result A Refusal) (ms : Members) (x : A) → rows (as_texts (object ms)) ≡ Ok x → blank x ≡ false
+    → GivesBack (table_unless_blank blank rows) (Some (object ms)) (Some x)
+unfolding table_unless_blank
+table_unless_blank_back blank rows ms x is shown =
+    let required : table rows (as_texts (object ms)) ≡ Ok (Some x) = table_back rows ms x is in
+    rw (required, shown) refl

@@ -14,7 +14,7 @@ use Rattle.siri_json.proofs.Order.{canonical_put}
 use Rattle.siri_time.proofs.Ascii.{IsAscii-moment_text, IsAscii-span_text}
 use Rattle.siri_time.specs.MomentText.{moment_text}
 use Rattle.siri_time.specs.SpanText.{span_text}
-use Rattle.siri_items.specs.Writing.{Row, put_row, with_rows, row_object, some_object, some_array, written_list, written_text, written_flag, written_number, written_moment, written_span, written_decimal, decimal_text}
+use Rattle.siri_items.specs.Writing.{Row, put_row, with_rows, row_object, object_unless_empty, array_unless_empty, written_list, written_text, written_flag, written_number, written_moment, written_span, written_decimal, decimal_text}
 use Rattle.siri_items.specs.Proper.{IsTextWithin, IsMoment, IsSpan, IsNumber, IsDecimal}
 use Rattle.siri_items.proofs.Ascii.{IsAscii-decimal_text}
 
@@ -125,9 +125,9 @@ pub object_within : (most : ℕ) (rs : List Row) → AllByRecursion (IsRowWithin
 object_within most rs all = rows_within most no_members rs all (record { canonical = (tt, tt); shallow = omega arith })
 
 -- one that isn't written where it would be empty
-pub some_object_within : (most : ℕ) (ms : Members) → IsCanonicalWithin most (object ms) → MayBeWithin most (some_object ms)
-some_object_within most no_members is = tt
-some_object_within most (one_member k d ms) is = is
+pub object_unless_empty_within : (most : ℕ) (ms : Members) → IsCanonicalWithin most (object ms) → MayBeWithin most (object_unless_empty ms)
+object_unless_empty_within most no_members is = tt
+object_unless_empty_within most (one_member k d ms) is = is
 
 -- ---- lists
 
@@ -139,14 +139,14 @@ cons_within : (most : ℕ) (o : Option Data) (ds : List Data) → MayBeWithin mo
 cons_within most None ds is all = all
 cons_within most (Some d) ds is all = record { canonical = (is.canonical, all.canonical); shallow = omega (arith, is.shallow, all.shallow) }
 
-pub entries_within : {A : Type 0} (most : ℕ) (spelling : A → Option Data) (xs : List A) → AllByRecursion (λ x. MayBeWithin most (spelling x)) xs → AreCanonicalWithin most (items_of (filter_map spelling xs))
-entries_within most spelling [] all = record { canonical = tt; shallow = omega arith }
-entries_within most spelling (x ∷ xs) all = cons_within most (spelling x) (filter_map spelling xs) all.0 (entries_within most spelling xs all.1)
+pub entries_within : {A : Type 0} (most : ℕ) (writing : A → Option Data) (xs : List A) → AllByRecursion (λ x. MayBeWithin most (writing x)) xs → AreCanonicalWithin most (items_of (filter_map writing xs))
+entries_within most writing [] all = record { canonical = tt; shallow = omega arith }
+entries_within most writing (x ∷ xs) all = cons_within most (writing x) (filter_map writing xs) all.0 (entries_within most writing xs all.1)
 
-pub some_array_within : (most : ℕ) (ds : List Data) → AreCanonicalWithin most (items_of ds) → MayBeWithin (suc most) (some_array ds)
-some_array_within most [] is = tt
-some_array_within most (d ∷ ds) is = record { canonical = is.canonical; shallow = omega (arith, is.shallow) }
+pub array_unless_empty_within : (most : ℕ) (ds : List Data) → AreCanonicalWithin most (items_of ds) → MayBeWithin (suc most) (array_unless_empty ds)
+array_unless_empty_within most [] is = tt
+array_unless_empty_within most (d ∷ ds) is = record { canonical = is.canonical; shallow = omega (arith, is.shallow) }
 
-pub list_within : {A : Type 0} (most : ℕ) (spelling : A → Option Data) (xs : List A) → AllByRecursion (λ x. MayBeWithin most (spelling x)) xs → MayBeWithin (suc most) (written_list spelling xs)
+pub list_within : {A : Type 0} (most : ℕ) (writing : A → Option Data) (xs : List A) → AllByRecursion (λ x. MayBeWithin most (writing x)) xs → MayBeWithin (suc most) (written_list writing xs)
 unfolding written_list
-list_within most spelling xs all = some_array_within most (filter_map spelling xs) (entries_within most spelling xs all)
+list_within most writing xs all = array_unless_empty_within most (filter_map writing xs) (entries_within most writing xs all)

@@ -144,12 +144,12 @@ magnitude_read units small =
     let d = whole_digits w (omega arith) in
     elim (cases_lt 0 f) [
       | inl some ↦
-          let there : eqb f 0 ≡ false = grind (arith, nat_tests) in
+          let required : eqb f 0 ≡ false = grind (arith, nat_tests) in
           let zeros = pads (48 + f / 1000000) (48 + f / 100000 % 10) (48 + f / 10000 % 10) (48 + f / 1000 % 10) (48 + f / 100 % 10) (48 + f / 10 % 10) (48 + f % 10) in
           let all = all_taken _ (seven_wide f) (all_wide f (omega arith)) in
           let value : number_on (number_on 0 (decimal w)) (seven_digits (without_zeros (seven_wide f))) ≡ units =
           rw (whole_value w (omega arith), zeros, value_wide w f (omega arith)) (omega arith) in
-          rw there (parts_read (decimal w) (46 ∷ without_zeros (seven_wide f)) (run (decimal w) 46 _ d.all refl)
+          rw required (parts_read (decimal w) (46 ∷ without_zeros (seven_wide f)) (run (decimal w) 46 _ d.all refl)
           ∙ with_fraction (decimal w) (without_zeros (seven_wide f)) d all ∙ within (decimal w) (without_zeros (seven_wide f)) units small value)
       | inr none ↦
           let same : f ≡ 0 = omega arith in
@@ -183,10 +183,10 @@ length-fraction : (f : ℕ) → length (fraction_text f) ≤ 8
 unfolding fraction_text
 length-fraction f = elim (cases_lt 0 f) [
   | inl some ↦
-      let there : eqb f 0 ≡ false = grind (arith, nat_tests) in
+      let required : eqb f 0 ≡ false = grind (arith, nat_tests) in
       let wide : length (seven_wide f) ≡ 7 = refl in
       let cut : length (without_zeros (seven_wide f)) ≤ length (seven_wide f) = length-cut (seven_wide f) in
-      rw there (omega (arith, cut, wide))
+      rw required (omega (arith, cut, wide))
   | inr none ↦ let same : f ≡ 0 = omega arith in rw same (omega arith)
 ]
 

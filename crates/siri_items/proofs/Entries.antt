@@ -9,7 +9,7 @@ use Rattle.siri_json.specs.declared.path.Step.TheVariants.{Place}
 use Rattle.siri_items.specs.declared.refusal.ItemError.{ItemError}
 use Rattle.siri_items.specs.declared.refusal.ItemError.TheVariants as errors
 use Rattle.siri_items.specs.Refusals.{◌>>=◌, Refusal, Fails, below}
-use Rattle.siri_items.specs.Rules.{is_null, present, entries_from, found_from}
+use Rattle.siri_items.specs.Rules.{is_null, required_value, entries_from, found_from}
 
 -- what was read so far, and then the rest
 abbrev pub after : {A : Type 0} → List A → Result (List A) Refusal → Result (List A) Refusal
@@ -38,15 +38,15 @@ regroup front x (Ok xs) = ap (λ (all : List _). Ok all) (sym (append_assoc fron
 regroup front x (Err r) = refl
 
 pub takes : {A : Type 0} (rule : Data → Result (Option A) Refusal) (front : List A) (place : ℕ) (v : Data) (rest : List Data) (x : A) (total : Result (List A) Refusal)
-    → is_null v ≡ false → below (Place place) (present rule v) ≡ Ok x → after front (entries_from rule place (v ∷ rest)) ≡ total → after (front ++ x ∷ []) (entries_from rule (place + 1) rest) ≡ total
+    → is_null v ≡ false → below (Place place) (required_value rule v) ≡ Ok x → after front (entries_from rule place (v ∷ rest)) ≡ total → after (front ++ x ∷ []) (entries_from rule (place + 1) rest) ≡ total
 unfolding entries_from
-takes rule front place v rest x total present_is read so_far = sym (regroup front x (entries_from rule (place + 1) rest)) ∙ (rw (present_is, read) at so_far)
+takes rule front place v rest x total required_value_is read so_far = sym (regroup front x (entries_from rule (place + 1) rest)) ∙ (rw (required_value_is, read) at so_far)
 
 pub fails : {A : Type 0} (rule : Data → Result (Option A) Refusal) (front : List A) (place : ℕ) (v : Data) (rest : List Data) (e : ItemError) (total : Result (List A) Refusal)
-    → is_null v ≡ false → Fails e (below (Place place) (present rule v)) → after front (entries_from rule place (v ∷ rest)) ≡ total → Fails e total
+    → is_null v ≡ false → Fails e (below (Place place) (required_value rule v)) → after front (entries_from rule place (v ∷ rest)) ≡ total → Fails e total
 unfolding entries_from
-fails rule front place v rest errors.OutOfMemory total present_is read so_far = tt
-fails rule front place v rest (errors.Refused path reason) total present_is read so_far = sym so_far ∙ rw (present_is, read) refl
+fails rule front place v rest errors.OutOfMemory total required_value_is read so_far = tt
+fails rule front place v rest (errors.Refused path reason) total required_value_is read so_far = sym so_far ∙ rw (required_value_is, read) refl
 
 pub done : {A : Type 0} (rule : Data → Result (Option A) Refusal) (front : List A) (place : ℕ) (rest : List Data) (total : Result (List A) Refusal)
     → rest ≡ [] → after front (entries_from rule place rest) ≡ total → total ≡ Ok front
@@ -67,13 +67,13 @@ join front o (Err r) = refl
 pub found_takes : {A : Type 0} (rule : Data → Result (Option A) Refusal) (front : List A) (place : ℕ) (v : Data) (rest : List Data) (o : Option A) (total : Result (List A) Refusal)
     → is_null v ≡ false → below (Place place) (rule v) ≡ Ok o → after front (found_from rule place (v ∷ rest)) ≡ total → after (front ++ option_to_list o) (found_from rule (place + 1) rest) ≡ total
 unfolding found_from
-found_takes rule front place v rest o total present_is read so_far = sym (join front o (found_from rule (place + 1) rest)) ∙ (rw (present_is, read) at so_far)
+found_takes rule front place v rest o total required_value_is read so_far = sym (join front o (found_from rule (place + 1) rest)) ∙ (rw (required_value_is, read) at so_far)
 
 pub found_fails : {A : Type 0} (rule : Data → Result (Option A) Refusal) (front : List A) (place : ℕ) (v : Data) (rest : List Data) (e : ItemError) (total : Result (List A) Refusal)
     → is_null v ≡ false → Fails e (below (Place place) (rule v)) → after front (found_from rule place (v ∷ rest)) ≡ total → Fails e total
 unfolding found_from
-found_fails rule front place v rest errors.OutOfMemory total present_is read so_far = tt
-found_fails rule front place v rest (errors.Refused path reason) total present_is read so_far = sym so_far ∙ rw (present_is, read) refl
+found_fails rule front place v rest errors.OutOfMemory total required_value_is read so_far = tt
+found_fails rule front place v rest (errors.Refused path reason) total required_value_is read so_far = sym so_far ∙ rw (required_value_is, read) refl
 
 pub found_done : {A : Type 0} (rule : Data → Result (Option A) Refusal) (front : List A) (place : ℕ) (rest : List Data) (total : Result (List A) Refusal)
     → rest ≡ [] → after front (found_from rule place rest) ≡ total → total ≡ Ok front

@@ -11,6 +11,6 @@ pub mod Entries
 pub mod Nonempty
 pub mod ProperParts
 pub mod ProperTables
-pub mod ReadSpelled
-pub mod SpelledReads
+pub mod ReadImpliesSpells
+pub mod SpellsImpliesRead
 pub mod Steps

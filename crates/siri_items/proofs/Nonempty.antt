@@ -18,7 +18,7 @@ moment_text_nonempty m = omega arith
 length_some : (ms : ℕ) → 1 ≤ length (length_text ms)
 unfolding length_text
 length_some ms = elim (cases_lt 0 ms) [
-  | inl some ↦ let there : eqb ms 0 ≡ false = grind (arith, nat_tests) in rw there (omega arith)
+  | inl some ↦ let required : eqb ms 0 ≡ false = grind (arith, nat_tests) in rw required (omega arith)
   | inr none ↦ let same : ms ≡ 0 = omega arith in rw same (omega arith)
 ]
 

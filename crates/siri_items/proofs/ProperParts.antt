@@ -23,10 +23,11 @@ use Rattle.siri_time.specs.declared.errors.TimeError.TheVariants as time
 use Rattle.siri_time.specs.declared.errors.SpanError.{SpanError}
 use Rattle.siri_time.proofs.Bounds.{moment_of-bound, span_of-bound}
 use Rattle.siri_items.specs.Refusals.{Refusal, ◌>>=◌, refused, below, each}
-use Rattle.siri_items.specs.Rules.{unless_wrong, spelled, bounded, moment_or, span_or, or_refused, name, text, moment, span, number, decimal, table, some_table, unless_blank, maybe, there, row, present, inside, is_null, entry_count, entries_from, found_from, at_most, list_of, names_of, or_empty, list, not_empty, some_list, names, list_inside}
+use Rattle.siri_items.specs.Rules.{unless_wrong, read_from_text, bounded, moment_or, span_or, or_refused, name, text, moment, span, number, decimal, table, table_unless_blank, unless_blank, maybe, required, row, required_value, inside, is_null, entry_count, entries_from, found_from, at_most, list_of, names_of, or_empty, list, not_empty, nonempty_list, names, list_inside}
 use Rattle.siri_items.specs.Scalars.{number_of, within_degrees, units_of, units_after, magnitude_of, sign_at, signed, decimal_of}
 use Rattle.siri_items.specs.Spelling.{Spells}
-use Rattle.siri_items.specs.Proper.{TextsAreUtf8, ItemTextsAreUtf8, MemberTextsAreUtf8, IsTextWithin, IsName, IsText, IsMoment, IsSpan, IsNumber, IsDecimal, IsListWithin}
+use Rattle.siri_items.specs.Proper.{IsTextWithin, IsName, IsText, IsMoment, IsSpan, IsNumber, IsDecimal, IsListWithin}
+use Rattle.siri_json.specs.TextsOfTrees.{TextsAreUtf8, ItemTextsAreUtf8, MemberTextsAreUtf8}
 use Rattle.siri_items.proofs.DecimalRead.{digits_are}
 
 -- P of what was read, where it was
@@ -155,9 +156,9 @@ found_read Q P read (found x) h is = some_read P (read x) (h x is)
 found_read Q P read absent h is = tt
 found_read Q P read wrong h is = tt
 
-spelled_yields : {A : Type 0} (P : A → Type 0) (read : List ℕ → Result A Refusal) → ((t : List ℕ) → IsSomeText t → OnRead (read t) P) → Yields (spelled read) P
-unfolding spelled
-spelled_yields P read h = λ d u. found_read IsSomeText P read (text_in d) h (text_is d u)
+read_from_text_yields : {A : Type 0} (P : A → Type 0) (read : List ℕ → Result A Refusal) → ((t : List ℕ) → IsSomeText t → OnRead (read t) P) → Yields (read_from_text read) P
+unfolding read_from_text
+read_from_text_yields P read h = λ d u. found_read IsSomeText P read (text_in d) h (text_is d u)
 
 bounded_by : (most : ℕ) (t : List ℕ) (b : Bool) → nat_le (length t) most ≡ b → IsSomeText t → OnRead (cond b (Ok t) (refused BadName)) (IsTextWithin most)
 bounded_by most t true fits is = record { some = is.0; bound = leb-true _ _ fits; utf8 = is.1 }
@@ -167,10 +168,10 @@ bounded_is : (most : ℕ) (t : List ℕ) → IsSomeText t → OnRead (bounded mo
 bounded_is most t is = bounded_by most t (nat_le (length t) most) refl is
 
 pub name_yields : Yields name IsName
-name_yields = spelled_yields (IsTextWithin 255) (bounded 255) (bounded_is 255)
+name_yields = read_from_text_yields (IsTextWithin 255) (bounded 255) (bounded_is 255)
 
 pub text_yields : Yields text IsText
-text_yields = spelled_yields (IsTextWithin 16384) (bounded 16384) (bounded_is 16384)
+text_yields = read_from_text_yields (IsTextWithin 16384) (bounded 16384) (bounded_is 16384)
 
 moment_by : (r : Result ℕ TimeError) → ((m : ℕ) → r ≡ Ok m → IsMoment m) → OnRead (moment_or r) IsMoment
 moment_by (Ok m) h = h m refl
@@ -178,14 +179,14 @@ moment_by (Err time.BadTime) h = tt
 moment_by (Err time.NoOffset) h = tt
 
 pub moment_yields : Yields moment IsMoment
-moment_yields = spelled_yields IsMoment (λ t. moment_or (moment_of t)) (λ t is. moment_by (moment_of t) (moment_of-bound t))
+moment_yields = read_from_text_yields IsMoment (λ t. moment_or (moment_of t)) (λ t is. moment_by (moment_of t) (moment_of-bound t))
 
 span_by : (r : Result ℤ SpanError) → ((s : ℤ) → r ≡ Ok s → IsSpan s) → OnRead (span_or r) IsSpan
 span_by (Ok s) h = h s refl
 span_by (Err e) h = tt
 
 pub span_yields : Yields span IsSpan
-span_yields = spelled_yields IsSpan (λ t. span_or (span_of t)) (λ t is. span_by (span_of t) (span_of-bound t))
+span_yields = read_from_text_yields IsSpan (λ t. span_or (span_of t)) (λ t is. span_by (span_of t) (span_of-bound t))
 
 own : IsNumeralModel (λ ds. all_ascii_digits ds ≡ true) (digits_value 10)
 own = numerals_by_value _ tells_all_ascii_digits
@@ -202,7 +203,7 @@ unfolding number_of
 number_is t = number_by t (nat_le (length t) 18 && list_all is_ascii_digit t) refl
 
 pub number_yields : Yields number IsNumber
-number_yields = spelled_yields IsNumber (λ t. or_refused BadNumber (number_of t)) (λ t is. number_is t)
+number_yields = read_from_text_yields IsNumber (λ t. or_refused BadNumber (number_of t)) (λ t is. number_is t)
 
 -- ---- decimals
 
@@ -252,7 +253,7 @@ unfolding decimal_of
 decimal_is t = long_by _ (option_map (signed (sign_at t).0) (magnitude_of (sign_at t).1)) (signed_by (sign_at t).0 (magnitude_of (sign_at t).1) (magnitude_is (sign_at t).1))
 
 pub decimal_yields : Yields decimal IsDecimal
-decimal_yields = spelled_yields IsDecimal (λ t. or_refused BadDecimal (decimal_of t)) (λ t is. decimal_is t)
+decimal_yields = read_from_text_yields IsDecimal (λ t. or_refused BadDecimal (decimal_of t)) (λ t is. decimal_is t)
 
 -- ---- objects
 
@@ -270,10 +271,10 @@ blank_read blank P (Ok None) is = tt
 blank_read blank P (Ok (Some x)) is = shown_by blank P x (blank x) refl is
 blank_read blank P (Err e) is = tt
 
-pub some_table_yields : {A : Type 0} (blank : A → Bool) (rows : Data → Result A Refusal) (P : A → Type 0) → ((d : Data) → TextsAreUtf8 d → OnRead (rows d) P)
-    → Yields (some_table blank rows) (λ x. P x × (blank x ≡ false))
-unfolding some_table
-some_table_yields blank rows P h = λ d u. blank_read blank P (table rows d) (table_yields rows P h d u)
+pub table_unless_blank_yields : {A : Type 0} (blank : A → Bool) (rows : Data → Result A Refusal) (P : A → Type 0) → ((d : Data) → TextsAreUtf8 d → OnRead (rows d) P)
+    → Yields (table_unless_blank blank rows) (λ x. P x × (blank x ≡ false))
+unfolding table_unless_blank
+table_unless_blank_yields blank rows P h = λ d u. blank_read blank P (table rows d) (table_yields rows P h d u)
 
 -- ---- rows
 
@@ -289,13 +290,13 @@ row_on rule P y key d u = on_below (λ value. IfSome value P) (Member key) _ (ma
 pub row_is : {A : Type 0} (rule : Data → Result (Option A) Refusal) (P : A → Type 0) → Yields rule P → (key : List ℕ) (d : Data) (value : Option A) → TextsAreUtf8 d → Spells rule key d value → IfSome value P
 row_is rule P y key d value u spells = on_ok (λ v. IfSome v P) (maybe rule (member_of key d)) value (maybe_on rule P y (member_of key d) (member_is key d u)) spells
 
-pub there_on : {A : Type 0} (P : A → Type 0) (path : List Step) (o : Option A) → IfSome o P → OnRead (there path o) P
-there_on P path None is = tt
-there_on P path (Some x) is = is
+pub required_on : {A : Type 0} (P : A → Type 0) (path : List Step) (o : Option A) → IfSome o P → OnRead (required path o) P
+required_on P path None is = tt
+required_on P path (Some x) is = is
 
-pub present_on : {A : Type 0} (rule : Data → Result (Option A) Refusal) (P : A → Type 0) → Yields rule P → (d : Data) → TextsAreUtf8 d → OnRead (present rule d) P
-unfolding present
-present_on rule P y d u = on_bind (λ o. IfSome o P) P (rule d) (there []) (y d u) (λ o is. there_on P [] o is)
+pub required_value_on : {A : Type 0} (rule : Data → Result (Option A) Refusal) (P : A → Type 0) → Yields rule P → (d : Data) → TextsAreUtf8 d → OnRead (required_value rule d) P
+unfolding required_value
+required_value_on rule P y d u = on_bind (λ o. IfSome o P) P (rule d) (required []) (y d u) (λ o is. required_on P [] o is)
 
 found_maybe : {A : Type 0} (P : A → Type 0) (rule : Data → Result (Option A) Refusal) (f : Found Data) → ((d : Data) → TextsAreUtf8 d → OnRead (rule d) (λ o. IfSome o P)) → OnFound f TextsAreUtf8
     → OnRead (unless_wrong f >>= maybe rule) (λ o. IfSome o P)
@@ -328,34 +329,34 @@ more : {A : Type 0} (P : A → Type 0) (d : Data) (ds : List Data) (xs : List A)
 more P d ds xs is = record { each = is.each; few = omega (arith, is.few, filled_cons d ds) }
 
 one_more : {A : Type 0} (P : A → Type 0) (d : Data) (ds : List Data) (x : A) (xs : List A) → is_null d ≡ false → P x → AreRead P ds xs → AreRead P (d ∷ ds) (x ∷ xs)
-one_more P d ds x xs there h is =
-    let counted : filled (d ∷ ds) ≡ 1 + filled ds = filled_cons d ds ∙ rw there refl in
+one_more P d ds x xs required h is =
+    let counted : filled (d ∷ ds) ≡ 1 + filled ds = filled_cons d ds ∙ rw required refl in
     record { each = (h, is.each); few = omega (arith, is.few, counted) }
 
-entries_by : {A : Type 0} (rule : Data → Result (Option A) Refusal) (P : A → Type 0) (place : ℕ) (d : Data) (ds : List Data) (b : Bool) → is_null d ≡ b → OnRead (present rule d) P
+entries_by : {A : Type 0} (rule : Data → Result (Option A) Refusal) (P : A → Type 0) (place : ℕ) (d : Data) (ds : List Data) (b : Bool) → is_null d ≡ b → OnRead (required_value rule d) P
     → OnRead (entries_from rule (place + 1) ds) (AreRead P ds)
-    → OnRead (cond b (entries_from rule (place + 1) ds) (below (Place place) (present rule d) >>= λ first. entries_from rule (place + 1) ds >>= λ others. Ok (first ∷ others))) (AreRead P (d ∷ ds))
-entries_by rule P place d ds true there first rest = on_map (AreRead P ds) (AreRead P (d ∷ ds)) _ rest (more P d ds)
-entries_by rule P place d ds false there first rest =
-    on_bind P (AreRead P (d ∷ ds)) (below (Place place) (present rule d)) _ (on_below P (Place place) (present rule d) first)
-    (λ x h. on_bind (AreRead P ds) (AreRead P (d ∷ ds)) (entries_from rule (place + 1) ds) _ rest (λ xs is. one_more P d ds x xs there h is))
+    → OnRead (cond b (entries_from rule (place + 1) ds) (below (Place place) (required_value rule d) >>= λ first. entries_from rule (place + 1) ds >>= λ others. Ok (first ∷ others))) (AreRead P (d ∷ ds))
+entries_by rule P place d ds true required first rest = on_map (AreRead P ds) (AreRead P (d ∷ ds)) _ rest (more P d ds)
+entries_by rule P place d ds false required first rest =
+    on_bind P (AreRead P (d ∷ ds)) (below (Place place) (required_value rule d)) _ (on_below P (Place place) (required_value rule d) first)
+    (λ x h. on_bind (AreRead P ds) (AreRead P (d ∷ ds)) (entries_from rule (place + 1) ds) _ rest (λ xs is. one_more P d ds x xs required h is))
 
 entries_on : {A : Type 0} (rule : Data → Result (Option A) Refusal) (P : A → Type 0) → Yields rule P → (place : ℕ) (ds : List Data) → AllByRecursion TextsAreUtf8 ds → OnRead (entries_from rule place ds) (AreRead P ds)
 unfolding entries_from
 entries_on rule P y place [] u = record { each = tt; few = omega arith }
-entries_on rule P y place (d ∷ ds) u = entries_by rule P place d ds (is_null d) refl (present_on rule P y d u.0) (entries_on rule P y (place + 1) ds u.1)
+entries_on rule P y place (d ∷ ds) u = entries_by rule P place d ds (is_null d) refl (required_value_on rule P y d u.0) (entries_on rule P y (place + 1) ds u.1)
 
 maybe_more : {A : Type 0} (P : A → Type 0) (d : Data) (ds : List Data) (o : Option A) (xs : List A) → is_null d ≡ false → IfSome o P → AreRead P ds xs → AreRead P (d ∷ ds) (option_to_list o ++ xs)
-maybe_more P d ds None xs there h is = more P d ds xs is
-maybe_more P d ds (Some x) xs there h is = one_more P d ds x xs there h is
+maybe_more P d ds None xs required h is = more P d ds xs is
+maybe_more P d ds (Some x) xs required h is = one_more P d ds x xs required h is
 
 found_by : {A : Type 0} (rule : Data → Result (Option A) Refusal) (P : A → Type 0) (place : ℕ) (d : Data) (ds : List Data) (b : Bool) → is_null d ≡ b → OnRead (rule d) (λ o. IfSome o P)
     → OnRead (found_from rule (place + 1) ds) (AreRead P ds)
     → OnRead (cond b (found_from rule (place + 1) ds) (below (Place place) (rule d) >>= λ first. found_from rule (place + 1) ds >>= λ others. Ok (option_to_list first ++ others))) (AreRead P (d ∷ ds))
-found_by rule P place d ds true there first rest = on_map (AreRead P ds) (AreRead P (d ∷ ds)) _ rest (more P d ds)
-found_by rule P place d ds false there first rest =
+found_by rule P place d ds true required first rest = on_map (AreRead P ds) (AreRead P (d ∷ ds)) _ rest (more P d ds)
+found_by rule P place d ds false required first rest =
     on_bind (λ o. IfSome o P) (AreRead P (d ∷ ds)) (below (Place place) (rule d)) _ (on_below (λ o. IfSome o P) (Place place) (rule d) first)
-    (λ o h. on_bind (AreRead P ds) (AreRead P (d ∷ ds)) (found_from rule (place + 1) ds) _ rest (λ xs is. maybe_more P d ds o xs there h is))
+    (λ o h. on_bind (AreRead P ds) (AreRead P (d ∷ ds)) (found_from rule (place + 1) ds) _ rest (λ xs is. maybe_more P d ds o xs required h is))
 
 found_on : {A : Type 0} (rule : Data → Result (Option A) Refusal) (P : A → Type 0) → Yields rule P → (place : ℕ) (ds : List Data) → AllByRecursion TextsAreUtf8 ds → OnRead (found_from rule place ds) (AreRead P ds)
 unfolding found_from
@@ -418,10 +419,10 @@ not_empty_on : {A : Type 0} (L : List A → Type 0) (key : List ℕ) (xs : List 
 not_empty_on L key [] is = tt
 not_empty_on L key (x ∷ xs) is = (is, omega arith)
 
-pub some_list_on : {A : Type 0} (rule : Data → Result (Option A) Refusal) (P : A → Type 0) → Yields rule P → (most : ℕ) (key : List ℕ) (d : Data) → TextsAreUtf8 d
-    → OnRead (some_list rule most key d) (λ xs. IsListWithin most P xs × (1 ≤ length xs))
-unfolding some_list
-some_list_on rule P y most key d u =
+pub nonempty_list_on : {A : Type 0} (rule : Data → Result (Option A) Refusal) (P : A → Type 0) → Yields rule P → (most : ℕ) (key : List ℕ) (d : Data) → TextsAreUtf8 d
+    → OnRead (nonempty_list rule most key d) (λ xs. IsListWithin most P xs × (1 ≤ length xs))
+unfolding nonempty_list
+nonempty_list_on rule P y most key d u =
     on_bind (IsListWithin most P) (λ xs. IsListWithin most P xs × (1 ≤ length xs)) (list rule most key d) (not_empty key) (list_on rule P y most key d u) (λ xs is. not_empty_on (IsListWithin most P) key xs is)
 
 found_list : {A : Type 0} (L : List A → Type 0) (read : Data → Result (List A) Refusal) → L [] → ((d : Data) → TextsAreUtf8 d → OnRead (read d) L) → (f : Found Data) → OnFound f TextsAreUtf8

@@ -23,21 +23,22 @@ use Rattle.siri_records.specs.declared.item.Service.{Service}
 use Rattle.siri_records.specs.declared.item.Service.TheVariants as service
 use Rattle.siri_items.specs.declared.names.TheConstants.{ACTUAL_ARRIVAL_TIME, ACTUAL_DEPARTURE_TIME, AFFECTED_LINE, AFFECTED_NETWORK, AFFECTED_OPERATOR, AFFECTED_STOP_POINT, AFFECTS, AIMED_ARRIVAL_TIME, AIMED_DEPARTURE_TIME, ARRIVAL_PLATFORM_NAME, ARRIVAL_STATUS, CREATION_TIME, DATA_FRAME_REF, DATED_VEHICLE_JOURNEY_REF, DELAY, DEPARTURE_PLATFORM_NAME, DEPARTURE_STATUS, DESCRIPTION, DESTINATION_NAME, DESTINATION_REF, DIRECTION_REF, END_TIME, ESTIMATED_CALL, ESTIMATED_CALLS, EXPECTED_ARRIVAL_TIME, EXPECTED_DEPARTURE_TIME, FRAMED_VEHICLE_JOURNEY_REF, ITEM_IDENTIFIER, LATITUDE, LINE_REF, LONGITUDE, MONITORED_CALL, MONITORED_VEHICLE_JOURNEY, MONITORING_REF, NETWORKS, OCCUPANCY, OPERATORS, OPERATOR_REF, ORDER, PARTICIPANT_REF, PROGRESS, PUBLISHED_LINE_NAME, RECORDED_AT_TIME, RECORDED_CALL, RECORDED_CALLS, SEVERITY, SITUATION_NUMBER, START_TIME, STOP_POINTS, STOP_POINT_NAME, STOP_POINT_REF, SUMMARY, VALIDITY_PERIOD, VALID_UNTIL_TIME, VEHICLE_LOCATION, VEHICLE_REF, VERSION, VERSIONED_AT_TIME}
 use Rattle.siri_items.specs.declared.read_call.JourneyRef.{JourneyRef}
-use Rattle.siri_items.specs.declared.read_call.NeededReference.{NeededReference}
+use Rattle.siri_items.specs.declared.read_call.RequiredJourneyRef.{RequiredJourneyRef}
 use Rattle.siri_items.specs.declared.read_situation.Affected.{Affected}
 use Rattle.siri_items.specs.declared.read_situation.Network.{Network}
 use Rattle.siri_items.specs.Refusals.{◌>>=◌, refused}
-use Rattle.siri_items.specs.Rules.{name, text, moment, span, number, decimal, table, row, needed, there, list_of, names_of, names, list_inside}
-use Rattle.siri_items.specs.Calls.{stop_call, call_is_blank, location, location_is_blank, optional_location, optional_call, framed_of, framed_rows, framed, plain_reference, reference, plain_needed, needed_reference}
+use Rattle.siri_items.specs.Rules.{name, text, moment, span, number, decimal, table, row, required_row, required, list_of, names_of, names, list_inside}
+use Rattle.siri_items.specs.Calls.{stop_call, call_is_blank, location, location_is_blank, optional_location, optional_call, framed_ref_of, read_framed_ref_rows, framed_ref, plain_journey_ref, journey_ref, plain_required_journey_ref, required_journey_ref}
 use Rattle.siri_items.specs.Visits.{visit_journey}
 use Rattle.siri_items.specs.Vehicles.{vehicle_journey}
 use Rattle.siri_items.specs.Journeys.{has_time}
 use Rattle.siri_items.specs.Situations.{period, network, lines_at, all_lines, lines_of, network_lines, affected, or_nothing}
 use Rattle.siri_items.specs.Items.{item_of}
 use Rattle.siri_items.specs.Spelling.{IfFound, SpellsCall, SpellsVisitJourney, SpellsVisit, SpellsVehicleJourney, SpellsVehicle, SpellsJourneyRows, SpellsJourney, SpellsPeriod, SpellsAffects, SpellsSituation, SpellsItem}
-use Rattle.siri_items.specs.Proper.{TextsAreUtf8, IsName, IsText, IsMoment, IsSpan, IsNumber, IsDecimal, IsListWithin, IsProperCall, IsProperOptionalCall, IsProperLocation, IsProperVisitJourney, IsProperVisit, IsProperVehicleJourney, IsProperVehicle, IsProperJourney, IsProperPeriod, IsProperSituation, IsProper}
-use Rattle.siri_items.proofs.ReadSpelled.{call_spelled, location_spelled, visit_journey_spelled, vehicle_journey_spelled, period_spelled, item_spelled}
-use Rattle.siri_items.proofs.ProperParts.{OnRead, OnFound, Yields, reads_to, on_ok, on_map, on_bind, on_below, there_on, member_is, object_is, name_yields, text_yields, moment_yields, span_yields, number_yields, decimal_yields, table_yields, some_table_yields, row_on, row_is, inside_on, AreRead, list_of_on, names_of_on, at_name, some_list_on, list_inside_on, lists_inside_on, names_inside_on}
+use Rattle.siri_items.specs.Proper.{IsName, IsText, IsMoment, IsSpan, IsNumber, IsDecimal, IsListWithin, IsProperCall, IsProperOptionalCall, IsProperLocation, IsProperVisitJourney, IsProperVisit, IsProperVehicleJourney, IsProperVehicle, IsProperJourney, IsProperPeriod, IsProperSituation, IsProper}
+use Rattle.siri_json.specs.TextsOfTrees.{TextsAreUtf8}
+use Rattle.siri_items.proofs.ReadImpliesSpells.{call_spelled, location_spelled, visit_journey_spelled, vehicle_journey_spelled, period_spelled, item_spelled}
+use Rattle.siri_items.proofs.ProperParts.{OnRead, OnFound, Yields, reads_to, on_ok, on_map, on_bind, on_below, required_on, member_is, object_is, name_yields, text_yields, moment_yields, span_yields, number_yields, decimal_yields, table_yields, table_unless_blank_yields, row_on, row_is, inside_on, AreRead, list_of_on, names_of_on, at_name, nonempty_list_on, list_inside_on, lists_inside_on, names_inside_on}
 
 -- ---- calls
 
@@ -67,7 +68,7 @@ call_yields = table_yields stop_call IsProperCall call_on
 optional_call_yields : Yields optional_call IsProperOptionalCall
 optional_call_yields = λ d u.
     on_map (λ o. IfSome o (λ c. IsProperCall c × (call_is_blank c ≡ false))) (λ o. IfSome o IsProperOptionalCall) (optional_call d)
-    (some_table_yields call_is_blank stop_call IsProperCall call_on d u)
+    (table_unless_blank_yields call_is_blank stop_call IsProperCall call_on d u)
     (λ o is. IfSome_then o is (λ c h. record { rows = h.0; shown = h.1 }))
 
 -- ---- locations
@@ -80,13 +81,13 @@ location_on d u = reads_to (λ l. IfSome l.longitude IsDecimal × IfSome l.latit
 location_yields : Yields optional_location IsProperLocation
 location_yields = λ d u.
     on_map (λ o. IfSome o (λ l. (IfSome l.longitude IsDecimal × IfSome l.latitude IsDecimal) × (location_is_blank l ≡ false))) (λ o. IfSome o IsProperLocation) (optional_location d)
-    (some_table_yields location_is_blank location (λ l. IfSome l.longitude IsDecimal × IfSome l.latitude IsDecimal) location_on d u)
+    (table_unless_blank_yields location_is_blank location (λ l. IfSome l.longitude IsDecimal × IfSome l.latitude IsDecimal) location_on d u)
     (λ o is. IfSome_then o is (λ l h. record { longitude = h.0.0; latitude = h.0.1; shown = h.1 }))
 
 -- ---- how a journey is named
 
-abbrev IsProperNeeded : NeededReference → Type 0
-IsProperNeeded r = IfSome r.data_frame_ref IsName × IsName r.dated_vehicle_journey_ref
+abbrev IsProperRequiredRef : RequiredJourneyRef → Type 0
+IsProperRequiredRef r = IfSome r.data_frame_ref IsName × IsName r.dated_vehicle_journey_ref
 
 abbrev IsProperRef : JourneyRef → Type 0
 IsProperRef r = IfSome r.data_frame_ref IsName × IfSome r.dated_vehicle_journey_ref IsName × (IsSome r.data_frame_ref → IsSome r.dated_vehicle_journey_ref)
@@ -94,54 +95,54 @@ IsProperRef r = IfSome r.data_frame_ref IsName × IfSome r.dated_vehicle_journey
 name_row : (key : List ℕ) (d : Data) → TextsAreUtf8 d → OnRead (row name key d) (λ o. IfSome o IsName)
 name_row key d u = row_on name IsName name_yields key d u
 
-framed_of_on : (frame dated : Option (List ℕ)) → IfSome frame IsName → IfSome dated IsName → OnRead (framed_of frame dated) (λ o. IfSome o IsProperNeeded)
-framed_of_on None None f h = tt
-framed_of_on (Some frame) None f h = tt
-framed_of_on None (Some dated) f h = (f, h)
-framed_of_on (Some frame) (Some dated) f h = (f, h)
+framed_ref_of_on : (frame dated : Option (List ℕ)) → IfSome frame IsName → IfSome dated IsName → OnRead (framed_ref_of frame dated) (λ o. IfSome o IsProperRequiredRef)
+framed_ref_of_on None None f h = tt
+framed_ref_of_on (Some frame) None f h = tt
+framed_ref_of_on None (Some dated) f h = (f, h)
+framed_ref_of_on (Some frame) (Some dated) f h = (f, h)
 
-framed_rows_on : (d : Data) → TextsAreUtf8 d → OnRead (framed_rows d) (λ o. IfSome o IsProperNeeded)
-unfolding framed_rows
-framed_rows_on d u =
-    on_bind (λ o. IfSome o IsName) (λ o. IfSome o IsProperNeeded) (row name DATA_FRAME_REF.now d) _ (name_row DATA_FRAME_REF.now d u)
-    (λ frame f. on_bind (λ o. IfSome o IsName) (λ o. IfSome o IsProperNeeded) (row name DATED_VEHICLE_JOURNEY_REF.now d) _ (name_row DATED_VEHICLE_JOURNEY_REF.now d u) (λ dated h. framed_of_on frame dated f h))
+read_framed_ref_rows_on : (d : Data) → TextsAreUtf8 d → OnRead (read_framed_ref_rows d) (λ o. IfSome o IsProperRequiredRef)
+unfolding read_framed_ref_rows
+read_framed_ref_rows_on d u =
+    on_bind (λ o. IfSome o IsName) (λ o. IfSome o IsProperRequiredRef) (row name DATA_FRAME_REF.now d) _ (name_row DATA_FRAME_REF.now d u)
+    (λ frame f. on_bind (λ o. IfSome o IsName) (λ o. IfSome o IsProperRequiredRef) (row name DATED_VEHICLE_JOURNEY_REF.now d) _ (name_row DATED_VEHICLE_JOURNEY_REF.now d u) (λ dated h. framed_ref_of_on frame dated f h))
 
-framed_yields : Yields framed IsProperNeeded
-unfolding framed
-framed_yields = λ d u. inside_on IsProperNeeded framed_rows framed_rows_on d u
+framed_ref_yields : Yields framed_ref IsProperRequiredRef
+unfolding framed_ref
+framed_ref_yields = λ d u. inside_on IsProperRequiredRef read_framed_ref_rows read_framed_ref_rows_on d u
 
-framed_row : (d : Data) → TextsAreUtf8 d → OnRead (row framed FRAMED_VEHICLE_JOURNEY_REF.now d) (λ o. IfSome o IsProperNeeded)
-framed_row d u = row_on framed IsProperNeeded framed_yields FRAMED_VEHICLE_JOURNEY_REF.now d u
+framed_ref_row : (d : Data) → TextsAreUtf8 d → OnRead (row framed_ref FRAMED_VEHICLE_JOURNEY_REF.now d) (λ o. IfSome o IsProperRequiredRef)
+framed_ref_row d u = row_on framed_ref IsProperRequiredRef framed_ref_yields FRAMED_VEHICLE_JOURNEY_REF.now d u
 
-plain_on : (d : Data) → TextsAreUtf8 d → (o : Option NeededReference) → IfSome o IsProperNeeded → OnRead (plain_reference d o) IsProperRef
-unfolding plain_reference
+plain_on : (d : Data) → TextsAreUtf8 d → (o : Option RequiredJourneyRef) → IfSome o IsProperRequiredRef → OnRead (plain_journey_ref d o) IsProperRef
+unfolding plain_journey_ref
 plain_on d u None is =
     on_bind (λ o. IfSome o IsName) IsProperRef (row name DATED_VEHICLE_JOURNEY_REF.now d) _ (name_row DATED_VEHICLE_JOURNEY_REF.now d u) (λ dated h. (tt, h, λ never. absurd (cc never)))
-plain_on d u (Some r) is = (is.0, is.1, λ there. refl)
+plain_on d u (Some r) is = (is.0, is.1, λ required. refl)
 
-reference_on : (d : Data) → TextsAreUtf8 d → OnRead (reference d) IsProperRef
-unfolding reference
-reference_on d u = on_bind (λ o. IfSome o IsProperNeeded) IsProperRef (row framed FRAMED_VEHICLE_JOURNEY_REF.now d) (plain_reference d) (framed_row d u) (λ o is. plain_on d u o is)
+journey_ref_on : (d : Data) → TextsAreUtf8 d → OnRead (journey_ref d) IsProperRef
+unfolding journey_ref
+journey_ref_on d u = on_bind (λ o. IfSome o IsProperRequiredRef) IsProperRef (row framed_ref FRAMED_VEHICLE_JOURNEY_REF.now d) (plain_journey_ref d) (framed_ref_row d u) (λ o is. plain_on d u o is)
 
-reference_is : (d : Data) (frame dated : Option (List ℕ)) → TextsAreUtf8 d → reference d ≡ Ok (record { data_frame_ref = frame; dated_vehicle_journey_ref = dated })
+journey_ref_is : (d : Data) (frame dated : Option (List ℕ)) → TextsAreUtf8 d → journey_ref d ≡ Ok (record { data_frame_ref = frame; dated_vehicle_journey_ref = dated })
     → IfSome frame IsName × IfSome dated IsName × (IsSome frame → IsSome dated)
-reference_is d frame dated u e = on_ok IsProperRef (reference d) (record { data_frame_ref = frame; dated_vehicle_journey_ref = dated }) (reference_on d u) e
+journey_ref_is d frame dated u e = on_ok IsProperRef (journey_ref d) (record { data_frame_ref = frame; dated_vehicle_journey_ref = dated }) (journey_ref_on d u) e
 
-plain_needed_on : (d : Data) → TextsAreUtf8 d → (o : Option NeededReference) → IfSome o IsProperNeeded → OnRead (plain_needed d o) IsProperNeeded
-unfolding plain_needed needed
-plain_needed_on d u None is =
-    on_bind IsName IsProperNeeded (row name DATED_VEHICLE_JOURNEY_REF.now d >>= there (Member DATED_VEHICLE_JOURNEY_REF.now ∷ [])) _
-    (on_bind (λ o. IfSome o IsName) IsName (row name DATED_VEHICLE_JOURNEY_REF.now d) (there (Member DATED_VEHICLE_JOURNEY_REF.now ∷ [])) (name_row DATED_VEHICLE_JOURNEY_REF.now d u) (λ o h. there_on IsName (Member DATED_VEHICLE_JOURNEY_REF.now ∷ []) o h))
+plain_required_journey_ref_on : (d : Data) → TextsAreUtf8 d → (o : Option RequiredJourneyRef) → IfSome o IsProperRequiredRef → OnRead (plain_required_journey_ref d o) IsProperRequiredRef
+unfolding plain_required_journey_ref required_row
+plain_required_journey_ref_on d u None is =
+    on_bind IsName IsProperRequiredRef (row name DATED_VEHICLE_JOURNEY_REF.now d >>= required (Member DATED_VEHICLE_JOURNEY_REF.now ∷ [])) _
+    (on_bind (λ o. IfSome o IsName) IsName (row name DATED_VEHICLE_JOURNEY_REF.now d) (required (Member DATED_VEHICLE_JOURNEY_REF.now ∷ [])) (name_row DATED_VEHICLE_JOURNEY_REF.now d u) (λ o h. required_on IsName (Member DATED_VEHICLE_JOURNEY_REF.now ∷ []) o h))
     (λ dated h. (tt, h))
-plain_needed_on d u (Some r) is = is
+plain_required_journey_ref_on d u (Some r) is = is
 
-needed_reference_on : (d : Data) → TextsAreUtf8 d → OnRead (needed_reference d) IsProperNeeded
-unfolding needed_reference
-needed_reference_on d u = on_bind (λ o. IfSome o IsProperNeeded) IsProperNeeded (row framed FRAMED_VEHICLE_JOURNEY_REF.now d) (plain_needed d) (framed_row d u) (λ o is. plain_needed_on d u o is)
+required_journey_ref_on : (d : Data) → TextsAreUtf8 d → OnRead (required_journey_ref d) IsProperRequiredRef
+unfolding required_journey_ref
+required_journey_ref_on d u = on_bind (λ o. IfSome o IsProperRequiredRef) IsProperRequiredRef (row framed_ref FRAMED_VEHICLE_JOURNEY_REF.now d) (plain_required_journey_ref d) (framed_ref_row d u) (λ o is. plain_required_journey_ref_on d u o is)
 
-needed_reference_is : (d : Data) (frame : Option (List ℕ)) (dated : List ℕ) → TextsAreUtf8 d → needed_reference d ≡ Ok (record { data_frame_ref = frame; dated_vehicle_journey_ref = dated })
+required_journey_ref_is : (d : Data) (frame : Option (List ℕ)) (dated : List ℕ) → TextsAreUtf8 d → required_journey_ref d ≡ Ok (record { data_frame_ref = frame; dated_vehicle_journey_ref = dated })
     → IfSome frame IsName × IsName dated
-needed_reference_is d frame dated u e = on_ok IsProperNeeded (needed_reference d) (record { data_frame_ref = frame; dated_vehicle_journey_ref = dated }) (needed_reference_on d u) e
+required_journey_ref_is d frame dated u e = on_ok IsProperRequiredRef (required_journey_ref d) (record { data_frame_ref = frame; dated_vehicle_journey_ref = dated }) (required_journey_ref_on d u) e
 
 -- ---- visits
 
@@ -149,9 +150,9 @@ visit_journey_proper : (d : Data) (j : VisitJourney) → TextsAreUtf8 d → Spel
 visit_journey_proper d j u s_ = record {
   line_ref = row_is name IsName name_yields LINE_REF.now d j.line_ref u s_.line_ref;
   direction_ref = row_is name IsName name_yields DIRECTION_REF.now d j.direction_ref u s_.direction_ref;
-  data_frame_ref = (reference_is d j.data_frame_ref j.dated_vehicle_journey_ref u s_.reference).0;
-  dated_vehicle_journey_ref = (reference_is d j.data_frame_ref j.dated_vehicle_journey_ref u s_.reference).1;
-  framed = (reference_is d j.data_frame_ref j.dated_vehicle_journey_ref u s_.reference).2;
+  data_frame_ref = (journey_ref_is d j.data_frame_ref j.dated_vehicle_journey_ref u s_.journey_ref).0;
+  dated_vehicle_journey_ref = (journey_ref_is d j.data_frame_ref j.dated_vehicle_journey_ref u s_.journey_ref).1;
+  framed_ref = (journey_ref_is d j.data_frame_ref j.dated_vehicle_journey_ref u s_.journey_ref).2;
   published_line_name = row_is text IsText text_yields PUBLISHED_LINE_NAME.now d j.published_line_name u s_.published_line_name;
   operator_ref = row_is name IsName name_yields OPERATOR_REF.now d j.operator_ref u s_.operator_ref;
   destination_ref = row_is name IsName name_yields DESTINATION_REF.now d j.destination_ref u s_.destination_ref;
@@ -181,9 +182,9 @@ vehicle_journey_proper : (d : Data) (j : VehicleJourney) → TextsAreUtf8 d → 
 vehicle_journey_proper d j u s_ = record {
   line_ref = row_is name IsName name_yields LINE_REF.now d j.line_ref u s_.line_ref;
   direction_ref = row_is name IsName name_yields DIRECTION_REF.now d j.direction_ref u s_.direction_ref;
-  data_frame_ref = (reference_is d j.data_frame_ref j.dated_vehicle_journey_ref u s_.reference).0;
-  dated_vehicle_journey_ref = (reference_is d j.data_frame_ref j.dated_vehicle_journey_ref u s_.reference).1;
-  framed = (reference_is d j.data_frame_ref j.dated_vehicle_journey_ref u s_.reference).2;
+  data_frame_ref = (journey_ref_is d j.data_frame_ref j.dated_vehicle_journey_ref u s_.journey_ref).0;
+  dated_vehicle_journey_ref = (journey_ref_is d j.data_frame_ref j.dated_vehicle_journey_ref u s_.journey_ref).1;
+  framed_ref = (journey_ref_is d j.data_frame_ref j.dated_vehicle_journey_ref u s_.journey_ref).2;
   published_line_name = row_is text IsText text_yields PUBLISHED_LINE_NAME.now d j.published_line_name u s_.published_line_name;
   operator_ref = row_is name IsName name_yields OPERATOR_REF.now d j.operator_ref u s_.operator_ref;
   destination_ref = row_is name IsName name_yields DESTINATION_REF.now d j.destination_ref u s_.destination_ref;
@@ -213,8 +214,8 @@ journey_proper d j u s_ timed = record {
   recorded_at_time = row_is moment IsMoment moment_yields RECORDED_AT_TIME.now d j.recorded_at_time u s_.recorded_at_time;
   line_ref = row_is name IsName name_yields LINE_REF.now d (Some j.line_ref) u s_.line_ref;
   direction_ref = row_is name IsName name_yields DIRECTION_REF.now d j.direction_ref u s_.direction_ref;
-  data_frame_ref = (needed_reference_is d j.data_frame_ref j.dated_vehicle_journey_ref u s_.reference).0;
-  dated_vehicle_journey_ref = (needed_reference_is d j.data_frame_ref j.dated_vehicle_journey_ref u s_.reference).1;
+  data_frame_ref = (required_journey_ref_is d j.data_frame_ref j.dated_vehicle_journey_ref u s_.journey_ref).0;
+  dated_vehicle_journey_ref = (required_journey_ref_is d j.data_frame_ref j.dated_vehicle_journey_ref u s_.journey_ref).1;
   published_line_name = row_is text IsText text_yields PUBLISHED_LINE_NAME.now d j.published_line_name u s_.published_line_name;
   operator_ref = row_is name IsName name_yields OPERATOR_REF.now d j.operator_ref u s_.operator_ref;
   destination_ref = row_is name IsName name_yields DESTINATION_REF.now d j.destination_ref u s_.destination_ref;
@@ -333,8 +334,8 @@ situation_proper d s u s_ = record {
   version = row_is name IsName name_yields VERSION.now d s.version u s_.version;
   versioned_at_time = row_is moment IsMoment moment_yields VERSIONED_AT_TIME.now d s.versioned_at_time u s_.versioned_at_time;
   progress = row_is text IsText text_yields PROGRESS.now d s.progress u s_.progress;
-  some_period = (on_ok (λ xs. IsListWithin 100 IsProperPeriod xs × (1 ≤ length xs)) _ s.validity_period (some_list_on (table period) IsProperPeriod period_yields 100 VALIDITY_PERIOD.now d u) s_.validity_period).1;
-  validity_period = (on_ok (λ xs. IsListWithin 100 IsProperPeriod xs × (1 ≤ length xs)) _ s.validity_period (some_list_on (table period) IsProperPeriod period_yields 100 VALIDITY_PERIOD.now d u) s_.validity_period).0;
+  some_period = (on_ok (λ xs. IsListWithin 100 IsProperPeriod xs × (1 ≤ length xs)) _ s.validity_period (nonempty_list_on (table period) IsProperPeriod period_yields 100 VALIDITY_PERIOD.now d u) s_.validity_period).1;
+  validity_period = (on_ok (λ xs. IsListWithin 100 IsProperPeriod xs × (1 ≤ length xs)) _ s.validity_period (nonempty_list_on (table period) IsProperPeriod period_yields 100 VALIDITY_PERIOD.now d u) s_.validity_period).0;
   severity = row_is text IsText text_yields SEVERITY.now d s.severity u s_.severity;
   summary = row_is text IsText text_yields SUMMARY.now d s.summary u s_.summary;
   description = row_is text IsText text_yields DESCRIPTION.now d s.description u s_.description;

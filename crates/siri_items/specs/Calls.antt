@@ -1,4 +1,4 @@
--- The tables of calls, of a vehicle's location, and of how a journey is named: what an object spells, row by row.
+-- The tables of calls, of a vehicle's location, and of how a journey is named: what an object is read as, row by row.
 use Rattle.std.specs.Prelude.{ℕ, List, [], ◌∷◌, Bool, ◌&&◌, is_none, Option, Some, None, Result, Ok, Err}
 use Rattle.serde_json.specs.Data.{Data}
 use Rattle.siri_base.specs.declared.reason.Reason.TheVariants.{Missing}
@@ -8,9 +8,9 @@ use Rattle.siri_records.specs.declared.call.StopCall.{StopCall}
 use Rattle.siri_records.specs.declared.visit.VehicleLocation.{VehicleLocation}
 use Rattle.siri_items.specs.declared.names.TheConstants.{STOP_POINT_REF, ORDER, STOP_POINT_NAME, VEHICLE_AT_STOP, AIMED_ARRIVAL_TIME, EXPECTED_ARRIVAL_TIME, ACTUAL_ARRIVAL_TIME, ARRIVAL_STATUS, ARRIVAL_PLATFORM_NAME, AIMED_DEPARTURE_TIME, EXPECTED_DEPARTURE_TIME, ACTUAL_DEPARTURE_TIME, DEPARTURE_STATUS, DEPARTURE_PLATFORM_NAME, FRAMED_VEHICLE_JOURNEY_REF, DATA_FRAME_REF, DATED_VEHICLE_JOURNEY_REF, LONGITUDE, LATITUDE}
 use Rattle.siri_items.specs.declared.read_call.JourneyRef.{JourneyRef}
-use Rattle.siri_items.specs.declared.read_call.NeededReference.{NeededReference}
+use Rattle.siri_items.specs.declared.read_call.RequiredJourneyRef.{RequiredJourneyRef}
 use Rattle.siri_items.specs.Refusals.{Refusal, ◌>>=◌}
-use Rattle.siri_items.specs.Rules.{name, text, number, decimal, moment, flag, unless_wrong, some_table, maybe, row, needed}
+use Rattle.siri_items.specs.Rules.{name, text, number, decimal, moment, flag, unless_wrong, table_unless_blank, maybe, row, required_row}
 
 -- StopCall: a call at a stop (EN 15531-3, MonitoredCall, RecordedCall and EstimatedCall)
 unfoldable pub stop_call : Data → Result StopCall Refusal
@@ -77,46 +77,46 @@ location_is_blank l = is_none l.longitude && is_none l.latitude
 
 -- a location and a call that need not be there: they count as absent where all their rows are
 abbrev pub optional_location : Data → Result (Option VehicleLocation) Refusal
-optional_location = some_table location_is_blank location
+optional_location = table_unless_blank location_is_blank location
 
 abbrev pub optional_call : Data → Result (Option StopCall) Refusal
-optional_call = some_table call_is_blank stop_call
+optional_call = table_unless_blank call_is_blank stop_call
 
 -- ---- how a journey is named
 
 -- absent where both rows are; otherwise the dated journey has to be there
-abbrev pub framed_of : Option (List ℕ) → Option (List ℕ) → Result (Option NeededReference) Refusal
-framed_of None None = Ok None
-framed_of (Some frame) None = Err (record { path = Member DATED_VEHICLE_JOURNEY_REF.now ∷ []; reason = Missing })
-framed_of frame (Some dated) = Ok (Some (record { data_frame_ref = frame; dated_vehicle_journey_ref = dated }))
+abbrev pub framed_ref_of : Option (List ℕ) → Option (List ℕ) → Result (Option RequiredJourneyRef) Refusal
+framed_ref_of None None = Ok None
+framed_ref_of (Some frame) None = Err (record { path = Member DATED_VEHICLE_JOURNEY_REF.now ∷ []; reason = Missing })
+framed_ref_of frame (Some dated) = Ok (Some (record { data_frame_ref = frame; dated_vehicle_journey_ref = dated }))
 
-unfoldable pub framed_rows : Data → Result (Option NeededReference) Refusal
-framed_rows d = do
+unfoldable pub read_framed_ref_rows : Data → Result (Option RequiredJourneyRef) Refusal
+read_framed_ref_rows d = do
   frame ← row name DATA_FRAME_REF.now d
   dated ← row name DATED_VEHICLE_JOURNEY_REF.now d
-  framed_of frame dated
+  framed_ref_of frame dated
 
 -- FramedVehicleJourneyRef: the dated journey in its data frame
-unfoldable pub framed : Data → Result (Option NeededReference) Refusal
-framed d = unless_wrong (object_in d) >>= maybe framed_rows
+unfoldable pub framed_ref : Data → Result (Option RequiredJourneyRef) Refusal
+framed_ref d = unless_wrong (object_in d) >>= maybe read_framed_ref_rows
 
 -- where there is no framed reference, the dated journey by itself
-unfoldable pub plain_reference : Data → Option NeededReference → Result JourneyRef Refusal
-plain_reference d (Some r) = Ok (record { data_frame_ref = r.data_frame_ref; dated_vehicle_journey_ref = Some r.dated_vehicle_journey_ref })
-plain_reference d None = do
+unfoldable pub plain_journey_ref : Data → Option RequiredJourneyRef → Result JourneyRef Refusal
+plain_journey_ref d (Some r) = Ok (record { data_frame_ref = r.data_frame_ref; dated_vehicle_journey_ref = Some r.dated_vehicle_journey_ref })
+plain_journey_ref d None = do
   dated ← row name DATED_VEHICLE_JOURNEY_REF.now d
   Ok (record { data_frame_ref = None; dated_vehicle_journey_ref = dated })
 
 -- the journey reference, which need not be there
-unfoldable pub reference : Data → Result JourneyRef Refusal
-reference d = row framed FRAMED_VEHICLE_JOURNEY_REF.now d >>= plain_reference d
+unfoldable pub journey_ref : Data → Result JourneyRef Refusal
+journey_ref d = row framed_ref FRAMED_VEHICLE_JOURNEY_REF.now d >>= plain_journey_ref d
 
-unfoldable pub plain_needed : Data → Option NeededReference → Result NeededReference Refusal
-plain_needed d (Some r) = Ok r
-plain_needed d None = do
-  dated ← needed name DATED_VEHICLE_JOURNEY_REF.now d
+unfoldable pub plain_required_journey_ref : Data → Option RequiredJourneyRef → Result RequiredJourneyRef Refusal
+plain_required_journey_ref d (Some r) = Ok r
+plain_required_journey_ref d None = do
+  dated ← required_row name DATED_VEHICLE_JOURNEY_REF.now d
   Ok (record { data_frame_ref = None; dated_vehicle_journey_ref = dated })
 
 -- the journey reference, which has to be there
-unfoldable pub needed_reference : Data → Result NeededReference Refusal
-needed_reference d = row framed FRAMED_VEHICLE_JOURNEY_REF.now d >>= plain_needed d
+unfoldable pub required_journey_ref : Data → Result RequiredJourneyRef Refusal
+required_journey_ref d = row framed_ref FRAMED_VEHICLE_JOURNEY_REF.now d >>= plain_required_journey_ref d

@@ -1,4 +1,4 @@
--- The table of journeys: what an object spells, row by row.
+-- The table of journeys: what an object is read as, row by row.
 use Rattle.std.specs.Prelude.{List, ◌||◌, Bool, is_some, if◌then◌else◌, Result, Ok}
 use Rattle.serde_json.specs.Data.{Data}
 use Rattle.siri_base.specs.declared.reason.Reason.TheVariants.{NoMoment}
@@ -8,16 +8,16 @@ use Rattle.siri_items.specs.Refusals.{Refusal, ◌>>=◌, refused}
 use Rattle.std.specs.List.{list_any}
 use Rattle.siri_records.specs.declared.journey.Journey.{Journey}
 use Rattle.siri_items.specs.declared.names.TheConstants.{RECORDED_AT_TIME, LINE_REF, DIRECTION_REF, CANCELLATION, PUBLISHED_LINE_NAME, OPERATOR_REF, DESTINATION_REF, DESTINATION_NAME, VEHICLE_REF, MONITORED, OCCUPANCY, DELAY, RECORDED_CALLS, RECORDED_CALL, ESTIMATED_CALLS, ESTIMATED_CALL}
-use Rattle.siri_items.specs.Rules.{name, text, moment, span, flag, table, row, needed, list, list_inside}
-use Rattle.siri_items.specs.Calls.{stop_call, needed_reference}
+use Rattle.siri_items.specs.Rules.{name, text, moment, span, flag, table, row, required_row, list, list_inside}
+use Rattle.siri_items.specs.Calls.{stop_call, required_journey_ref}
 
 -- EstimatedVehicleJourney: a journey with its calls (EN 15531-3)
-unfoldable pub journey_rows : Data → Result Journey Refusal
-journey_rows d = do
+unfoldable pub read_journey_rows : Data → Result Journey Refusal
+read_journey_rows d = do
   recorded_at_time ← row moment RECORDED_AT_TIME.now d
-  line_ref ← needed name LINE_REF.now d
+  line_ref ← required_row name LINE_REF.now d
   direction_ref ← row name DIRECTION_REF.now d
-  reference ← needed_reference d
+  journey_ref ← required_journey_ref d
   cancellation ← row flag CANCELLATION.now d
   published_line_name ← row text PUBLISHED_LINE_NAME.now d
   operator_ref ← row name OPERATOR_REF.now d
@@ -33,8 +33,8 @@ journey_rows d = do
     recorded_at_time = recorded_at_time;
     line_ref = line_ref;
     direction_ref = direction_ref;
-    data_frame_ref = reference.data_frame_ref;
-    dated_vehicle_journey_ref = reference.dated_vehicle_journey_ref;
+    data_frame_ref = journey_ref.data_frame_ref;
+    dated_vehicle_journey_ref = journey_ref.dated_vehicle_journey_ref;
     cancellation = cancellation;
     published_line_name = published_line_name;
     operator_ref = operator_ref;
@@ -57,4 +57,4 @@ with_time j = if has_time j.recorded_calls || has_time j.estimated_calls then Ok
 
 -- the same, of whose calls one has a time
 unfoldable pub journey : Data → Result Journey Refusal
-journey d = journey_rows d >>= with_time
+journey d = read_journey_rows d >>= with_time

@@ -1,4 +1,5 @@
 pub mod Refusals
+pub mod Names
 pub mod Scalars
 pub mod Rules
 pub mod Calls

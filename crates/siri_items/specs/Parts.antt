@@ -6,14 +6,14 @@ use Rattle.siri_records.specs.declared.visit.VehicleLocation.{VehicleLocation}
 use Rattle.siri_records.specs.declared.vehicle.VehicleJourney.{VehicleJourney}
 use Rattle.siri_records.specs.declared.journey.Journey.{Journey}
 use Rattle.siri_items.specs.declared.journey_rows.JourneyRows.{JourneyRows}
-use Rattle.siri_items.specs.declared.read_call.NeededReference.{NeededReference}
+use Rattle.siri_items.specs.declared.read_call.RequiredJourneyRef.{RequiredJourneyRef}
 
 -- no row was read
 abbrev pub no_rows : JourneyRows
 no_rows = record {
   line_ref = None;
   direction_ref = None;
-  reference = record { data_frame_ref = None; dated_vehicle_journey_ref = None };
+  journey_ref = record { data_frame_ref = None; dated_vehicle_journey_ref = None };
   published_line_name = None;
   operator_ref = None;
   destination_ref = None;
@@ -29,8 +29,8 @@ abbrev pub visit_journey_of : JourneyRows → Option VehicleLocation → StopCal
 visit_journey_of rows vehicle_location monitored_call = record {
   line_ref = rows.line_ref;
   direction_ref = rows.direction_ref;
-  data_frame_ref = rows.reference.data_frame_ref;
-  dated_vehicle_journey_ref = rows.reference.dated_vehicle_journey_ref;
+  data_frame_ref = rows.journey_ref.data_frame_ref;
+  dated_vehicle_journey_ref = rows.journey_ref.dated_vehicle_journey_ref;
   published_line_name = rows.published_line_name;
   operator_ref = rows.operator_ref;
   destination_ref = rows.destination_ref;
@@ -48,8 +48,8 @@ abbrev pub vehicle_journey_of : JourneyRows → List ℕ → Option VehicleLocat
 vehicle_journey_of rows vehicle_ref vehicle_location monitored_call = record {
   line_ref = rows.line_ref;
   direction_ref = rows.direction_ref;
-  data_frame_ref = rows.reference.data_frame_ref;
-  dated_vehicle_journey_ref = rows.reference.dated_vehicle_journey_ref;
+  data_frame_ref = rows.journey_ref.data_frame_ref;
+  dated_vehicle_journey_ref = rows.journey_ref.dated_vehicle_journey_ref;
   published_line_name = rows.published_line_name;
   operator_ref = rows.operator_ref;
   destination_ref = rows.destination_ref;
@@ -63,13 +63,13 @@ vehicle_journey_of rows vehicle_ref vehicle_location monitored_call = record {
 }
 
 -- a journey, whose line and reference are there
-abbrev pub journey_of : JourneyRows → Option ℕ → List ℕ → NeededReference → Option Bool → List StopCall → List StopCall → Journey
-journey_of rows recorded_at_time line_ref reference cancellation recorded_calls estimated_calls = record {
+abbrev pub journey_of : JourneyRows → Option ℕ → List ℕ → RequiredJourneyRef → Option Bool → List StopCall → List StopCall → Journey
+journey_of rows recorded_at_time line_ref journey_ref cancellation recorded_calls estimated_calls = record {
   recorded_at_time = recorded_at_time;
   line_ref = line_ref;
   direction_ref = rows.direction_ref;
-  data_frame_ref = reference.data_frame_ref;
-  dated_vehicle_journey_ref = reference.dated_vehicle_journey_ref;
+  data_frame_ref = journey_ref.data_frame_ref;
+  dated_vehicle_journey_ref = journey_ref.dated_vehicle_journey_ref;
   cancellation = cancellation;
   published_line_name = rows.published_line_name;
   operator_ref = rows.operator_ref;

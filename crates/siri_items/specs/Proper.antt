@@ -1,8 +1,7 @@
 -- Proper items: each field has a value that its row can give, what has to be there is there, and no object that need not be
 -- there is there with all its rows absent.
-use Rattle.std.specs.Prelude.{◌≡◌, ℕ, ◌<◌, ◌≤◌, ◌^◌, ℤ, unsigned_abs, List, length, true, false, ◌||◌, None, IfSome, IsSome, IsUtf8, ⊤}
+use Rattle.std.specs.Prelude.{◌≡◌, ℕ, ◌<◌, ◌≤◌, ◌^◌, ℤ, pos, negsuc, unsigned_abs, List, length, true, false, ◌||◌, None, IfSome, IsSome, IsUtf8, ⊤}
 use Rattle.std.specs.List.{AllByRecursion}
-use Rattle.serde_json.specs.Data.{Data, null, boolean, number, string, array, object, Items, no_items, item, Members, no_members, member}
 use Rattle.siri_records.specs.declared.call.StopCall.{StopCall}
 use Rattle.siri_records.specs.declared.visit.Visit.{Visit}
 use Rattle.siri_records.specs.declared.visit.VisitJourney.{VisitJourney}
@@ -41,6 +40,11 @@ IsMoment m = m ≤ 253402300799999
 -- at most 1,000,000 days
 abbrev pub IsSpan : ℤ → Type 0
 IsSpan s = unsigned_abs s ≤ 86400000000000
+
+-- a span that isn't negative, of at most 1,000,000 days
+abbrev pub IsNonNegativeSpan : ℤ → Type 0
+IsNonNegativeSpan (pos n) = n ≤ 86400000000000
+IsNonNegativeSpan (negsuc n) = ⊥
 
 -- at most 18 digits
 abbrev pub IsNumber : ℕ → Type 0
@@ -90,7 +94,7 @@ pub record IsProperVisitJourney (j : VisitJourney) : Type 0 where
   pub direction_ref : IfSome j.direction_ref IsName
   pub data_frame_ref : IfSome j.data_frame_ref IsName
   pub dated_vehicle_journey_ref : IfSome j.dated_vehicle_journey_ref IsName
-  pub framed : IsSome j.data_frame_ref → IsSome j.dated_vehicle_journey_ref
+  pub framed_ref : IsSome j.data_frame_ref → IsSome j.dated_vehicle_journey_ref
   pub published_line_name : IfSome j.published_line_name IsText
   pub operator_ref : IfSome j.operator_ref IsName
   pub destination_ref : IfSome j.destination_ref IsName
@@ -115,7 +119,7 @@ pub record IsProperVehicleJourney (j : VehicleJourney) : Type 0 where
   pub direction_ref : IfSome j.direction_ref IsName
   pub data_frame_ref : IfSome j.data_frame_ref IsName
   pub dated_vehicle_journey_ref : IfSome j.dated_vehicle_journey_ref IsName
-  pub framed : IsSome j.data_frame_ref → IsSome j.dated_vehicle_journey_ref
+  pub framed_ref : IsSome j.data_frame_ref → IsSome j.dated_vehicle_journey_ref
   pub published_line_name : IfSome j.published_line_name IsText
   pub operator_ref : IfSome j.operator_ref IsName
   pub destination_ref : IfSome j.destination_ref IsName
@@ -194,23 +198,3 @@ as_written (items.Visit v) = items.Visit v
 as_written (items.Journey j) = items.Journey (record j { recorded_at_time = None })
 as_written (items.Vehicle v) = items.Vehicle v
 as_written (items.Situation s) = items.Situation s
-
--- ---- trees
-
--- each text of a tree is UTF-8
-abbrev mutual
-  pub TextsAreUtf8 : Data → Type 0
-  TextsAreUtf8 null = ⊤
-  TextsAreUtf8 (boolean b) = ⊤
-  TextsAreUtf8 (number n) = ⊤
-  TextsAreUtf8 (string s) = IsUtf8 s
-  TextsAreUtf8 (array ds) = ItemTextsAreUtf8 ds
-  TextsAreUtf8 (object ms) = MemberTextsAreUtf8 ms
-
-  pub ItemTextsAreUtf8 : Items → Type 0
-  ItemTextsAreUtf8 no_items = ⊤
-  ItemTextsAreUtf8 (item d ds) = TextsAreUtf8 d × ItemTextsAreUtf8 ds
-
-  pub MemberTextsAreUtf8 : Members → Type 0
-  MemberTextsAreUtf8 no_members = ⊤
-  MemberTextsAreUtf8 (member k d ms) = TextsAreUtf8 d × MemberTextsAreUtf8 ms

@@ -1,4 +1,4 @@
--- The rules of rows: what a value spells, nothing where it counts as absent, or the first refusal.
+-- The rules of rows: what a value is read as, nothing where it counts as absent, or the first refusal.
 use Rattle.std.specs.Prelude.{ℕ, ◌+◌, ◌++◌, ℤ, pos, negsuc, count_by, not, is_some, option_to_list, List, [], ◌∷◌, length, nat_le, Bool, if◌then◌else◌, Option, Some, None, Result, Ok, Err}
 use Rattle.serde_json.specs.Data.{Data}
 use Rattle.serde_json.specs.Find.{as_null}
@@ -24,8 +24,8 @@ unless_wrong absent = Ok None
 unless_wrong wrong = refused WrongKind
 
 -- a text that is read further
-unfoldable pub spelled : {A : Type 0} → (List ℕ → Result A Refusal) → Data → Result (Option A) Refusal
-spelled read d = unless_wrong (text_in d) >>= each read
+unfoldable pub read_from_text : {A : Type 0} → (List ℕ → Result A Refusal) → Data → Result (Option A) Refusal
+read_from_text read d = unless_wrong (text_in d) >>= each read
 
 abbrev pub or_refused : {A : Type 0} → Reason → Option A → Result A Refusal
 or_refused reason None = refused reason
@@ -52,27 +52,27 @@ unless_negative (negsuc n) = refused BadSpan
 
 -- a text of at most 255 bytes
 abbrev pub name : Data → Result (Option (List ℕ)) Refusal
-name = spelled (bounded 255)
+name = read_from_text (bounded 255)
 
 -- a text of at most 16,384 bytes
 abbrev pub text : Data → Result (Option (List ℕ)) Refusal
-text = spelled (bounded 16384)
+text = read_from_text (bounded 16384)
 
 abbrev pub moment : Data → Result (Option ℕ) Refusal
-moment = spelled (λ t. moment_or (moment_of t))
+moment = read_from_text (λ t. moment_or (moment_of t))
 
 abbrev pub span : Data → Result (Option ℤ) Refusal
-span = spelled (λ t. span_or (span_of t))
+span = read_from_text (λ t. span_or (span_of t))
 
 -- a span that isn't negative
-abbrev pub span0 : Data → Result (Option ℤ) Refusal
-span0 = spelled (λ t. span_or (span_of t) >>= unless_negative)
+abbrev pub non_negative_span : Data → Result (Option ℤ) Refusal
+non_negative_span = read_from_text (λ t. span_or (span_of t) >>= unless_negative)
 
 abbrev pub number : Data → Result (Option ℕ) Refusal
-number = spelled (λ t. or_refused BadNumber (number_of t))
+number = read_from_text (λ t. or_refused BadNumber (number_of t))
 
 abbrev pub decimal : Data → Result (Option ℤ) Refusal
-decimal = spelled (λ t. or_refused BadDecimal (decimal_of t))
+decimal = read_from_text (λ t. or_refused BadDecimal (decimal_of t))
 
 -- true or false, or a text for it
 abbrev pub flag_or : Option Bool → Result (Option Bool) Refusal
@@ -92,8 +92,8 @@ unless_blank blank None = None
 unless_blank blank (Some x) = if blank x then None else Some x
 
 -- an object of a table that isn't required: it counts as absent where all its rows are
-unfoldable pub some_table : {A : Type 0} → (A → Bool) → (Data → Result A Refusal) → Data → Result (Option A) Refusal
-some_table blank rows d = table rows d >>= λ o. Ok (unless_blank blank o)
+unfoldable pub table_unless_blank : {A : Type 0} → (A → Bool) → (Data → Result A Refusal) → Data → Result (Option A) Refusal
+table_unless_blank blank rows d = table rows d >>= λ o. Ok (unless_blank blank o)
 
 -- ---- rows
 
@@ -102,26 +102,26 @@ abbrev pub maybe : {A : Type 0} → (Data → Result (Option A) Refusal) → Opt
 maybe rule None = Ok None
 maybe rule (Some d) = rule d
 
--- what the member of that name spells
+-- what the member of that name is read as
 unfoldable pub row : {A : Type 0} → (Data → Result (Option A) Refusal) → List ℕ → Data → Result (Option A) Refusal
 row rule key d = below (Member key) (maybe rule (member_of key d))
 
 -- what has to be there
-abbrev pub there : {A : Type 0} → List Step → Option A → Result A Refusal
-there path None = Err (record { path = path; reason = Missing })
-there path (Some x) = Ok x
+abbrev pub required : {A : Type 0} → List Step → Option A → Result A Refusal
+required path None = Err (record { path = path; reason = Missing })
+required path (Some x) = Ok x
 
 -- a row that is required
-unfoldable pub needed : {A : Type 0} → (Data → Result (Option A) Refusal) → List ℕ → Data → Result A Refusal
-needed rule key d = row rule key d >>= there (Member key ∷ [])
+unfoldable pub required_row : {A : Type 0} → (Data → Result (Option A) Refusal) → List ℕ → Data → Result A Refusal
+required_row rule key d = row rule key d >>= required (Member key ∷ [])
 
 -- a member of the object that a value stands for
 unfoldable pub inside : {A : Type 0} → (Data → Result (Option A) Refusal) → List ℕ → Data → Result (Option A) Refusal
 inside rule key d = unless_wrong (object_in d) >>= maybe (row rule key)
 
--- what a value spells that must not count as absent
-unfoldable pub present : {A : Type 0} → (Data → Result (Option A) Refusal) → Data → Result A Refusal
-present rule d = rule d >>= there []
+-- what a value is read as that must not count as absent
+unfoldable pub required_value : {A : Type 0} → (Data → Result (Option A) Refusal) → Data → Result A Refusal
+required_value rule d = rule d >>= required []
 
 -- ---- lists
 
@@ -136,7 +136,7 @@ entry_count d = count_by (λ e. not (is_null e)) (entries_of d)
 unfoldable pub entries_from : {A : Type 0} → (Data → Result (Option A) Refusal) → ℕ → List Data → Result (List A) Refusal
 entries_from rule place [] = Ok []
 entries_from rule place (d ∷ ds) = if is_null d then entries_from rule (place + 1) ds else do
-  first ← below (Place place) (present rule d)
+  first ← below (Place place) (required_value rule d)
   others ← entries_from rule (place + 1) ds
   Ok (first ∷ others)
 
@@ -173,8 +173,8 @@ not_empty key [] = Err (record { path = Member key ∷ []; reason = Missing })
 not_empty key (x ∷ xs) = Ok (x ∷ xs)
 
 -- the same, where there has to be one
-unfoldable pub some_list : {A : Type 0} → (Data → Result (Option A) Refusal) → ℕ → List ℕ → Data → Result (List A) Refusal
-some_list rule most key d = list rule most key d >>= not_empty key
+unfoldable pub nonempty_list : {A : Type 0} → (Data → Result (Option A) Refusal) → ℕ → List ℕ → Data → Result (List A) Refusal
+nonempty_list rule most key d = list rule most key d >>= not_empty key
 
 -- the names that the entries at a name have at another
 unfoldable pub names : List ℕ → ℕ → List ℕ → Data → Result (List (List ℕ)) Refusal

@@ -1,4 +1,4 @@
--- The table of situations: what an object spells, row by row.
+-- The table of situations: what an object is read as, row by row.
 use Rattle.std.specs.Prelude.{ℕ, List, [], if◌then◌else◌, Option, Some, None, Result, Ok}
 use Rattle.serde_json.specs.Data.{Data}
 use Rattle.siri_base.specs.declared.reason.Reason.TheVariants.{TooMany}
@@ -12,12 +12,12 @@ use Rattle.siri_items.specs.declared.read_situation.Network.{Network}
 use Rattle.siri_items.specs.declared.names.TheConstants.{CREATION_TIME, PARTICIPANT_REF, SITUATION_NUMBER, VERSION, VERSIONED_AT_TIME, PROGRESS, SEVERITY, SUMMARY, DESCRIPTION, VALIDITY_PERIOD, START_TIME, END_TIME, AFFECTS, OPERATORS, AFFECTED_OPERATOR, OPERATOR_REF, NETWORKS, AFFECTED_NETWORK, AFFECTED_LINE, LINE_REF, STOP_POINTS, AFFECTED_STOP_POINT, STOP_POINT_REF}
 use Rattle.siri_json.specs.Values.{member_of}
 use Rattle.siri_items.specs.Refusals.{below}
-use Rattle.siri_items.specs.Rules.{name, text, moment, table, row, needed, some_list, names, names_of, list_of, list_inside, entry_count, or_empty}
+use Rattle.siri_items.specs.Rules.{name, text, moment, table, row, required_row, nonempty_list, names, names_of, list_of, list_inside, entry_count, or_empty}
 
 -- ValidityPeriod: a time in which a situation holds
 unfoldable pub period : Data → Result Period Refusal
 period d = do
-  start_time ← needed moment START_TIME.now d
+  start_time ← required_row moment START_TIME.now d
   end_time ← row moment END_TIME.now d
   Ok (record { start_time = start_time; end_time = end_time })
 
@@ -62,11 +62,11 @@ unfoldable pub situation : Data → Result Situation Refusal
 situation d = do
   creation_time ← row moment CREATION_TIME.now d
   participant_ref ← row name PARTICIPANT_REF.now d
-  situation_number ← needed name SITUATION_NUMBER.now d
+  situation_number ← required_row name SITUATION_NUMBER.now d
   version ← row name VERSION.now d
   versioned_at_time ← row moment VERSIONED_AT_TIME.now d
   progress ← row text PROGRESS.now d
-  validity_period ← some_list (table period) 100 VALIDITY_PERIOD.now d
+  validity_period ← nonempty_list (table period) 100 VALIDITY_PERIOD.now d
   severity ← row text SEVERITY.now d
   summary ← row text SUMMARY.now d
   description ← row text DESCRIPTION.now d

@@ -17,15 +17,16 @@ use Rattle.siri_records.specs.declared.item.Item.TheVariants as item
 use Rattle.siri_records.specs.declared.item.Service.{Service}
 use Rattle.siri_records.specs.declared.item.Service.TheVariants as service
 use Rattle.siri_records.specs.Ends.{call_moment}
-use Rattle.siri_items.specs.declared.names.TheConstants.{ACTUAL_ARRIVAL_TIME, ACTUAL_DEPARTURE_TIME, AFFECTS, AIMED_ARRIVAL_TIME, AIMED_DEPARTURE_TIME, ARRIVAL_PLATFORM_NAME, ARRIVAL_STATUS, CANCELLATION, CREATION_TIME, DELAY, DEPARTURE_PLATFORM_NAME, DEPARTURE_STATUS, DESCRIPTION, DESTINATION_NAME, DESTINATION_REF, DIRECTION_REF, END_TIME, ESTIMATED_CALL, ESTIMATED_CALLS, EXPECTED_ARRIVAL_TIME, EXPECTED_DEPARTURE_TIME, ITEM_IDENTIFIER, LATITUDE, LINE_REF, LONGITUDE, MONITORED, MONITORED_CALL, MONITORED_VEHICLE_JOURNEY, MONITORING_REF, OCCUPANCY, OPERATOR_REF, ORDER, PARTICIPANT_REF, PROGRESS, PUBLISHED_LINE_NAME, RECORDED_AT_TIME, RECORDED_CALL, RECORDED_CALLS, SEVERITY, SITUATION_NUMBER, START_TIME, STOP_POINT_NAME, STOP_POINT_REF, SUMMARY, VALIDITY_PERIOD, VALID_UNTIL_TIME, VEHICLE_AT_STOP, VEHICLE_LOCATION, VEHICLE_REF, VERSION, VERSIONED_AT_TIME}
+use Rattle.siri_items.specs.declared.names.TheConstants.{ACTUAL_ARRIVAL_TIME, ACTUAL_DEPARTURE_TIME, AFFECTED_OPERATOR, AFFECTED_STOP_POINT, AFFECTS, AIMED_ARRIVAL_TIME, AIMED_DEPARTURE_TIME, ARRIVAL_PLATFORM_NAME, ARRIVAL_STATUS, CANCELLATION, CREATION_TIME, DATA_FRAME_REF, DATED_VEHICLE_JOURNEY_REF, DELAY, DEPARTURE_PLATFORM_NAME, DEPARTURE_STATUS, DESCRIPTION, DESTINATION_NAME, DESTINATION_REF, DIRECTION_REF, END_TIME, ESTIMATED_CALL, ESTIMATED_CALLS, EXPECTED_ARRIVAL_TIME, EXPECTED_DEPARTURE_TIME, ITEM_IDENTIFIER, LATITUDE, LINE_REF, LONGITUDE, MONITORED, MONITORED_CALL, MONITORED_VEHICLE_JOURNEY, MONITORING_REF, NETWORKS, OCCUPANCY, OPERATORS, OPERATOR_REF, ORDER, PARTICIPANT_REF, PROGRESS, PUBLISHED_LINE_NAME, RECORDED_AT_TIME, RECORDED_CALL, RECORDED_CALLS, SEVERITY, SITUATION_NUMBER, START_TIME, STOP_POINTS, STOP_POINT_NAME, STOP_POINT_REF, SUMMARY, VALIDITY_PERIOD, VALID_UNTIL_TIME, VEHICLE_AT_STOP, VEHICLE_LOCATION, VEHICLE_REF, VERSION, VERSIONED_AT_TIME}
+use Rattle.siri_items.specs.declared.read_call.RequiredJourneyRef.{RequiredJourneyRef}
 use Rattle.siri_items.specs.declared.read_situation.Affected.{Affected}
 use Rattle.siri_items.specs.Refusals.{Refusal}
-use Rattle.siri_items.specs.Rules.{name, text, moment, span, number, decimal, flag, table, maybe, list, some_list, list_inside}
-use Rattle.siri_items.specs.Calls.{stop_call, optional_location, optional_call, reference, needed_reference}
+use Rattle.siri_items.specs.Rules.{name, text, moment, span, number, decimal, flag, table, maybe, list, nonempty_list, list_inside, names}
+use Rattle.siri_items.specs.Calls.{stop_call, optional_location, optional_call, journey_ref, required_journey_ref}
 use Rattle.siri_items.specs.Visits.{visit_journey}
 use Rattle.siri_items.specs.Vehicles.{vehicle_journey}
 use Rattle.siri_items.specs.Journeys.{has_time}
-use Rattle.siri_items.specs.Situations.{period, affected, or_nothing}
+use Rattle.siri_items.specs.Situations.{period, network_lines, affected, or_nothing}
 
 -- the member of that name spells the value, or is absent where there is none
 abbrev pub Spells : {A : Type 0} → (Data → Result (Option A) Refusal) → List ℕ → Data → Option A → Type 0
@@ -59,11 +60,16 @@ pub record SpellsLocation (d : Data) (l : VehicleLocation) : Type 0 where
   pub longitude : Spells decimal LONGITUDE.now d l.longitude
   pub latitude : Spells decimal LATITUDE.now d l.latitude
 
+-- a dated journey in its data frame, or by itself
+pub record SpellsFramedRef (d : Data) (r : RequiredJourneyRef) : Type 0 where
+  pub data_frame_ref : Spells name DATA_FRAME_REF.now d r.data_frame_ref
+  pub dated_vehicle_journey_ref : Spells name DATED_VEHICLE_JOURNEY_REF.now d (Some r.dated_vehicle_journey_ref)
+
 -- the journey of a visit
 pub record SpellsVisitJourney (d : Data) (j : VisitJourney) : Type 0 where
   pub line_ref : Spells name LINE_REF.now d j.line_ref
   pub direction_ref : Spells name DIRECTION_REF.now d j.direction_ref
-  pub reference : reference d ≡ Ok (record { data_frame_ref = j.data_frame_ref; dated_vehicle_journey_ref = j.dated_vehicle_journey_ref })
+  pub journey_ref : journey_ref d ≡ Ok (record { data_frame_ref = j.data_frame_ref; dated_vehicle_journey_ref = j.dated_vehicle_journey_ref })
   pub published_line_name : Spells text PUBLISHED_LINE_NAME.now d j.published_line_name
   pub operator_ref : Spells name OPERATOR_REF.now d j.operator_ref
   pub destination_ref : Spells name DESTINATION_REF.now d j.destination_ref
@@ -87,7 +93,7 @@ pub record SpellsVisit (d : Data) (v : Visit) : Type 0 where
 pub record SpellsVehicleJourney (d : Data) (j : VehicleJourney) : Type 0 where
   pub line_ref : Spells name LINE_REF.now d j.line_ref
   pub direction_ref : Spells name DIRECTION_REF.now d j.direction_ref
-  pub reference : reference d ≡ Ok (record { data_frame_ref = j.data_frame_ref; dated_vehicle_journey_ref = j.dated_vehicle_journey_ref })
+  pub journey_ref : journey_ref d ≡ Ok (record { data_frame_ref = j.data_frame_ref; dated_vehicle_journey_ref = j.dated_vehicle_journey_ref })
   pub published_line_name : Spells text PUBLISHED_LINE_NAME.now d j.published_line_name
   pub operator_ref : Spells name OPERATOR_REF.now d j.operator_ref
   pub destination_ref : Spells name DESTINATION_REF.now d j.destination_ref
@@ -111,7 +117,7 @@ pub record SpellsJourneyRows (d : Data) (j : Journey) : Type 0 where
   pub recorded_at_time : Spells moment RECORDED_AT_TIME.now d j.recorded_at_time
   pub line_ref : Spells name LINE_REF.now d (Some j.line_ref)
   pub direction_ref : Spells name DIRECTION_REF.now d j.direction_ref
-  pub reference : needed_reference d ≡ Ok (record { data_frame_ref = j.data_frame_ref; dated_vehicle_journey_ref = j.dated_vehicle_journey_ref })
+  pub journey_ref : required_journey_ref d ≡ Ok (record { data_frame_ref = j.data_frame_ref; dated_vehicle_journey_ref = j.dated_vehicle_journey_ref })
   pub cancellation : Spells flag CANCELLATION.now d j.cancellation
   pub published_line_name : Spells text PUBLISHED_LINE_NAME.now d j.published_line_name
   pub operator_ref : Spells name OPERATOR_REF.now d j.operator_ref
@@ -129,6 +135,12 @@ pub record SpellsPeriod (d : Data) (p : Period) : Type 0 where
   pub start_time : Spells moment START_TIME.now d (Some p.start_time)
   pub end_time : Spells moment END_TIME.now d p.end_time
 
+-- the operators, lines and stops that a situation affects
+pub record SpellsAffected (d : Data) (a : Affected) : Type 0 where
+  pub operators : list_inside OPERATORS.now (names OPERATOR_REF.now 2000 AFFECTED_OPERATOR.now) d ≡ Ok a.operators
+  pub lines : list_inside NETWORKS.now network_lines d ≡ Ok a.lines
+  pub stop_points : list_inside STOP_POINTS.now (names STOP_POINT_REF.now 2000 AFFECTED_STOP_POINT.now) d ≡ Ok a.stop_points
+
 -- what a situation affects: nothing where Affects is absent
 pub record SpellsAffects (d : Data) (operators lines stop_points : List (List ℕ)) : Type 0 where
   pub affects : Option Affected
@@ -145,7 +157,7 @@ pub record SpellsSituation (d : Data) (s : Situation) : Type 0 where
   pub version : Spells name VERSION.now d s.version
   pub versioned_at_time : Spells moment VERSIONED_AT_TIME.now d s.versioned_at_time
   pub progress : Spells text PROGRESS.now d s.progress
-  pub validity_period : some_list (table period) 100 VALIDITY_PERIOD.now d ≡ Ok s.validity_period
+  pub validity_period : nonempty_list (table period) 100 VALIDITY_PERIOD.now d ≡ Ok s.validity_period
   pub severity : Spells text SEVERITY.now d s.severity
   pub summary : Spells text SUMMARY.now d s.summary
   pub description : Spells text DESCRIPTION.now d s.description

@@ -1,4 +1,4 @@
--- The tables of visits: what an object spells, row by row.
+-- The tables of visits: what an object is read as, row by row.
 use Rattle.std.specs.Prelude.{ℕ, [], ◌∷◌, Option, Some, None, Result, Ok, Err}
 use Rattle.serde_json.specs.Data.{Data}
 use Rattle.siri_base.specs.declared.reason.Reason.TheVariants.{NoMoment}
@@ -9,8 +9,8 @@ use Rattle.siri_items.specs.Refusals.{Refusal, ◌>>=◌}
 use Rattle.siri_records.specs.declared.visit.Visit.{Visit}
 use Rattle.siri_records.specs.declared.visit.VisitJourney.{VisitJourney}
 use Rattle.siri_items.specs.declared.names.TheConstants.{LINE_REF, DIRECTION_REF, PUBLISHED_LINE_NAME, OPERATOR_REF, DESTINATION_REF, DESTINATION_NAME, VEHICLE_REF, MONITORED, OCCUPANCY, DELAY, VEHICLE_LOCATION, MONITORED_CALL, RECORDED_AT_TIME, ITEM_IDENTIFIER, MONITORING_REF, MONITORED_VEHICLE_JOURNEY}
-use Rattle.siri_items.specs.Rules.{name, text, moment, span, flag, table, row, needed}
-use Rattle.siri_items.specs.Calls.{stop_call, optional_location, reference}
+use Rattle.siri_items.specs.Rules.{name, text, moment, span, flag, table, row, required_row}
+use Rattle.siri_items.specs.Calls.{stop_call, optional_location, journey_ref}
 
 -- a call that has a time
 abbrev pub with_moment : StopCall → Option ℕ → Result StopCall Refusal
@@ -20,7 +20,7 @@ with_moment call (Some m) = Ok call
 -- the call at the monitored stop: it has to be there, and it has a time
 unfoldable pub timed_call : Data → Result StopCall Refusal
 timed_call d = do
-  call ← needed (table stop_call) MONITORED_CALL.now d
+  call ← required_row (table stop_call) MONITORED_CALL.now d
   with_moment call (call_moment call)
 
 -- MonitoredVehicleJourney: the journey of a visit (EN 15531-3)
@@ -28,7 +28,7 @@ unfoldable pub visit_journey : Data → Result VisitJourney Refusal
 visit_journey d = do
   line_ref ← row name LINE_REF.now d
   direction_ref ← row name DIRECTION_REF.now d
-  reference ← reference d
+  journey_ref ← journey_ref d
   published_line_name ← row text PUBLISHED_LINE_NAME.now d
   operator_ref ← row name OPERATOR_REF.now d
   destination_ref ← row name DESTINATION_REF.now d
@@ -42,8 +42,8 @@ visit_journey d = do
   Ok (record {
     line_ref = line_ref;
     direction_ref = direction_ref;
-    data_frame_ref = reference.data_frame_ref;
-    dated_vehicle_journey_ref = reference.dated_vehicle_journey_ref;
+    data_frame_ref = journey_ref.data_frame_ref;
+    dated_vehicle_journey_ref = journey_ref.dated_vehicle_journey_ref;
     published_line_name = published_line_name;
     operator_ref = operator_ref;
     destination_ref = destination_ref;
@@ -60,9 +60,9 @@ visit_journey d = do
 unfoldable pub visit : Data → Result Visit Refusal
 visit d = do
   recorded_at_time ← row moment RECORDED_AT_TIME.now d
-  item_identifier ← needed name ITEM_IDENTIFIER.now d
-  monitoring_ref ← needed name MONITORING_REF.now d
-  monitored_vehicle_journey ← needed (table visit_journey) MONITORED_VEHICLE_JOURNEY.now d
+  item_identifier ← required_row name ITEM_IDENTIFIER.now d
+  monitoring_ref ← required_row name MONITORING_REF.now d
+  monitored_vehicle_journey ← required_row (table visit_journey) MONITORED_VEHICLE_JOURNEY.now d
   Ok (record {
     recorded_at_time = recorded_at_time;
     item_identifier = item_identifier;

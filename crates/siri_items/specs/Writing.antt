@@ -1,4 +1,4 @@
--- How values and rows are written: each in one spelling. What is left out has none.
+-- How values and rows are written: each in one form. What is left out has none.
 use Rattle.std.specs.Prelude.{ℕ, suc, ◌+◌, ◌-◌, ◌/◌, ◌%◌, ◌==◌, if◌then◌else◌, ℤ, pos, negsuc, List, [], ◌∷◌, ◌++◌, take, Option, Some, None, Bool}
 use Rattle.std.specs.List.{filter_map, suffix_len}
 use Rattle.std.specs.Fmt.{decimal}
@@ -27,17 +27,17 @@ abbrev pub row_object : List Row → Data
 row_object rs = object (with_rows no_members rs)
 
 -- an object that would be empty isn't written
-abbrev pub some_object : Members → Option Data
-some_object no_members = None
-some_object (member k d ms) = Some (object (member k d ms))
+abbrev pub object_unless_empty : Members → Option Data
+object_unless_empty no_members = None
+object_unless_empty (member k d ms) = Some (object (member k d ms))
 
 -- a list that would be empty isn't written
-abbrev pub some_array : List Data → Option Data
-some_array [] = None
-some_array (d ∷ ds) = Some (array (items_of (d ∷ ds)))
+abbrev pub array_unless_empty : List Data → Option Data
+array_unless_empty [] = None
+array_unless_empty (d ∷ ds) = Some (array (items_of (d ∷ ds)))
 
 unfoldable pub written_list : {A : Type 0} → (A → Option Data) → List A → Option Data
-written_list spelling xs = some_array (filter_map spelling xs)
+written_list writing xs = array_unless_empty (filter_map writing xs)
 
 -- ---- values
 

@@ -13,11 +13,11 @@ use Rattle.siri_records.specs.declared.situation.Period.{Period}
 use Rattle.siri_records.specs.declared.item.Item.{Item}
 use Rattle.siri_records.specs.declared.item.Item.TheVariants as item
 use Rattle.siri_items.specs.declared.names.TheConstants.{ACTUAL_ARRIVAL_TIME, ACTUAL_DEPARTURE_TIME, AFFECTED_LINE, AFFECTED_NETWORK, AFFECTED_OPERATOR, AFFECTED_STOP_POINT, AFFECTS, AIMED_ARRIVAL_TIME, AIMED_DEPARTURE_TIME, ARRIVAL_PLATFORM_NAME, ARRIVAL_STATUS, CANCELLATION, CREATION_TIME, DATA_FRAME_REF, DATED_VEHICLE_JOURNEY_REF, DELAY, DEPARTURE_PLATFORM_NAME, DEPARTURE_STATUS, DESCRIPTION, DESTINATION_NAME, DESTINATION_REF, DIRECTION_REF, END_TIME, ESTIMATED_CALL, ESTIMATED_CALLS, EXPECTED_ARRIVAL_TIME, EXPECTED_DEPARTURE_TIME, FRAMED_VEHICLE_JOURNEY_REF, ITEM_IDENTIFIER, LATITUDE, LINE_REF, LONGITUDE, MONITORED, MONITORED_CALL, MONITORED_VEHICLE_JOURNEY, MONITORING_REF, NETWORKS, OCCUPANCY, OPERATORS, OPERATOR_REF, ORDER, PARTICIPANT_REF, PROGRESS, PUBLISHED_LINE_NAME, RECORDED_AT_TIME, RECORDED_CALL, RECORDED_CALLS, SEVERITY, SITUATION_NUMBER, START_TIME, STOP_POINTS, STOP_POINT_NAME, STOP_POINT_REF, SUMMARY, VALIDITY_PERIOD, VALID_UNTIL_TIME, VEHICLE_AT_STOP, VEHICLE_LOCATION, VEHICLE_REF, VERSION, VERSIONED_AT_TIME}
-use Rattle.siri_items.specs.Writing.{Row, row_object, with_rows, some_object, some_array, written_list, written_text, written_flag, written_number, written_moment, written_span, written_decimal}
+use Rattle.siri_items.specs.Writing.{Row, row_object, with_rows, object_unless_empty, array_unless_empty, written_list, written_text, written_flag, written_number, written_moment, written_span, written_decimal}
 
 -- StopCall
-abbrev pub call_rows : StopCall → List Row
-call_rows c =
+abbrev pub rows_of_call : StopCall → List Row
+rows_of_call c =
     (STOP_POINT_REF.now, option_and_then written_text c.stop_point_ref) ∷
     (ORDER.now, option_and_then written_number c.order) ∷
     (STOP_POINT_NAME.now, option_and_then written_text c.stop_point_name) ∷
@@ -34,30 +34,30 @@ call_rows c =
     (DEPARTURE_PLATFORM_NAME.now, option_and_then written_text c.departure_platform_name) ∷ []
 
 unfoldable pub written_call : StopCall → Data
-written_call c = row_object (call_rows c)
+written_call c = row_object (rows_of_call c)
 
-abbrev pub spelled_call : StopCall → Option Data
-spelled_call c = Some (written_call c)
+abbrev pub call_writing : StopCall → Option Data
+call_writing c = Some (written_call c)
 
 -- VehicleLocation, which isn't written where it would be empty
-abbrev pub location_rows : VehicleLocation → List Row
-location_rows l =
+abbrev pub rows_of_location : VehicleLocation → List Row
+rows_of_location l =
     (LONGITUDE.now, option_and_then written_decimal l.longitude) ∷
     (LATITUDE.now, option_and_then written_decimal l.latitude) ∷ []
 
 unfoldable pub written_location : VehicleLocation → Option Data
-written_location l = some_object (with_rows no_members (location_rows l))
+written_location l = object_unless_empty (with_rows no_members (rows_of_location l))
 
 -- ---- how a journey is named: as an object where there is a data frame, otherwise as a member of its own
 
-abbrev pub framed_rows : List ℕ → Option Data → List Row
-framed_rows frame dated =
+abbrev pub rows_of_framed_ref : List ℕ → Option Data → List Row
+rows_of_framed_ref frame dated =
     (DATA_FRAME_REF.now, written_text frame) ∷
     (DATED_VEHICLE_JOURNEY_REF.now, dated) ∷ []
 
-unfoldable pub written_framed : Option (List ℕ) → Option Data → Option Data
-written_framed None dated = None
-written_framed (Some frame) dated = Some (row_object (framed_rows frame dated))
+unfoldable pub written_framed_ref : Option (List ℕ) → Option Data → Option Data
+written_framed_ref None dated = None
+written_framed_ref (Some frame) dated = Some (row_object (rows_of_framed_ref frame dated))
 
 unfoldable pub written_dated : Option (List ℕ) → Option Data → Option Data
 written_dated None dated = dated
@@ -65,11 +65,11 @@ written_dated (Some frame) dated = None
 
 -- ---- visits
 
-abbrev pub visit_journey_rows : VisitJourney → List Row
-visit_journey_rows j =
+abbrev pub rows_of_visit_journey : VisitJourney → List Row
+rows_of_visit_journey j =
     (LINE_REF.now, option_and_then written_text j.line_ref) ∷
     (DIRECTION_REF.now, option_and_then written_text j.direction_ref) ∷
-    (FRAMED_VEHICLE_JOURNEY_REF.now, written_framed j.data_frame_ref (option_and_then written_text j.dated_vehicle_journey_ref)) ∷
+    (FRAMED_VEHICLE_JOURNEY_REF.now, written_framed_ref j.data_frame_ref (option_and_then written_text j.dated_vehicle_journey_ref)) ∷
     (DATED_VEHICLE_JOURNEY_REF.now, written_dated j.data_frame_ref (option_and_then written_text j.dated_vehicle_journey_ref)) ∷
     (PUBLISHED_LINE_NAME.now, option_and_then written_text j.published_line_name) ∷
     (OPERATOR_REF.now, option_and_then written_text j.operator_ref) ∷
@@ -80,29 +80,29 @@ visit_journey_rows j =
     (OCCUPANCY.now, option_and_then written_text j.occupancy) ∷
     (DELAY.now, option_and_then written_span j.delay) ∷
     (VEHICLE_LOCATION.now, option_and_then written_location j.vehicle_location) ∷
-    (MONITORED_CALL.now, spelled_call j.monitored_call) ∷ []
+    (MONITORED_CALL.now, call_writing j.monitored_call) ∷ []
 
 unfoldable pub written_visit_journey : VisitJourney → Data
-written_visit_journey j = row_object (visit_journey_rows j)
+written_visit_journey j = row_object (rows_of_visit_journey j)
 
 -- MonitoredStopVisit
-abbrev pub visit_rows : Visit → List Row
-visit_rows v =
+abbrev pub rows_of_visit : Visit → List Row
+rows_of_visit v =
     (RECORDED_AT_TIME.now, option_and_then written_moment v.recorded_at_time) ∷
     (ITEM_IDENTIFIER.now, written_text v.item_identifier) ∷
     (MONITORING_REF.now, written_text v.monitoring_ref) ∷
     (MONITORED_VEHICLE_JOURNEY.now, Some (written_visit_journey v.monitored_vehicle_journey)) ∷ []
 
 unfoldable pub written_visit : Visit → Data
-written_visit v = row_object (visit_rows v)
+written_visit v = row_object (rows_of_visit v)
 
 -- ---- vehicle activities
 
-abbrev pub vehicle_journey_rows : VehicleJourney → List Row
-vehicle_journey_rows j =
+abbrev pub rows_of_vehicle_journey : VehicleJourney → List Row
+rows_of_vehicle_journey j =
     (LINE_REF.now, option_and_then written_text j.line_ref) ∷
     (DIRECTION_REF.now, option_and_then written_text j.direction_ref) ∷
-    (FRAMED_VEHICLE_JOURNEY_REF.now, written_framed j.data_frame_ref (option_and_then written_text j.dated_vehicle_journey_ref)) ∷
+    (FRAMED_VEHICLE_JOURNEY_REF.now, written_framed_ref j.data_frame_ref (option_and_then written_text j.dated_vehicle_journey_ref)) ∷
     (DATED_VEHICLE_JOURNEY_REF.now, written_dated j.data_frame_ref (option_and_then written_text j.dated_vehicle_journey_ref)) ∷
     (PUBLISHED_LINE_NAME.now, option_and_then written_text j.published_line_name) ∷
     (OPERATOR_REF.now, option_and_then written_text j.operator_ref) ∷
@@ -113,34 +113,34 @@ vehicle_journey_rows j =
     (OCCUPANCY.now, option_and_then written_text j.occupancy) ∷
     (DELAY.now, option_and_then written_span j.delay) ∷
     (VEHICLE_LOCATION.now, option_and_then written_location j.vehicle_location) ∷
-    (MONITORED_CALL.now, option_and_then spelled_call j.monitored_call) ∷ []
+    (MONITORED_CALL.now, option_and_then call_writing j.monitored_call) ∷ []
 
 unfoldable pub written_vehicle_journey : VehicleJourney → Data
-written_vehicle_journey j = row_object (vehicle_journey_rows j)
+written_vehicle_journey j = row_object (rows_of_vehicle_journey j)
 
 -- VehicleActivity
-abbrev pub vehicle_rows : Vehicle → List Row
-vehicle_rows v =
+abbrev pub rows_of_vehicle : Vehicle → List Row
+rows_of_vehicle v =
     (RECORDED_AT_TIME.now, option_and_then written_moment v.recorded_at_time) ∷
     (ITEM_IDENTIFIER.now, option_and_then written_text v.item_identifier) ∷
     (VALID_UNTIL_TIME.now, option_and_then written_moment v.valid_until_time) ∷
     (MONITORED_VEHICLE_JOURNEY.now, Some (written_vehicle_journey v.monitored_vehicle_journey)) ∷ []
 
 unfoldable pub written_vehicle : Vehicle → Data
-written_vehicle v = row_object (vehicle_rows v)
+written_vehicle v = row_object (rows_of_vehicle v)
 
 -- ---- journeys
 
 -- calls inside an object of their own
 unfoldable pub written_calls : List ℕ → List StopCall → Option Data
-written_calls key calls = some_object (with_rows no_members ((key, written_list spelled_call calls) ∷ []))
+written_calls key calls = object_unless_empty (with_rows no_members ((key, written_list call_writing calls) ∷ []))
 
 -- EstimatedVehicleJourney, without its RecordedAtTime, which its frame carries
-abbrev pub journey_rows : Journey → List Row
-journey_rows j =
+abbrev pub rows_of_journey : Journey → List Row
+rows_of_journey j =
     (LINE_REF.now, written_text j.line_ref) ∷
     (DIRECTION_REF.now, option_and_then written_text j.direction_ref) ∷
-    (FRAMED_VEHICLE_JOURNEY_REF.now, written_framed j.data_frame_ref (written_text j.dated_vehicle_journey_ref)) ∷
+    (FRAMED_VEHICLE_JOURNEY_REF.now, written_framed_ref j.data_frame_ref (written_text j.dated_vehicle_journey_ref)) ∷
     (DATED_VEHICLE_JOURNEY_REF.now, written_dated j.data_frame_ref (written_text j.dated_vehicle_journey_ref)) ∷
     (CANCELLATION.now, option_and_then written_flag j.cancellation) ∷
     (PUBLISHED_LINE_NAME.now, option_and_then written_text j.published_line_name) ∷
@@ -155,18 +155,18 @@ journey_rows j =
     (ESTIMATED_CALLS.now, written_calls ESTIMATED_CALL.now j.estimated_calls) ∷ []
 
 unfoldable pub written_journey : Journey → Data
-written_journey j = row_object (journey_rows j)
+written_journey j = row_object (rows_of_journey j)
 
 -- ---- situations
 
 -- ValidityPeriod
-abbrev pub period_rows : Period → List Row
-period_rows p =
+abbrev pub rows_of_period : Period → List Row
+rows_of_period p =
     (START_TIME.now, written_moment p.start_time) ∷
     (END_TIME.now, option_and_then written_moment p.end_time) ∷ []
 
 unfoldable pub written_period : Period → Option Data
-written_period p = Some (row_object (period_rows p))
+written_period p = Some (row_object (rows_of_period p))
 
 -- a name in an object of its own
 unfoldable pub written_name : List ℕ → List ℕ → Option Data
@@ -174,29 +174,29 @@ written_name inner name = Some (row_object ((inner, written_text name) ∷ []))
 
 -- names in a list inside an object
 unfoldable pub written_names : List ℕ → List ℕ → List (List ℕ) → Option Data
-written_names key inner names = some_object (with_rows no_members ((key, written_list (written_name inner) names) ∷ []))
+written_names key inner names = object_unless_empty (with_rows no_members ((key, written_list (written_name inner) names) ∷ []))
 
 -- all lines under one network
 unfoldable pub written_network : Option Data → Option Data
 written_network None = None
-written_network (Some network) = Some (row_object ((AFFECTED_NETWORK.now, some_array (network ∷ [])) ∷ []))
+written_network (Some network) = Some (row_object ((AFFECTED_NETWORK.now, array_unless_empty (network ∷ [])) ∷ []))
 
 unfoldable pub written_networks : List (List ℕ) → Option Data
 written_networks lines = written_network (written_names AFFECTED_LINE.now LINE_REF.now lines)
 
 -- Affects
-abbrev pub affects_rows : List (List ℕ) → List (List ℕ) → List (List ℕ) → List Row
-affects_rows operators lines stop_points =
+abbrev pub rows_of_affects : List (List ℕ) → List (List ℕ) → List (List ℕ) → List Row
+rows_of_affects operators lines stop_points =
     (OPERATORS.now, written_names AFFECTED_OPERATOR.now OPERATOR_REF.now operators) ∷
     (NETWORKS.now, written_networks lines) ∷
     (STOP_POINTS.now, written_names AFFECTED_STOP_POINT.now STOP_POINT_REF.now stop_points) ∷ []
 
 unfoldable pub written_affects : List (List ℕ) → List (List ℕ) → List (List ℕ) → Option Data
-written_affects operators lines stop_points = some_object (with_rows no_members (affects_rows operators lines stop_points))
+written_affects operators lines stop_points = object_unless_empty (with_rows no_members (rows_of_affects operators lines stop_points))
 
 -- PtSituationElement
-abbrev pub situation_rows : Situation → List Row
-situation_rows s =
+abbrev pub rows_of_situation : Situation → List Row
+rows_of_situation s =
     (CREATION_TIME.now, option_and_then written_moment s.creation_time) ∷
     (PARTICIPANT_REF.now, option_and_then written_text s.participant_ref) ∷
     (SITUATION_NUMBER.now, written_text s.situation_number) ∷
@@ -210,11 +210,11 @@ situation_rows s =
     (AFFECTS.now, written_affects s.affected_operators s.affected_lines s.affected_stop_points) ∷ []
 
 unfoldable pub written_situation : Situation → Data
-written_situation s = row_object (situation_rows s)
+written_situation s = row_object (rows_of_situation s)
 
 -- ---- items
 
--- the one spelling of an item
+-- what an item is written as
 abbrev pub written_item : Item → Data
 written_item (item.Visit v) = written_visit v
 written_item (item.Journey j) = written_journey j

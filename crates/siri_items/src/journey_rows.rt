@@ -3,7 +3,7 @@
 ghost use Rattle.std.specs.Prelude.{◌≡◌};
 ghost use Rattle.siri_items.specs.Parts.{no_rows, visit_journey_of, vehicle_journey_of, journey_of};
 
-use crate::read_call::{JourneyRef, NeededReference};
+use crate::read_call::{JourneyRef, RequiredJourneyRef};
 use siri_base::{List, Moment, Name, Span, Text};
 use siri_records::{Journey, StopCall, VehicleJourney, VehicleLocation, VisitJourney};
 
@@ -11,7 +11,7 @@ use siri_records::{Journey, StopCall, VehicleJourney, VehicleLocation, VisitJour
 pub struct JourneyRows {
     pub line_ref: Option<Name>,
     pub direction_ref: Option<Name>,
-    pub reference: JourneyRef,
+    pub journey_ref: JourneyRef,
     pub published_line_name: Option<Text>,
     pub operator_ref: Option<Name>,
     pub destination_ref: Option<Name>,
@@ -27,7 +27,7 @@ impl Drop for JourneyRows {
         let JourneyRows {
             line_ref: _,
             direction_ref: _,
-            reference: _,
+            journey_ref: _,
             published_line_name: _,
             operator_ref: _,
             destination_ref: _,
@@ -48,7 +48,7 @@ impl JourneyRows {
         JourneyRows {
             line_ref: None,
             direction_ref: None,
-            reference: JourneyRef {
+            journey_ref: JourneyRef {
                 data_frame_ref: None,
                 dated_vehicle_journey_ref: None,
             },
@@ -74,7 +74,7 @@ impl JourneyRows {
         let JourneyRows {
             line_ref,
             direction_ref,
-            reference,
+            journey_ref,
             published_line_name,
             operator_ref,
             destination_ref,
@@ -87,8 +87,8 @@ impl JourneyRows {
         VisitJourney {
             line_ref,
             direction_ref,
-            data_frame_ref: reference.data_frame_ref,
-            dated_vehicle_journey_ref: reference.dated_vehicle_journey_ref,
+            data_frame_ref: journey_ref.data_frame_ref,
+            dated_vehicle_journey_ref: journey_ref.dated_vehicle_journey_ref,
             published_line_name,
             operator_ref,
             destination_ref,
@@ -114,7 +114,7 @@ impl JourneyRows {
         let JourneyRows {
             line_ref,
             direction_ref,
-            reference,
+            journey_ref,
             published_line_name,
             operator_ref,
             destination_ref,
@@ -127,8 +127,8 @@ impl JourneyRows {
         VehicleJourney {
             line_ref,
             direction_ref,
-            data_frame_ref: reference.data_frame_ref,
-            dated_vehicle_journey_ref: reference.dated_vehicle_journey_ref,
+            data_frame_ref: journey_ref.data_frame_ref,
+            dated_vehicle_journey_ref: journey_ref.dated_vehicle_journey_ref,
             published_line_name,
             operator_ref,
             destination_ref,
@@ -147,17 +147,17 @@ impl JourneyRows {
         self,
         recorded_at_time: Option<Moment>,
         line_ref: Name,
-        reference: NeededReference,
+        journey_ref: RequiredJourneyRef,
         cancellation: Option<bool>,
         recorded_calls: List<StopCall>,
         estimated_calls: List<StopCall>,
     ) -> Journey
-        ensures { result ≡ journey_of self recorded_at_time line_ref reference cancellation recorded_calls estimated_calls }
+        ensures { result ≡ journey_of self recorded_at_time line_ref journey_ref cancellation recorded_calls estimated_calls }
     {
         let JourneyRows {
             line_ref: _,
             direction_ref,
-            reference: _,
+            journey_ref: _,
             published_line_name,
             operator_ref,
             destination_ref,
@@ -171,8 +171,8 @@ impl JourneyRows {
             recorded_at_time,
             line_ref,
             direction_ref,
-            data_frame_ref: reference.data_frame_ref,
-            dated_vehicle_journey_ref: reference.dated_vehicle_journey_ref,
+            data_frame_ref: journey_ref.data_frame_ref,
+            dated_vehicle_journey_ref: journey_ref.dated_vehicle_journey_ref,
             cancellation,
             published_line_name,
             operator_ref,

@@ -22,7 +22,8 @@ mod write_situation;
 pub mod writing;
 
 pub use laws::{
-    read_is_proper, read_is_spelled, written_is_canonical, written_is_read, written_text_is_read,
+    members_are_spelled, read_is_proper, read_is_spelled, tables_are_spelled, written_is_canonical,
+    written_is_read, written_text_is_read,
 };
 pub use read::read_item;
 pub use read_call::{LocationRule, OptionalCallRule, StopCallTable};

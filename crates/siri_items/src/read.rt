@@ -10,13 +10,13 @@ use crate::read_situation::SituationTable;
 use crate::read_vehicle::VehicleTable;
 use crate::read_visit::VisitTable;
 use crate::refusal::{ItemError, from_path};
-use crate::rows::present;
+use crate::rows::required_value;
 use serde_json::Value;
 use siri_json::Path;
 use siri_records::{Item, Service};
 use std::alloc::Global;
 
-/// The item of a service that a tree spells, or the first refusal in the order of the tables, depth first, with `at`
+/// The item of a service that a tree is read as, or the first refusal in the order of the tables, depth first, with `at`
 /// before its path. A journey's RecordedAtTime is its own.
 pub fn read_item(
     alloc: Global,
@@ -33,9 +33,9 @@ fn item(alloc: Global, tree: &Value, service: Service) -> Result<Item, ItemError
     ensures { Gives result (item_of service (view tree.now)) }
 {
     match service {
-        Service::Stop => Ok(Item::Visit(present::<VisitTable>(alloc, tree)?)),
-        Service::Timetable => Ok(Item::Journey(present::<JourneyTable>(alloc, tree)?)),
-        Service::Vehicle => Ok(Item::Vehicle(present::<VehicleTable>(alloc, tree)?)),
-        Service::Situation => Ok(Item::Situation(present::<SituationTable>(alloc, tree)?)),
+        Service::Stop => Ok(Item::Visit(required_value::<VisitTable>(alloc, tree)?)),
+        Service::Timetable => Ok(Item::Journey(required_value::<JourneyTable>(alloc, tree)?)),
+        Service::Vehicle => Ok(Item::Vehicle(required_value::<VehicleTable>(alloc, tree)?)),
+        Service::Situation => Ok(Item::Situation(required_value::<SituationTable>(alloc, tree)?)),
     }
 }

@@ -4,12 +4,12 @@ ghost use Rattle.std.specs.Prelude.{◌≡◌, Option};
 ghost use Rattle.serde_json.specs.Data.{Data};
 ghost use Rattle.serde_json.specs.View.{view};
 ghost use Rattle.siri_items.specs.Refusals.{Gives};
-ghost use Rattle.siri_items.specs.Rules.{table, some_table};
-ghost use Rattle.siri_items.specs.Calls.{stop_call, call_is_blank, framed, framed_rows, framed_of, plain_reference, reference, needed_reference, location, location_is_blank, optional_location, optional_call};
+ghost use Rattle.siri_items.specs.Rules.{table, table_unless_blank};
+ghost use Rattle.siri_items.specs.Calls.{stop_call, call_is_blank, framed_ref, read_framed_ref_rows, framed_ref_of, plain_journey_ref, journey_ref, required_journey_ref, location, location_is_blank, optional_location, optional_call};
 
 use crate::names;
 use crate::refusal::{ItemError, refuse, refuse_at};
-use crate::rows::{needed, row};
+use crate::rows::{required_row, row};
 use crate::rules::{
     DecimalRule, FlagRule, MomentRule, NameRule, NumberRule, Rule, Table, TextRule,
 };
@@ -60,7 +60,7 @@ impl Rule for OptionalCallRule {
 
     ghost rule = { optional_call };
 
-    #[tactic(auto, unfolding(crate::specs::Rules::some_table))]
+    #[tactic(auto, unfolding(crate::specs::Rules::table_unless_blank))]
     fn read(alloc: Global, value: &Value) -> Result<Option<StopCall>, ItemError> {
         match StopCallTable::read(alloc, value)? {
             Some(call) if call_is_blank(&call) => Ok(None),
@@ -113,7 +113,7 @@ impl Rule for LocationRule {
 
     ghost rule = { optional_location };
 
-    #[tactic(auto, unfolding(crate::specs::Rules::some_table, crate::specs::Calls::location_is_blank))]
+    #[tactic(auto, unfolding(crate::specs::Rules::table_unless_blank, crate::specs::Calls::location_is_blank))]
     fn read(alloc: Global, value: &Value) -> Result<Option<VehicleLocation>, ItemError> {
         match LocationTable::read(alloc, value)? {
             Some(
@@ -136,49 +136,52 @@ pub struct JourneyRef {
 
 /// How a journey is named, where it has to be.
 #[derive(Drop)]
-pub struct NeededReference {
+pub struct RequiredJourneyRef {
     pub data_frame_ref: Option<Name>,
     pub dated_vehicle_journey_ref: Name,
 }
 
-struct FramedRule;
+struct FramedVehicleJourneyRefRule;
 
-#[tactic(auto, unfolding(crate::specs::Calls::framed_of))]
-fn framed_of(
+#[tactic(auto, unfolding(crate::specs::Calls::framed_ref_of))]
+fn framed_ref_of(
     alloc: Global,
     frame: Option<Name>,
     dated: Option<Name>,
-) -> Result<Option<NeededReference>, ItemError>
-    ensures { Gives result (framed_of frame dated) }
+) -> Result<Option<RequiredJourneyRef>, ItemError>
+    ensures { Gives result (framed_ref_of frame dated) }
 {
     match (frame, dated) {
         (None, None) => Ok(None),
         (Some(_), None) => refuse_at(alloc, names::DATED_VEHICLE_JOURNEY_REF, Reason::Missing),
-        (data_frame_ref, Some(dated_vehicle_journey_ref)) => Ok(Some(NeededReference {
+        (data_frame_ref, Some(dated_vehicle_journey_ref)) => Ok(Some(RequiredJourneyRef {
             data_frame_ref,
             dated_vehicle_journey_ref,
         })),
     }
 }
 
-#[tactic(auto, unfolding(crate::specs::Calls::framed_rows))]
-fn framed_rows(alloc: Global, tree: &Value) -> Result<Option<NeededReference>, ItemError>
-    ensures { Gives result (framed_rows (view tree.now)) }
+#[tactic(auto, unfolding(crate::specs::Calls::read_framed_ref_rows))]
+fn read_framed_ref_rows(
+    alloc: Global,
+    tree: &Value,
+) -> Result<Option<RequiredJourneyRef>, ItemError>
+    ensures { Gives result (read_framed_ref_rows (view tree.now)) }
 {
     let frame = row::<NameRule>(alloc, tree, names::DATA_FRAME_REF)?;
     let dated = row::<NameRule>(alloc, tree, names::DATED_VEHICLE_JOURNEY_REF)?;
-    framed_of(alloc, frame, dated)
+    framed_ref_of(alloc, frame, dated)
 }
 
-impl Rule for FramedRule {
-    type Out = NeededReference;
+impl Rule for FramedVehicleJourneyRefRule {
+    type Out = RequiredJourneyRef;
 
-    ghost rule = { framed };
+    ghost rule = { framed_ref };
 
-    #[tactic(auto, unfolding(crate::specs::Calls::framed))]
-    fn read(alloc: Global, value: &Value) -> Result<Option<NeededReference>, ItemError> {
+    #[tactic(auto, unfolding(crate::specs::Calls::framed_ref))]
+    fn read(alloc: Global, value: &Value) -> Result<Option<RequiredJourneyRef>, ItemError> {
         match object_of(value) {
-            ObjectOf::Is(tree) => framed_rows(alloc, tree),
+            ObjectOf::Is(tree) => read_framed_ref_rows(alloc, tree),
             ObjectOf::Absent => Ok(None),
             ObjectOf::Wrong => refuse(alloc, Reason::WrongKind),
         }
@@ -186,14 +189,14 @@ impl Rule for FramedRule {
 }
 
 /// How the object names its journey, where it need not.
-#[tactic(auto, unfolding(crate::specs::Calls::reference, crate::specs::Calls::plain_reference))]
-pub fn reference(alloc: Global, tree: &Value) -> Result<JourneyRef, ItemError>
-    ensures { Gives result (reference (view tree.now)) }
+#[tactic(auto, unfolding(crate::specs::Calls::journey_ref, crate::specs::Calls::plain_journey_ref))]
+pub fn journey_ref(alloc: Global, tree: &Value) -> Result<JourneyRef, ItemError>
+    ensures { Gives result (journey_ref (view tree.now)) }
 {
-    match row::<FramedRule>(alloc, tree, names::FRAMED_VEHICLE_JOURNEY_REF)? {
-        Some(framed) => Ok(JourneyRef {
-            data_frame_ref: framed.data_frame_ref,
-            dated_vehicle_journey_ref: Some(framed.dated_vehicle_journey_ref),
+    match row::<FramedVehicleJourneyRefRule>(alloc, tree, names::FRAMED_VEHICLE_JOURNEY_REF)? {
+        Some(framed_ref) => Ok(JourneyRef {
+            data_frame_ref: framed_ref.data_frame_ref,
+            dated_vehicle_journey_ref: Some(framed_ref.dated_vehicle_journey_ref),
         }),
         None => Ok(JourneyRef {
             data_frame_ref: None,
@@ -207,15 +210,15 @@ pub fn reference(alloc: Global, tree: &Value) -> Result<JourneyRef, ItemError>
 }
 
 /// How the object names its journey, which it has to: otherwise `Missing` at DatedVehicleJourneyRef.
-#[tactic(auto, unfolding(crate::specs::Calls::needed_reference, crate::specs::Calls::plain_needed))]
-pub fn needed_reference(alloc: Global, tree: &Value) -> Result<NeededReference, ItemError>
-    ensures { Gives result (needed_reference (view tree.now)) }
+#[tactic(auto, unfolding(crate::specs::Calls::required_journey_ref, crate::specs::Calls::plain_required_journey_ref))]
+pub fn required_journey_ref(alloc: Global, tree: &Value) -> Result<RequiredJourneyRef, ItemError>
+    ensures { Gives result (required_journey_ref (view tree.now)) }
 {
-    match row::<FramedRule>(alloc, tree, names::FRAMED_VEHICLE_JOURNEY_REF)? {
-        Some(framed) => Ok(framed),
-        None => Ok(NeededReference {
+    match row::<FramedVehicleJourneyRefRule>(alloc, tree, names::FRAMED_VEHICLE_JOURNEY_REF)? {
+        Some(framed_ref) => Ok(framed_ref),
+        None => Ok(RequiredJourneyRef {
             data_frame_ref: None,
-            dated_vehicle_journey_ref: needed::<NameRule>(
+            dated_vehicle_journey_ref: required_row::<NameRule>(
                 alloc,
                 tree,
                 names::DATED_VEHICLE_JOURNEY_REF,

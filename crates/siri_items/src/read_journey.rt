@@ -6,13 +6,13 @@ ghost use Rattle.serde_json.specs.View.{view};
 ghost use Rattle.siri_items.specs.Refusals.{Gives, is_key};
 ghost use Rattle.siri_items.specs.Rules.{list, list_inside, table};
 ghost use Rattle.siri_items.specs.Calls.{stop_call};
-ghost use Rattle.siri_items.specs.Journeys.{journey_rows, has_time, with_time, journey};
+ghost use Rattle.siri_items.specs.Journeys.{read_journey_rows, has_time, with_time, journey};
 
 use crate::journey_rows::JourneyRows;
 use crate::names;
-use crate::read_call::{StopCallTable, needed_reference};
+use crate::read_call::{StopCallTable, required_journey_ref};
 use crate::refusal::{ItemError, refuse};
-use crate::rows::{list_inside, needed, row};
+use crate::rows::{list_inside, required_row, row};
 use crate::rules::{FlagRule, MomentRule, NameRule, SpanRule, Table, TextRule};
 use serde_json::Value;
 use siri_base::{List, Reason};
@@ -34,15 +34,15 @@ fn calls_inside(
     list_inside::<StopCallTable>(alloc, tree, outer, key, MOST_CALLS)
 }
 
-#[tactic(auto, unfolding(crate::specs::Journeys::journey_rows))]
-fn journey_rows(alloc: Global, tree: &Value) -> Result<Journey, ItemError>
-    ensures { Gives result (journey_rows (view tree.now)) }
+#[tactic(auto, unfolding(crate::specs::Journeys::read_journey_rows))]
+fn read_journey_rows(alloc: Global, tree: &Value) -> Result<Journey, ItemError>
+    ensures { Gives result (read_journey_rows (view tree.now)) }
 {
     let mut rows = JourneyRows::new();
     let recorded_at_time = row::<MomentRule>(alloc, tree, names::RECORDED_AT_TIME)?;
-    let line_ref = needed::<NameRule>(alloc, tree, names::LINE_REF)?;
+    let line_ref = required_row::<NameRule>(alloc, tree, names::LINE_REF)?;
     rows.direction_ref = row::<NameRule>(alloc, tree, names::DIRECTION_REF)?;
-    let reference = needed_reference(alloc, tree)?;
+    let journey_ref = required_journey_ref(alloc, tree)?;
     let cancellation = row::<FlagRule>(alloc, tree, names::CANCELLATION)?;
     rows.published_line_name = row::<TextRule>(alloc, tree, names::PUBLISHED_LINE_NAME)?;
     rows.operator_ref = row::<NameRule>(alloc, tree, names::OPERATOR_REF)?;
@@ -57,7 +57,7 @@ fn journey_rows(alloc: Global, tree: &Value) -> Result<Journey, ItemError>
     Ok(rows.journey(
         recorded_at_time,
         line_ref,
-        reference,
+        journey_ref,
         cancellation,
         recorded,
         estimated,
@@ -80,7 +80,7 @@ impl Table for JourneyTable {
 
     #[tactic(auto, unfolding(crate::specs::Journeys::journey))]
     fn read_rows(alloc: Global, tree: &Value) -> Result<Journey, ItemError> {
-        let journey = journey_rows(alloc, tree)?;
+        let journey = read_journey_rows(alloc, tree)?;
         if has_time(journey.recorded_calls.slice()) || has_time(journey.estimated_calls.slice()) {
             Ok(journey)
         } else {

@@ -10,7 +10,7 @@ ghost use Rattle.siri_items.specs.Situations.{period, lines_at, network, all_lin
 
 use crate::names;
 use crate::refusal::{ItemError, below, refuse, refuse_at};
-use crate::rows::{entry_count, list_of, names_inside, names_of, needed, row, some_list};
+use crate::rows::{entry_count, list_of, names_inside, names_of, nonempty_list, required_row, row};
 use crate::rules::{MomentRule, NameRule, Table, TextRule};
 use serde_json::Value;
 use siri_base::{List, Name, OutOfMemory, Reason};
@@ -32,7 +32,7 @@ impl Table for PeriodTable {
     #[tactic(auto, unfolding(crate::specs::Situations::period))]
     fn read_rows(alloc: Global, tree: &Value) -> Result<Period, ItemError> {
         Ok(Period {
-            start_time: needed::<MomentRule>(alloc, tree, names::START_TIME)?,
+            start_time: required_row::<MomentRule>(alloc, tree, names::START_TIME)?,
             end_time: row::<MomentRule>(alloc, tree, names::END_TIME)?,
         })
     }
@@ -196,11 +196,11 @@ impl Table for SituationTable {
     fn read_rows(alloc: Global, tree: &Value) -> Result<Situation, ItemError> {
         let creation_time = row::<MomentRule>(alloc, tree, names::CREATION_TIME)?;
         let participant_ref = row::<NameRule>(alloc, tree, names::PARTICIPANT_REF)?;
-        let situation_number = needed::<NameRule>(alloc, tree, names::SITUATION_NUMBER)?;
+        let situation_number = required_row::<NameRule>(alloc, tree, names::SITUATION_NUMBER)?;
         let version = row::<NameRule>(alloc, tree, names::VERSION)?;
         let versioned_at_time = row::<MomentRule>(alloc, tree, names::VERSIONED_AT_TIME)?;
         let progress = row::<TextRule>(alloc, tree, names::PROGRESS)?;
-        let validity_period = some_list::<PeriodTable>(
+        let validity_period = nonempty_list::<PeriodTable>(
             alloc,
             tree,
             names::VALIDITY_PERIOD,

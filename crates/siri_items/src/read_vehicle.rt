@@ -8,9 +8,9 @@ ghost use Rattle.siri_items.specs.Vehicles.{vehicle_journey, vehicle};
 
 use crate::journey_rows::JourneyRows;
 use crate::names;
-use crate::read_call::{LocationRule, OptionalCallRule, reference};
+use crate::read_call::{LocationRule, OptionalCallRule, journey_ref};
 use crate::refusal::ItemError;
-use crate::rows::{needed, row};
+use crate::rows::{required_row, row};
 use crate::rules::{FlagRule, MomentRule, NameRule, SpanRule, Table, TextRule};
 use serde_json::Value;
 use siri_records::{Vehicle, VehicleJourney};
@@ -28,12 +28,12 @@ impl Table for VehicleJourneyTable {
         let mut rows = JourneyRows::new();
         rows.line_ref = row::<NameRule>(alloc, tree, names::LINE_REF)?;
         rows.direction_ref = row::<NameRule>(alloc, tree, names::DIRECTION_REF)?;
-        rows.reference = reference(alloc, tree)?;
+        rows.journey_ref = journey_ref(alloc, tree)?;
         rows.published_line_name = row::<TextRule>(alloc, tree, names::PUBLISHED_LINE_NAME)?;
         rows.operator_ref = row::<NameRule>(alloc, tree, names::OPERATOR_REF)?;
         rows.destination_ref = row::<NameRule>(alloc, tree, names::DESTINATION_REF)?;
         rows.destination_name = row::<TextRule>(alloc, tree, names::DESTINATION_NAME)?;
-        let vehicle_ref = needed::<NameRule>(alloc, tree, names::VEHICLE_REF)?;
+        let vehicle_ref = required_row::<NameRule>(alloc, tree, names::VEHICLE_REF)?;
         rows.monitored = row::<FlagRule>(alloc, tree, names::MONITORED)?;
         rows.occupancy = row::<TextRule>(alloc, tree, names::OCCUPANCY)?;
         rows.delay = row::<SpanRule>(alloc, tree, names::DELAY)?;
@@ -57,7 +57,7 @@ impl Table for VehicleTable {
             recorded_at_time: row::<MomentRule>(alloc, tree, names::RECORDED_AT_TIME)?,
             item_identifier: row::<NameRule>(alloc, tree, names::ITEM_IDENTIFIER)?,
             valid_until_time: row::<MomentRule>(alloc, tree, names::VALID_UNTIL_TIME)?,
-            monitored_vehicle_journey: needed::<VehicleJourneyTable>(
+            monitored_vehicle_journey: required_row::<VehicleJourneyTable>(
                 alloc,
                 tree,
                 names::MONITORED_VEHICLE_JOURNEY,

@@ -8,9 +8,9 @@ ghost use Rattle.siri_items.specs.Visits.{timed_call, visit_journey, visit};
 
 use crate::journey_rows::JourneyRows;
 use crate::names;
-use crate::read_call::{LocationRule, StopCallTable, reference};
+use crate::read_call::{LocationRule, StopCallTable, journey_ref};
 use crate::refusal::{ItemError, refuse_at};
-use crate::rows::{needed, row};
+use crate::rows::{required_row, row};
 use crate::rules::{FlagRule, MomentRule, NameRule, SpanRule, Table, TextRule};
 use serde_json::Value;
 use siri_base::Reason;
@@ -22,7 +22,7 @@ use std::alloc::Global;
 fn timed_call(alloc: Global, tree: &Value) -> Result<StopCall, ItemError>
     ensures { Gives result (timed_call (view tree.now)) }
 {
-    let call = needed::<StopCallTable>(alloc, tree, names::MONITORED_CALL)?;
+    let call = required_row::<StopCallTable>(alloc, tree, names::MONITORED_CALL)?;
     match moment_of(&call) {
         Some(_) => Ok(call),
         None => refuse_at(alloc, names::MONITORED_CALL, Reason::NoMoment),
@@ -41,7 +41,7 @@ impl Table for VisitJourneyTable {
         let mut rows = JourneyRows::new();
         rows.line_ref = row::<NameRule>(alloc, tree, names::LINE_REF)?;
         rows.direction_ref = row::<NameRule>(alloc, tree, names::DIRECTION_REF)?;
-        rows.reference = reference(alloc, tree)?;
+        rows.journey_ref = journey_ref(alloc, tree)?;
         rows.published_line_name = row::<TextRule>(alloc, tree, names::PUBLISHED_LINE_NAME)?;
         rows.operator_ref = row::<NameRule>(alloc, tree, names::OPERATOR_REF)?;
         rows.destination_ref = row::<NameRule>(alloc, tree, names::DESTINATION_REF)?;
@@ -68,9 +68,9 @@ impl Table for VisitTable {
     fn read_rows(alloc: Global, tree: &Value) -> Result<Visit, ItemError> {
         Ok(Visit {
             recorded_at_time: row::<MomentRule>(alloc, tree, names::RECORDED_AT_TIME)?,
-            item_identifier: needed::<NameRule>(alloc, tree, names::ITEM_IDENTIFIER)?,
-            monitoring_ref: needed::<NameRule>(alloc, tree, names::MONITORING_REF)?,
-            monitored_vehicle_journey: needed::<VisitJourneyTable>(
+            item_identifier: required_row::<NameRule>(alloc, tree, names::ITEM_IDENTIFIER)?,
+            monitoring_ref: required_row::<NameRule>(alloc, tree, names::MONITORING_REF)?,
+            monitored_vehicle_journey: required_row::<VisitJourneyTable>(
                 alloc,
                 tree,
                 names::MONITORED_VEHICLE_JOURNEY,

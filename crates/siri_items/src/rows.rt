@@ -1,10 +1,10 @@
-//! Rows of tables: what a member of an object spells under a rule, where it may be absent, has to be there, or is a list.
+//! Rows of tables: what a member of an object is read as under a rule, where it may be absent, has to be there, or is a list.
 
 ghost use Rattle.std.specs.Prelude.{◌≡◌, ◌∷◌, ◌++◌, [], Result, Option, Ok, Err, IsTrue, map, count_by, not, option_to_list, OnOk};
 ghost use Rattle.serde_json.specs.View.{view};
 ghost use Rattle.siri_json.specs.Values.{entries_of};
 ghost use Rattle.siri_items.specs.Refusals.{Refusal, Gives, is_key};
-ghost use Rattle.siri_items.specs.Rules.{name, at_most, row, needed, present, is_null, entry_count, entries_from, found_from, list_of, names_of, list, some_list, inside, names, list_inside};
+ghost use Rattle.siri_items.specs.Rules.{name, at_most, row, required_row, required_value, is_null, entry_count, entries_from, found_from, list_of, names_of, list, nonempty_list, inside, names, list_inside};
 
 use crate::refusal::{ItemError, below, below_place, refuse, refuse_at};
 use crate::rules::{NameRule, Rule};
@@ -13,7 +13,7 @@ use siri_base::{List, Name, OutOfMemory, Reason};
 use siri_json::{ObjectOf, entry_list, member, object_of};
 use std::alloc::Global;
 
-/// What the member of that name spells.
+/// What the member of that name is read as.
 #[tactic(auto, unfolding(crate::specs::Rules::row))]
 pub fn row<R: Rule>(alloc: Global, tree: &Value, key: &str) -> Result<Option<R::Out>, ItemError>
     requires { IsTrue (is_key key.now) }
@@ -25,11 +25,11 @@ pub fn row<R: Rule>(alloc: Global, tree: &Value, key: &str) -> Result<Option<R::
     }
 }
 
-/// What the member of that name spells, which has to be there: otherwise `Missing` at that name.
-#[tactic(auto, unfolding(crate::specs::Rules::needed))]
-pub fn needed<R: Rule>(alloc: Global, tree: &Value, key: &str) -> Result<R::Out, ItemError>
+/// What the member of that name is read as, which has to be there: otherwise `Missing` at that name.
+#[tactic(auto, unfolding(crate::specs::Rules::required_row))]
+pub fn required_row<R: Rule>(alloc: Global, tree: &Value, key: &str) -> Result<R::Out, ItemError>
     requires { IsTrue (is_key key.now) }
-    ensures { Gives result (needed R.rule key.now (view tree.now)) }
+    ensures { Gives result (required_row R.rule key.now (view tree.now)) }
 {
     match row::<R>(alloc, tree, key)? {
         Some(found) => Ok(found),
@@ -37,10 +37,10 @@ pub fn needed<R: Rule>(alloc: Global, tree: &Value, key: &str) -> Result<R::Out,
     }
 }
 
-/// What a value spells that must not count as absent: otherwise `Missing`.
-#[tactic(auto, unfolding(crate::specs::Rules::present))]
-pub fn present<R: Rule>(alloc: Global, value: &Value) -> Result<R::Out, ItemError>
-    ensures { Gives result (present R.rule (view value.now)) }
+/// What a value is read as that must not count as absent: otherwise `Missing`.
+#[tactic(auto, unfolding(crate::specs::Rules::required_value))]
+pub fn required_value<R: Rule>(alloc: Global, value: &Value) -> Result<R::Out, ItemError>
+    ensures { Gives result (required_value R.rule (view value.now)) }
 {
     match R::read(alloc, value)? {
         Some(found) => Ok(found),
@@ -80,7 +80,7 @@ fn entries_from<R: Rule>(alloc: Global, values: &[Value]) -> Result<List<R::Out>
     let mut found = Vec::new(alloc);
     for (place, value) in values.iter().enumerate() {
         if !value.is_null() {
-            found.push(below_place(place, present::<R>(alloc, value))?)?;
+            found.push(below_place(place, required_value::<R>(alloc, value))?)?;
         }
     }
     Ok(List::of(found))
@@ -121,15 +121,15 @@ pub fn list<R: Rule>(
 }
 
 /// The entries at a name, of which there has to be one: otherwise `Missing` at that name.
-#[tactic(auto, unfolding(crate::specs::Rules::some_list))]
-pub fn some_list<R: Rule>(
+#[tactic(auto, unfolding(crate::specs::Rules::nonempty_list))]
+pub fn nonempty_list<R: Rule>(
     alloc: Global,
     tree: &Value,
     key: &str,
     most: usize,
 ) -> Result<List<R::Out>, ItemError>
     requires { IsTrue (is_key key.now) }
-    ensures { Gives result (some_list R.rule most key.now (view tree.now)) }
+    ensures { Gives result (nonempty_list R.rule most key.now (view tree.now)) }
 {
     let found = list::<R>(alloc, tree, key, most)?;
     if found.len() == 0 {

@@ -1,11 +1,11 @@
-//! The rules of rows: what a value in a tree spells. A rule is a type, so that one type of values may have several rules
+//! The rules of rows: what a value in a tree is read as. A rule is a type, so that one type of values may have several rules
 //! and tables of other crates may be rules too.
 
 ghost use Rattle.std.specs.Prelude.{◌≡◌, Result, Option};
 ghost use Rattle.serde_json.specs.Data.{Data};
 ghost use Rattle.serde_json.specs.View.{view};
 ghost use Rattle.siri_items.specs.Refusals.{Refusal, Gives};
-ghost use Rattle.siri_items.specs.Rules.{name, text, moment, span, span0, number, decimal, flag, table};
+ghost use Rattle.siri_items.specs.Rules.{name, text, moment, span, non_negative_span, number, decimal, flag, table};
 
 use crate::refusal::{ItemError, refuse};
 use crate::scalars;
@@ -19,7 +19,7 @@ use std::alloc::Global;
 pub trait Rule {
     type Out: Drop;
 
-    /// What a value spells, nothing where it counts as absent, or the first refusal.
+    /// What a value is read as, nothing where it counts as absent, or the first refusal.
     ghost rule: { Data → Result (Option Self.Out) Refusal };
 
     fn read(alloc: Global, value: &Value) -> Result<Option<Self::Out>, ItemError>
@@ -50,7 +50,7 @@ pub struct MomentRule;
 pub struct SpanRule;
 
 /// A span that isn't negative, otherwise `BadSpan`.
-pub struct LengthRule;
+pub struct NonNegativeSpanRule;
 
 /// A number of 1 to 18 digits, otherwise `BadNumber`.
 pub struct NumberRule;
@@ -66,7 +66,7 @@ impl Rule for NameRule {
 
     ghost rule = { name };
 
-    #[tactic(auto, unfolding(crate::specs::Rules::spelled))]
+    #[tactic(auto, unfolding(crate::specs::Rules::read_from_text))]
     fn read(alloc: Global, value: &Value) -> Result<Option<Name>, ItemError> {
         match text_of(value) {
             TextOf::Is(text) => match Name::new(alloc, text) {
@@ -86,7 +86,7 @@ impl Rule for TextRule {
 
     ghost rule = { text };
 
-    #[tactic(auto, unfolding(crate::specs::Rules::spelled))]
+    #[tactic(auto, unfolding(crate::specs::Rules::read_from_text))]
     fn read(alloc: Global, value: &Value) -> Result<Option<Text>, ItemError> {
         match text_of(value) {
             TextOf::Is(text) => match Text::new(alloc, text) {
@@ -106,7 +106,7 @@ impl Rule for MomentRule {
 
     ghost rule = { moment };
 
-    #[tactic(auto, unfolding(crate::specs::Rules::spelled))]
+    #[tactic(auto, unfolding(crate::specs::Rules::read_from_text))]
     fn read(alloc: Global, value: &Value) -> Result<Option<Moment>, ItemError> {
         match text_of(value) {
             TextOf::Is(text) => match read_moment(text.as_bytes()) {
@@ -125,7 +125,7 @@ impl Rule for SpanRule {
 
     ghost rule = { span };
 
-    #[tactic(auto, unfolding(crate::specs::Rules::spelled))]
+    #[tactic(auto, unfolding(crate::specs::Rules::read_from_text))]
     fn read(alloc: Global, value: &Value) -> Result<Option<Span>, ItemError> {
         match text_of(value) {
             TextOf::Is(text) => match read_span(text.as_bytes()) {
@@ -138,12 +138,12 @@ impl Rule for SpanRule {
     }
 }
 
-impl Rule for LengthRule {
+impl Rule for NonNegativeSpanRule {
     type Out = Span;
 
-    ghost rule = { span0 };
+    ghost rule = { non_negative_span };
 
-    #[tactic(auto, unfolding(crate::specs::Rules::spelled))]
+    #[tactic(auto, unfolding(crate::specs::Rules::read_from_text))]
     fn read(alloc: Global, value: &Value) -> Result<Option<Span>, ItemError> {
         match text_of(value) {
             TextOf::Is(text) => match read_span(text.as_bytes()) {
@@ -161,7 +161,7 @@ impl Rule for NumberRule {
 
     ghost rule = { number };
 
-    #[tactic(auto, unfolding(crate::specs::Rules::spelled))]
+    #[tactic(auto, unfolding(crate::specs::Rules::read_from_text))]
     fn read(alloc: Global, value: &Value) -> Result<Option<u64>, ItemError> {
         match text_of(value) {
             TextOf::Is(text) => match scalars::number_of(text) {
@@ -179,7 +179,7 @@ impl Rule for DecimalRule {
 
     ghost rule = { decimal };
 
-    #[tactic(auto, unfolding(crate::specs::Rules::spelled))]
+    #[tactic(auto, unfolding(crate::specs::Rules::read_from_text))]
     fn read(alloc: Global, value: &Value) -> Result<Option<i64>, ItemError> {
         match text_of(value) {
             TextOf::Is(text) => match scalars::decimal_of(text.as_bytes()) {

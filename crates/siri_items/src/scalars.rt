@@ -31,7 +31,7 @@ pub fn number_of(text: &str) -> Option<u64>
     }
 }
 
-/// The decimal that a text spells, in 10^-7 degrees: an optional `+` or `-`, digits, optionally `.` and digits, one
+/// The decimal of a text, in 10^-7 degrees: an optional `+` or `-`, digits, optionally `.` and digits, one
 /// digit in all at least, at most 64 bytes, at most 180 degrees; digits past the seventh of the fraction are cut.
 /// `None` exactly where the text isn't of this form.
 #[tactic(auto, unfolding(crate::specs::Scalars::decimal_of))]

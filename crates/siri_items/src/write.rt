@@ -11,7 +11,7 @@ use siri_base::OutOfMemory;
 use siri_records::Item;
 use std::alloc::Global;
 
-/// The tree of an item in its one spelling: texts as strings, flags as `true` and `false`, numbers as JSON numbers,
+/// The tree of an item in the one form of the profile: texts as strings, flags as `true` and `false`, numbers as JSON numbers,
 /// decimals as strings, lists as lists. What is absent isn't written, nor a list or an object that need not be there
 /// and would be empty. A journey is written without its RecordedAtTime, which its frame carries.
 pub fn write_item(alloc: Global, item: &Item) -> Result<Value, OutOfMemory>

@@ -5,12 +5,12 @@ ghost use Rattle.serde_json.specs.Data.{Data};
 ghost use Rattle.serde_json.specs.View.{view, members_view};
 ghost use Rattle.siri_items.specs.Writing.{put_row};
 ghost use Rattle.siri_items.specs.declared.names.TheConstants.{FRAMED_VEHICLE_JOURNEY_REF, DATED_VEHICLE_JOURNEY_REF};
-ghost use Rattle.siri_items.specs.Written.{written_call, spelled_call, written_location, written_framed, written_dated, written_calls};
+ghost use Rattle.siri_items.specs.Written.{written_call, call_writing, written_location, written_framed_ref, written_dated, written_calls};
 
 use crate::names;
 use crate::read_call::{LocationRule, StopCallTable};
 use crate::rules::{DecimalRule, FlagRule, MomentRule, NameRule, NumberRule, TextRule};
-use crate::writing::{Members, Spelling};
+use crate::writing::{Members, Written};
 use serde_json::Value;
 use siri_base::{List, Name, OutOfMemory};
 use siri_records::{StopCall, VehicleLocation};
@@ -21,66 +21,66 @@ fn call_value(alloc: Global, call: &StopCall) -> Result<Value, OutOfMemory>
     ensures { IfOk result (λ value. view value ≡ written_call call.now) }
 {
     let mut members = Members::new(alloc);
-    members.row::<NameRule>(names::STOP_POINT_REF, &call.stop_point_ref)?;
-    members.row::<NumberRule>(names::ORDER, &call.order)?;
-    members.row::<TextRule>(names::STOP_POINT_NAME, &call.stop_point_name)?;
-    members.row::<FlagRule>(names::VEHICLE_AT_STOP, &call.vehicle_at_stop)?;
-    members.row::<MomentRule>(names::AIMED_ARRIVAL_TIME, &call.aimed_arrival_time)?;
-    members.row::<MomentRule>(names::EXPECTED_ARRIVAL_TIME, &call.expected_arrival_time)?;
-    members.row::<MomentRule>(names::ACTUAL_ARRIVAL_TIME, &call.actual_arrival_time)?;
-    members.row::<TextRule>(names::ARRIVAL_STATUS, &call.arrival_status)?;
-    members.row::<TextRule>(names::ARRIVAL_PLATFORM_NAME, &call.arrival_platform_name)?;
-    members.row::<MomentRule>(names::AIMED_DEPARTURE_TIME, &call.aimed_departure_time)?;
-    members.row::<MomentRule>(
+    members.put_optional::<NameRule>(names::STOP_POINT_REF, &call.stop_point_ref)?;
+    members.put_optional::<NumberRule>(names::ORDER, &call.order)?;
+    members.put_optional::<TextRule>(names::STOP_POINT_NAME, &call.stop_point_name)?;
+    members.put_optional::<FlagRule>(names::VEHICLE_AT_STOP, &call.vehicle_at_stop)?;
+    members.put_optional::<MomentRule>(names::AIMED_ARRIVAL_TIME, &call.aimed_arrival_time)?;
+    members.put_optional::<MomentRule>(names::EXPECTED_ARRIVAL_TIME, &call.expected_arrival_time)?;
+    members.put_optional::<MomentRule>(names::ACTUAL_ARRIVAL_TIME, &call.actual_arrival_time)?;
+    members.put_optional::<TextRule>(names::ARRIVAL_STATUS, &call.arrival_status)?;
+    members.put_optional::<TextRule>(names::ARRIVAL_PLATFORM_NAME, &call.arrival_platform_name)?;
+    members.put_optional::<MomentRule>(names::AIMED_DEPARTURE_TIME, &call.aimed_departure_time)?;
+    members.put_optional::<MomentRule>(
         names::EXPECTED_DEPARTURE_TIME,
         &call.expected_departure_time,
     )?;
-    members.row::<MomentRule>(names::ACTUAL_DEPARTURE_TIME, &call.actual_departure_time)?;
-    members.row::<TextRule>(names::DEPARTURE_STATUS, &call.departure_status)?;
-    members.row::<TextRule>(
+    members.put_optional::<MomentRule>(names::ACTUAL_DEPARTURE_TIME, &call.actual_departure_time)?;
+    members.put_optional::<TextRule>(names::DEPARTURE_STATUS, &call.departure_status)?;
+    members.put_optional::<TextRule>(
         names::DEPARTURE_PLATFORM_NAME,
         &call.departure_platform_name,
     )?;
     Ok(members.object())
 }
 
-impl Spelling for StopCallTable {
+impl Written for StopCallTable {
     type Of = StopCall;
 
-    ghost spelling = { spelled_call };
+    ghost writing = { call_writing };
 
     fn write(alloc: Global, call: &StopCall) -> Result<Option<Value>, OutOfMemory> {
         Ok(Some(call_value(alloc, call)?))
     }
 }
 
-impl Spelling for LocationRule {
+impl Written for LocationRule {
     type Of = VehicleLocation;
 
-    ghost spelling = { written_location };
+    ghost writing = { written_location };
 
     #[tactic(auto, unfolding(crate::specs::Written::written_location))]
     fn write(alloc: Global, location: &VehicleLocation) -> Result<Option<Value>, OutOfMemory> {
         let mut members = Members::new(alloc);
-        members.row::<DecimalRule>(names::LONGITUDE, &location.longitude)?;
-        members.row::<DecimalRule>(names::LATITUDE, &location.latitude)?;
-        Ok(members.some_object())
+        members.put_optional::<DecimalRule>(names::LONGITUDE, &location.longitude)?;
+        members.put_optional::<DecimalRule>(names::LATITUDE, &location.latitude)?;
+        Ok(members.object_unless_empty())
     }
 }
 
-#[tactic(auto, unfolding(crate::specs::Written::written_framed))]
-fn framed(alloc: Global, frame: &Name, dated: Option<Value>) -> Result<Value, OutOfMemory>
-    ensures { IfOk result (λ value. Some (view value) ≡ written_framed (Some frame.now) (option_map view dated)) }
+#[tactic(auto, unfolding(crate::specs::Written::written_framed_ref))]
+fn framed_ref(alloc: Global, frame: &Name, dated: Option<Value>) -> Result<Value, OutOfMemory>
+    ensures { IfOk result (λ value. Some (view value) ≡ written_framed_ref (Some frame.now) (option_map view dated)) }
 {
     let mut members = Members::new(alloc);
-    members.needed::<NameRule>(names::DATA_FRAME_REF, frame)?;
-    members.made(names::DATED_VEHICLE_JOURNEY_REF, dated)?;
+    members.put_required::<NameRule>(names::DATA_FRAME_REF, frame)?;
+    members.put(names::DATED_VEHICLE_JOURNEY_REF, dated)?;
     Ok(members.object())
 }
 
 /// Writes how a journey is named: as an object where there is a data frame, otherwise by itself.
-#[tactic(auto, unfolding(crate::specs::Written::written_framed, crate::specs::Written::written_dated))]
-pub fn put_reference(
+#[tactic(auto, unfolding(crate::specs::Written::written_framed_ref, crate::specs::Written::written_dated))]
+pub fn put_journey_ref(
     alloc: Global,
     members: &mut Members,
     frame: &Option<Name>,
@@ -88,14 +88,14 @@ pub fn put_reference(
 ) -> Result<(), OutOfMemory>
     ensures { OnOk result (members_view members.new.map.entries
         ≡ put_row DATED_VEHICLE_JOURNEY_REF.now (written_dated frame.now (option_map view dated))
-        (put_row FRAMED_VEHICLE_JOURNEY_REF.now (written_framed frame.now (option_map view dated)) (members_view members.old.map.entries))) }
+        (put_row FRAMED_VEHICLE_JOURNEY_REF.now (written_framed_ref frame.now (option_map view dated)) (members_view members.old.map.entries))) }
 {
     match frame {
         Some(frame) => {
-            let reference = framed(alloc, frame, dated)?;
-            members.made(names::FRAMED_VEHICLE_JOURNEY_REF, Some(reference))
+            let journey_ref = framed_ref(alloc, frame, dated)?;
+            members.put(names::FRAMED_VEHICLE_JOURNEY_REF, Some(journey_ref))
         }
-        None => members.made(names::DATED_VEHICLE_JOURNEY_REF, dated),
+        None => members.put(names::DATED_VEHICLE_JOURNEY_REF, dated),
     }
 }
 
@@ -110,5 +110,5 @@ pub fn calls_value(
 {
     let mut members = Members::new(alloc);
     members.list::<StopCallTable>(key, calls)?;
-    Ok(members.some_object())
+    Ok(members.object_unless_empty())
 }

@@ -5,12 +5,12 @@ ghost use Rattle.serde_json.specs.Data.{Data};
 ghost use Rattle.serde_json.specs.View.{view};
 ghost use Rattle.std.specs.Prelude.{map, drop, ◌++◌};
 ghost use Rattle.std.specs.List.{filter_map};
-ghost use Rattle.siri_items.specs.Writing.{some_array, written_list};
+ghost use Rattle.siri_items.specs.Writing.{array_unless_empty, written_list};
 ghost use Rattle.siri_items.specs.Written.{written_period, written_name, written_names, written_network, written_networks, written_affects, written_situation};
 
 use crate::names;
 use crate::rules::{MomentRule, NameRule, TextRule};
-use crate::writing::{Members, Spelling, some_array};
+use crate::writing::{Members, Written, array_unless_empty};
 use serde_json::Value;
 use siri_base::{List, Name, OutOfMemory};
 use siri_records::{Period, Situation};
@@ -18,16 +18,16 @@ use std::alloc::Global;
 
 struct PeriodRule;
 
-impl Spelling for PeriodRule {
+impl Written for PeriodRule {
     type Of = Period;
 
-    ghost spelling = { written_period };
+    ghost writing = { written_period };
 
     #[tactic(auto, unfolding(crate::specs::Written::written_period))]
     fn write(alloc: Global, period: &Period) -> Result<Option<Value>, OutOfMemory> {
         let mut members = Members::new(alloc);
-        members.needed::<MomentRule>(names::START_TIME, &period.start_time)?;
-        members.row::<MomentRule>(names::END_TIME, &period.end_time)?;
+        members.put_required::<MomentRule>(names::START_TIME, &period.start_time)?;
+        members.put_optional::<MomentRule>(names::END_TIME, &period.end_time)?;
         Ok(Some(members.object()))
     }
 }
@@ -37,7 +37,7 @@ fn name_value(alloc: Global, inner: &str, name: &Name) -> Result<Value, OutOfMem
     ensures { IfOk result (λ value. Some (view value) ≡ written_name inner.now name.now) }
 {
     let mut members = Members::new(alloc);
-    members.needed::<NameRule>(inner, name)?;
+    members.put_required::<NameRule>(inner, name)?;
     Ok(members.object())
 }
 
@@ -62,9 +62,9 @@ fn names_value(
     ensures { IfOk result (λ value. option_map view value ≡ written_names key.now inner.now names.now) }
 {
     let mut members = Members::new(alloc);
-    let list = some_array(name_list(alloc, inner, names.slice())?);
-    members.made(key, list)?;
-    Ok(members.some_object())
+    let list = array_unless_empty(name_list(alloc, inner, names.slice())?);
+    members.put(key, list)?;
+    Ok(members.object_unless_empty())
 }
 
 #[tactic(auto, unfolding(crate::specs::Written::written_networks, crate::specs::Written::written_network))]
@@ -77,7 +77,7 @@ fn networks_value(alloc: Global, lines: &List<Name>) -> Result<Option<Value>, Ou
             let mut list = Vec::new(alloc);
             list.push(network)?;
             let mut members = Members::new(alloc);
-            members.made(names::AFFECTED_NETWORK, Some(Value::Array(list)))?;
+            members.put(names::AFFECTED_NETWORK, Some(Value::Array(list)))?;
             Ok(Some(members.object()))
         }
         None => Ok(None),
@@ -96,17 +96,17 @@ fn affects_value(alloc: Global, situation: &Situation) -> Result<Option<Value>, 
         names::OPERATOR_REF,
         &situation.affected_operators,
     )?;
-    members.made(names::OPERATORS, operators)?;
+    members.put(names::OPERATORS, operators)?;
     let networks = networks_value(alloc, &situation.affected_lines)?;
-    members.made(names::NETWORKS, networks)?;
+    members.put(names::NETWORKS, networks)?;
     let stop_points = names_value(
         alloc,
         names::AFFECTED_STOP_POINT,
         names::STOP_POINT_REF,
         &situation.affected_stop_points,
     )?;
-    members.made(names::STOP_POINTS, stop_points)?;
-    Ok(members.some_object())
+    members.put(names::STOP_POINTS, stop_points)?;
+    Ok(members.object_unless_empty())
 }
 
 /// The tree of a situation.
@@ -115,17 +115,17 @@ pub fn situation_value(alloc: Global, situation: &Situation) -> Result<Value, Ou
     ensures { IfOk result (λ value. view value ≡ written_situation situation.now) }
 {
     let mut members = Members::new(alloc);
-    members.row::<MomentRule>(names::CREATION_TIME, &situation.creation_time)?;
-    members.row::<NameRule>(names::PARTICIPANT_REF, &situation.participant_ref)?;
-    members.needed::<NameRule>(names::SITUATION_NUMBER, &situation.situation_number)?;
-    members.row::<NameRule>(names::VERSION, &situation.version)?;
-    members.row::<MomentRule>(names::VERSIONED_AT_TIME, &situation.versioned_at_time)?;
-    members.row::<TextRule>(names::PROGRESS, &situation.progress)?;
+    members.put_optional::<MomentRule>(names::CREATION_TIME, &situation.creation_time)?;
+    members.put_optional::<NameRule>(names::PARTICIPANT_REF, &situation.participant_ref)?;
+    members.put_required::<NameRule>(names::SITUATION_NUMBER, &situation.situation_number)?;
+    members.put_optional::<NameRule>(names::VERSION, &situation.version)?;
+    members.put_optional::<MomentRule>(names::VERSIONED_AT_TIME, &situation.versioned_at_time)?;
+    members.put_optional::<TextRule>(names::PROGRESS, &situation.progress)?;
     members.list::<PeriodRule>(names::VALIDITY_PERIOD, &situation.validity_period)?;
-    members.row::<TextRule>(names::SEVERITY, &situation.severity)?;
-    members.row::<TextRule>(names::SUMMARY, &situation.summary)?;
-    members.row::<TextRule>(names::DESCRIPTION, &situation.description)?;
+    members.put_optional::<TextRule>(names::SEVERITY, &situation.severity)?;
+    members.put_optional::<TextRule>(names::SUMMARY, &situation.summary)?;
+    members.put_optional::<TextRule>(names::DESCRIPTION, &situation.description)?;
     let affects = affects_value(alloc, situation)?;
-    members.made(names::AFFECTS, affects)?;
+    members.put(names::AFFECTS, affects)?;
     Ok(members.object())
 }

@@ -4,7 +4,7 @@ ghost use Rattle.std.specs.Prelude.{◌≡◌, Option, Some, None, IfOk, OnOk, o
 ghost use Rattle.std.specs.List.{filter_map};
 ghost use Rattle.serde_json.specs.Data.{Data, string, object, no_members};
 ghost use Rattle.serde_json.specs.View.{view, members_view};
-ghost use Rattle.siri_items.specs.Writing.{put_row, some_object, some_array, written_list, written_text, written_flag, written_number, written_moment, written_span, written_decimal, decimal_text};
+ghost use Rattle.siri_items.specs.Writing.{put_row, object_unless_empty, array_unless_empty, written_list, written_text, written_flag, written_number, written_moment, written_span, written_decimal, decimal_text};
 ghost use Rattle.siri_time.specs.MomentText.{moment_text};
 ghost use Rattle.siri_time.specs.SpanText.{span_text};
 
@@ -16,14 +16,14 @@ use siri_time::{write_moment, write_span, written_moment_is_ascii, written_span_
 use std::alloc::Global;
 
 /// How a value is written.
-pub trait Spelling {
+pub trait Written {
     type Of;
 
-    /// The one spelling of a value, and nothing where it is left out.
-    ghost spelling: { Self.Of → Option Data };
+    /// What a value is written as, and nothing where it is left out.
+    ghost writing: { Self.Of → Option Data };
 
     fn write(alloc: Global, value: &Self::Of) -> Result<Option<Value>, OutOfMemory>
-        ensures { IfOk result (λ written. option_map view written ≡ spelling value.now) };
+        ensures { IfOk result (λ written. option_map view written ≡ writing value.now) };
 }
 
 /// The members of an object that is written row by row, in byte order of their names, and where its memory comes from.
@@ -45,7 +45,7 @@ impl Members {
     }
 
     /// Puts what was made for a row, where it isn't left out.
-    pub fn made(&mut self, key: &str, made: Option<Value>) -> Result<(), OutOfMemory>
+    pub fn put(&mut self, key: &str, made: Option<Value>) -> Result<(), OutOfMemory>
         ensures { OnOk result (members_view self.new.map.entries ≡ put_row key.now (option_map view made) (members_view self.old.map.entries)) }
     {
         if let Some(value) = made {
@@ -55,28 +55,32 @@ impl Members {
     }
 
     /// Puts a row that is required.
-    pub fn needed<R: Spelling>(&mut self, key: &str, value: &R::Of) -> Result<(), OutOfMemory>
-        ensures { OnOk result (members_view self.new.map.entries ≡ put_row key.now (R.spelling value.now) (members_view self.old.map.entries)) }
+    pub fn put_required<R: Written>(&mut self, key: &str, value: &R::Of) -> Result<(), OutOfMemory>
+        ensures { OnOk result (members_view self.new.map.entries ≡ put_row key.now (R.writing value.now) (members_view self.old.map.entries)) }
     {
         let made = R::write(self.alloc, value)?;
-        self.made(key, made)
+        self.put(key, made)
     }
 
     /// Puts a row that may be absent.
-    pub fn row<R: Spelling>(&mut self, key: &str, value: &Option<R::Of>) -> Result<(), OutOfMemory>
-        ensures { OnOk result (members_view self.new.map.entries ≡ put_row key.now (option_and_then R.spelling value.now) (members_view self.old.map.entries)) }
+    pub fn put_optional<R: Written>(
+        &mut self,
+        key: &str,
+        value: &Option<R::Of>,
+    ) -> Result<(), OutOfMemory>
+        ensures { OnOk result (members_view self.new.map.entries ≡ put_row key.now (option_and_then R.writing value.now) (members_view self.old.map.entries)) }
     {
         let made = write_some::<R>(self.alloc, value)?;
-        self.made(key, made)
+        self.put(key, made)
     }
 
     /// Puts a list, which is left out where it would be empty.
     #[tactic(auto, unfolding(crate::specs::Writing::written_list))]
-    pub fn list<R: Spelling>(&mut self, key: &str, values: &List<R::Of>) -> Result<(), OutOfMemory>
-        ensures { OnOk result (members_view self.new.map.entries ≡ put_row key.now (written_list R.spelling values.now) (members_view self.old.map.entries)) }
+    pub fn list<R: Written>(&mut self, key: &str, values: &List<R::Of>) -> Result<(), OutOfMemory>
+        ensures { OnOk result (members_view self.new.map.entries ≡ put_row key.now (written_list R.writing values.now) (members_view self.old.map.entries)) }
     {
         let entries = entries_of::<R>(self.alloc, values.slice())?;
-        self.made(key, some_array(entries))
+        self.put(key, array_unless_empty(entries))
     }
 
     /// The object.
@@ -87,19 +91,19 @@ impl Members {
     }
 
     /// The object, which is left out where it would be empty.
-    pub fn some_object(self) -> Option<Value>
-        ensures { option_map view result ≡ some_object (members_view self.map.entries) }
+    pub fn object_unless_empty(self) -> Option<Value>
+        ensures { option_map view result ≡ object_unless_empty (members_view self.map.entries) }
     {
         unless_empty(self.map)
     }
 }
 
-/// The spelling of a value that may be absent.
-pub fn write_some<R: Spelling>(
+/// What a value that may be absent is written as.
+pub fn write_some<R: Written>(
     alloc: Global,
     value: &Option<R::Of>,
 ) -> Result<Option<Value>, OutOfMemory>
-    ensures { IfOk result (λ written. option_map view written ≡ option_and_then R.spelling value.now) }
+    ensures { IfOk result (λ written. option_map view written ≡ option_and_then R.writing value.now) }
 {
     match value {
         Some(value) => R::write(alloc, value),
@@ -107,8 +111,8 @@ pub fn write_some<R: Spelling>(
     }
 }
 
-fn entries_of<R: Spelling>(alloc: Global, values: &[R::Of]) -> Result<Vec<Value>, OutOfMemory>
-    ensures { IfOk result (λ entries. map view entries.items ≡ filter_map R.spelling values.now) }
+fn entries_of<R: Written>(alloc: Global, values: &[R::Of]) -> Result<Vec<Value>, OutOfMemory>
+    ensures { IfOk result (λ entries. map view entries.items ≡ filter_map R.writing values.now) }
 {
     let mut entries = Vec::new(alloc);
     for value in values {
@@ -120,7 +124,7 @@ fn entries_of<R: Spelling>(alloc: Global, values: &[R::Of]) -> Result<Vec<Value>
 }
 
 fn unless_empty(members: Map<String, Value>) -> Option<Value>
-    ensures { option_map view result ≡ some_object (members_view members.entries) }
+    ensures { option_map view result ≡ object_unless_empty (members_view members.entries) }
 {
     if members.is_empty() {
         None
@@ -130,8 +134,8 @@ fn unless_empty(members: Map<String, Value>) -> Option<Value>
 }
 
 /// A list, which is left out where it would be empty.
-pub fn some_array(entries: Vec<Value>) -> Option<Value>
-    ensures { option_map view result ≡ some_array (map view entries.items) }
+pub fn array_unless_empty(entries: Vec<Value>) -> Option<Value>
+    ensures { option_map view result ≡ array_unless_empty (map view entries.items) }
 {
     if entries.is_empty() {
         None
@@ -180,70 +184,70 @@ fn decimal_value(alloc: Global, units: i64) -> Result<Value, OutOfMemory>
     }
 }
 
-impl Spelling for NameRule {
+impl Written for NameRule {
     type Of = Name;
 
-    ghost spelling = { written_text };
+    ghost writing = { written_text };
 
     fn write(alloc: Global, name: &Name) -> Result<Option<Value>, OutOfMemory> {
         Ok(Some(text_value(alloc, name.text())?))
     }
 }
 
-impl Spelling for TextRule {
+impl Written for TextRule {
     type Of = Text;
 
-    ghost spelling = { written_text };
+    ghost writing = { written_text };
 
     fn write(alloc: Global, text: &Text) -> Result<Option<Value>, OutOfMemory> {
         Ok(Some(text_value(alloc, text.text())?))
     }
 }
 
-impl Spelling for FlagRule {
+impl Written for FlagRule {
     type Of = bool;
 
-    ghost spelling = { written_flag };
+    ghost writing = { written_flag };
 
     fn write(_alloc: Global, flag: &bool) -> Result<Option<Value>, OutOfMemory> {
         Ok(Some(Value::Bool(*flag)))
     }
 }
 
-impl Spelling for NumberRule {
+impl Written for NumberRule {
     type Of = u64;
 
-    ghost spelling = { written_number };
+    ghost writing = { written_number };
 
     fn write(_alloc: Global, number: &u64) -> Result<Option<Value>, OutOfMemory> {
         Ok(Some(Value::from(*number)))
     }
 }
 
-impl Spelling for MomentRule {
+impl Written for MomentRule {
     type Of = Moment;
 
-    ghost spelling = { written_moment };
+    ghost writing = { written_moment };
 
     fn write(alloc: Global, moment: &Moment) -> Result<Option<Value>, OutOfMemory> {
         Ok(Some(moment_value(alloc, *moment)?))
     }
 }
 
-impl Spelling for SpanRule {
+impl Written for SpanRule {
     type Of = Span;
 
-    ghost spelling = { written_span };
+    ghost writing = { written_span };
 
     fn write(alloc: Global, span: &Span) -> Result<Option<Value>, OutOfMemory> {
         Ok(Some(span_value(alloc, *span)?))
     }
 }
 
-impl Spelling for DecimalRule {
+impl Written for DecimalRule {
     type Of = i64;
 
-    ghost spelling = { written_decimal };
+    ghost writing = { written_decimal };
 
     fn write(alloc: Global, units: &i64) -> Result<Option<Value>, OutOfMemory> {
         Ok(Some(decimal_value(alloc, *units)?))

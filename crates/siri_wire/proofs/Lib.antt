@@ -1,9 +1,9 @@
-pub mod Plain
-pub mod PlainItems
-pub mod PlainValues
-pub mod PlainTopics
-pub mod PlainDeliveries
-pub mod PlainSubscriptions
-pub mod PlainRequests
-pub mod PlainMessages
+pub mod NoFloat
+pub mod NoFloatItems
+pub mod NoFloatValues
+pub mod NoFloatTopics
+pub mod NoFloatDeliveries
+pub mod NoFloatSubscriptions
+pub mod NoFloatRequests
+pub mod NoFloatMessages
 pub mod Documents

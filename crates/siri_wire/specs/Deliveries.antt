@@ -12,8 +12,8 @@ use Rattle.siri_items.specs.Vehicles.{vehicle}
 use Rattle.siri_items.specs.Situations.{situation}
 use Rattle.siri_wire.specs.Errors.{error_condition}
 use Rattle.siri_wire.specs.Removals.{visit_cancellation, vehicle_cancellation, removed_journey, removed_situation}
-use Rattle.siri_wire.specs.Parts.{heading, standing, extended, or_outside, or_none, delivery_of}
-use Rattle.siri_wire.specs.Frames.{framed_journeys}
+use Rattle.siri_wire.specs.Parts.{heading, round_position, delivery_extensions, or_no_round, extensions_or_empty, delivery_of}
+use Rattle.siri_wire.specs.Frames.{journeys_of_frames}
 use Rattle.siri_wire.specs.declared.names.TheConstants.{RESPONSE_TIMESTAMP, PRODUCER_REF, RESPONSE_MESSAGE_IDENTIFIER, REQUEST_MESSAGE_REF, STATUS, MORE_DATA, EXTENSIONS, MONITORED_STOP_VISIT, MONITORED_STOP_VISIT_CANCELLATION, VEHICLE_ACTIVITY, VEHICLE_ACTIVITY_CANCELLATION, SITUATIONS, PT_SITUATION_ELEMENT, STOP_MONITORING_DELIVERY, ESTIMATED_TIMETABLE_DELIVERY, VEHICLE_MONITORING_DELIVERY, SITUATION_EXCHANGE_DELIVERY}
 
 -- ---- items
@@ -42,35 +42,35 @@ situation_item d = do
 unfoldable pub stop_monitoring_delivery : Data → Result FunctionalDelivery Refusal
 stop_monitoring_delivery d = do
   heading ← heading d
-  extensions ← row (table standing) EXTENSIONS.now d
+  extensions ← row (table round_position) EXTENSIONS.now d
   items ← list (table visit_item) 20000 MONITORED_STOP_VISIT.now d
   removals ← list (table visit_cancellation) 20000 MONITORED_STOP_VISIT_CANCELLATION.now d
-  Ok (delivery_of heading (or_outside extensions) items removals)
+  Ok (delivery_of heading (or_no_round extensions) items removals)
 
 -- EstimatedTimetableDelivery: the journeys of its frames, and journeys that are shown no more
 unfoldable pub estimated_timetable_delivery : Data → Result FunctionalDelivery Refusal
 estimated_timetable_delivery d = do
   heading ← heading d
-  extensions ← row (table (extended removed_journey)) EXTENSIONS.now d
-  items ← framed_journeys d
-  Ok (delivery_of heading (or_none extensions).standing items (or_none extensions).removals)
+  extensions ← row (table (delivery_extensions removed_journey)) EXTENSIONS.now d
+  items ← journeys_of_frames d
+  Ok (delivery_of heading (extensions_or_empty extensions).round_position items (extensions_or_empty extensions).removals)
 
 -- VehicleMonitoringDelivery: vehicle activities, and those that are no more
 unfoldable pub vehicle_monitoring_delivery : Data → Result FunctionalDelivery Refusal
 vehicle_monitoring_delivery d = do
   heading ← heading d
-  extensions ← row (table standing) EXTENSIONS.now d
+  extensions ← row (table round_position) EXTENSIONS.now d
   items ← list (table vehicle_item) 20000 VEHICLE_ACTIVITY.now d
   removals ← list (table vehicle_cancellation) 20000 VEHICLE_ACTIVITY_CANCELLATION.now d
-  Ok (delivery_of heading (or_outside extensions) items removals)
+  Ok (delivery_of heading (or_no_round extensions) items removals)
 
 -- SituationExchangeDelivery: situations, and situations that are shown no more
 unfoldable pub situation_exchange_delivery : Data → Result FunctionalDelivery Refusal
 situation_exchange_delivery d = do
   heading ← heading d
-  extensions ← row (table (extended removed_situation)) EXTENSIONS.now d
+  extensions ← row (table (delivery_extensions removed_situation)) EXTENSIONS.now d
   items ← list_inside SITUATIONS.now (list (table situation_item) 20000 PT_SITUATION_ELEMENT.now) d
-  Ok (delivery_of heading (or_none extensions).standing items (or_none extensions).removals)
+  Ok (delivery_of heading (extensions_or_empty extensions).round_position items (extensions_or_empty extensions).removals)
 
 -- ---- all services
 

@@ -1,4 +1,4 @@
--- The message that a document spells, or the first refusal: the document's length and tree, its one member Siri with exactly
+-- The message that a document is read as, or the first refusal: the document's length and tree, its one member Siri with exactly
 -- one of the messages in it, and then that message's table (EN 15531-2).
 use Rattle.std.specs.Prelude.{◌≡◌, ℕ, List, [], ◌∷◌, length, filter, nat_lt, Bool, true, false, if◌then◌else◌, Option, Some, None, Result, Ok, Err}
 use Rattle.serde_json.specs.Data.{Data, object}
@@ -8,7 +8,7 @@ use Rattle.siri_json.specs.Values.{Found, found, absent, wrong, member_of, objec
 use Rattle.siri_messages.specs.declared.message.Message.{Message}
 use Rattle.siri_messages.specs.declared.message.Message.TheVariants as message
 use Rattle.siri_items.specs.Refusals.{Refusal, ◌>>=◌, refused}
-use Rattle.siri_items.specs.Rules.{table, needed}
+use Rattle.siri_items.specs.Rules.{table, required_row}
 use Rattle.siri_items.specs.declared.refusal.ItemError.{ItemError}
 use Rattle.siri_items.specs.declared.refusal.ItemError.TheVariants as items
 use Rattle.siri_wire.specs.Requests.{service_request}
@@ -58,19 +58,19 @@ name_of kind.HeartbeatNotification = HEARTBEAT_NOTIFICATION.now
 
 -- the message of a kind, by its table
 abbrev pub message_at : Kind → Data → Result Message Refusal
-message_at kind.ServiceRequest d = needed (table service_request) SERVICE_REQUEST.now d >>= λ m. Ok (message.ServiceRequest m)
-message_at kind.ServiceDelivery d = needed (table service_delivery) SERVICE_DELIVERY.now d >>= λ m. Ok (message.ServiceDelivery m)
-message_at kind.SubscriptionRequest d = needed (table subscription_request) SUBSCRIPTION_REQUEST.now d >>= λ m. Ok (message.SubscriptionRequest m)
-message_at kind.SubscriptionResponse d = needed (table subscription_response) SUBSCRIPTION_RESPONSE.now d >>= λ m. Ok (message.SubscriptionResponse m)
-message_at kind.TerminateSubscriptionRequest d = needed (table termination_request) TERMINATE_SUBSCRIPTION_REQUEST.now d >>= λ m. Ok (message.TerminateSubscriptionRequest m)
-message_at kind.TerminateSubscriptionResponse d = needed (table termination_response) TERMINATE_SUBSCRIPTION_RESPONSE.now d >>= λ m. Ok (message.TerminateSubscriptionResponse m)
-message_at kind.DataReadyNotification d = needed (table data_ready_notification) DATA_READY_NOTIFICATION.now d >>= λ m. Ok (message.DataReadyNotification m)
-message_at kind.DataReadyAcknowledgement d = needed (table data_ready_acknowledgement) DATA_READY_ACKNOWLEDGEMENT.now d >>= λ m. Ok (message.DataReadyAcknowledgement m)
-message_at kind.DataSupplyRequest d = needed (table data_supply_request) DATA_SUPPLY_REQUEST.now d >>= λ m. Ok (message.DataSupplyRequest m)
-message_at kind.DataReceivedAcknowledgement d = needed (table data_received_acknowledgement) DATA_RECEIVED_ACKNOWLEDGEMENT.now d >>= λ m. Ok (message.DataReceivedAcknowledgement m)
-message_at kind.CheckStatusRequest d = needed (table check_status_request) CHECK_STATUS_REQUEST.now d >>= λ m. Ok (message.CheckStatusRequest m)
-message_at kind.CheckStatusResponse d = needed (table check_status_response) CHECK_STATUS_RESPONSE.now d >>= λ m. Ok (message.CheckStatusResponse m)
-message_at kind.HeartbeatNotification d = needed (table heartbeat_notification) HEARTBEAT_NOTIFICATION.now d >>= λ m. Ok (message.HeartbeatNotification m)
+message_at kind.ServiceRequest d = required_row (table service_request) SERVICE_REQUEST.now d >>= λ m. Ok (message.ServiceRequest m)
+message_at kind.ServiceDelivery d = required_row (table service_delivery) SERVICE_DELIVERY.now d >>= λ m. Ok (message.ServiceDelivery m)
+message_at kind.SubscriptionRequest d = required_row (table subscription_request) SUBSCRIPTION_REQUEST.now d >>= λ m. Ok (message.SubscriptionRequest m)
+message_at kind.SubscriptionResponse d = required_row (table subscription_response) SUBSCRIPTION_RESPONSE.now d >>= λ m. Ok (message.SubscriptionResponse m)
+message_at kind.TerminateSubscriptionRequest d = required_row (table termination_request) TERMINATE_SUBSCRIPTION_REQUEST.now d >>= λ m. Ok (message.TerminateSubscriptionRequest m)
+message_at kind.TerminateSubscriptionResponse d = required_row (table termination_response) TERMINATE_SUBSCRIPTION_RESPONSE.now d >>= λ m. Ok (message.TerminateSubscriptionResponse m)
+message_at kind.DataReadyNotification d = required_row (table data_ready_notification) DATA_READY_NOTIFICATION.now d >>= λ m. Ok (message.DataReadyNotification m)
+message_at kind.DataReadyAcknowledgement d = required_row (table data_ready_acknowledgement) DATA_READY_ACKNOWLEDGEMENT.now d >>= λ m. Ok (message.DataReadyAcknowledgement m)
+message_at kind.DataSupplyRequest d = required_row (table data_supply_request) DATA_SUPPLY_REQUEST.now d >>= λ m. Ok (message.DataSupplyRequest m)
+message_at kind.DataReceivedAcknowledgement d = required_row (table data_received_acknowledgement) DATA_RECEIVED_ACKNOWLEDGEMENT.now d >>= λ m. Ok (message.DataReceivedAcknowledgement m)
+message_at kind.CheckStatusRequest d = required_row (table check_status_request) CHECK_STATUS_REQUEST.now d >>= λ m. Ok (message.CheckStatusRequest m)
+message_at kind.CheckStatusResponse d = required_row (table check_status_response) CHECK_STATUS_RESPONSE.now d >>= λ m. Ok (message.CheckStatusResponse m)
+message_at kind.HeartbeatNotification d = required_row (table heartbeat_notification) HEARTBEAT_NOTIFICATION.now d >>= λ m. Ok (message.HeartbeatNotification m)
 
 -- ---- which message a document holds
 
@@ -112,14 +112,14 @@ siri d = message_or d (only_held d)
 
 -- the document is an object, and no list around one
 unfoldable pub root : Data → Result Message Refusal
-root (object ms) = needed (table siri) SIRI.now (object ms)
+root (object ms) = required_row (table siri) SIRI.now (object ms)
 root other = refused WrongKind
 
 abbrev pub message_in : Option Data → Result Message Refusal
 message_in None = refused NotJson
 message_in (Some d) = root d
 
--- the message that a document of at most 8,388,608 bytes spells, or the first refusal
+-- the message that a document of at most 8,388,608 bytes is read as, or the first refusal
 unfoldable pub message_of : List ℕ → Result Message Refusal
 message_of document = if nat_lt 8388608 (length document) then refused TooLong else message_in (tree_of document)
 
@@ -134,7 +134,7 @@ abbrev pub IsRefused : DecodeError → Result Message Refusal → Type 0
 IsRefused errors.OutOfMemory read = Unit {0}
 IsRefused (errors.Refused r) read = read ≡ Err (record { path = r.path; reason = r.reason })
 
--- what decoding returned is what a document spells, or how it is refused, unless there was no memory
+-- what decoding returned is what a document is read as, or how it is refused, unless there was no memory
 abbrev pub Decodes : Result Message DecodeError → Result Message Refusal → Type 0
 Decodes (Ok m) read = read ≡ Ok m
 Decodes (Err e) read = IsRefused e read

@@ -19,8 +19,8 @@ own_or (Some own) frame = Some own
 own_or None frame = frame
 
 -- a journey of a frame
-abbrev pub framed_journey : Option ℕ → Journey → Item
-framed_journey frame j = item.Journey (record j { recorded_at_time = own_or j.recorded_at_time frame })
+abbrev pub journey_of_frame : Option ℕ → Journey → Item
+journey_of_frame frame j = item.Journey (record j { recorded_at_time = own_or j.recorded_at_time frame })
 
 -- the journeys of a frame, as many as there are
 unfoldable pub journeys : Data → Result (List Journey) Refusal
@@ -31,19 +31,19 @@ unfoldable pub frame : Data → Result (List Item) Refusal
 frame d = do
   recorded_at_time ← row moment RECORDED_AT_TIME.now d
   journeys ← journeys d
-  Ok (map (framed_journey recorded_at_time) journeys)
+  Ok (map (journey_of_frame recorded_at_time) journeys)
 
 -- the journeys of all frames
-abbrev pub together : List (List Item) → List Item
-together frames = flat_map (λ items. items) frames
+abbrev pub concat_frames : List (List Item) → List Item
+concat_frames frames = flat_map (λ items. items) frames
 
 -- there may be 20,000 of them in all
-abbrev pub few_together : List Item → Result (List Item) Refusal
-few_together items = if nat_le (length items) 20000 then Ok items else refused TooMany
+abbrev pub few_in_all : List Item → Result (List Item) Refusal
+few_in_all items = if nat_le (length items) 20000 then Ok items else refused TooMany
 
 -- the bound is tested after the entries
 unfoldable pub frames_of : Data → Result (List Item) Refusal
-frames_of d = list_of (table frame) d >>= λ frames. few_together (together frames)
+frames_of d = list_of (table frame) d >>= λ frames. few_in_all (concat_frames frames)
 
-unfoldable pub framed_journeys : Data → Result (List Item) Refusal
-framed_journeys d = below (Member ESTIMATED_JOURNEY_VERSION_FRAME.now) (or_empty frames_of (member_of ESTIMATED_JOURNEY_VERSION_FRAME.now d))
+unfoldable pub journeys_of_frames : Data → Result (List Item) Refusal
+journeys_of_frames d = below (Member ESTIMATED_JOURNEY_VERSION_FRAME.now) (or_empty frames_of (member_of ESTIMATED_JOURNEY_VERSION_FRAME.now d))

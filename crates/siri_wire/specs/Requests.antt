@@ -1,4 +1,4 @@
--- The table of requests that are answered at once: what an object spells, row by row.
+-- The table of requests that are answered at once: what an object is read as, row by row.
 use Rattle.std.specs.Prelude.{length, ◌==◌, ◌&&◌, Bool, if◌then◌else◌, Result, Ok}
 use Rattle.serde_json.specs.Data.{Data}
 use Rattle.siri_base.specs.declared.reason.Reason.TheVariants.{NotCarried}
@@ -9,8 +9,8 @@ use Rattle.siri_wire.specs.declared.names.TheConstants.{REQUEST_TIMESTAMP, REQUE
 use Rattle.siri_wire.specs.Topics.{stop_topic, timetable_topic, vehicle_topic, situation_topic}
 
 -- its rows
-unfoldable pub service_request_rows : Data → Result ServiceRequest Refusal
-service_request_rows d = do
+unfoldable pub read_service_request_rows : Data → Result ServiceRequest Refusal
+read_service_request_rows d = do
   request_timestamp ← row moment REQUEST_TIMESTAMP.now d
   requestor_ref ← row name REQUESTOR_REF.now d
   message_identifier ← row name MESSAGE_IDENTIFIER.now d
@@ -42,4 +42,4 @@ unless_for_nothing m = if asks_nothing m then refused NotCarried else Ok m
 
 -- ServiceRequest: a request for what is shown to some topics now (EN 15531-2)
 unfoldable pub service_request : Data → Result ServiceRequest Refusal
-service_request d = service_request_rows d >>= unless_for_nothing
+service_request d = read_service_request_rows d >>= unless_for_nothing

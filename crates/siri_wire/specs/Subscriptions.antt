@@ -1,4 +1,4 @@
--- The tables of requests for subscriptions, and of their answers: what an object spells, row by row.
+-- The tables of requests for subscriptions, and of their answers: what an object is read as, row by row.
 use Rattle.std.specs.Prelude.{ℕ, ℤ, pos, List, length, codes, bytes_eq, ◌==◌, ◌&&◌, Bool, true, false, if◌then◌else◌, Option, Some, None, unwrap_or, Result, Ok}
 use Rattle.serde_json.specs.Data.{Data}
 use Rattle.siri_base.specs.declared.reason.Reason.TheVariants.{NotCarried}
@@ -10,7 +10,7 @@ use Rattle.siri_messages.specs.declared.subscriptions.ResponseStatus.{ResponseSt
 use Rattle.siri_messages.specs.declared.subscriptions.SubscriptionRequest.{SubscriptionRequest}
 use Rattle.siri_messages.specs.declared.subscriptions.SubscriptionResponse.{SubscriptionResponse}
 use Rattle.siri_items.specs.Refusals.{Refusal, ◌>>=◌, refused}
-use Rattle.siri_items.specs.Rules.{name, text, moment, span0, number, flag, table, row, needed, inside, list}
+use Rattle.siri_items.specs.Rules.{name, text, moment, non_negative_span, number, flag, table, row, required_row, inside, list}
 use Rattle.siri_wire.specs.declared.names.TheConstants.{REQUEST_TIMESTAMP, REQUESTOR_REF, MESSAGE_IDENTIFIER, CONSUMER_ADDRESS, SUBSCRIPTION_CONTEXT, HEARTBEAT_INTERVAL, STOP_MONITORING_SUBSCRIPTION_REQUEST, ESTIMATED_TIMETABLE_SUBSCRIPTION_REQUEST, VEHICLE_MONITORING_SUBSCRIPTION_REQUEST, SITUATION_EXCHANGE_SUBSCRIPTION_REQUEST, SUBSCRIPTION_IDENTIFIER, INITIAL_TERMINATION_TIME, STOP_MONITORING_REQUEST, ESTIMATED_TIMETABLE_REQUEST, VEHICLE_MONITORING_REQUEST, SITUATION_EXCHANGE_REQUEST, INCREMENTAL_UPDATES, CHANGE_BEFORE_UPDATES, EXTENSIONS, DELIVERY_METHOD, RESPONSE_TIMESTAMP, REQUEST_MESSAGE_REF, RESPONSE_STATUS, SUBSCRIBER_REF, SUBSCRIPTION_REF, STATUS, VALID_UNTIL}
 use Rattle.siri_wire.specs.declared.read_subscriptions.Wanted.{Wanted}
 use Rattle.siri_wire.specs.Errors.{error_condition}
@@ -21,15 +21,15 @@ use Rattle.siri_wire.specs.Topics.{subscribed_stop_topic, timetable_topic, vehic
 
 -- the topic of a subscription to a service
 unfoldable pub topic_of : Service → Data → Result Topic Refusal
-topic_of service.Stop d = needed (table subscribed_stop_topic) STOP_MONITORING_REQUEST.now d
-topic_of service.Timetable d = needed (table timetable_topic) ESTIMATED_TIMETABLE_REQUEST.now d
-topic_of service.Vehicle d = needed (table vehicle_topic) VEHICLE_MONITORING_REQUEST.now d
-topic_of service.Situation d = needed (table situation_topic) SITUATION_EXCHANGE_REQUEST.now d
+topic_of service.Stop d = required_row (table subscribed_stop_topic) STOP_MONITORING_REQUEST.now d
+topic_of service.Timetable d = required_row (table timetable_topic) ESTIMATED_TIMETABLE_REQUEST.now d
+topic_of service.Vehicle d = required_row (table vehicle_topic) VEHICLE_MONITORING_REQUEST.now d
+topic_of service.Situation d = required_row (table situation_topic) SITUATION_EXCHANGE_REQUEST.now d
 
 -- the change that is too small to be told, which SX has no row for
 unfoldable pub slack_of : Service → Data → Result (Option ℤ) Refusal
 slack_of service.Situation d = Ok None
-slack_of other d = row span0 CHANGE_BEFORE_UPDATES.now d
+slack_of other d = row non_negative_span CHANGE_BEFORE_UPDATES.now d
 
 -- `fetched`, and otherwise direct
 abbrev pub is_fetched : Option (List ℕ) → Bool
@@ -40,8 +40,8 @@ is_fetched (Some method) = bytes_eq method (codes "fetched")
 unfoldable pub subscription : Service → Option (List ℕ) → Data → Result Subscription Refusal
 subscription s requestor d = do
   subscriber ← subscriber_or requestor d
-  identifier ← needed name SUBSCRIPTION_IDENTIFIER.now d
-  termination ← needed moment INITIAL_TERMINATION_TIME.now d
+  identifier ← required_row name SUBSCRIPTION_IDENTIFIER.now d
+  termination ← required_row moment INITIAL_TERMINATION_TIME.now d
   topic ← topic_of s d
   incremental ← row flag INCREMENTAL_UPDATES.now d
   slack ← slack_of s d
@@ -60,11 +60,11 @@ subscription s requestor d = do
 
 -- how often a heartbeat is wanted
 unfoldable pub heartbeat_interval : Data → Result (Option ℤ) Refusal
-heartbeat_interval d = row (inside span0 HEARTBEAT_INTERVAL.now) SUBSCRIPTION_CONTEXT.now d
+heartbeat_interval d = row (inside non_negative_span HEARTBEAT_INTERVAL.now) SUBSCRIPTION_CONTEXT.now d
 
 -- what is wanted: the heartbeat, and the subscriptions of the four services
-unfoldable pub wanted_rows : Option (List ℕ) → Data → Result Wanted Refusal
-wanted_rows requestor d = do
+unfoldable pub read_wanted_rows : Option (List ℕ) → Data → Result Wanted Refusal
+read_wanted_rows requestor d = do
   heartbeat_interval ← heartbeat_interval d
   stops ← list (table (subscription service.Stop requestor)) 200 STOP_MONITORING_SUBSCRIPTION_REQUEST.now d
   timetables ← list (table (subscription service.Timetable requestor)) 200 ESTIMATED_TIMETABLE_SUBSCRIPTION_REQUEST.now d
@@ -86,14 +86,14 @@ abbrev pub unless_for_none : Wanted → Result Wanted Refusal
 unless_for_none w = if wants_nothing w then refused NotCarried else Ok w
 
 unfoldable pub wanted : Option (List ℕ) → Data → Result Wanted Refusal
-wanted requestor d = wanted_rows requestor d >>= unless_for_none
+wanted requestor d = read_wanted_rows requestor d >>= unless_for_none
 
 -- SubscriptionRequest: a request for subscriptions (EN 15531-2)
 unfoldable pub subscription_request : Data → Result SubscriptionRequest Refusal
 subscription_request d = do
   request_timestamp ← row moment REQUEST_TIMESTAMP.now d
   requestor_ref ← row name REQUESTOR_REF.now d
-  message_identifier ← needed number MESSAGE_IDENTIFIER.now d
+  message_identifier ← required_row number MESSAGE_IDENTIFIER.now d
   consumer_address ← row name CONSUMER_ADDRESS.now d
   wanted ← wanted requestor_ref d
   Ok (record {

@@ -11,18 +11,18 @@ use Rattle.siri_messages.specs.declared.supplies.DataReadyAcknowledgement.{DataR
 use Rattle.siri_messages.specs.declared.supplies.DataSupplyRequest.{DataSupplyRequest}
 use Rattle.siri_messages.specs.declared.supplies.DataReceivedAcknowledgement.{DataReceivedAcknowledgement}
 use Rattle.siri_items.specs.Refusals.{Refusal, ◌>>=◌}
-use Rattle.siri_items.specs.Rules.{name, moment, number, flag, table, unless_wrong, maybe, row, needed}
+use Rattle.siri_items.specs.Rules.{name, moment, number, flag, table, unless_wrong, maybe, row, required_row}
 use Rattle.siri_wire.specs.Errors.{error_condition}
 use Rattle.siri_wire.specs.declared.names.TheConstants.{SUBSCRIPTION_REF, NUMBER, START, ROUND, PART, REQUEST_TIMESTAMP, RESPONSE_TIMESTAMP, PRODUCER_REF, CONSUMER_REF, REQUEST_MESSAGE_REF, STATUS, ALL_DATA, EXTENSIONS}
 
 -- Mark: which part of which round of a subscription is meant
 unfoldable pub mark : Data → Result Mark Refusal
 mark d = do
-  subscription ← needed name SUBSCRIPTION_REF.now d
-  subscription_number ← needed number NUMBER.now d
-  start ← needed number START.now d
-  round ← needed number ROUND.now d
-  part ← needed number PART.now d
+  subscription ← required_row name SUBSCRIPTION_REF.now d
+  subscription_number ← required_row number NUMBER.now d
+  start ← required_row number START.now d
+  round ← required_row number ROUND.now d
+  part ← required_row number PART.now d
   Ok (record { number = subscription_number; start = start; round = round; part = part; subscription = subscription })
 
 -- ---- a mark that need not be there
@@ -59,7 +59,7 @@ unfoldable pub data_ready_notification : Data → Result DataReadyNotification R
 data_ready_notification d = do
   request_timestamp ← row moment REQUEST_TIMESTAMP.now d
   producer_ref ← row name PRODUCER_REF.now d
-  extensions ← needed (table mark) EXTENSIONS.now d
+  extensions ← required_row (table mark) EXTENSIONS.now d
   Ok (record { request_timestamp = request_timestamp; producer_ref = producer_ref; extensions = extensions })
 
 -- DataReadyAcknowledgement: the notification was taken
@@ -70,12 +70,12 @@ data_ready_acknowledgement d = do
   status ← row flag STATUS.now d
   Ok (record { response_timestamp = response_timestamp; consumer_ref = consumer_ref; status = unwrap_or status true })
 
-unfoldable pub supply_rows : Data → Result DataSupplyRequest Refusal
-supply_rows d = do
+unfoldable pub read_supply_rows : Data → Result DataSupplyRequest Refusal
+read_supply_rows d = do
   request_timestamp ← row moment REQUEST_TIMESTAMP.now d
-  consumer_ref ← needed name CONSUMER_REF.now d
+  consumer_ref ← required_row name CONSUMER_REF.now d
   all_data ← row flag ALL_DATA.now d
-  extensions ← needed (table mark) EXTENSIONS.now d
+  extensions ← required_row (table mark) EXTENSIONS.now d
   Ok (record { request_timestamp = request_timestamp; consumer_ref = consumer_ref; all_data = unwrap_or all_data false; extensions = extensions })
 
 -- a request for everything and not the changes alone isn't carried
@@ -84,7 +84,7 @@ unless_all m = if m.all_data then Err (record { path = Member ALL_DATA.now ∷ [
 
 -- DataSupplyRequest: a part of a round is fetched
 unfoldable pub data_supply_request : Data → Result DataSupplyRequest Refusal
-data_supply_request d = supply_rows d >>= unless_all
+data_supply_request d = read_supply_rows d >>= unless_all
 
 -- DataReceivedAcknowledgement: a delivery was taken
 unfoldable pub data_received_acknowledgement : Data → Result DataReceivedAcknowledgement Refusal

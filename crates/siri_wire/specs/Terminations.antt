@@ -1,11 +1,11 @@
--- The tables of requests to end subscriptions, and of their answers: what an object spells, row by row.
+-- The tables of requests to end subscriptions, and of their answers: what an object is read as, row by row.
 use Rattle.std.specs.Prelude.{true, unwrap_or, Result, Ok}
 use Rattle.serde_json.specs.Data.{Data}
 use Rattle.siri_messages.specs.declared.terminations.TerminateSubscriptionRequest.{TerminateSubscriptionRequest}
 use Rattle.siri_messages.specs.declared.terminations.TerminateSubscriptionResponse.{TerminateSubscriptionResponse}
 use Rattle.siri_messages.specs.declared.terminations.TerminationResponseStatus.{TerminationResponseStatus}
 use Rattle.siri_items.specs.Refusals.{Refusal, ◌>>=◌}
-use Rattle.siri_items.specs.Rules.{name, moment, number, flag, table, row, needed, list, some_list}
+use Rattle.siri_items.specs.Rules.{name, moment, number, flag, table, row, required_row, list, nonempty_list}
 use Rattle.siri_wire.specs.declared.names.TheConstants.{REQUEST_TIMESTAMP, REQUESTOR_REF, MESSAGE_IDENTIFIER, SUBSCRIPTION_REF, RESPONSE_TIMESTAMP, REQUEST_MESSAGE_REF, TERMINATION_RESPONSE_STATUS, SUBSCRIBER_REF, STATUS}
 use Rattle.siri_wire.specs.Errors.{error_condition}
 use Rattle.siri_wire.specs.Subscribers.{subscriber_or}
@@ -15,9 +15,9 @@ unfoldable pub termination_request : Data → Result TerminateSubscriptionReques
 termination_request d = do
   request_timestamp ← row moment REQUEST_TIMESTAMP.now d
   requestor_ref ← row name REQUESTOR_REF.now d
-  message_identifier ← needed number MESSAGE_IDENTIFIER.now d
+  message_identifier ← required_row number MESSAGE_IDENTIFIER.now d
   subscriber_ref ← subscriber_or requestor_ref d
-  subscription_ref ← some_list name 200 SUBSCRIPTION_REF.now d
+  subscription_ref ← nonempty_list name 200 SUBSCRIPTION_REF.now d
   Ok (record {
     request_timestamp = request_timestamp;
     requestor_ref = requestor_ref;

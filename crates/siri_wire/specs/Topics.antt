@@ -9,18 +9,18 @@ use Rattle.siri_topic.specs.declared.topics.Topic.{Topic}
 use Rattle.siri_topic.specs.declared.topics.Topic.TheVariants as topics
 use Rattle.siri_items.specs.declared.names.TheConstants.{MONITORING_REF, LINE_REF, DIRECTION_REF, OPERATOR_REF, DESTINATION_REF, START_TIME, VEHICLE_REF, STOP_POINT_REF}
 use Rattle.siri_items.specs.Refusals.{Refusal, ◌>>=◌}
-use Rattle.siri_items.specs.Rules.{name, moment, span0, number, table, row, needed, list, list_inside}
+use Rattle.siri_items.specs.Rules.{name, moment, non_negative_span, number, table, row, required_row, list, list_inside}
 use Rattle.siri_wire.specs.declared.names.TheConstants.{PREVIEW_INTERVAL, MAXIMUM_STOP_VISITS, LINES, LINE_DIRECTION}
 
 -- StopMonitoringRequest: the visits at a monitoring point (EN 15531-3)
-unfoldable pub stop_rows : Data → Result StopTopic Refusal
-stop_rows d = do
-  monitoring_ref ← needed name MONITORING_REF.now d
+unfoldable pub read_stop_topic_rows : Data → Result StopTopic Refusal
+read_stop_topic_rows d = do
+  monitoring_ref ← required_row name MONITORING_REF.now d
   line_ref ← row name LINE_REF.now d
   direction_ref ← row name DIRECTION_REF.now d
   operator_ref ← row name OPERATOR_REF.now d
   destination_ref ← row name DESTINATION_REF.now d
-  preview_interval ← row span0 PREVIEW_INTERVAL.now d
+  preview_interval ← row non_negative_span PREVIEW_INTERVAL.now d
   start_time ← row moment START_TIME.now d
   maximum_stop_visits ← row number MAXIMUM_STOP_VISITS.now d
   Ok (record {
@@ -36,7 +36,7 @@ stop_rows d = do
 
 -- the topic of a request
 unfoldable pub stop_topic : Data → Result Topic Refusal
-stop_topic d = stop_rows d >>= λ t. Ok (topics.Stop t)
+stop_topic d = read_stop_topic_rows d >>= λ t. Ok (topics.Stop t)
 
 -- a most of visits belongs to the answer of a request; a subscription with one isn't carried
 abbrev pub without_maximum : StopTopic → Option ℕ → Result Topic Refusal
@@ -45,19 +45,19 @@ without_maximum t (Some most) = Err (record { path = Member MAXIMUM_STOP_VISITS.
 
 -- the topic of a subscription
 unfoldable pub subscribed_stop_topic : Data → Result Topic Refusal
-subscribed_stop_topic d = stop_rows d >>= λ t. without_maximum t t.maximum_stop_visits
+subscribed_stop_topic d = read_stop_topic_rows d >>= λ t. without_maximum t t.maximum_stop_visits
 
 -- LineDirection: a line, and a direction of it (EN 15531-3)
 unfoldable pub line_direction : Data → Result LineDirection Refusal
 line_direction d = do
-  line_ref ← needed name LINE_REF.now d
+  line_ref ← required_row name LINE_REF.now d
   direction_ref ← row name DIRECTION_REF.now d
   Ok (record { line_ref = line_ref; direction_ref = direction_ref })
 
 -- EstimatedTimetableRequest: the journeys of an operator, on some lines (EN 15531-3)
 unfoldable pub timetable_topic : Data → Result Topic Refusal
 timetable_topic d = do
-  preview_interval ← row span0 PREVIEW_INTERVAL.now d
+  preview_interval ← row non_negative_span PREVIEW_INTERVAL.now d
   operator_ref ← row name OPERATOR_REF.now d
   lines ← list_inside LINES.now (list (table line_direction) 100 LINE_DIRECTION.now) d
   Ok (topics.Timetable (record {
@@ -84,7 +84,7 @@ situation_topic d = do
   line_ref ← row name LINE_REF.now d
   stop_point_ref ← row name STOP_POINT_REF.now d
   operator_ref ← row name OPERATOR_REF.now d
-  preview_interval ← row span0 PREVIEW_INTERVAL.now d
+  preview_interval ← row non_negative_span PREVIEW_INTERVAL.now d
   start_time ← row moment START_TIME.now d
   Ok (topics.Situation (record {
     line_ref = line_ref;

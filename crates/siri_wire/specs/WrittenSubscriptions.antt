@@ -8,10 +8,10 @@ use Rattle.siri_messages.specs.declared.subscriptions.ResponseStatus.{ResponseSt
 use Rattle.siri_messages.specs.declared.terminations.TerminateSubscriptionRequest.{TerminateSubscriptionRequest}
 use Rattle.siri_messages.specs.declared.terminations.TerminateSubscriptionResponse.{TerminateSubscriptionResponse}
 use Rattle.siri_messages.specs.declared.terminations.TerminationResponseStatus.{TerminationResponseStatus}
-use Rattle.siri_items.specs.Writing.{Row, row_object, with_rows, some_object, written_list, written_text, written_flag, written_moment, written_span}
+use Rattle.siri_items.specs.Writing.{Row, row_object, with_rows, object_unless_empty, written_list, written_text, written_flag, written_moment, written_span}
 use Rattle.siri_wire.specs.declared.names.TheConstants.{CHANGE_BEFORE_UPDATES, CONSUMER_ADDRESS, DELIVERY_METHOD, ERROR_CONDITION, ESTIMATED_TIMETABLE_REQUEST, ESTIMATED_TIMETABLE_SUBSCRIPTION_REQUEST, EXTENSIONS, HEARTBEAT_INTERVAL, INCREMENTAL_UPDATES, INITIAL_TERMINATION_TIME, MESSAGE_IDENTIFIER, REQUESTOR_REF, REQUEST_MESSAGE_REF, REQUEST_TIMESTAMP, RESPONSE_STATUS, RESPONSE_TIMESTAMP, SITUATION_EXCHANGE_REQUEST, SITUATION_EXCHANGE_SUBSCRIPTION_REQUEST, STATUS, STOP_MONITORING_REQUEST, STOP_MONITORING_SUBSCRIPTION_REQUEST, SUBSCRIBER_REF, SUBSCRIPTION_CONTEXT, SUBSCRIPTION_IDENTIFIER, SUBSCRIPTION_REF, TERMINATION_RESPONSE_STATUS, VALID_UNTIL, VEHICLE_MONITORING_REQUEST, VEHICLE_MONITORING_SUBSCRIPTION_REQUEST}
 use Rattle.siri_wire.specs.WrittenValues.{written_error, written_identifier}
-use Rattle.siri_wire.specs.WrittenTopics.{spelled_topic}
+use Rattle.siri_wire.specs.WrittenTopics.{topic_writing}
 
 -- ---- subscription elements
 
@@ -21,18 +21,18 @@ written_method true = Some (row_object ((DELIVERY_METHOD.now, written_text (code
 written_method false = None
 
 -- a subscription: its topic under the name of its service's request, and ChangeBeforeUpdates where its service has it
-abbrev pub subscription_rows : List ℕ → Option Data → Subscription → List Row
-subscription_rows request slack s =
+abbrev pub rows_of_subscription : List ℕ → Option Data → Subscription → List Row
+rows_of_subscription request slack s =
     (SUBSCRIBER_REF.now, written_text s.subscriber) ∷
     (SUBSCRIPTION_IDENTIFIER.now, written_text s.identifier) ∷
     (INITIAL_TERMINATION_TIME.now, written_moment s.termination) ∷
-    (request, spelled_topic s.topic) ∷
+    (request, topic_writing s.topic) ∷
     (INCREMENTAL_UPDATES.now, written_flag s.incremental) ∷
     (CHANGE_BEFORE_UPDATES.now, slack) ∷
     (EXTENSIONS.now, written_method s.fetched) ∷ []
 
 unfoldable pub written_subscription : List ℕ → Option Data → Subscription → Data
-written_subscription request slack s = row_object (subscription_rows request slack s)
+written_subscription request slack s = row_object (rows_of_subscription request slack s)
 
 -- StopMonitoringSubscriptionRequest
 unfoldable pub written_stop_subscription : Subscription → Option Data
@@ -54,11 +54,11 @@ written_situation_subscription s = Some (written_subscription SITUATION_EXCHANGE
 
 -- SubscriptionContext, which isn't written where it would be empty
 unfoldable pub written_context : Option ℤ → Option Data
-written_context heartbeat = some_object (with_rows no_members (
+written_context heartbeat = object_unless_empty (with_rows no_members (
     (HEARTBEAT_INTERVAL.now, option_and_then written_span heartbeat) ∷ []))
 
-abbrev pub subscription_request_rows : SubscriptionRequest → List Row
-subscription_request_rows s =
+abbrev pub rows_of_subscription_request : SubscriptionRequest → List Row
+rows_of_subscription_request s =
     (REQUEST_TIMESTAMP.now, option_and_then written_moment s.request_timestamp) ∷
     (REQUESTOR_REF.now, option_and_then written_text s.requestor_ref) ∷
     (MESSAGE_IDENTIFIER.now, written_identifier s.message_identifier) ∷
@@ -70,12 +70,12 @@ subscription_request_rows s =
     (SITUATION_EXCHANGE_SUBSCRIPTION_REQUEST.now, written_list written_situation_subscription s.situation_exchange_subscription_request) ∷ []
 
 unfoldable pub written_subscription_request : SubscriptionRequest → Data
-written_subscription_request s = row_object (subscription_request_rows s)
+written_subscription_request s = row_object (rows_of_subscription_request s)
 
 -- ---- SubscriptionResponse
 
-abbrev pub response_status_rows : ResponseStatus → List Row
-response_status_rows r =
+abbrev pub rows_of_response_status : ResponseStatus → List Row
+rows_of_response_status r =
     (SUBSCRIBER_REF.now, option_and_then written_text r.subscriber_ref) ∷
     (SUBSCRIPTION_REF.now, option_and_then written_text r.subscription_ref) ∷
     (STATUS.now, written_flag r.status) ∷
@@ -83,21 +83,21 @@ response_status_rows r =
     (ERROR_CONDITION.now, option_and_then written_error r.error_condition) ∷ []
 
 unfoldable pub written_response_status : ResponseStatus → Option Data
-written_response_status r = Some (row_object (response_status_rows r))
+written_response_status r = Some (row_object (rows_of_response_status r))
 
-abbrev pub subscription_response_rows : SubscriptionResponse → List Row
-subscription_response_rows s =
+abbrev pub rows_of_subscription_response : SubscriptionResponse → List Row
+rows_of_subscription_response s =
     (RESPONSE_TIMESTAMP.now, option_and_then written_moment s.response_timestamp) ∷
     (REQUEST_MESSAGE_REF.now, option_and_then written_text s.request_message_ref) ∷
     (RESPONSE_STATUS.now, written_list written_response_status s.response_status) ∷ []
 
 unfoldable pub written_subscription_response : SubscriptionResponse → Data
-written_subscription_response s = row_object (subscription_response_rows s)
+written_subscription_response s = row_object (rows_of_subscription_response s)
 
 -- ---- TerminateSubscriptionRequest
 
-abbrev pub termination_rows : TerminateSubscriptionRequest → List Row
-termination_rows t =
+abbrev pub rows_of_termination : TerminateSubscriptionRequest → List Row
+rows_of_termination t =
     (REQUEST_TIMESTAMP.now, option_and_then written_moment t.request_timestamp) ∷
     (REQUESTOR_REF.now, option_and_then written_text t.requestor_ref) ∷
     (MESSAGE_IDENTIFIER.now, written_identifier t.message_identifier) ∷
@@ -105,25 +105,25 @@ termination_rows t =
     (SUBSCRIPTION_REF.now, written_list written_text t.subscription_ref) ∷ []
 
 unfoldable pub written_termination : TerminateSubscriptionRequest → Data
-written_termination t = row_object (termination_rows t)
+written_termination t = row_object (rows_of_termination t)
 
 -- ---- TerminateSubscriptionResponse
 
-abbrev pub termination_status_rows : TerminationResponseStatus → List Row
-termination_status_rows t =
+abbrev pub rows_of_termination_status : TerminationResponseStatus → List Row
+rows_of_termination_status t =
     (SUBSCRIBER_REF.now, option_and_then written_text t.subscriber_ref) ∷
     (SUBSCRIPTION_REF.now, option_and_then written_text t.subscription_ref) ∷
     (STATUS.now, written_flag t.status) ∷
     (ERROR_CONDITION.now, option_and_then written_error t.error_condition) ∷ []
 
 unfoldable pub written_termination_status : TerminationResponseStatus → Option Data
-written_termination_status t = Some (row_object (termination_status_rows t))
+written_termination_status t = Some (row_object (rows_of_termination_status t))
 
-abbrev pub termination_response_rows : TerminateSubscriptionResponse → List Row
-termination_response_rows t =
+abbrev pub rows_of_termination_response : TerminateSubscriptionResponse → List Row
+rows_of_termination_response t =
     (RESPONSE_TIMESTAMP.now, option_and_then written_moment t.response_timestamp) ∷
     (REQUEST_MESSAGE_REF.now, option_and_then written_text t.request_message_ref) ∷
     (TERMINATION_RESPONSE_STATUS.now, written_list written_termination_status t.termination_response_status) ∷ []
 
 unfoldable pub written_termination_response : TerminateSubscriptionResponse → Data
-written_termination_response t = row_object (termination_response_rows t)
+written_termination_response t = row_object (rows_of_termination_response t)

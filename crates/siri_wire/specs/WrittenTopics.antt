@@ -9,12 +9,12 @@ use Rattle.siri_topic.specs.declared.topics.LineDirection.{LineDirection}
 use Rattle.siri_topic.specs.declared.topics.VehicleTopic.{VehicleTopic}
 use Rattle.siri_topic.specs.declared.topics.SituationTopic.{SituationTopic}
 use Rattle.siri_items.specs.declared.names.TheConstants.{DESTINATION_REF, DIRECTION_REF, LINE_REF, MONITORING_REF, OPERATOR_REF, START_TIME, STOP_POINT_REF, VEHICLE_REF}
-use Rattle.siri_items.specs.Writing.{Row, row_object, with_rows, some_object, written_list, written_text, written_number, written_moment, written_span}
+use Rattle.siri_items.specs.Writing.{Row, row_object, with_rows, object_unless_empty, written_list, written_text, written_number, written_moment, written_span}
 use Rattle.siri_wire.specs.declared.names.TheConstants.{LINES, LINE_DIRECTION, MAXIMUM_STOP_VISITS, PREVIEW_INTERVAL}
 
 -- StopMonitoringRequest
-abbrev pub stop_topic_rows : StopTopic → List Row
-stop_topic_rows t =
+abbrev pub rows_of_stop_topic : StopTopic → List Row
+rows_of_stop_topic t =
     (MONITORING_REF.now, written_text t.monitoring_ref) ∷
     (LINE_REF.now, option_and_then written_text t.line_ref) ∷
     (DIRECTION_REF.now, option_and_then written_text t.direction_ref) ∷
@@ -25,45 +25,45 @@ stop_topic_rows t =
     (MAXIMUM_STOP_VISITS.now, option_and_then written_number t.maximum_stop_visits) ∷ []
 
 unfoldable pub written_stop_topic : StopTopic → Data
-written_stop_topic t = row_object (stop_topic_rows t)
+written_stop_topic t = row_object (rows_of_stop_topic t)
 
 -- LineDirection
-abbrev pub line_direction_rows : LineDirection → List Row
-line_direction_rows l =
+abbrev pub rows_of_line_direction : LineDirection → List Row
+rows_of_line_direction l =
     (LINE_REF.now, written_text l.line_ref) ∷
     (DIRECTION_REF.now, option_and_then written_text l.direction_ref) ∷ []
 
 unfoldable pub written_line_direction : LineDirection → Option Data
-written_line_direction l = Some (row_object (line_direction_rows l))
+written_line_direction l = Some (row_object (rows_of_line_direction l))
 
 -- Lines, which isn't written where all lines are asked for
 unfoldable pub written_lines : List LineDirection → Option Data
-written_lines lines = some_object (with_rows no_members (
+written_lines lines = object_unless_empty (with_rows no_members (
     (LINE_DIRECTION.now, written_list written_line_direction lines) ∷ []))
 
 -- EstimatedTimetableRequest
-abbrev pub timetable_topic_rows : TimetableTopic → List Row
-timetable_topic_rows t =
+abbrev pub rows_of_timetable_topic : TimetableTopic → List Row
+rows_of_timetable_topic t =
     (PREVIEW_INTERVAL.now, option_and_then written_span t.preview_interval) ∷
     (OPERATOR_REF.now, option_and_then written_text t.operator_ref) ∷
     (LINES.now, written_lines t.lines) ∷ []
 
 unfoldable pub written_timetable_topic : TimetableTopic → Data
-written_timetable_topic t = row_object (timetable_topic_rows t)
+written_timetable_topic t = row_object (rows_of_timetable_topic t)
 
 -- VehicleMonitoringRequest
-abbrev pub vehicle_topic_rows : VehicleTopic → List Row
-vehicle_topic_rows t =
+abbrev pub rows_of_vehicle_topic : VehicleTopic → List Row
+rows_of_vehicle_topic t =
     (VEHICLE_REF.now, option_and_then written_text t.vehicle_ref) ∷
     (LINE_REF.now, option_and_then written_text t.line_ref) ∷
     (DIRECTION_REF.now, option_and_then written_text t.direction_ref) ∷ []
 
 unfoldable pub written_vehicle_topic : VehicleTopic → Data
-written_vehicle_topic t = row_object (vehicle_topic_rows t)
+written_vehicle_topic t = row_object (rows_of_vehicle_topic t)
 
 -- SituationExchangeRequest
-abbrev pub situation_topic_rows : SituationTopic → List Row
-situation_topic_rows t =
+abbrev pub rows_of_situation_topic : SituationTopic → List Row
+rows_of_situation_topic t =
     (LINE_REF.now, option_and_then written_text t.line_ref) ∷
     (STOP_POINT_REF.now, option_and_then written_text t.stop_point_ref) ∷
     (OPERATOR_REF.now, option_and_then written_text t.operator_ref) ∷
@@ -71,7 +71,7 @@ situation_topic_rows t =
     (START_TIME.now, option_and_then written_moment t.start_time) ∷ []
 
 unfoldable pub written_situation_topic : SituationTopic → Data
-written_situation_topic t = row_object (situation_topic_rows t)
+written_situation_topic t = row_object (rows_of_situation_topic t)
 
 -- a topic, by the table of its own service wherever it stands
 unfoldable pub written_topic : Topic → Data
@@ -80,5 +80,5 @@ written_topic (topic.Timetable t) = written_timetable_topic t
 written_topic (topic.Vehicle t) = written_vehicle_topic t
 written_topic (topic.Situation t) = written_situation_topic t
 
-abbrev pub spelled_topic : Topic → Option Data
-spelled_topic t = Some (written_topic t)
+abbrev pub topic_writing : Topic → Option Data
+topic_writing t = Some (written_topic t)

@@ -1,4 +1,4 @@
--- What several messages write: errors, marks, and values in spellings of their own (EN 15531-2).
+-- What several messages write: errors, marks, and values in forms of their own (EN 15531-2).
 use Rattle.std.specs.Prelude.{ℕ, List, [], ◌∷◌, Bool, true, false, Option, Some, None}
 use Rattle.std.specs.Fmt.{decimal}
 use Rattle.serde_json.specs.Data.{Data, string}
@@ -21,8 +21,8 @@ written_error text = Some (row_object (
     (OTHER_ERROR.now, Some (row_object ((ERROR_TEXT.now, written_text text) ∷ []))) ∷ []))
 
 -- a mark in Extensions
-abbrev pub mark_rows : Mark → List Row
-mark_rows m =
+abbrev pub rows_of_mark : Mark → List Row
+rows_of_mark m =
     (SUBSCRIPTION_REF.now, written_text m.subscription) ∷
     (NUMBER.now, written_number m.number) ∷
     (START.now, written_number m.start) ∷
@@ -30,4 +30,4 @@ mark_rows m =
     (PART.now, written_number m.part) ∷ []
 
 unfoldable pub written_mark : Mark → Option Data
-written_mark m = Some (row_object (mark_rows m))
+written_mark m = Some (row_object (rows_of_mark m))

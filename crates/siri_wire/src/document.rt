@@ -24,7 +24,7 @@ use serde_json::Value;
 use siri_base::Reason;
 use siri_items::ItemError;
 use siri_items::refusal::refuse;
-use siri_items::rows::needed;
+use siri_items::rows::required_row;
 use siri_items::rules::Table;
 use siri_json::{Path, TreeError, read_tree};
 use siri_messages::Message;
@@ -64,51 +64,61 @@ fn message_at(alloc: Global, tree: &Value, kind: Kind) -> Result<Message, ItemEr
     let name = kind.name();
     Ok(match kind {
         Kind::ServiceRequest => {
-            Message::ServiceRequest(needed::<ServiceRequestTable>(alloc, tree, name)?)
+            Message::ServiceRequest(required_row::<ServiceRequestTable>(alloc, tree, name)?)
         }
         Kind::ServiceDelivery => {
-            Message::ServiceDelivery(needed::<ServiceDeliveryTable>(alloc, tree, name)?)
+            Message::ServiceDelivery(required_row::<ServiceDeliveryTable>(alloc, tree, name)?)
         }
         Kind::SubscriptionRequest => {
-            Message::SubscriptionRequest(needed::<SubscriptionRequestTable>(alloc, tree, name)?)
+            Message::SubscriptionRequest(required_row::<SubscriptionRequestTable>(
+                alloc, tree, name,
+            )?)
         }
         Kind::SubscriptionResponse => {
-            Message::SubscriptionResponse(needed::<SubscriptionResponseTable>(alloc, tree, name)?)
+            Message::SubscriptionResponse(required_row::<SubscriptionResponseTable>(
+                alloc, tree, name,
+            )?)
         }
         Kind::TerminateSubscriptionRequest => {
-            Message::TerminateSubscriptionRequest(needed::<TerminateSubscriptionRequestTable>(
+            Message::TerminateSubscriptionRequest(required_row::<TerminateSubscriptionRequestTable>(
                 alloc, tree, name,
             )?)
         }
         Kind::TerminateSubscriptionResponse => {
-            Message::TerminateSubscriptionResponse(needed::<TerminateSubscriptionResponseTable>(
+            Message::TerminateSubscriptionResponse(required_row::<
+                TerminateSubscriptionResponseTable,
+            >(alloc, tree, name)?)
+        }
+        Kind::DataReadyNotification => {
+            Message::DataReadyNotification(required_row::<DataReadyNotificationTable>(
                 alloc, tree, name,
             )?)
         }
-        Kind::DataReadyNotification => {
-            Message::DataReadyNotification(needed::<DataReadyNotificationTable>(alloc, tree, name)?)
-        }
         Kind::DataReadyAcknowledgement => {
-            Message::DataReadyAcknowledgement(needed::<DataReadyAcknowledgementTable>(
+            Message::DataReadyAcknowledgement(required_row::<DataReadyAcknowledgementTable>(
                 alloc, tree, name,
             )?)
         }
         Kind::DataSupplyRequest => {
-            Message::DataSupplyRequest(needed::<DataSupplyRequestTable>(alloc, tree, name)?)
+            Message::DataSupplyRequest(required_row::<DataSupplyRequestTable>(alloc, tree, name)?)
         }
         Kind::DataReceivedAcknowledgement => {
-            Message::DataReceivedAcknowledgement(needed::<DataReceivedAcknowledgementTable>(
+            Message::DataReceivedAcknowledgement(required_row::<DataReceivedAcknowledgementTable>(
                 alloc, tree, name,
             )?)
         }
         Kind::CheckStatusRequest => {
-            Message::CheckStatusRequest(needed::<CheckStatusRequestTable>(alloc, tree, name)?)
+            Message::CheckStatusRequest(required_row::<CheckStatusRequestTable>(alloc, tree, name)?)
         }
         Kind::CheckStatusResponse => {
-            Message::CheckStatusResponse(needed::<CheckStatusResponseTable>(alloc, tree, name)?)
+            Message::CheckStatusResponse(required_row::<CheckStatusResponseTable>(
+                alloc, tree, name,
+            )?)
         }
         Kind::HeartbeatNotification => {
-            Message::HeartbeatNotification(needed::<HeartbeatNotificationTable>(alloc, tree, name)?)
+            Message::HeartbeatNotification(required_row::<HeartbeatNotificationTable>(
+                alloc, tree, name,
+            )?)
         }
     })
 }
@@ -135,7 +145,7 @@ fn root(alloc: Global, tree: &Value) -> Result<Message, ItemError>
     ensures { Gives result (root (view tree.now)) }
 {
     match tree {
-        Value::Object(_) => needed::<SiriTable>(alloc, tree, names::SIRI),
+        Value::Object(_) => required_row::<SiriTable>(alloc, tree, names::SIRI),
         _ => refuse(alloc, Reason::WrongKind),
     }
 }
@@ -152,7 +162,7 @@ fn message_of(alloc: Global, document: &[u8]) -> Result<Message, ItemError>
     }
 }
 
-/// The message that a document spells (EN 15531-2), or the first refusal: `TooLong` above 8,388,608 bytes, `NotJson`,
+/// The message that a document is read as (EN 15531-2), or the first refusal: `TooLong` above 8,388,608 bytes, `NotJson`,
 /// `WrongKind` where it is no object, `Missing` and `WrongKind` at Siri, `UnknownMessage` at Siri where it doesn't hold
 /// exactly one message, and then what the message's table is refused for, row by row, depth first.
 pub fn decode(alloc: Global, bytes: &[u8]) -> Result<Message, DecodeError>

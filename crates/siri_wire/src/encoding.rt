@@ -49,9 +49,9 @@ fn message_value(alloc: Global, message: &Message) -> Result<Value, OutOfMemory>
 {
     let body = body_value(alloc, message)?;
     let mut named = Members::new(alloc);
-    named.made(message.kind(), Some(body))?;
+    named.put(message.kind(), Some(body))?;
     let mut document = Members::new(alloc);
-    document.made(names::SIRI, Some(named.object()))?;
+    document.put(names::SIRI, Some(named.object()))?;
     Ok(document.object())
 }
 
@@ -60,7 +60,7 @@ fn message_value(alloc: Global, message: &Message) -> Result<Value, OutOfMemory>
 /// always a string; lists are lists. What is absent isn't written, nor a list or an object that need not be there and
 /// would be empty. Each journey stands in an EstimatedJourneyVersionFrame of its own, which carries its RecordedAtTime.
 /// Topics, items and removals of another service than their list's are written by the tables of their own service.
-#[tactic(auto, using(crate::proofs::PlainMessages::message_plain), unfolding(crate::specs::Canonical::canonical))]
+#[tactic(auto, using(crate::proofs::NoFloatMessages::message_no_float), unfolding(crate::specs::Canonical::canonical))]
 pub fn encode(alloc: Global, message: &Message) -> Result<Vec<u8>, OutOfMemory>
     ensures { IfOk result (λ text. text.items ≡ canonical message.now) }
 {

@@ -7,10 +7,10 @@ ghost use Rattle.siri_wire.specs.Deliveries.{visit_item, vehicle_item, situation
 
 use crate::names;
 use crate::read_error::error_condition;
-use crate::read_frames::framed_journeys;
+use crate::read_frames::journeys_of_frames;
 use crate::read_parts::{
-    JourneyExtensionsTable, MOST_ENTRIES, SituationExtensionsTable, Standing, StandingTable,
-    or_none, read_heading,
+    JourneyExtensionsTable, MOST_ENTRIES, RoundPosition, RoundPositionTable,
+    SituationExtensionsTable, extensions_or_empty, read_heading,
 };
 use crate::read_removals::{VehicleCancellationTable, VisitCancellationTable};
 use serde_json::Value;
@@ -73,7 +73,7 @@ impl Table for StopMonitoringDeliveryTable {
     #[tactic(auto, unfolding(crate::specs::Deliveries::stop_monitoring_delivery))]
     fn read_rows(alloc: Global, tree: &Value) -> Result<FunctionalDelivery, ItemError> {
         let heading = read_heading(alloc, tree)?;
-        let extensions = row::<StandingTable>(alloc, tree, names::EXTENSIONS)?;
+        let extensions = row::<RoundPositionTable>(alloc, tree, names::EXTENSIONS)?;
         let items = list::<VisitItemTable>(alloc, tree, names::MONITORED_STOP_VISIT, MOST_ENTRIES)?;
         let removals = list::<VisitCancellationTable>(
             alloc,
@@ -81,8 +81,8 @@ impl Table for StopMonitoringDeliveryTable {
             names::MONITORED_STOP_VISIT_CANCELLATION,
             MOST_ENTRIES,
         )?;
-        let standing = extensions.unwrap_or(Standing::outside());
-        Ok(heading.delivery(standing, items, removals))
+        let round_position = extensions.unwrap_or(RoundPosition::no_round());
+        Ok(heading.delivery(round_position, items, removals))
     }
 }
 
@@ -99,9 +99,13 @@ impl Table for EstimatedTimetableDeliveryTable {
     fn read_rows(alloc: Global, tree: &Value) -> Result<FunctionalDelivery, ItemError> {
         let heading = read_heading(alloc, tree)?;
         let extensions = row::<JourneyExtensionsTable>(alloc, tree, names::EXTENSIONS)?;
-        let items = framed_journeys(alloc, tree)?;
-        let extended = or_none(alloc, extensions);
-        Ok(heading.delivery(extended.standing, items, extended.removals))
+        let items = journeys_of_frames(alloc, tree)?;
+        let delivery_extensions = extensions_or_empty(alloc, extensions);
+        Ok(heading.delivery(
+            delivery_extensions.round_position,
+            items,
+            delivery_extensions.removals,
+        ))
     }
 }
 
@@ -116,7 +120,7 @@ impl Table for VehicleMonitoringDeliveryTable {
     #[tactic(auto, unfolding(crate::specs::Deliveries::vehicle_monitoring_delivery))]
     fn read_rows(alloc: Global, tree: &Value) -> Result<FunctionalDelivery, ItemError> {
         let heading = read_heading(alloc, tree)?;
-        let extensions = row::<StandingTable>(alloc, tree, names::EXTENSIONS)?;
+        let extensions = row::<RoundPositionTable>(alloc, tree, names::EXTENSIONS)?;
         let items = list::<VehicleItemTable>(alloc, tree, names::VEHICLE_ACTIVITY, MOST_ENTRIES)?;
         let removals = list::<VehicleCancellationTable>(
             alloc,
@@ -124,8 +128,8 @@ impl Table for VehicleMonitoringDeliveryTable {
             names::VEHICLE_ACTIVITY_CANCELLATION,
             MOST_ENTRIES,
         )?;
-        let standing = extensions.unwrap_or(Standing::outside());
-        Ok(heading.delivery(standing, items, removals))
+        let round_position = extensions.unwrap_or(RoundPosition::no_round());
+        Ok(heading.delivery(round_position, items, removals))
     }
 }
 
@@ -149,8 +153,12 @@ impl Table for SituationExchangeDeliveryTable {
             names::PT_SITUATION_ELEMENT,
             MOST_ENTRIES,
         )?;
-        let extended = or_none(alloc, extensions);
-        Ok(heading.delivery(extended.standing, items, extended.removals))
+        let delivery_extensions = extensions_or_empty(alloc, extensions);
+        Ok(heading.delivery(
+            delivery_extensions.round_position,
+            items,
+            delivery_extensions.removals,
+        ))
     }
 }
 

@@ -3,7 +3,7 @@ ghost use Rattle.std.specs.Prelude.{◌≡◌, map, IfOk};
 ghost use Rattle.serde_json.specs.Data.{Data};
 ghost use Rattle.serde_json.specs.View.{view};
 ghost use Rattle.siri_items.specs.Refusals.{Gives};
-ghost use Rattle.siri_wire.specs.Frames.{framed_journey, journeys, frame, together, frames_of, framed_journeys};
+ghost use Rattle.siri_wire.specs.Frames.{journey_of_frame, journeys, frame, concat_frames, frames_of, journeys_of_frames};
 
 use crate::names;
 use crate::read_parts::MOST_ENTRIES;
@@ -20,23 +20,23 @@ use std::alloc::Global;
 /// A frame's journeys (EN 15531-3, EstimatedJourneyVersionFrame), each with its own RecordedAtTime or the frame's.
 struct FrameTable;
 
-fn framed_journey(frame: &Option<Moment>, mut journey: Journey) -> Item
-    ensures { result ≡ framed_journey frame.now journey }
+fn journey_of_frame(frame: &Option<Moment>, mut journey: Journey) -> Item
+    ensures { result ≡ journey_of_frame frame.now journey }
 {
     journey.recorded_at_time = journey.recorded_at_time.or(*frame);
     Item::Journey(journey)
 }
 
-fn framed(
+fn journeys_of_frame(
     alloc: Global,
     frame: &Option<Moment>,
     journeys: List<Journey>,
 ) -> Result<List<Item>, OutOfMemory>
-    ensures { IfOk result (λ items. items ≡ map (framed_journey frame.now) journeys) }
+    ensures { IfOk result (λ items. items ≡ map (journey_of_frame frame.now) journeys) }
 {
     let mut items = Vec::new(alloc);
     for journey in journeys.into_vec() {
-        items.push(framed_journey(frame, journey))?;
+        items.push(journey_of_frame(frame, journey))?;
     }
     Ok(List::of(items))
 }
@@ -64,12 +64,12 @@ impl Table for FrameTable {
     fn read_rows(alloc: Global, tree: &Value) -> Result<List<Item>, ItemError> {
         let recorded_at_time = row::<MomentRule>(alloc, tree, item_names::RECORDED_AT_TIME)?;
         let journeys = journeys(alloc, tree)?;
-        Ok(framed(alloc, &recorded_at_time, journeys)?)
+        Ok(journeys_of_frame(alloc, &recorded_at_time, journeys)?)
     }
 }
 
-fn together(alloc: Global, frames: List<List<Item>>) -> Result<List<Item>, OutOfMemory>
-    ensures { IfOk result (λ items. items ≡ together frames) }
+fn concat_frames(alloc: Global, frames: List<List<Item>>) -> Result<List<Item>, OutOfMemory>
+    ensures { IfOk result (λ items. items ≡ concat_frames frames) }
 {
     let mut items = Vec::new(alloc);
     for frame in frames.into_vec() {
@@ -83,7 +83,7 @@ fn frames_of(alloc: Global, value: &Value) -> Result<List<Item>, ItemError>
     ensures { Gives result (frames_of (view value.now)) }
 {
     let frames = list_of::<FrameTable>(alloc, value)?;
-    let items = together(alloc, frames)?;
+    let items = concat_frames(alloc, frames)?;
     if items.len() > MOST_ENTRIES {
         return refuse(alloc, Reason::TooMany);
     }
@@ -92,9 +92,9 @@ fn frames_of(alloc: Global, value: &Value) -> Result<List<Item>, ItemError>
 
 /// The journeys of all frames of a delivery, at most 20,000: otherwise `TooMany` at EstimatedJourneyVersionFrame, after
 /// what its entries are refused for.
-#[tactic(auto, unfolding(crate::specs::Frames::framed_journeys))]
-pub fn framed_journeys(alloc: Global, tree: &Value) -> Result<List<Item>, ItemError>
-    ensures { Gives result (framed_journeys (view tree.now)) }
+#[tactic(auto, unfolding(crate::specs::Frames::journeys_of_frames))]
+pub fn journeys_of_frames(alloc: Global, tree: &Value) -> Result<List<Item>, ItemError>
+    ensures { Gives result (journeys_of_frames (view tree.now)) }
 {
     match member(tree, names::ESTIMATED_JOURNEY_VERSION_FRAME) {
         Some(value) => below(

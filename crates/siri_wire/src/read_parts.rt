@@ -3,7 +3,7 @@ ghost use Rattle.std.specs.Prelude.{◌≡◌};
 ghost use Rattle.serde_json.specs.Data.{Data};
 ghost use Rattle.serde_json.specs.View.{view};
 ghost use Rattle.siri_items.specs.Refusals.{Gives};
-ghost use Rattle.siri_wire.specs.Parts.{heading, outside, within_round, standing, extended, or_none, delivery_of};
+ghost use Rattle.siri_wire.specs.Parts.{heading, no_round, within_round, round_position, delivery_extensions, extensions_or_empty, delivery_of};
 ghost use Rattle.siri_wire.specs.Removals.{removed_journey, removed_situation};
 
 use crate::names;
@@ -13,7 +13,7 @@ use crate::read_supplies::lacks;
 use serde_json::Value;
 use siri_base::{List, Moment, Name, Text};
 use siri_items::ItemError;
-use siri_items::rows::{list, needed, row};
+use siri_items::rows::{list, required_row, row};
 use siri_items::rules::{FlagRule, MomentRule, NameRule, NumberRule, Table};
 use siri_messages::FunctionalDelivery;
 use siri_records::{Item, Key};
@@ -34,7 +34,7 @@ pub struct Heading {
 
 /// Where in a round a delivery stands: all three numbers are there, or none is.
 #[derive(Clone, Copy)]
-pub struct Standing {
+pub struct RoundPosition {
     pub start: Option<u64>,
     pub round: Option<u64>,
     pub part: Option<u64>,
@@ -42,8 +42,8 @@ pub struct Standing {
 
 /// The Extensions of a delivery of journeys or situations.
 #[derive(Drop)]
-pub struct Extended {
-    pub standing: Standing,
+pub struct DeliveryExtensions {
+    pub round_position: RoundPosition,
     pub removals: List<Key>,
 }
 
@@ -65,11 +65,11 @@ impl Heading {
     /// The delivery of these items and removals.
     pub fn delivery(
         self,
-        standing: Standing,
+        round_position: RoundPosition,
         items: List<Item>,
         removals: List<Key>,
     ) -> FunctionalDelivery
-        ensures { result ≡ delivery_of self standing items removals }
+        ensures { result ≡ delivery_of self round_position items removals }
     {
         FunctionalDelivery {
             response_timestamp: self.response_timestamp,
@@ -77,21 +77,21 @@ impl Heading {
             subscription_ref: self.subscription_ref,
             status: self.status,
             error_condition: self.error_condition,
-            start: standing.start,
-            round: standing.round,
-            part: standing.part,
+            start: round_position.start,
+            round: round_position.round,
+            part: round_position.part,
             items,
             removals,
         }
     }
 }
 
-impl Standing {
+impl RoundPosition {
     /// In no round.
-    pub fn outside() -> Standing
-        ensures { result ≡ outside }
+    pub fn no_round() -> RoundPosition
+        ensures { result ≡ no_round }
     {
-        Standing {
+        RoundPosition {
             start: None,
             round: None,
             part: None,
@@ -100,29 +100,29 @@ impl Standing {
 }
 
 #[tactic(auto, unfolding(crate::specs::Parts::within_round))]
-fn within_round(alloc: Global, tree: &Value) -> Result<Standing, ItemError>
+fn within_round(alloc: Global, tree: &Value) -> Result<RoundPosition, ItemError>
     ensures { Gives result (within_round (view tree.now)) }
 {
-    Ok(Standing {
-        start: Some(needed::<NumberRule>(alloc, tree, names::START)?),
-        round: Some(needed::<NumberRule>(alloc, tree, names::ROUND)?),
-        part: Some(needed::<NumberRule>(alloc, tree, names::PART)?),
+    Ok(RoundPosition {
+        start: Some(required_row::<NumberRule>(alloc, tree, names::START)?),
+        round: Some(required_row::<NumberRule>(alloc, tree, names::ROUND)?),
+        part: Some(required_row::<NumberRule>(alloc, tree, names::PART)?),
     })
 }
 
 /// Where in a round a delivery of visits or vehicles stands (this profile's own): where Round stands, Start and Part
 /// have to; where it doesn't, they aren't looked at.
-pub struct StandingTable;
+pub struct RoundPositionTable;
 
-impl Table for StandingTable {
-    type Out = Standing;
+impl Table for RoundPositionTable {
+    type Out = RoundPosition;
 
-    ghost rows = { standing };
+    ghost rows = { round_position };
 
-    #[tactic(auto, unfolding(crate::specs::Parts::standing))]
-    fn read_rows(alloc: Global, tree: &Value) -> Result<Standing, ItemError> {
+    #[tactic(auto, unfolding(crate::specs::Parts::round_position))]
+    fn read_rows(alloc: Global, tree: &Value) -> Result<RoundPosition, ItemError> {
         if lacks(tree, names::ROUND) {
-            return Ok(Standing::outside());
+            return Ok(RoundPosition::no_round());
         }
         within_round(alloc, tree)
     }
@@ -132,14 +132,14 @@ impl Table for StandingTable {
 pub struct JourneyExtensionsTable;
 
 impl Table for JourneyExtensionsTable {
-    type Out = Extended;
+    type Out = DeliveryExtensions;
 
-    ghost rows = { extended removed_journey };
+    ghost rows = { delivery_extensions removed_journey };
 
-    #[tactic(auto, unfolding(crate::specs::Parts::extended))]
-    fn read_rows(alloc: Global, tree: &Value) -> Result<Extended, ItemError> {
-        Ok(Extended {
-            standing: StandingTable::read_rows(alloc, tree)?,
+    #[tactic(auto, unfolding(crate::specs::Parts::delivery_extensions))]
+    fn read_rows(alloc: Global, tree: &Value) -> Result<DeliveryExtensions, ItemError> {
+        Ok(DeliveryExtensions {
+            round_position: RoundPositionTable::read_rows(alloc, tree)?,
             removals: list::<RemovedJourneyTable>(alloc, tree, names::REMOVED, MOST_ENTRIES)?,
         })
     }
@@ -149,27 +149,30 @@ impl Table for JourneyExtensionsTable {
 pub struct SituationExtensionsTable;
 
 impl Table for SituationExtensionsTable {
-    type Out = Extended;
+    type Out = DeliveryExtensions;
 
-    ghost rows = { extended removed_situation };
+    ghost rows = { delivery_extensions removed_situation };
 
-    #[tactic(auto, unfolding(crate::specs::Parts::extended))]
-    fn read_rows(alloc: Global, tree: &Value) -> Result<Extended, ItemError> {
-        Ok(Extended {
-            standing: StandingTable::read_rows(alloc, tree)?,
+    #[tactic(auto, unfolding(crate::specs::Parts::delivery_extensions))]
+    fn read_rows(alloc: Global, tree: &Value) -> Result<DeliveryExtensions, ItemError> {
+        Ok(DeliveryExtensions {
+            round_position: RoundPositionTable::read_rows(alloc, tree)?,
             removals: list::<RemovedSituationTable>(alloc, tree, names::REMOVED, MOST_ENTRIES)?,
         })
     }
 }
 
 /// Extensions that are absent tell of no round, and of nothing removed.
-pub fn or_none(alloc: Global, extensions: Option<Extended>) -> Extended
-    ensures { result ≡ or_none extensions }
+pub fn extensions_or_empty(
+    alloc: Global,
+    extensions: Option<DeliveryExtensions>,
+) -> DeliveryExtensions
+    ensures { result ≡ extensions_or_empty extensions }
 {
     match extensions {
-        Some(extended) => extended,
-        None => Extended {
-            standing: Standing::outside(),
+        Some(delivery_extensions) => delivery_extensions,
+        None => DeliveryExtensions {
+            round_position: RoundPosition::no_round(),
             removals: List::new(alloc),
         },
     }

@@ -7,7 +7,7 @@ ghost use Rattle.siri_wire.specs.Removals.{visit_cancellation, vehicle_cancellat
 
 use crate::names;
 use serde_json::Value;
-use siri_items::rows::{needed, row};
+use siri_items::rows::{required_row, row};
 use siri_items::rules::{NameRule, Table};
 use siri_items::{ItemError, names as item_names};
 use siri_records::Key;
@@ -24,8 +24,8 @@ impl Table for VisitCancellationTable {
     #[tactic(auto, unfolding(crate::specs::Removals::visit_cancellation))]
     fn read_rows(alloc: Global, tree: &Value) -> Result<Key, ItemError> {
         Ok(Key::Visit {
-            item: needed::<NameRule>(alloc, tree, names::ITEM_REF)?,
-            monitoring: needed::<NameRule>(alloc, tree, item_names::MONITORING_REF)?,
+            item: required_row::<NameRule>(alloc, tree, names::ITEM_REF)?,
+            monitoring: required_row::<NameRule>(alloc, tree, item_names::MONITORING_REF)?,
         })
     }
 }
@@ -41,7 +41,7 @@ impl Table for VehicleCancellationTable {
     #[tactic(auto, unfolding(crate::specs::Removals::vehicle_cancellation))]
     fn read_rows(alloc: Global, tree: &Value) -> Result<Key, ItemError> {
         Ok(Key::Vehicle {
-            vehicle: needed::<NameRule>(alloc, tree, names::ITEM_REF)?,
+            vehicle: required_row::<NameRule>(alloc, tree, names::ITEM_REF)?,
         })
     }
 }
@@ -57,10 +57,10 @@ impl Table for RemovedJourneyTable {
     #[tactic(auto, unfolding(crate::specs::Removals::removed_journey))]
     fn read_rows(alloc: Global, tree: &Value) -> Result<Key, ItemError> {
         Ok(Key::Journey {
-            line: needed::<NameRule>(alloc, tree, item_names::LINE_REF)?,
+            line: required_row::<NameRule>(alloc, tree, item_names::LINE_REF)?,
             direction: row::<NameRule>(alloc, tree, item_names::DIRECTION_REF)?,
             frame: row::<NameRule>(alloc, tree, item_names::DATA_FRAME_REF)?,
-            journey: needed::<NameRule>(alloc, tree, item_names::DATED_VEHICLE_JOURNEY_REF)?,
+            journey: required_row::<NameRule>(alloc, tree, item_names::DATED_VEHICLE_JOURNEY_REF)?,
         })
     }
 }
@@ -77,7 +77,7 @@ impl Table for RemovedSituationTable {
     fn read_rows(alloc: Global, tree: &Value) -> Result<Key, ItemError> {
         Ok(Key::Situation {
             participant: row::<NameRule>(alloc, tree, item_names::PARTICIPANT_REF)?,
-            number: needed::<NameRule>(alloc, tree, item_names::SITUATION_NUMBER)?,
+            number: required_row::<NameRule>(alloc, tree, item_names::SITUATION_NUMBER)?,
         })
     }
 }

@@ -4,7 +4,7 @@ ghost use Rattle.std.specs.Prelude.{◌≡◌};
 ghost use Rattle.serde_json.specs.Data.{Data};
 ghost use Rattle.serde_json.specs.View.{view};
 ghost use Rattle.siri_items.specs.Refusals.{Gives};
-ghost use Rattle.siri_wire.specs.Requests.{service_request_rows, asks_nothing, service_request};
+ghost use Rattle.siri_wire.specs.Requests.{read_service_request_rows, asks_nothing, service_request};
 
 use crate::names;
 use crate::read_topics::{
@@ -21,9 +21,9 @@ use std::alloc::Global;
 
 const MOST_TOPICS: usize = 100;
 
-#[tactic(auto, unfolding(crate::specs::Requests::service_request_rows))]
-fn service_request_rows(alloc: Global, tree: &Value) -> Result<ServiceRequest, ItemError>
-    ensures { Gives result (service_request_rows (view tree.now)) }
+#[tactic(auto, unfolding(crate::specs::Requests::read_service_request_rows))]
+fn read_service_request_rows(alloc: Global, tree: &Value) -> Result<ServiceRequest, ItemError>
+    ensures { Gives result (read_service_request_rows (view tree.now)) }
 {
     Ok(ServiceRequest {
         request_timestamp: row::<MomentRule>(alloc, tree, names::REQUEST_TIMESTAMP)?,
@@ -76,7 +76,7 @@ impl Table for ServiceRequestTable {
 
     #[tactic(auto, unfolding(crate::specs::Requests::service_request))]
     fn read_rows(alloc: Global, tree: &Value) -> Result<ServiceRequest, ItemError> {
-        let request = service_request_rows(alloc, tree)?;
+        let request = read_service_request_rows(alloc, tree)?;
         if asks_nothing(&request) {
             return refuse(alloc, Reason::NotCarried);
         }

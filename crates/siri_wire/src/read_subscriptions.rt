@@ -4,8 +4,8 @@ ghost use Rattle.std.specs.Prelude.{◌≡◌, ◌+◌, pos, map, IsTrue, Option
 ghost use Rattle.serde_json.specs.Data.{Data};
 ghost use Rattle.serde_json.specs.View.{view};
 ghost use Rattle.siri_items.specs.Refusals.{Gives, is_key};
-ghost use Rattle.siri_items.specs.Rules.{at_most, row, inside, present, entries_from, list_of, list, table};
-ghost use Rattle.siri_wire.specs.Subscriptions.{topic_of, slack_of, is_fetched, subscription, heartbeat_interval, wanted_rows, wants_nothing, wanted, subscription_request, response_status, subscription_response};
+ghost use Rattle.siri_items.specs.Rules.{at_most, row, inside, required_value, entries_from, list_of, list, table};
+ghost use Rattle.siri_wire.specs.Subscriptions.{topic_of, slack_of, is_fetched, subscription, heartbeat_interval, read_wanted_rows, wants_nothing, wanted, subscription_request, response_status, subscription_response};
 ghost use Rattle.siri_records.specs.declared.item.Service.TheVariants as service;
 
 use crate::names;
@@ -18,9 +18,9 @@ use serde_json::Value;
 use siri_base::{List, Name, Reason, Span, Text};
 use siri_items::ItemError;
 use siri_items::refusal::{below, below_place, refuse};
-use siri_items::rows::{entry_count, inside, list, needed, row};
+use siri_items::rows::{entry_count, inside, list, required_row, row};
 use siri_items::rules::{
-    FlagRule, LengthRule, MomentRule, NameRule, NumberRule, Rule, Table, TextRule,
+    FlagRule, MomentRule, NameRule, NonNegativeSpanRule, NumberRule, Rule, Table, TextRule,
 };
 use siri_json::{ObjectOf, entry_list, member, object_of};
 use siri_messages::{ResponseStatus, SubscriptionRequest, SubscriptionResponse};
@@ -56,16 +56,16 @@ fn topic_of(alloc: Global, tree: &Value, service: Service) -> Result<Topic, Item
 {
     match service {
         Service::Stop => {
-            needed::<SubscribedStopTable>(alloc, tree, names::STOP_MONITORING_REQUEST)
+            required_row::<SubscribedStopTable>(alloc, tree, names::STOP_MONITORING_REQUEST)
         }
         Service::Timetable => {
-            needed::<TimetableTopicTable>(alloc, tree, names::ESTIMATED_TIMETABLE_REQUEST)
+            required_row::<TimetableTopicTable>(alloc, tree, names::ESTIMATED_TIMETABLE_REQUEST)
         }
         Service::Vehicle => {
-            needed::<VehicleTopicTable>(alloc, tree, names::VEHICLE_MONITORING_REQUEST)
+            required_row::<VehicleTopicTable>(alloc, tree, names::VEHICLE_MONITORING_REQUEST)
         }
         Service::Situation => {
-            needed::<SituationTopicTable>(alloc, tree, names::SITUATION_EXCHANGE_REQUEST)
+            required_row::<SituationTopicTable>(alloc, tree, names::SITUATION_EXCHANGE_REQUEST)
         }
     }
 }
@@ -77,7 +77,7 @@ fn slack_of(alloc: Global, tree: &Value, service: Service) -> Result<Option<Span
     match service {
         Service::Situation => Ok(None),
         Service::Stop | Service::Timetable | Service::Vehicle => {
-            row::<LengthRule>(alloc, tree, names::CHANGE_BEFORE_UPDATES)
+            row::<NonNegativeSpanRule>(alloc, tree, names::CHANGE_BEFORE_UPDATES)
         }
     }
 }
@@ -110,8 +110,8 @@ fn subscription(
     ensures { Gives result (subscription service requestor.now (view tree.now)) }
 {
     let subscriber = subscriber_or(alloc, tree, requestor)?;
-    let identifier = needed::<NameRule>(alloc, tree, names::SUBSCRIPTION_IDENTIFIER)?;
-    let termination = needed::<MomentRule>(alloc, tree, names::INITIAL_TERMINATION_TIME)?;
+    let identifier = required_row::<NameRule>(alloc, tree, names::SUBSCRIPTION_IDENTIFIER)?;
+    let termination = required_row::<MomentRule>(alloc, tree, names::INITIAL_TERMINATION_TIME)?;
     let topic = topic_of(alloc, tree, service)?;
     let incremental = row::<FlagRule>(alloc, tree, names::INCREMENTAL_UPDATES)?;
     let slack = slack_of(alloc, tree, service)?;
@@ -127,14 +127,14 @@ fn subscription(
     })
 }
 
-#[tactic(auto, unfolding(siri_items::specs::Rules::present, siri_items::specs::Rules::table))]
+#[tactic(auto, unfolding(siri_items::specs::Rules::required_value, siri_items::specs::Rules::table))]
 fn element(
     alloc: Global,
     value: &Value,
     service: Service,
     requestor: &Option<Name>,
 ) -> Result<Subscription, ItemError>
-    ensures { Gives result (present (table (subscription service requestor.now)) (view value.now)) }
+    ensures { Gives result (required_value (table (subscription service requestor.now)) (view value.now)) }
 {
     match object_of(value) {
         ObjectOf::Is(tree) => subscription(alloc, tree, service, requestor),
@@ -208,7 +208,7 @@ pub struct Wanted {
 fn heartbeat_interval(alloc: Global, tree: &Value) -> Result<Option<Span>, ItemError>
     ensures { Gives result (heartbeat_interval (view tree.now)) }
 {
-    row_inside::<LengthRule>(
+    row_inside::<NonNegativeSpanRule>(
         alloc,
         tree,
         names::SUBSCRIPTION_CONTEXT,
@@ -216,9 +216,13 @@ fn heartbeat_interval(alloc: Global, tree: &Value) -> Result<Option<Span>, ItemE
     )
 }
 
-#[tactic(auto, unfolding(crate::specs::Subscriptions::wanted_rows))]
-fn wanted_rows(alloc: Global, tree: &Value, requestor: &Option<Name>) -> Result<Wanted, ItemError>
-    ensures { Gives result (wanted_rows requestor.now (view tree.now)) }
+#[tactic(auto, unfolding(crate::specs::Subscriptions::read_wanted_rows))]
+fn read_wanted_rows(
+    alloc: Global,
+    tree: &Value,
+    requestor: &Option<Name>,
+) -> Result<Wanted, ItemError>
+    ensures { Gives result (read_wanted_rows requestor.now (view tree.now)) }
 {
     Ok(Wanted {
         heartbeat_interval: heartbeat_interval(alloc, tree)?,
@@ -272,7 +276,7 @@ pub fn read_wanted(
 ) -> Result<Wanted, ItemError>
     ensures { Gives result (wanted requestor.now (view tree.now)) }
 {
-    let found = wanted_rows(alloc, tree, requestor)?;
+    let found = read_wanted_rows(alloc, tree, requestor)?;
     if wants_nothing(&found) {
         return refuse(alloc, Reason::NotCarried);
     }
@@ -292,7 +296,11 @@ impl Table for SubscriptionRequestTable {
     fn read_rows(alloc: Global, tree: &Value) -> Result<SubscriptionRequest, ItemError> {
         let request_timestamp = row::<MomentRule>(alloc, tree, names::REQUEST_TIMESTAMP)?;
         let requestor_ref = row::<NameRule>(alloc, tree, names::REQUESTOR_REF)?;
-        let message_identifier = needed::<NumberRule>(alloc, tree, names::MESSAGE_IDENTIFIER)?;
+        let message_identifier = required_row::<NumberRule>(
+            alloc,
+            tree,
+            names::MESSAGE_IDENTIFIER,
+        )?;
         let consumer_address = row::<NameRule>(alloc, tree, names::CONSUMER_ADDRESS)?;
         let wanted = read_wanted(alloc, tree, &requestor_ref)?;
         Ok(SubscriptionRequest {

@@ -3,7 +3,7 @@ ghost use Rattle.std.specs.Prelude.{◌≡◌, Result, Option};
 ghost use Rattle.serde_json.specs.Data.{Data};
 ghost use Rattle.serde_json.specs.View.{view};
 ghost use Rattle.siri_items.specs.Refusals.{Gives};
-ghost use Rattle.siri_wire.specs.Supplies.{mark, lacks, lacks_mark, mark_if_any, optional_mark, data_ready_notification, data_ready_acknowledgement, supply_rows, data_supply_request, data_received_acknowledgement};
+ghost use Rattle.siri_wire.specs.Supplies.{mark, lacks, lacks_mark, mark_if_any, optional_mark, data_ready_notification, data_ready_acknowledgement, read_supply_rows, data_supply_request, data_received_acknowledgement};
 
 use crate::names;
 use crate::read_error::error_condition;
@@ -11,7 +11,7 @@ use serde_json::Value;
 use siri_base::Reason;
 use siri_items::ItemError;
 use siri_items::refusal::{refuse, refuse_at};
-use siri_items::rows::{needed, row};
+use siri_items::rows::{required_row, row};
 use siri_items::rules::{FlagRule, MomentRule, NameRule, NumberRule, Rule, Table};
 use siri_json::{ObjectOf, TextOf, member, object_of, text_of};
 use siri_messages::{
@@ -30,12 +30,12 @@ impl Table for MarkTable {
 
     #[tactic(auto, unfolding(crate::specs::Supplies::mark))]
     fn read_rows(alloc: Global, tree: &Value) -> Result<Mark, ItemError> {
-        let subscription = needed::<NameRule>(alloc, tree, names::SUBSCRIPTION_REF)?;
+        let subscription = required_row::<NameRule>(alloc, tree, names::SUBSCRIPTION_REF)?;
         Ok(Mark {
-            number: needed::<NumberRule>(alloc, tree, names::NUMBER)?,
-            start: needed::<NumberRule>(alloc, tree, names::START)?,
-            round: needed::<NumberRule>(alloc, tree, names::ROUND)?,
-            part: needed::<NumberRule>(alloc, tree, names::PART)?,
+            number: required_row::<NumberRule>(alloc, tree, names::NUMBER)?,
+            start: required_row::<NumberRule>(alloc, tree, names::START)?,
+            round: required_row::<NumberRule>(alloc, tree, names::ROUND)?,
+            part: required_row::<NumberRule>(alloc, tree, names::PART)?,
             subscription,
         })
     }
@@ -107,7 +107,7 @@ impl Table for DataReadyNotificationTable {
         Ok(DataReadyNotification {
             request_timestamp: row::<MomentRule>(alloc, tree, names::REQUEST_TIMESTAMP)?,
             producer_ref: row::<NameRule>(alloc, tree, names::PRODUCER_REF)?,
-            extensions: needed::<MarkTable>(alloc, tree, names::EXTENSIONS)?,
+            extensions: required_row::<MarkTable>(alloc, tree, names::EXTENSIONS)?,
         })
     }
 }
@@ -130,15 +130,15 @@ impl Table for DataReadyAcknowledgementTable {
     }
 }
 
-#[tactic(auto, unfolding(crate::specs::Supplies::supply_rows))]
-fn supply_rows(alloc: Global, tree: &Value) -> Result<DataSupplyRequest, ItemError>
-    ensures { Gives result (supply_rows (view tree.now)) }
+#[tactic(auto, unfolding(crate::specs::Supplies::read_supply_rows))]
+fn read_supply_rows(alloc: Global, tree: &Value) -> Result<DataSupplyRequest, ItemError>
+    ensures { Gives result (read_supply_rows (view tree.now)) }
 {
     Ok(DataSupplyRequest {
         request_timestamp: row::<MomentRule>(alloc, tree, names::REQUEST_TIMESTAMP)?,
-        consumer_ref: needed::<NameRule>(alloc, tree, names::CONSUMER_REF)?,
+        consumer_ref: required_row::<NameRule>(alloc, tree, names::CONSUMER_REF)?,
         all_data: row::<FlagRule>(alloc, tree, names::ALL_DATA)?.unwrap_or(false),
-        extensions: needed::<MarkTable>(alloc, tree, names::EXTENSIONS)?,
+        extensions: required_row::<MarkTable>(alloc, tree, names::EXTENSIONS)?,
     })
 }
 
@@ -153,7 +153,7 @@ impl Table for DataSupplyRequestTable {
 
     #[tactic(auto, unfolding(crate::specs::Supplies::data_supply_request))]
     fn read_rows(alloc: Global, tree: &Value) -> Result<DataSupplyRequest, ItemError> {
-        let request = supply_rows(alloc, tree)?;
+        let request = read_supply_rows(alloc, tree)?;
         if request.all_data {
             return refuse_at(alloc, names::ALL_DATA, Reason::NotCarried);
         }

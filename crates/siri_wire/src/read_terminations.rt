@@ -11,7 +11,7 @@ use crate::read_error::error_condition;
 use crate::read_subscriber::subscriber_or;
 use serde_json::Value;
 use siri_items::ItemError;
-use siri_items::rows::{list, needed, row, some_list};
+use siri_items::rows::{list, nonempty_list, required_row, row};
 use siri_items::rules::{FlagRule, MomentRule, NameRule, NumberRule, Table};
 use siri_messages::{
     TerminateSubscriptionRequest, TerminateSubscriptionResponse, TerminationResponseStatus,
@@ -33,14 +33,18 @@ impl Table for TerminateSubscriptionRequestTable {
     fn read_rows(alloc: Global, tree: &Value) -> Result<TerminateSubscriptionRequest, ItemError> {
         let request_timestamp = row::<MomentRule>(alloc, tree, names::REQUEST_TIMESTAMP)?;
         let requestor_ref = row::<NameRule>(alloc, tree, names::REQUESTOR_REF)?;
-        let message_identifier = needed::<NumberRule>(alloc, tree, names::MESSAGE_IDENTIFIER)?;
+        let message_identifier = required_row::<NumberRule>(
+            alloc,
+            tree,
+            names::MESSAGE_IDENTIFIER,
+        )?;
         let subscriber_ref = subscriber_or(alloc, tree, &requestor_ref)?;
         Ok(TerminateSubscriptionRequest {
             request_timestamp,
             requestor_ref,
             message_identifier,
             subscriber_ref,
-            subscription_ref: some_list::<NameRule>(
+            subscription_ref: nonempty_list::<NameRule>(
                 alloc,
                 tree,
                 names::SUBSCRIPTION_REF,

@@ -4,31 +4,31 @@ ghost use Rattle.std.specs.Prelude.{◌≡◌};
 ghost use Rattle.serde_json.specs.Data.{Data};
 ghost use Rattle.serde_json.specs.View.{view};
 ghost use Rattle.siri_items.specs.Refusals.{Gives};
-ghost use Rattle.siri_wire.specs.Topics.{stop_rows, stop_topic, subscribed_stop_topic, line_direction, timetable_topic, vehicle_topic, situation_topic};
+ghost use Rattle.siri_wire.specs.Topics.{read_stop_topic_rows, stop_topic, subscribed_stop_topic, line_direction, timetable_topic, vehicle_topic, situation_topic};
 
 use crate::names;
 use serde_json::Value;
 use siri_base::Reason;
 use siri_items::refusal::refuse_at;
-use siri_items::rows::{list_inside, needed, row};
-use siri_items::rules::{LengthRule, MomentRule, NameRule, NumberRule, Table};
+use siri_items::rows::{list_inside, required_row, row};
+use siri_items::rules::{MomentRule, NameRule, NonNegativeSpanRule, NumberRule, Table};
 use siri_items::{ItemError, names as items};
 use siri_topic::{LineDirection, SituationTopic, StopTopic, TimetableTopic, Topic, VehicleTopic};
 use std::alloc::Global;
 
 const MOST_LINES: usize = 100;
 
-#[tactic(auto, unfolding(crate::specs::Topics::stop_rows))]
-fn stop_rows(alloc: Global, tree: &Value) -> Result<StopTopic, ItemError>
-    ensures { Gives result (stop_rows (view tree.now)) }
+#[tactic(auto, unfolding(crate::specs::Topics::read_stop_topic_rows))]
+fn read_stop_topic_rows(alloc: Global, tree: &Value) -> Result<StopTopic, ItemError>
+    ensures { Gives result (read_stop_topic_rows (view tree.now)) }
 {
     Ok(StopTopic {
-        monitoring_ref: needed::<NameRule>(alloc, tree, items::MONITORING_REF)?,
+        monitoring_ref: required_row::<NameRule>(alloc, tree, items::MONITORING_REF)?,
         line_ref: row::<NameRule>(alloc, tree, items::LINE_REF)?,
         direction_ref: row::<NameRule>(alloc, tree, items::DIRECTION_REF)?,
         operator_ref: row::<NameRule>(alloc, tree, items::OPERATOR_REF)?,
         destination_ref: row::<NameRule>(alloc, tree, items::DESTINATION_REF)?,
-        preview_interval: row::<LengthRule>(alloc, tree, names::PREVIEW_INTERVAL)?,
+        preview_interval: row::<NonNegativeSpanRule>(alloc, tree, names::PREVIEW_INTERVAL)?,
         start_time: row::<MomentRule>(alloc, tree, items::START_TIME)?,
         maximum_stop_visits: row::<NumberRule>(alloc, tree, names::MAXIMUM_STOP_VISITS)?,
     })
@@ -44,7 +44,7 @@ impl Table for StopTopicTable {
 
     #[tactic(auto, unfolding(crate::specs::Topics::stop_topic))]
     fn read_rows(alloc: Global, tree: &Value) -> Result<Topic, ItemError> {
-        Ok(Topic::Stop(stop_rows(alloc, tree)?))
+        Ok(Topic::Stop(read_stop_topic_rows(alloc, tree)?))
     }
 }
 
@@ -59,7 +59,7 @@ impl Table for SubscribedStopTable {
 
     #[tactic(auto, unfolding(crate::specs::Topics::subscribed_stop_topic))]
     fn read_rows(alloc: Global, tree: &Value) -> Result<Topic, ItemError> {
-        let topic = stop_rows(alloc, tree)?;
+        let topic = read_stop_topic_rows(alloc, tree)?;
         match topic.maximum_stop_visits {
             None => Ok(Topic::Stop(topic)),
             Some(_) => refuse_at(alloc, names::MAXIMUM_STOP_VISITS, Reason::NotCarried),
@@ -78,7 +78,7 @@ impl Table for LineDirectionTable {
     #[tactic(auto, unfolding(crate::specs::Topics::line_direction))]
     fn read_rows(alloc: Global, tree: &Value) -> Result<LineDirection, ItemError> {
         Ok(LineDirection {
-            line_ref: needed::<NameRule>(alloc, tree, items::LINE_REF)?,
+            line_ref: required_row::<NameRule>(alloc, tree, items::LINE_REF)?,
             direction_ref: row::<NameRule>(alloc, tree, items::DIRECTION_REF)?,
         })
     }
@@ -95,7 +95,7 @@ impl Table for TimetableTopicTable {
     #[tactic(auto, unfolding(crate::specs::Topics::timetable_topic))]
     fn read_rows(alloc: Global, tree: &Value) -> Result<Topic, ItemError> {
         Ok(Topic::Timetable(TimetableTopic {
-            preview_interval: row::<LengthRule>(alloc, tree, names::PREVIEW_INTERVAL)?,
+            preview_interval: row::<NonNegativeSpanRule>(alloc, tree, names::PREVIEW_INTERVAL)?,
             operator_ref: row::<NameRule>(alloc, tree, items::OPERATOR_REF)?,
             lines: list_inside::<LineDirectionTable>(
                 alloc,
@@ -140,7 +140,7 @@ impl Table for SituationTopicTable {
             line_ref: row::<NameRule>(alloc, tree, items::LINE_REF)?,
             stop_point_ref: row::<NameRule>(alloc, tree, items::STOP_POINT_REF)?,
             operator_ref: row::<NameRule>(alloc, tree, items::OPERATOR_REF)?,
-            preview_interval: row::<LengthRule>(alloc, tree, names::PREVIEW_INTERVAL)?,
+            preview_interval: row::<NonNegativeSpanRule>(alloc, tree, names::PREVIEW_INTERVAL)?,
             start_time: row::<MomentRule>(alloc, tree, items::START_TIME)?,
         }))
     }

@@ -3,24 +3,24 @@
 ghost use Rattle.std.specs.Prelude.{◌≡◌, Some, Option, IfOk, option_map, option_and_then};
 ghost use Rattle.serde_json.specs.Data.{Data};
 ghost use Rattle.serde_json.specs.View.{view};
-ghost use Rattle.siri_wire.specs.WrittenDeliveries.{spelled_item, frame_time, written_frame, written_removal};
+ghost use Rattle.siri_wire.specs.WrittenDeliveries.{item_writing, frame_time, written_frame, written_removal};
 
 use crate::names;
 use serde_json::Value;
 use siri_base::{Moment, Name, OutOfMemory};
 use siri_items::rules::{MomentRule, NameRule};
-use siri_items::writing::{Members, Spelling};
+use siri_items::writing::{Members, Written};
 use siri_items::{names as item_names, write_item};
 use siri_records::{Item, Key};
 use std::alloc::Global;
 
 /// An item in a list of items, by the table of its service.
-pub struct ItemSpelling;
+pub struct ItemWriting;
 
-impl Spelling for ItemSpelling {
+impl Written for ItemWriting {
     type Of = Item;
 
-    ghost spelling = { spelled_item };
+    ghost writing = { item_writing };
 
     fn write(alloc: Global, item: &Item) -> Result<Option<Value>, OutOfMemory> {
         Ok(Some(write_item(alloc, item)?))
@@ -37,20 +37,20 @@ fn frame_time(item: &Item) -> Option<Moment>
 }
 
 /// A journey in an EstimatedJourneyVersionFrame of its own, which carries the journey's RecordedAtTime.
-pub struct FrameSpelling;
+pub struct FrameWriting;
 
-impl Spelling for FrameSpelling {
+impl Written for FrameWriting {
     type Of = Item;
 
-    ghost spelling = { written_frame };
+    ghost writing = { written_frame };
 
     #[tactic(auto, unfolding(crate::specs::WrittenDeliveries::written_frame))]
     fn write(alloc: Global, item: &Item) -> Result<Option<Value>, OutOfMemory> {
         let mut journeys = Vec::new(alloc);
         journeys.push(write_item(alloc, item)?)?;
         let mut members = Members::new(alloc);
-        members.row::<MomentRule>(item_names::RECORDED_AT_TIME, &frame_time(item))?;
-        members.made(
+        members.put_optional::<MomentRule>(item_names::RECORDED_AT_TIME, &frame_time(item))?;
+        members.put(
             names::ESTIMATED_VEHICLE_JOURNEY,
             Some(Value::Array(journeys)),
         )?;
@@ -63,8 +63,8 @@ fn removed_visit(alloc: Global, monitoring: &Name, item: &Name) -> Result<Value,
     ensures { IfOk result (λ value. Some (view value) ≡ written_removal (Key.Visit monitoring.now item.now)) }
 {
     let mut members = Members::new(alloc);
-    members.needed::<NameRule>(names::ITEM_REF, item)?;
-    members.needed::<NameRule>(item_names::MONITORING_REF, monitoring)?;
+    members.put_required::<NameRule>(names::ITEM_REF, item)?;
+    members.put_required::<NameRule>(item_names::MONITORING_REF, monitoring)?;
     Ok(members.object())
 }
 
@@ -79,10 +79,10 @@ fn removed_journey(
     ensures { IfOk result (λ value. Some (view value) ≡ written_removal (Key.Journey line.now direction.now frame.now journey.now)) }
 {
     let mut members = Members::new(alloc);
-    members.needed::<NameRule>(item_names::LINE_REF, line)?;
-    members.row::<NameRule>(item_names::DIRECTION_REF, direction)?;
-    members.row::<NameRule>(item_names::DATA_FRAME_REF, frame)?;
-    members.needed::<NameRule>(item_names::DATED_VEHICLE_JOURNEY_REF, journey)?;
+    members.put_required::<NameRule>(item_names::LINE_REF, line)?;
+    members.put_optional::<NameRule>(item_names::DIRECTION_REF, direction)?;
+    members.put_optional::<NameRule>(item_names::DATA_FRAME_REF, frame)?;
+    members.put_required::<NameRule>(item_names::DATED_VEHICLE_JOURNEY_REF, journey)?;
     Ok(members.object())
 }
 
@@ -91,7 +91,7 @@ fn removed_vehicle(alloc: Global, vehicle: &Name) -> Result<Value, OutOfMemory>
     ensures { IfOk result (λ value. Some (view value) ≡ written_removal (Key.Vehicle vehicle.now)) }
 {
     let mut members = Members::new(alloc);
-    members.needed::<NameRule>(names::ITEM_REF, vehicle)?;
+    members.put_required::<NameRule>(names::ITEM_REF, vehicle)?;
     Ok(members.object())
 }
 
@@ -104,18 +104,18 @@ fn removed_situation(
     ensures { IfOk result (λ value. Some (view value) ≡ written_removal (Key.Situation participant.now number.now)) }
 {
     let mut members = Members::new(alloc);
-    members.row::<NameRule>(item_names::PARTICIPANT_REF, participant)?;
-    members.needed::<NameRule>(item_names::SITUATION_NUMBER, number)?;
+    members.put_optional::<NameRule>(item_names::PARTICIPANT_REF, participant)?;
+    members.put_required::<NameRule>(item_names::SITUATION_NUMBER, number)?;
     Ok(members.object())
 }
 
 /// What was removed, by the table of its service.
-pub struct RemovalSpelling;
+pub struct RemovalWriting;
 
-impl Spelling for RemovalSpelling {
+impl Written for RemovalWriting {
     type Of = Key;
 
-    ghost spelling = { written_removal };
+    ghost writing = { written_removal };
 
     fn write(alloc: Global, key: &Key) -> Result<Option<Value>, OutOfMemory> {
         let value = match key {

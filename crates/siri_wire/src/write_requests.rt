@@ -6,8 +6,8 @@ ghost use Rattle.serde_json.specs.View.{view};
 ghost use Rattle.siri_wire.specs.WrittenRequests.{written_service_request, written_data_ready, written_ready_acknowledgement, written_supply, written_received};
 
 use crate::names;
-use crate::write_topics::TopicSpelling;
-use crate::write_values::{ErrorSpelling, MarkSpelling, where_true};
+use crate::write_topics::TopicWriting;
+use crate::write_values::{ErrorWriting, MarkWriting, where_true};
 use serde_json::Value;
 use siri_base::OutOfMemory;
 use siri_items::rules::{FlagRule, MomentRule, NameRule};
@@ -24,22 +24,22 @@ pub fn service_request_value(alloc: Global, request: &ServiceRequest) -> Result<
     ensures { IfOk result (λ value. view value ≡ written_service_request request.now) }
 {
     let mut members = Members::new(alloc);
-    members.row::<MomentRule>(names::REQUEST_TIMESTAMP, &request.request_timestamp)?;
-    members.row::<NameRule>(names::REQUESTOR_REF, &request.requestor_ref)?;
-    members.row::<NameRule>(names::MESSAGE_IDENTIFIER, &request.message_identifier)?;
-    members.list::<TopicSpelling>(
+    members.put_optional::<MomentRule>(names::REQUEST_TIMESTAMP, &request.request_timestamp)?;
+    members.put_optional::<NameRule>(names::REQUESTOR_REF, &request.requestor_ref)?;
+    members.put_optional::<NameRule>(names::MESSAGE_IDENTIFIER, &request.message_identifier)?;
+    members.list::<TopicWriting>(
         names::STOP_MONITORING_REQUEST,
         &request.stop_monitoring_request,
     )?;
-    members.list::<TopicSpelling>(
+    members.list::<TopicWriting>(
         names::ESTIMATED_TIMETABLE_REQUEST,
         &request.estimated_timetable_request,
     )?;
-    members.list::<TopicSpelling>(
+    members.list::<TopicWriting>(
         names::VEHICLE_MONITORING_REQUEST,
         &request.vehicle_monitoring_request,
     )?;
-    members.list::<TopicSpelling>(
+    members.list::<TopicWriting>(
         names::SITUATION_EXCHANGE_REQUEST,
         &request.situation_exchange_request,
     )?;
@@ -55,9 +55,9 @@ pub fn data_ready_value(
     ensures { IfOk result (λ value. view value ≡ written_data_ready notification.now) }
 {
     let mut members = Members::new(alloc);
-    members.row::<MomentRule>(names::REQUEST_TIMESTAMP, &notification.request_timestamp)?;
-    members.row::<NameRule>(names::PRODUCER_REF, &notification.producer_ref)?;
-    members.needed::<MarkSpelling>(names::EXTENSIONS, &notification.extensions)?;
+    members.put_optional::<MomentRule>(names::REQUEST_TIMESTAMP, &notification.request_timestamp)?;
+    members.put_optional::<NameRule>(names::PRODUCER_REF, &notification.producer_ref)?;
+    members.put_required::<MarkWriting>(names::EXTENSIONS, &notification.extensions)?;
     Ok(members.object())
 }
 
@@ -70,12 +70,12 @@ pub fn ready_acknowledgement_value(
     ensures { IfOk result (λ value. view value ≡ written_ready_acknowledgement acknowledgement.now) }
 {
     let mut members = Members::new(alloc);
-    members.row::<MomentRule>(
+    members.put_optional::<MomentRule>(
         names::RESPONSE_TIMESTAMP,
         &acknowledgement.response_timestamp,
     )?;
-    members.row::<NameRule>(names::CONSUMER_REF, &acknowledgement.consumer_ref)?;
-    members.needed::<FlagRule>(names::STATUS, &acknowledgement.status)?;
+    members.put_optional::<NameRule>(names::CONSUMER_REF, &acknowledgement.consumer_ref)?;
+    members.put_required::<FlagRule>(names::STATUS, &acknowledgement.status)?;
     Ok(members.object())
 }
 
@@ -85,10 +85,10 @@ pub fn supply_value(alloc: Global, request: &DataSupplyRequest) -> Result<Value,
     ensures { IfOk result (λ value. view value ≡ written_supply request.now) }
 {
     let mut members = Members::new(alloc);
-    members.row::<MomentRule>(names::REQUEST_TIMESTAMP, &request.request_timestamp)?;
-    members.needed::<NameRule>(names::CONSUMER_REF, &request.consumer_ref)?;
-    members.made(names::ALL_DATA, where_true(request.all_data))?;
-    members.needed::<MarkSpelling>(names::EXTENSIONS, &request.extensions)?;
+    members.put_optional::<MomentRule>(names::REQUEST_TIMESTAMP, &request.request_timestamp)?;
+    members.put_required::<NameRule>(names::CONSUMER_REF, &request.consumer_ref)?;
+    members.put(names::ALL_DATA, where_true(request.all_data))?;
+    members.put_required::<MarkWriting>(names::EXTENSIONS, &request.extensions)?;
     Ok(members.object())
 }
 
@@ -101,17 +101,17 @@ pub fn received_value(
     ensures { IfOk result (λ value. view value ≡ written_received acknowledgement.now) }
 {
     let mut members = Members::new(alloc);
-    members.row::<MomentRule>(
+    members.put_optional::<MomentRule>(
         names::RESPONSE_TIMESTAMP,
         &acknowledgement.response_timestamp,
     )?;
-    members.row::<NameRule>(names::CONSUMER_REF, &acknowledgement.consumer_ref)?;
-    members.row::<NameRule>(
+    members.put_optional::<NameRule>(names::CONSUMER_REF, &acknowledgement.consumer_ref)?;
+    members.put_optional::<NameRule>(
         names::REQUEST_MESSAGE_REF,
         &acknowledgement.request_message_ref,
     )?;
-    members.needed::<FlagRule>(names::STATUS, &acknowledgement.status)?;
-    members.row::<ErrorSpelling>(names::ERROR_CONDITION, &acknowledgement.error_condition)?;
-    members.row::<MarkSpelling>(names::EXTENSIONS, &acknowledgement.extensions)?;
+    members.put_required::<FlagRule>(names::STATUS, &acknowledgement.status)?;
+    members.put_optional::<ErrorWriting>(names::ERROR_CONDITION, &acknowledgement.error_condition)?;
+    members.put_optional::<MarkWriting>(names::EXTENSIONS, &acknowledgement.extensions)?;
     Ok(members.object())
 }

@@ -18,9 +18,9 @@ pub fn check_status_value(alloc: Global, request: &CheckStatusRequest) -> Result
     ensures { IfOk result (λ value. view value ≡ written_check_status request.now) }
 {
     let mut members = Members::new(alloc);
-    members.row::<MomentRule>(names::REQUEST_TIMESTAMP, &request.request_timestamp)?;
-    members.row::<NameRule>(names::REQUESTOR_REF, &request.requestor_ref)?;
-    members.row::<NameRule>(names::MESSAGE_IDENTIFIER, &request.message_identifier)?;
+    members.put_optional::<MomentRule>(names::REQUEST_TIMESTAMP, &request.request_timestamp)?;
+    members.put_optional::<NameRule>(names::REQUESTOR_REF, &request.requestor_ref)?;
+    members.put_optional::<NameRule>(names::MESSAGE_IDENTIFIER, &request.message_identifier)?;
     Ok(members.object())
 }
 
@@ -33,11 +33,14 @@ pub fn status_response_value(
     ensures { IfOk result (λ value. view value ≡ written_status_response response.now) }
 {
     let mut members = Members::new(alloc);
-    members.row::<MomentRule>(names::RESPONSE_TIMESTAMP, &response.response_timestamp)?;
-    members.row::<NameRule>(names::PRODUCER_REF, &response.producer_ref)?;
-    members.row::<NameRule>(names::REQUEST_MESSAGE_REF, &response.request_message_ref)?;
-    members.needed::<FlagRule>(names::STATUS, &response.status)?;
-    members.row::<MomentRule>(names::SERVICE_STARTED_TIME, &response.service_started_time)?;
+    members.put_optional::<MomentRule>(names::RESPONSE_TIMESTAMP, &response.response_timestamp)?;
+    members.put_optional::<NameRule>(names::PRODUCER_REF, &response.producer_ref)?;
+    members.put_optional::<NameRule>(names::REQUEST_MESSAGE_REF, &response.request_message_ref)?;
+    members.put_required::<FlagRule>(names::STATUS, &response.status)?;
+    members.put_optional::<MomentRule>(
+        names::SERVICE_STARTED_TIME,
+        &response.service_started_time,
+    )?;
     Ok(members.object())
 }
 
@@ -50,9 +53,12 @@ pub fn heartbeat_value(
     ensures { IfOk result (λ value. view value ≡ written_heartbeat heartbeat.now) }
 {
     let mut members = Members::new(alloc);
-    members.row::<MomentRule>(names::REQUEST_TIMESTAMP, &heartbeat.request_timestamp)?;
-    members.row::<NameRule>(names::PRODUCER_REF, &heartbeat.producer_ref)?;
-    members.needed::<FlagRule>(names::STATUS, &heartbeat.status)?;
-    members.row::<MomentRule>(names::SERVICE_STARTED_TIME, &heartbeat.service_started_time)?;
+    members.put_optional::<MomentRule>(names::REQUEST_TIMESTAMP, &heartbeat.request_timestamp)?;
+    members.put_optional::<NameRule>(names::PRODUCER_REF, &heartbeat.producer_ref)?;
+    members.put_required::<FlagRule>(names::STATUS, &heartbeat.status)?;
+    members.put_optional::<MomentRule>(
+        names::SERVICE_STARTED_TIME,
+        &heartbeat.service_started_time,
+    )?;
     Ok(members.object())
 }

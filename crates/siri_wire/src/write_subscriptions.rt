@@ -6,12 +6,12 @@ ghost use Rattle.serde_json.specs.View.{view};
 ghost use Rattle.siri_wire.specs.WrittenSubscriptions.{written_method, written_subscription, written_stop_subscription, written_timetable_subscription, written_vehicle_subscription, written_situation_subscription, written_context, written_subscription_request, written_response_status, written_subscription_response, written_termination, written_termination_status, written_termination_response};
 
 use crate::names;
-use crate::write_topics::TopicSpelling;
-use crate::write_values::{ErrorSpelling, IdentifierSpelling};
+use crate::write_topics::TopicWriting;
+use crate::write_values::{ErrorWriting, IdentifierWriting};
 use serde_json::Value;
 use siri_base::{OutOfMemory, Span};
 use siri_items::rules::{FlagRule, MomentRule, NameRule, SpanRule};
-use siri_items::writing::{Members, Spelling};
+use siri_items::writing::{Members, Written};
 use siri_messages::{
     ResponseStatus, SubscriptionRequest, SubscriptionResponse, TerminateSubscriptionRequest,
     TerminateSubscriptionResponse, TerminationResponseStatus,
@@ -28,7 +28,7 @@ fn method_value(alloc: Global, fetched: bool) -> Result<Option<Value>, OutOfMemo
     }
     let method = Value::String(String::from_str(alloc, "fetched")?);
     let mut members = Members::new(alloc);
-    members.made(names::DELIVERY_METHOD, Some(method))?;
+    members.put(names::DELIVERY_METHOD, Some(method))?;
     Ok(Some(members.object()))
 }
 
@@ -44,23 +44,23 @@ fn subscription_value(
     ensures { IfOk result (λ value. view value ≡ written_subscription request.now (option_map view slack) subscription.now) }
 {
     let mut members = Members::new(alloc);
-    members.needed::<NameRule>(names::SUBSCRIBER_REF, &subscription.subscriber)?;
-    members.needed::<NameRule>(names::SUBSCRIPTION_IDENTIFIER, &subscription.identifier)?;
-    members.needed::<MomentRule>(names::INITIAL_TERMINATION_TIME, &subscription.termination)?;
-    members.needed::<TopicSpelling>(request, &subscription.topic)?;
-    members.needed::<FlagRule>(names::INCREMENTAL_UPDATES, &subscription.incremental)?;
-    members.made(names::CHANGE_BEFORE_UPDATES, slack)?;
+    members.put_required::<NameRule>(names::SUBSCRIBER_REF, &subscription.subscriber)?;
+    members.put_required::<NameRule>(names::SUBSCRIPTION_IDENTIFIER, &subscription.identifier)?;
+    members.put_required::<MomentRule>(names::INITIAL_TERMINATION_TIME, &subscription.termination)?;
+    members.put_required::<TopicWriting>(request, &subscription.topic)?;
+    members.put_required::<FlagRule>(names::INCREMENTAL_UPDATES, &subscription.incremental)?;
+    members.put(names::CHANGE_BEFORE_UPDATES, slack)?;
     let method = method_value(alloc, subscription.fetched)?;
-    members.made(names::EXTENSIONS, method)?;
+    members.put(names::EXTENSIONS, method)?;
     Ok(members.object())
 }
 
-struct StopSubscriptionSpelling;
+struct StopSubscriptionWriting;
 
-impl Spelling for StopSubscriptionSpelling {
+impl Written for StopSubscriptionWriting {
     type Of = Subscription;
 
-    ghost spelling = { written_stop_subscription };
+    ghost writing = { written_stop_subscription };
 
     #[tactic(auto, unfolding(crate::specs::WrittenSubscriptions::written_stop_subscription))]
     fn write(alloc: Global, wanted: &Subscription) -> Result<Option<Value>, OutOfMemory> {
@@ -70,12 +70,12 @@ impl Spelling for StopSubscriptionSpelling {
     }
 }
 
-struct TimetableSubscriptionSpelling;
+struct TimetableSubscriptionWriting;
 
-impl Spelling for TimetableSubscriptionSpelling {
+impl Written for TimetableSubscriptionWriting {
     type Of = Subscription;
 
-    ghost spelling = { written_timetable_subscription };
+    ghost writing = { written_timetable_subscription };
 
     #[tactic(auto, unfolding(crate::specs::WrittenSubscriptions::written_timetable_subscription))]
     fn write(alloc: Global, wanted: &Subscription) -> Result<Option<Value>, OutOfMemory> {
@@ -85,12 +85,12 @@ impl Spelling for TimetableSubscriptionSpelling {
     }
 }
 
-struct VehicleSubscriptionSpelling;
+struct VehicleSubscriptionWriting;
 
-impl Spelling for VehicleSubscriptionSpelling {
+impl Written for VehicleSubscriptionWriting {
     type Of = Subscription;
 
-    ghost spelling = { written_vehicle_subscription };
+    ghost writing = { written_vehicle_subscription };
 
     #[tactic(auto, unfolding(crate::specs::WrittenSubscriptions::written_vehicle_subscription))]
     fn write(alloc: Global, wanted: &Subscription) -> Result<Option<Value>, OutOfMemory> {
@@ -100,12 +100,12 @@ impl Spelling for VehicleSubscriptionSpelling {
     }
 }
 
-struct SituationSubscriptionSpelling;
+struct SituationSubscriptionWriting;
 
-impl Spelling for SituationSubscriptionSpelling {
+impl Written for SituationSubscriptionWriting {
     type Of = Subscription;
 
-    ghost spelling = { written_situation_subscription };
+    ghost writing = { written_situation_subscription };
 
     #[tactic(auto, unfolding(crate::specs::WrittenSubscriptions::written_situation_subscription))]
     fn write(alloc: Global, wanted: &Subscription) -> Result<Option<Value>, OutOfMemory> {
@@ -120,8 +120,8 @@ fn context_value(alloc: Global, heartbeat: &Option<Span>) -> Result<Option<Value
     ensures { IfOk result (λ value. option_map view value ≡ written_context heartbeat.now) }
 {
     let mut members = Members::new(alloc);
-    members.row::<SpanRule>(names::HEARTBEAT_INTERVAL, heartbeat)?;
-    Ok(members.some_object())
+    members.put_optional::<SpanRule>(names::HEARTBEAT_INTERVAL, heartbeat)?;
+    Ok(members.object_unless_empty())
 }
 
 /// The object of a SubscriptionRequest.
@@ -133,46 +133,49 @@ pub fn subscription_request_value(
     ensures { IfOk result (λ value. view value ≡ written_subscription_request request.now) }
 {
     let mut members = Members::new(alloc);
-    members.row::<MomentRule>(names::REQUEST_TIMESTAMP, &request.request_timestamp)?;
-    members.row::<NameRule>(names::REQUESTOR_REF, &request.requestor_ref)?;
-    members.needed::<IdentifierSpelling>(names::MESSAGE_IDENTIFIER, &request.message_identifier)?;
-    members.row::<NameRule>(names::CONSUMER_ADDRESS, &request.consumer_address)?;
+    members.put_optional::<MomentRule>(names::REQUEST_TIMESTAMP, &request.request_timestamp)?;
+    members.put_optional::<NameRule>(names::REQUESTOR_REF, &request.requestor_ref)?;
+    members.put_required::<IdentifierWriting>(
+        names::MESSAGE_IDENTIFIER,
+        &request.message_identifier,
+    )?;
+    members.put_optional::<NameRule>(names::CONSUMER_ADDRESS, &request.consumer_address)?;
     let context = context_value(alloc, &request.heartbeat_interval)?;
-    members.made(names::SUBSCRIPTION_CONTEXT, context)?;
-    members.list::<StopSubscriptionSpelling>(
+    members.put(names::SUBSCRIPTION_CONTEXT, context)?;
+    members.list::<StopSubscriptionWriting>(
         names::STOP_MONITORING_SUBSCRIPTION_REQUEST,
         &request.stop_monitoring_subscription_request,
     )?;
-    members.list::<TimetableSubscriptionSpelling>(
+    members.list::<TimetableSubscriptionWriting>(
         names::ESTIMATED_TIMETABLE_SUBSCRIPTION_REQUEST,
         &request.estimated_timetable_subscription_request,
     )?;
-    members.list::<VehicleSubscriptionSpelling>(
+    members.list::<VehicleSubscriptionWriting>(
         names::VEHICLE_MONITORING_SUBSCRIPTION_REQUEST,
         &request.vehicle_monitoring_subscription_request,
     )?;
-    members.list::<SituationSubscriptionSpelling>(
+    members.list::<SituationSubscriptionWriting>(
         names::SITUATION_EXCHANGE_SUBSCRIPTION_REQUEST,
         &request.situation_exchange_subscription_request,
     )?;
     Ok(members.object())
 }
 
-struct ResponseStatusSpelling;
+struct ResponseStatusWriting;
 
-impl Spelling for ResponseStatusSpelling {
+impl Written for ResponseStatusWriting {
     type Of = ResponseStatus;
 
-    ghost spelling = { written_response_status };
+    ghost writing = { written_response_status };
 
     #[tactic(auto, unfolding(crate::specs::WrittenSubscriptions::written_response_status))]
     fn write(alloc: Global, status: &ResponseStatus) -> Result<Option<Value>, OutOfMemory> {
         let mut members = Members::new(alloc);
-        members.row::<NameRule>(names::SUBSCRIBER_REF, &status.subscriber_ref)?;
-        members.row::<NameRule>(names::SUBSCRIPTION_REF, &status.subscription_ref)?;
-        members.needed::<FlagRule>(names::STATUS, &status.status)?;
-        members.row::<MomentRule>(names::VALID_UNTIL, &status.valid_until)?;
-        members.row::<ErrorSpelling>(names::ERROR_CONDITION, &status.error_condition)?;
+        members.put_optional::<NameRule>(names::SUBSCRIBER_REF, &status.subscriber_ref)?;
+        members.put_optional::<NameRule>(names::SUBSCRIPTION_REF, &status.subscription_ref)?;
+        members.put_required::<FlagRule>(names::STATUS, &status.status)?;
+        members.put_optional::<MomentRule>(names::VALID_UNTIL, &status.valid_until)?;
+        members.put_optional::<ErrorWriting>(names::ERROR_CONDITION, &status.error_condition)?;
         Ok(Some(members.object()))
     }
 }
@@ -186,9 +189,9 @@ pub fn subscription_response_value(
     ensures { IfOk result (λ value. view value ≡ written_subscription_response response.now) }
 {
     let mut members = Members::new(alloc);
-    members.row::<MomentRule>(names::RESPONSE_TIMESTAMP, &response.response_timestamp)?;
-    members.row::<NameRule>(names::REQUEST_MESSAGE_REF, &response.request_message_ref)?;
-    members.list::<ResponseStatusSpelling>(names::RESPONSE_STATUS, &response.response_status)?;
+    members.put_optional::<MomentRule>(names::RESPONSE_TIMESTAMP, &response.response_timestamp)?;
+    members.put_optional::<NameRule>(names::REQUEST_MESSAGE_REF, &response.request_message_ref)?;
+    members.list::<ResponseStatusWriting>(names::RESPONSE_STATUS, &response.response_status)?;
     Ok(members.object())
 }
 
@@ -201,20 +204,23 @@ pub fn termination_value(
     ensures { IfOk result (λ value. view value ≡ written_termination request.now) }
 {
     let mut members = Members::new(alloc);
-    members.row::<MomentRule>(names::REQUEST_TIMESTAMP, &request.request_timestamp)?;
-    members.row::<NameRule>(names::REQUESTOR_REF, &request.requestor_ref)?;
-    members.needed::<IdentifierSpelling>(names::MESSAGE_IDENTIFIER, &request.message_identifier)?;
-    members.needed::<NameRule>(names::SUBSCRIBER_REF, &request.subscriber_ref)?;
+    members.put_optional::<MomentRule>(names::REQUEST_TIMESTAMP, &request.request_timestamp)?;
+    members.put_optional::<NameRule>(names::REQUESTOR_REF, &request.requestor_ref)?;
+    members.put_required::<IdentifierWriting>(
+        names::MESSAGE_IDENTIFIER,
+        &request.message_identifier,
+    )?;
+    members.put_required::<NameRule>(names::SUBSCRIBER_REF, &request.subscriber_ref)?;
     members.list::<NameRule>(names::SUBSCRIPTION_REF, &request.subscription_ref)?;
     Ok(members.object())
 }
 
-struct TerminationStatusSpelling;
+struct TerminationStatusWriting;
 
-impl Spelling for TerminationStatusSpelling {
+impl Written for TerminationStatusWriting {
     type Of = TerminationResponseStatus;
 
-    ghost spelling = { written_termination_status };
+    ghost writing = { written_termination_status };
 
     #[tactic(auto, unfolding(crate::specs::WrittenSubscriptions::written_termination_status))]
     fn write(
@@ -222,10 +228,10 @@ impl Spelling for TerminationStatusSpelling {
         status: &TerminationResponseStatus,
     ) -> Result<Option<Value>, OutOfMemory> {
         let mut members = Members::new(alloc);
-        members.row::<NameRule>(names::SUBSCRIBER_REF, &status.subscriber_ref)?;
-        members.row::<NameRule>(names::SUBSCRIPTION_REF, &status.subscription_ref)?;
-        members.needed::<FlagRule>(names::STATUS, &status.status)?;
-        members.row::<ErrorSpelling>(names::ERROR_CONDITION, &status.error_condition)?;
+        members.put_optional::<NameRule>(names::SUBSCRIBER_REF, &status.subscriber_ref)?;
+        members.put_optional::<NameRule>(names::SUBSCRIPTION_REF, &status.subscription_ref)?;
+        members.put_required::<FlagRule>(names::STATUS, &status.status)?;
+        members.put_optional::<ErrorWriting>(names::ERROR_CONDITION, &status.error_condition)?;
         Ok(Some(members.object()))
     }
 }
@@ -239,9 +245,9 @@ pub fn termination_response_value(
     ensures { IfOk result (λ value. view value ≡ written_termination_response response.now) }
 {
     let mut members = Members::new(alloc);
-    members.row::<MomentRule>(names::RESPONSE_TIMESTAMP, &response.response_timestamp)?;
-    members.row::<NameRule>(names::REQUEST_MESSAGE_REF, &response.request_message_ref)?;
-    members.list::<TerminationStatusSpelling>(
+    members.put_optional::<MomentRule>(names::RESPONSE_TIMESTAMP, &response.response_timestamp)?;
+    members.put_optional::<NameRule>(names::REQUEST_MESSAGE_REF, &response.request_message_ref)?;
+    members.list::<TerminationStatusWriting>(
         names::TERMINATION_RESPONSE_STATUS,
         &response.termination_response_status,
     )?;

@@ -3,14 +3,14 @@
 ghost use Rattle.std.specs.Prelude.{◌≡◌, Option, IfOk, option_map, option_and_then};
 ghost use Rattle.serde_json.specs.Data.{Data};
 ghost use Rattle.serde_json.specs.View.{view};
-ghost use Rattle.siri_wire.specs.WrittenTopics.{written_stop_topic, written_line_direction, written_lines, written_timetable_topic, written_vehicle_topic, written_situation_topic, written_topic, spelled_topic};
+ghost use Rattle.siri_wire.specs.WrittenTopics.{written_stop_topic, written_line_direction, written_lines, written_timetable_topic, written_vehicle_topic, written_situation_topic, written_topic, topic_writing};
 
 use crate::names;
 use serde_json::Value;
 use siri_base::{List, OutOfMemory};
 use siri_items::names as item_names;
 use siri_items::rules::{MomentRule, NameRule, NumberRule, SpanRule};
-use siri_items::writing::{Members, Spelling};
+use siri_items::writing::{Members, Written};
 use siri_topic::{LineDirection, SituationTopic, StopTopic, TimetableTopic, Topic, VehicleTopic};
 use std::alloc::Global;
 
@@ -19,29 +19,29 @@ fn stop_topic_value(alloc: Global, topic: &StopTopic) -> Result<Value, OutOfMemo
     ensures { IfOk result (λ value. view value ≡ written_stop_topic topic.now) }
 {
     let mut members = Members::new(alloc);
-    members.needed::<NameRule>(item_names::MONITORING_REF, &topic.monitoring_ref)?;
-    members.row::<NameRule>(item_names::LINE_REF, &topic.line_ref)?;
-    members.row::<NameRule>(item_names::DIRECTION_REF, &topic.direction_ref)?;
-    members.row::<NameRule>(item_names::OPERATOR_REF, &topic.operator_ref)?;
-    members.row::<NameRule>(item_names::DESTINATION_REF, &topic.destination_ref)?;
-    members.row::<SpanRule>(names::PREVIEW_INTERVAL, &topic.preview_interval)?;
-    members.row::<MomentRule>(item_names::START_TIME, &topic.start_time)?;
-    members.row::<NumberRule>(names::MAXIMUM_STOP_VISITS, &topic.maximum_stop_visits)?;
+    members.put_required::<NameRule>(item_names::MONITORING_REF, &topic.monitoring_ref)?;
+    members.put_optional::<NameRule>(item_names::LINE_REF, &topic.line_ref)?;
+    members.put_optional::<NameRule>(item_names::DIRECTION_REF, &topic.direction_ref)?;
+    members.put_optional::<NameRule>(item_names::OPERATOR_REF, &topic.operator_ref)?;
+    members.put_optional::<NameRule>(item_names::DESTINATION_REF, &topic.destination_ref)?;
+    members.put_optional::<SpanRule>(names::PREVIEW_INTERVAL, &topic.preview_interval)?;
+    members.put_optional::<MomentRule>(item_names::START_TIME, &topic.start_time)?;
+    members.put_optional::<NumberRule>(names::MAXIMUM_STOP_VISITS, &topic.maximum_stop_visits)?;
     Ok(members.object())
 }
 
-struct LineDirectionSpelling;
+struct LineDirectionWriting;
 
-impl Spelling for LineDirectionSpelling {
+impl Written for LineDirectionWriting {
     type Of = LineDirection;
 
-    ghost spelling = { written_line_direction };
+    ghost writing = { written_line_direction };
 
     #[tactic(auto, unfolding(crate::specs::WrittenTopics::written_line_direction))]
     fn write(alloc: Global, line: &LineDirection) -> Result<Option<Value>, OutOfMemory> {
         let mut members = Members::new(alloc);
-        members.needed::<NameRule>(item_names::LINE_REF, &line.line_ref)?;
-        members.row::<NameRule>(item_names::DIRECTION_REF, &line.direction_ref)?;
+        members.put_required::<NameRule>(item_names::LINE_REF, &line.line_ref)?;
+        members.put_optional::<NameRule>(item_names::DIRECTION_REF, &line.direction_ref)?;
         Ok(Some(members.object()))
     }
 }
@@ -51,8 +51,8 @@ fn lines_value(alloc: Global, lines: &List<LineDirection>) -> Result<Option<Valu
     ensures { IfOk result (λ value. option_map view value ≡ written_lines lines.now) }
 {
     let mut members = Members::new(alloc);
-    members.list::<LineDirectionSpelling>(names::LINE_DIRECTION, lines)?;
-    Ok(members.some_object())
+    members.list::<LineDirectionWriting>(names::LINE_DIRECTION, lines)?;
+    Ok(members.object_unless_empty())
 }
 
 #[tactic(auto, unfolding(crate::specs::WrittenTopics::written_timetable_topic))]
@@ -60,10 +60,10 @@ fn timetable_topic_value(alloc: Global, topic: &TimetableTopic) -> Result<Value,
     ensures { IfOk result (λ value. view value ≡ written_timetable_topic topic.now) }
 {
     let mut members = Members::new(alloc);
-    members.row::<SpanRule>(names::PREVIEW_INTERVAL, &topic.preview_interval)?;
-    members.row::<NameRule>(item_names::OPERATOR_REF, &topic.operator_ref)?;
+    members.put_optional::<SpanRule>(names::PREVIEW_INTERVAL, &topic.preview_interval)?;
+    members.put_optional::<NameRule>(item_names::OPERATOR_REF, &topic.operator_ref)?;
     let lines = lines_value(alloc, &topic.lines)?;
-    members.made(names::LINES, lines)?;
+    members.put(names::LINES, lines)?;
     Ok(members.object())
 }
 
@@ -72,9 +72,9 @@ fn vehicle_topic_value(alloc: Global, topic: &VehicleTopic) -> Result<Value, Out
     ensures { IfOk result (λ value. view value ≡ written_vehicle_topic topic.now) }
 {
     let mut members = Members::new(alloc);
-    members.row::<NameRule>(item_names::VEHICLE_REF, &topic.vehicle_ref)?;
-    members.row::<NameRule>(item_names::LINE_REF, &topic.line_ref)?;
-    members.row::<NameRule>(item_names::DIRECTION_REF, &topic.direction_ref)?;
+    members.put_optional::<NameRule>(item_names::VEHICLE_REF, &topic.vehicle_ref)?;
+    members.put_optional::<NameRule>(item_names::LINE_REF, &topic.line_ref)?;
+    members.put_optional::<NameRule>(item_names::DIRECTION_REF, &topic.direction_ref)?;
     Ok(members.object())
 }
 
@@ -83,11 +83,11 @@ fn situation_topic_value(alloc: Global, topic: &SituationTopic) -> Result<Value,
     ensures { IfOk result (λ value. view value ≡ written_situation_topic topic.now) }
 {
     let mut members = Members::new(alloc);
-    members.row::<NameRule>(item_names::LINE_REF, &topic.line_ref)?;
-    members.row::<NameRule>(item_names::STOP_POINT_REF, &topic.stop_point_ref)?;
-    members.row::<NameRule>(item_names::OPERATOR_REF, &topic.operator_ref)?;
-    members.row::<SpanRule>(names::PREVIEW_INTERVAL, &topic.preview_interval)?;
-    members.row::<MomentRule>(item_names::START_TIME, &topic.start_time)?;
+    members.put_optional::<NameRule>(item_names::LINE_REF, &topic.line_ref)?;
+    members.put_optional::<NameRule>(item_names::STOP_POINT_REF, &topic.stop_point_ref)?;
+    members.put_optional::<NameRule>(item_names::OPERATOR_REF, &topic.operator_ref)?;
+    members.put_optional::<SpanRule>(names::PREVIEW_INTERVAL, &topic.preview_interval)?;
+    members.put_optional::<MomentRule>(item_names::START_TIME, &topic.start_time)?;
     Ok(members.object())
 }
 
@@ -104,12 +104,12 @@ fn topic_value(alloc: Global, topic: &Topic) -> Result<Value, OutOfMemory>
 }
 
 /// A topic, by the table of its service.
-pub struct TopicSpelling;
+pub struct TopicWriting;
 
-impl Spelling for TopicSpelling {
+impl Written for TopicWriting {
     type Of = Topic;
 
-    ghost spelling = { spelled_topic };
+    ghost writing = { topic_writing };
 
     fn write(alloc: Global, topic: &Topic) -> Result<Option<Value>, OutOfMemory> {
         Ok(Some(topic_value(alloc, topic)?))

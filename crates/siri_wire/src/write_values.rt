@@ -1,4 +1,4 @@
-//! Writing what several messages have: errors, marks, and values in spellings of their own.
+//! Writing what several messages have: errors, marks, and values in forms of their own.
 
 ghost use Rattle.std.specs.Prelude.{◌≡◌, Option, IfOk, option_map, option_and_then};
 ghost use Rattle.serde_json.specs.Data.{Data};
@@ -9,17 +9,17 @@ use crate::names;
 use serde_json::Value;
 use siri_base::{OutOfMemory, Text};
 use siri_items::rules::{NameRule, NumberRule, TextRule};
-use siri_items::writing::{Members, Spelling};
+use siri_items::writing::{Members, Written};
 use siri_messages::Mark;
 use std::alloc::Global;
 
 /// A MessageIdentifier that is a number, as a string.
-pub struct IdentifierSpelling;
+pub struct IdentifierWriting;
 
-impl Spelling for IdentifierSpelling {
+impl Written for IdentifierWriting {
     type Of = u64;
 
-    ghost spelling = { written_identifier };
+    ghost writing = { written_identifier };
 
     fn write(alloc: Global, number: &u64) -> Result<Option<Value>, OutOfMemory> {
         Ok(Some(Value::String(number.to_string(alloc)?)))
@@ -34,39 +34,39 @@ pub fn where_true(flag: bool) -> Option<Value>
 }
 
 /// The text of an error, as an ErrorCondition.
-pub struct ErrorSpelling;
+pub struct ErrorWriting;
 
-impl Spelling for ErrorSpelling {
+impl Written for ErrorWriting {
     type Of = Text;
 
-    ghost spelling = { written_error };
+    ghost writing = { written_error };
 
     #[tactic(auto, unfolding(crate::specs::WrittenValues::written_error))]
     fn write(alloc: Global, text: &Text) -> Result<Option<Value>, OutOfMemory> {
         let mut error = Members::new(alloc);
-        error.needed::<TextRule>(names::ERROR_TEXT, text)?;
+        error.put_required::<TextRule>(names::ERROR_TEXT, text)?;
         let mut condition = Members::new(alloc);
-        condition.made(names::OTHER_ERROR, Some(error.object()))?;
+        condition.put(names::OTHER_ERROR, Some(error.object()))?;
         Ok(Some(condition.object()))
     }
 }
 
 /// A mark, as Extensions.
-pub struct MarkSpelling;
+pub struct MarkWriting;
 
-impl Spelling for MarkSpelling {
+impl Written for MarkWriting {
     type Of = Mark;
 
-    ghost spelling = { written_mark };
+    ghost writing = { written_mark };
 
     #[tactic(auto, unfolding(crate::specs::WrittenValues::written_mark))]
     fn write(alloc: Global, mark: &Mark) -> Result<Option<Value>, OutOfMemory> {
         let mut members = Members::new(alloc);
-        members.needed::<NameRule>(names::SUBSCRIPTION_REF, &mark.subscription)?;
-        members.needed::<NumberRule>(names::NUMBER, &mark.number)?;
-        members.needed::<NumberRule>(names::START, &mark.start)?;
-        members.needed::<NumberRule>(names::ROUND, &mark.round)?;
-        members.needed::<NumberRule>(names::PART, &mark.part)?;
+        members.put_required::<NameRule>(names::SUBSCRIPTION_REF, &mark.subscription)?;
+        members.put_required::<NumberRule>(names::NUMBER, &mark.number)?;
+        members.put_required::<NumberRule>(names::START, &mark.start)?;
+        members.put_required::<NumberRule>(names::ROUND, &mark.round)?;
+        members.put_required::<NumberRule>(names::PART, &mark.part)?;
         Ok(Some(members.object()))
     }
 }

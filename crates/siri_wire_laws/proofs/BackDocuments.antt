@@ -11,13 +11,13 @@ use Rattle.siri_messages.specs.declared.message.Message.{Message}
 use Rattle.siri_messages.specs.declared.message.Message.TheVariants as message
 use Rattle.siri_messages.specs.Kinds.{kind_of}
 use Rattle.siri_items.specs.Refusals.{Refusal}
-use Rattle.siri_items.specs.Rules.{table, needed}
+use Rattle.siri_items.specs.Rules.{table, required_row}
 use Rattle.siri_items.specs.Writing.{Row, with_rows, row_object}
 use Rattle.siri_items.proofs.Back.{found_again, member_again, row_again}
 use Rattle.siri_items.proofs.BackValues.{table_back}
 use Rattle.siri_items.proofs.BackLists.{only_row}
 use Rattle.siri_items.proofs.CanonicalParts.{are_ascii, IsCanonicalWithin, row_within, ◌then◌, object_within}
-use Rattle.siri_items.proofs.SpelledReads.{needed_ok}
+use Rattle.siri_items.proofs.SpellsImpliesRead.{required_row_ok}
 use Rattle.siri_wire.specs.declared.kinds.Kind.{Kind}
 use Rattle.siri_wire.specs.declared.kinds.Kind.TheVariants as kind
 use Rattle.siri_wire.specs.declared.names.TheConstants.{SIRI, CHECK_STATUS_REQUEST, CHECK_STATUS_RESPONSE, DATA_READY_ACKNOWLEDGEMENT, DATA_READY_NOTIFICATION, DATA_RECEIVED_ACKNOWLEDGEMENT, DATA_SUPPLY_REQUEST, HEARTBEAT_NOTIFICATION, SERVICE_DELIVERY, SERVICE_REQUEST, SUBSCRIPTION_REQUEST, SUBSCRIPTION_RESPONSE, TERMINATE_SUBSCRIPTION_REQUEST, TERMINATE_SUBSCRIPTION_RESPONSE}
@@ -91,9 +91,9 @@ kind_is (message.CheckStatusRequest m) = refl
 kind_is (message.CheckStatusResponse m) = refl
 kind_is (message.HeartbeatNotification m) = refl
 
-needed_named : {A : Type 0} (rows : Data → Result A Refusal) (key : List ℕ) (ms : Members) (x : A) → rows (as_texts (object ms)) ≡ Ok x → needed (table rows) key (found_named key ms) ≡ Ok x
-needed_named rows key ms x is =
-    needed_ok (table rows) key (found_named key ms) x (row_again (table rows) key (named key ms) (Some (object ms)) (Some x) (only_row key (Some (object ms))) (table_back rows ms x is))
+required_named : {A : Type 0} (rows : Data → Result A Refusal) (key : List ℕ) (ms : Members) (x : A) → rows (as_texts (object ms)) ≡ Ok x → required_row (table rows) key (found_named key ms) ≡ Ok x
+required_named rows key ms x is =
+    required_row_ok (table rows) key (found_named key ms) x (row_again (table rows) key (named key ms) (Some (object ms)) (Some x) (only_row key (Some (object ms))) (table_back rows ms x is))
 
 object_read : {A : Type 0} (rows : Data → Result A Refusal) (d : Data) (ms : Members) (x : A) → d ≡ object ms → rows (as_texts d) ≡ Ok x → rows (as_texts (object ms)) ≡ Ok x
 object_read rows d ms x is read = subst (λ (e : Data). rows (as_texts e) ≡ Ok x) is read
@@ -101,19 +101,19 @@ object_read rows d ms x is read = subst (λ (e : Data). rows (as_texts e) ≡ Ok
 -- a message's own object is read as the message
 body_back : (m : Message) (ms : Members) → IsProper m → written_body m ≡ object ms → message_at (kind_in m) (found_named (kind_of m) ms) ≡ Ok m
 unfolding written_body
-body_back (message.ServiceRequest m) ms p is = rw (needed_named service_request SERVICE_REQUEST.now ms m (object_read service_request (written_service_request m) ms m is (service_request_back m p))) refl
-body_back (message.ServiceDelivery m) ms p is = rw (needed_named service_delivery SERVICE_DELIVERY.now ms m (object_read service_delivery (written_service_delivery m) ms m is (service_delivery_back m p))) refl
-body_back (message.SubscriptionRequest m) ms p is = rw (needed_named subscription_request SUBSCRIPTION_REQUEST.now ms m (object_read subscription_request (written_subscription_request m) ms m is (subscription_request_back m p))) refl
-body_back (message.SubscriptionResponse m) ms p is = rw (needed_named subscription_response SUBSCRIPTION_RESPONSE.now ms m (object_read subscription_response (written_subscription_response m) ms m is (subscription_response_back m p))) refl
-body_back (message.TerminateSubscriptionRequest m) ms p is = rw (needed_named termination_request TERMINATE_SUBSCRIPTION_REQUEST.now ms m (object_read termination_request (written_termination m) ms m is (termination_request_back m p))) refl
-body_back (message.TerminateSubscriptionResponse m) ms p is = rw (needed_named termination_response TERMINATE_SUBSCRIPTION_RESPONSE.now ms m (object_read termination_response (written_termination_response m) ms m is (termination_response_back m p))) refl
-body_back (message.DataReadyNotification m) ms p is = rw (needed_named data_ready_notification DATA_READY_NOTIFICATION.now ms m (object_read data_ready_notification (written_data_ready m) ms m is (ready_back m p))) refl
-body_back (message.DataReadyAcknowledgement m) ms p is = rw (needed_named data_ready_acknowledgement DATA_READY_ACKNOWLEDGEMENT.now ms m (object_read data_ready_acknowledgement (written_ready_acknowledgement m) ms m is (ready_acknowledgement_back m p))) refl
-body_back (message.DataSupplyRequest m) ms p is = rw (needed_named data_supply_request DATA_SUPPLY_REQUEST.now ms m (object_read data_supply_request (written_supply m) ms m is (supply_back m p))) refl
-body_back (message.DataReceivedAcknowledgement m) ms p is = rw (needed_named data_received_acknowledgement DATA_RECEIVED_ACKNOWLEDGEMENT.now ms m (object_read data_received_acknowledgement (written_received m) ms m is (received_back m p))) refl
-body_back (message.CheckStatusRequest m) ms p is = rw (needed_named check_status_request CHECK_STATUS_REQUEST.now ms m (object_read check_status_request (written_check_status m) ms m is (check_back m p))) refl
-body_back (message.CheckStatusResponse m) ms p is = rw (needed_named check_status_response CHECK_STATUS_RESPONSE.now ms m (object_read check_status_response (written_status_response m) ms m is (check_response_back m p))) refl
-body_back (message.HeartbeatNotification m) ms p is = rw (needed_named heartbeat_notification HEARTBEAT_NOTIFICATION.now ms m (object_read heartbeat_notification (written_heartbeat m) ms m is (heartbeat_back m p))) refl
+body_back (message.ServiceRequest m) ms p is = rw (required_named service_request SERVICE_REQUEST.now ms m (object_read service_request (written_service_request m) ms m is (service_request_back m p))) refl
+body_back (message.ServiceDelivery m) ms p is = rw (required_named service_delivery SERVICE_DELIVERY.now ms m (object_read service_delivery (written_service_delivery m) ms m is (service_delivery_back m p))) refl
+body_back (message.SubscriptionRequest m) ms p is = rw (required_named subscription_request SUBSCRIPTION_REQUEST.now ms m (object_read subscription_request (written_subscription_request m) ms m is (subscription_request_back m p))) refl
+body_back (message.SubscriptionResponse m) ms p is = rw (required_named subscription_response SUBSCRIPTION_RESPONSE.now ms m (object_read subscription_response (written_subscription_response m) ms m is (subscription_response_back m p))) refl
+body_back (message.TerminateSubscriptionRequest m) ms p is = rw (required_named termination_request TERMINATE_SUBSCRIPTION_REQUEST.now ms m (object_read termination_request (written_termination m) ms m is (termination_request_back m p))) refl
+body_back (message.TerminateSubscriptionResponse m) ms p is = rw (required_named termination_response TERMINATE_SUBSCRIPTION_RESPONSE.now ms m (object_read termination_response (written_termination_response m) ms m is (termination_response_back m p))) refl
+body_back (message.DataReadyNotification m) ms p is = rw (required_named data_ready_notification DATA_READY_NOTIFICATION.now ms m (object_read data_ready_notification (written_data_ready m) ms m is (ready_back m p))) refl
+body_back (message.DataReadyAcknowledgement m) ms p is = rw (required_named data_ready_acknowledgement DATA_READY_ACKNOWLEDGEMENT.now ms m (object_read data_ready_acknowledgement (written_ready_acknowledgement m) ms m is (ready_acknowledgement_back m p))) refl
+body_back (message.DataSupplyRequest m) ms p is = rw (required_named data_supply_request DATA_SUPPLY_REQUEST.now ms m (object_read data_supply_request (written_supply m) ms m is (supply_back m p))) refl
+body_back (message.DataReceivedAcknowledgement m) ms p is = rw (required_named data_received_acknowledgement DATA_RECEIVED_ACKNOWLEDGEMENT.now ms m (object_read data_received_acknowledgement (written_received m) ms m is (received_back m p))) refl
+body_back (message.CheckStatusRequest m) ms p is = rw (required_named check_status_request CHECK_STATUS_REQUEST.now ms m (object_read check_status_request (written_check_status m) ms m is (check_back m p))) refl
+body_back (message.CheckStatusResponse m) ms p is = rw (required_named check_status_response CHECK_STATUS_RESPONSE.now ms m (object_read check_status_response (written_status_response m) ms m is (check_response_back m p))) refl
+body_back (message.HeartbeatNotification m) ms p is = rw (required_named heartbeat_notification HEARTBEAT_NOTIFICATION.now ms m (object_read heartbeat_notification (written_heartbeat m) ms m is (heartbeat_back m p))) refl
 
 -- it is an object
 body_members : (m : Message) → (ms : Members) × (written_body m ≡ object ms)
@@ -140,7 +140,7 @@ siri_back m ms p is = rw (only_named (kind_of m) ms, kind_is m) (body_back m ms 
 
 root_named : (d : Data) (ms : Members) (m : Message) → d ≡ object ms → siri (as_texts (object ms)) ≡ Ok m → root (as_texts (row_object ((SIRI.now, Some d) ∷ []))) ≡ Ok m
 unfolding root
-root_named d ms m is read = rw is (needed_named siri SIRI.now ms m read)
+root_named d ms m is read = rw is (required_named siri SIRI.now ms m read)
 
 pub message_back : (m : Message) → IsProper m → root (as_texts (written_message m)) ≡ Ok m
 unfolding written_message

@@ -24,10 +24,10 @@ use Rattle.siri_wire_laws.specs.SpellingDeliveries.{SpellsMark, SpellsReady, Spe
 use Rattle.siri_wire_laws.specs.SpellingValues.{SpellsOr}
 use Rattle.siri_wire.specs.Statuses.{check_status_request, check_status_response, heartbeat_notification}
 use Rattle.siri_wire.specs.Supplies.{mark, is_text_absent, lacks, lacks_mark, mark_if_any, optional_mark, data_ready_notification, data_ready_acknowledgement, data_supply_request, data_received_acknowledgement}
-use Rattle.siri_wire.specs.WrittenRequests.{data_ready_rows, written_data_ready, ready_acknowledgement_rows, written_ready_acknowledgement, supply_rows as written_supply_rows, written_supply, received_rows, written_received, check_status_rows, written_check_status, status_response_rows, written_status_response, heartbeat_rows, written_heartbeat}
-use Rattle.siri_wire.specs.WrittenValues.{mark_rows, written_mark, written_where_true}
+use Rattle.siri_wire.specs.WrittenRequests.{rows_of_data_ready, written_data_ready, rows_of_ready_acknowledgement, written_ready_acknowledgement, rows_of_supply, written_supply, rows_of_received, written_received, rows_of_check_status, written_check_status, rows_of_status_response, written_status_response, rows_of_heartbeat, written_heartbeat}
+use Rattle.siri_wire.specs.WrittenValues.{rows_of_mark, written_mark, written_where_true}
 use Rattle.siri_wire_laws.proofs.MessageValues.{some_error_back, flag_again}
-use Rattle.siri_wire_laws.proofs.ReadsDeliveries.{something_spelled, mark_read, ready_read, ready_acknowledgement_read, supply_request_read, received_read, check_read, check_response_read, heartbeat_read}
+use Rattle.siri_wire_laws.proofs.SpellsImpliesReadDeliveries.{something_spelled, mark_read, ready_read, ready_acknowledgement_read, supply_request_read, received_read, check_read, check_response_read, heartbeat_read}
 
 -- a flag that is written only where it is true
 pub where_true_again : (key : List ℕ) (rs : List Row) (b : Bool) → in_rows key None rs ≡ written_where_true b → SpellsOr flag key (as_texts (row_object rs)) false b
@@ -36,25 +36,25 @@ where_true_again key rs false at_key = record { given = None; spelled = row_agai
 
 -- ---- marks
 
-mark_again : (m : Mark) → IsProperMark m → SpellsMark (as_texts (row_object (mark_rows m))) m
+mark_again : (m : Mark) → IsProperMark m → SpellsMark (as_texts (row_object (rows_of_mark m))) m
 mark_again m p = record {
-  subscription = row_again name SUBSCRIPTION_REF.now (mark_rows m) _ (Some m.subscription) refl (name_back m.subscription p.subscription);
-  subscription_number = row_again number NUMBER.now (mark_rows m) _ (Some m.number) refl (number_back m.number p.number);
-  start = row_again number START.now (mark_rows m) _ (Some m.start) refl (number_back m.start p.start);
-  round = row_again number ROUND.now (mark_rows m) _ (Some m.round) refl (number_back m.round p.round);
-  part = row_again number PART.now (mark_rows m) _ (Some m.part) refl (number_back m.part p.part);
+  subscription = row_again name SUBSCRIPTION_REF.now (rows_of_mark m) _ (Some m.subscription) refl (name_back m.subscription p.subscription);
+  subscription_number = row_again number NUMBER.now (rows_of_mark m) _ (Some m.number) refl (number_back m.number p.number);
+  start = row_again number START.now (rows_of_mark m) _ (Some m.start) refl (number_back m.start p.start);
+  round = row_again number ROUND.now (rows_of_mark m) _ (Some m.round) refl (number_back m.round p.round);
+  part = row_again number PART.now (rows_of_mark m) _ (Some m.part) refl (number_back m.part p.part);
 }
 
 pub mark_back : (m : Mark) → IsProperMark m → GivesBack (table mark) (written_mark m) (Some m)
 unfolding written_mark
-mark_back m p = table_back mark (with_rows no_members (mark_rows m)) m (mark_read _ m (mark_again m p))
+mark_back m p = table_back mark (with_rows no_members (rows_of_mark m)) m (mark_read _ m (mark_again m p))
 
 -- a mark has rows, so that it doesn't count as absent
 pub has_mark : (d : Data) (m : Mark) → SpellsMark d m → lacks_mark d ≡ false
 unfolding lacks_mark lacks
 has_mark d m s_ =
-    let there : is_text_absent (member_of SUBSCRIPTION_REF.now d) ≡ false = something_spelled _ (member_of SUBSCRIPTION_REF.now d) m.subscription s_.subscription in
-    rw there refl
+    let required : is_text_absent (member_of SUBSCRIPTION_REF.now d) ≡ false = something_spelled _ (member_of SUBSCRIPTION_REF.now d) m.subscription s_.subscription in
+    rw required refl
 
 pub optional_mark_again : (ms : Members) (m : Mark) → SpellsMark (as_texts (object ms)) m → GivesBack optional_mark (Some (object ms)) (Some m)
 unfolding optional_mark mark_if_any object_in
@@ -63,65 +63,65 @@ optional_mark_again ms m s_ = rw (has_mark (as_texts (object ms)) m s_, mark_rea
 pub some_mark_back : (o : Option Mark) → IfSome o IsProperMark → GivesBack optional_mark (option_and_then written_mark o) o
 unfolding written_mark
 some_mark_back None is = refl
-some_mark_back (Some m) is = optional_mark_again (with_rows no_members (mark_rows m)) m (mark_again m is)
+some_mark_back (Some m) is = optional_mark_again (with_rows no_members (rows_of_mark m)) m (mark_again m is)
 
 -- ---- rounds and statuses
 
-ready_again : (n : DataReadyNotification) → IsProperReady n → SpellsReady (as_texts (row_object (data_ready_rows n))) n
+ready_again : (n : DataReadyNotification) → IsProperReady n → SpellsReady (as_texts (row_object (rows_of_data_ready n))) n
 ready_again n p = record {
-  request_timestamp = row_again moment REQUEST_TIMESTAMP.now (data_ready_rows n) _ n.request_timestamp refl (some_moment_back n.request_timestamp p.request_timestamp);
-  producer_ref = row_again name PRODUCER_REF.now (data_ready_rows n) _ n.producer_ref refl (some_name_back n.producer_ref p.producer_ref);
-  extensions = row_again (table mark) EXTENSIONS.now (data_ready_rows n) _ (Some n.extensions) refl (mark_back n.extensions p.extensions);
+  request_timestamp = row_again moment REQUEST_TIMESTAMP.now (rows_of_data_ready n) _ n.request_timestamp refl (some_moment_back n.request_timestamp p.request_timestamp);
+  producer_ref = row_again name PRODUCER_REF.now (rows_of_data_ready n) _ n.producer_ref refl (some_name_back n.producer_ref p.producer_ref);
+  extensions = row_again (table mark) EXTENSIONS.now (rows_of_data_ready n) _ (Some n.extensions) refl (mark_back n.extensions p.extensions);
 }
 
-ready_acknowledgement_again : (a : DataReadyAcknowledgement) → IsProperReadyAcknowledgement a → SpellsReadyAcknowledgement (as_texts (row_object (ready_acknowledgement_rows a))) a
+ready_acknowledgement_again : (a : DataReadyAcknowledgement) → IsProperReadyAcknowledgement a → SpellsReadyAcknowledgement (as_texts (row_object (rows_of_ready_acknowledgement a))) a
 ready_acknowledgement_again a p = record {
-  response_timestamp = row_again moment RESPONSE_TIMESTAMP.now (ready_acknowledgement_rows a) _ a.response_timestamp refl (some_moment_back a.response_timestamp p.response_timestamp);
-  consumer_ref = row_again name CONSUMER_REF.now (ready_acknowledgement_rows a) _ a.consumer_ref refl (some_name_back a.consumer_ref p.consumer_ref);
-  status = flag_again STATUS.now (ready_acknowledgement_rows a) true a.status refl;
+  response_timestamp = row_again moment RESPONSE_TIMESTAMP.now (rows_of_ready_acknowledgement a) _ a.response_timestamp refl (some_moment_back a.response_timestamp p.response_timestamp);
+  consumer_ref = row_again name CONSUMER_REF.now (rows_of_ready_acknowledgement a) _ a.consumer_ref refl (some_name_back a.consumer_ref p.consumer_ref);
+  status = flag_again STATUS.now (rows_of_ready_acknowledgement a) true a.status refl;
 }
 
-supply_again : (s : DataSupplyRequest) → IsProperSupply s → SpellsSupply (as_texts (row_object (written_supply_rows s))) s
+supply_again : (s : DataSupplyRequest) → IsProperSupply s → SpellsSupply (as_texts (row_object (rows_of_supply s))) s
 supply_again s p = record {
-  request_timestamp = row_again moment REQUEST_TIMESTAMP.now (written_supply_rows s) _ s.request_timestamp refl (some_moment_back s.request_timestamp p.request_timestamp);
-  consumer_ref = row_again name CONSUMER_REF.now (written_supply_rows s) _ (Some s.consumer_ref) refl (name_back s.consumer_ref p.consumer_ref);
-  all_data = where_true_again ALL_DATA.now (written_supply_rows s) s.all_data refl;
-  extensions = row_again (table mark) EXTENSIONS.now (written_supply_rows s) _ (Some s.extensions) refl (mark_back s.extensions p.extensions);
+  request_timestamp = row_again moment REQUEST_TIMESTAMP.now (rows_of_supply s) _ s.request_timestamp refl (some_moment_back s.request_timestamp p.request_timestamp);
+  consumer_ref = row_again name CONSUMER_REF.now (rows_of_supply s) _ (Some s.consumer_ref) refl (name_back s.consumer_ref p.consumer_ref);
+  all_data = where_true_again ALL_DATA.now (rows_of_supply s) s.all_data refl;
+  extensions = row_again (table mark) EXTENSIONS.now (rows_of_supply s) _ (Some s.extensions) refl (mark_back s.extensions p.extensions);
   not_all = p.not_all;
 }
 
-received_again : (a : DataReceivedAcknowledgement) → IsProperReceived a → SpellsReceived (as_texts (row_object (received_rows a))) a
+received_again : (a : DataReceivedAcknowledgement) → IsProperReceived a → SpellsReceived (as_texts (row_object (rows_of_received a))) a
 received_again a p = record {
-  response_timestamp = row_again moment RESPONSE_TIMESTAMP.now (received_rows a) _ a.response_timestamp refl (some_moment_back a.response_timestamp p.response_timestamp);
-  consumer_ref = row_again name CONSUMER_REF.now (received_rows a) _ a.consumer_ref refl (some_name_back a.consumer_ref p.consumer_ref);
-  request_message_ref = row_again name REQUEST_MESSAGE_REF.now (received_rows a) _ a.request_message_ref refl (some_name_back a.request_message_ref p.request_message_ref);
-  status = flag_again STATUS.now (received_rows a) true a.status refl;
-  error_condition = row_again other_error ERROR_CONDITION.now (received_rows a) _ a.error_condition refl (some_error_back a.error_condition p.error_condition);
-  extensions = row_again optional_mark EXTENSIONS.now (received_rows a) _ a.extensions refl (some_mark_back a.extensions p.extensions);
+  response_timestamp = row_again moment RESPONSE_TIMESTAMP.now (rows_of_received a) _ a.response_timestamp refl (some_moment_back a.response_timestamp p.response_timestamp);
+  consumer_ref = row_again name CONSUMER_REF.now (rows_of_received a) _ a.consumer_ref refl (some_name_back a.consumer_ref p.consumer_ref);
+  request_message_ref = row_again name REQUEST_MESSAGE_REF.now (rows_of_received a) _ a.request_message_ref refl (some_name_back a.request_message_ref p.request_message_ref);
+  status = flag_again STATUS.now (rows_of_received a) true a.status refl;
+  error_condition = row_again other_error ERROR_CONDITION.now (rows_of_received a) _ a.error_condition refl (some_error_back a.error_condition p.error_condition);
+  extensions = row_again optional_mark EXTENSIONS.now (rows_of_received a) _ a.extensions refl (some_mark_back a.extensions p.extensions);
 }
 
-check_again : (c : CheckStatusRequest) → IsProperCheck c → SpellsCheck (as_texts (row_object (check_status_rows c))) c
+check_again : (c : CheckStatusRequest) → IsProperCheck c → SpellsCheck (as_texts (row_object (rows_of_check_status c))) c
 check_again c p = record {
-  request_timestamp = row_again moment REQUEST_TIMESTAMP.now (check_status_rows c) _ c.request_timestamp refl (some_moment_back c.request_timestamp p.request_timestamp);
-  requestor_ref = row_again name REQUESTOR_REF.now (check_status_rows c) _ c.requestor_ref refl (some_name_back c.requestor_ref p.requestor_ref);
-  message_identifier = row_again name MESSAGE_IDENTIFIER.now (check_status_rows c) _ c.message_identifier refl (some_name_back c.message_identifier p.message_identifier);
+  request_timestamp = row_again moment REQUEST_TIMESTAMP.now (rows_of_check_status c) _ c.request_timestamp refl (some_moment_back c.request_timestamp p.request_timestamp);
+  requestor_ref = row_again name REQUESTOR_REF.now (rows_of_check_status c) _ c.requestor_ref refl (some_name_back c.requestor_ref p.requestor_ref);
+  message_identifier = row_again name MESSAGE_IDENTIFIER.now (rows_of_check_status c) _ c.message_identifier refl (some_name_back c.message_identifier p.message_identifier);
 }
 
-check_response_again : (c : CheckStatusResponse) → IsProperCheckResponse c → SpellsCheckResponse (as_texts (row_object (status_response_rows c))) c
+check_response_again : (c : CheckStatusResponse) → IsProperCheckResponse c → SpellsCheckResponse (as_texts (row_object (rows_of_status_response c))) c
 check_response_again c p = record {
-  response_timestamp = row_again moment RESPONSE_TIMESTAMP.now (status_response_rows c) _ c.response_timestamp refl (some_moment_back c.response_timestamp p.response_timestamp);
-  producer_ref = row_again name PRODUCER_REF.now (status_response_rows c) _ c.producer_ref refl (some_name_back c.producer_ref p.producer_ref);
-  request_message_ref = row_again name REQUEST_MESSAGE_REF.now (status_response_rows c) _ c.request_message_ref refl (some_name_back c.request_message_ref p.request_message_ref);
-  status = flag_again STATUS.now (status_response_rows c) true c.status refl;
-  service_started_time = row_again moment SERVICE_STARTED_TIME.now (status_response_rows c) _ c.service_started_time refl (some_moment_back c.service_started_time p.service_started_time);
+  response_timestamp = row_again moment RESPONSE_TIMESTAMP.now (rows_of_status_response c) _ c.response_timestamp refl (some_moment_back c.response_timestamp p.response_timestamp);
+  producer_ref = row_again name PRODUCER_REF.now (rows_of_status_response c) _ c.producer_ref refl (some_name_back c.producer_ref p.producer_ref);
+  request_message_ref = row_again name REQUEST_MESSAGE_REF.now (rows_of_status_response c) _ c.request_message_ref refl (some_name_back c.request_message_ref p.request_message_ref);
+  status = flag_again STATUS.now (rows_of_status_response c) true c.status refl;
+  service_started_time = row_again moment SERVICE_STARTED_TIME.now (rows_of_status_response c) _ c.service_started_time refl (some_moment_back c.service_started_time p.service_started_time);
 }
 
-heartbeat_again : (h : HeartbeatNotification) → IsProperHeartbeat h → SpellsHeartbeat (as_texts (row_object (heartbeat_rows h))) h
+heartbeat_again : (h : HeartbeatNotification) → IsProperHeartbeat h → SpellsHeartbeat (as_texts (row_object (rows_of_heartbeat h))) h
 heartbeat_again h p = record {
-  request_timestamp = row_again moment REQUEST_TIMESTAMP.now (heartbeat_rows h) _ h.request_timestamp refl (some_moment_back h.request_timestamp p.request_timestamp);
-  producer_ref = row_again name PRODUCER_REF.now (heartbeat_rows h) _ h.producer_ref refl (some_name_back h.producer_ref p.producer_ref);
-  status = flag_again STATUS.now (heartbeat_rows h) true h.status refl;
-  service_started_time = row_again moment SERVICE_STARTED_TIME.now (heartbeat_rows h) _ h.service_started_time refl (some_moment_back h.service_started_time p.service_started_time);
+  request_timestamp = row_again moment REQUEST_TIMESTAMP.now (rows_of_heartbeat h) _ h.request_timestamp refl (some_moment_back h.request_timestamp p.request_timestamp);
+  producer_ref = row_again name PRODUCER_REF.now (rows_of_heartbeat h) _ h.producer_ref refl (some_name_back h.producer_ref p.producer_ref);
+  status = flag_again STATUS.now (rows_of_heartbeat h) true h.status refl;
+  service_started_time = row_again moment SERVICE_STARTED_TIME.now (rows_of_heartbeat h) _ h.service_started_time refl (some_moment_back h.service_started_time p.service_started_time);
 }
 
 pub ready_back : (n : DataReadyNotification) → IsProperReady n → data_ready_notification (as_texts (written_data_ready n)) ≡ Ok n

@@ -14,8 +14,8 @@ use Rattle.siri_items.specs.Writing.{row_object}
 use Rattle.siri_items.proofs.CanonicalParts.{IsCanonicalWithin, MayBeWithin, deeper, text_within, some_text_within, some_flag_within, number_within, some_moment_within, row_within, ◌then◌, object_within}
 use Rattle.siri_wire.specs.declared.names.TheConstants.{ALL_DATA, CONSUMER_REF, ERROR_CONDITION, EXTENSIONS, MESSAGE_IDENTIFIER, NUMBER, PART, PRODUCER_REF, REQUESTOR_REF, REQUEST_MESSAGE_REF, REQUEST_TIMESTAMP, RESPONSE_TIMESTAMP, ROUND, SERVICE_STARTED_TIME, START, STATUS, SUBSCRIPTION_REF}
 use Rattle.siri_wire_laws.specs.ProperDeliveries.{IsProperMark, IsProperReady, IsProperReadyAcknowledgement, IsProperSupply, IsProperReceived, IsProperCheck, IsProperCheckResponse, IsProperHeartbeat}
-use Rattle.siri_wire.specs.WrittenRequests.{data_ready_rows, written_data_ready, ready_acknowledgement_rows, written_ready_acknowledgement, supply_rows as written_supply_rows, written_supply, received_rows, written_received, check_status_rows, written_check_status, status_response_rows, written_status_response, heartbeat_rows, written_heartbeat}
-use Rattle.siri_wire.specs.WrittenValues.{mark_rows, written_mark, written_where_true}
+use Rattle.siri_wire.specs.WrittenRequests.{rows_of_data_ready, written_data_ready, rows_of_ready_acknowledgement, written_ready_acknowledgement, rows_of_supply, written_supply, rows_of_received, written_received, rows_of_check_status, written_check_status, rows_of_status_response, written_status_response, rows_of_heartbeat, written_heartbeat}
+use Rattle.siri_wire.specs.WrittenValues.{rows_of_mark, written_mark, written_where_true}
 use Rattle.siri_wire_laws.proofs.MessageValues.{some_error_within}
 
 -- a flag that is written only where it is true
@@ -28,7 +28,7 @@ where_true_within most false = tt
 pub mark_within : (m : Mark) → IsProperMark m → MayBeWithin 1 (written_mark m)
 unfolding written_mark
 mark_within m p =
-    object_within 0 (mark_rows m) (
+    object_within 0 (rows_of_mark m) (
     row_within 0 SUBSCRIPTION_REF.now _ refl (text_within 0 m.subscription p.subscription.utf8) then
     row_within 0 NUMBER.now _ refl (number_within 0 m.number p.number) then
     row_within 0 START.now _ refl (number_within 0 m.start p.start) then
@@ -45,7 +45,7 @@ some_mark_within most (Some m) le is = deeper 1 most (written_mark m) le (mark_w
 pub ready_within : (n : DataReadyNotification) → IsProperReady n → IsCanonicalWithin 2 (written_data_ready n)
 unfolding written_data_ready
 ready_within n p =
-    object_within 1 (data_ready_rows n) (
+    object_within 1 (rows_of_data_ready n) (
     row_within 1 REQUEST_TIMESTAMP.now _ refl (some_moment_within 1 n.request_timestamp p.request_timestamp) then
     row_within 1 PRODUCER_REF.now _ refl (some_text_within 1 _ n.producer_ref p.producer_ref) then
     row_within 1 EXTENSIONS.now _ refl (mark_within n.extensions p.extensions) then
@@ -54,7 +54,7 @@ ready_within n p =
 pub ready_acknowledgement_within : (a : DataReadyAcknowledgement) → IsProperReadyAcknowledgement a → IsCanonicalWithin 1 (written_ready_acknowledgement a)
 unfolding written_ready_acknowledgement
 ready_acknowledgement_within a p =
-    object_within 0 (ready_acknowledgement_rows a) (
+    object_within 0 (rows_of_ready_acknowledgement a) (
     row_within 0 RESPONSE_TIMESTAMP.now _ refl (some_moment_within 0 a.response_timestamp p.response_timestamp) then
     row_within 0 CONSUMER_REF.now _ refl (some_text_within 0 _ a.consumer_ref p.consumer_ref) then
     row_within 0 STATUS.now _ refl (some_flag_within 0 (Some a.status)) then
@@ -63,7 +63,7 @@ ready_acknowledgement_within a p =
 pub supply_within : (s : DataSupplyRequest) → IsProperSupply s → IsCanonicalWithin 2 (written_supply s)
 unfolding written_supply
 supply_within s p =
-    object_within 1 (written_supply_rows s) (
+    object_within 1 (rows_of_supply s) (
     row_within 1 REQUEST_TIMESTAMP.now _ refl (some_moment_within 1 s.request_timestamp p.request_timestamp) then
     row_within 1 CONSUMER_REF.now _ refl (text_within 1 s.consumer_ref p.consumer_ref.utf8) then
     row_within 1 ALL_DATA.now _ refl (where_true_within 1 s.all_data) then
@@ -73,7 +73,7 @@ supply_within s p =
 pub received_within : (a : DataReceivedAcknowledgement) → IsProperReceived a → IsCanonicalWithin 3 (written_received a)
 unfolding written_received
 received_within a p =
-    object_within 2 (received_rows a) (
+    object_within 2 (rows_of_received a) (
     row_within 2 RESPONSE_TIMESTAMP.now _ refl (some_moment_within 2 a.response_timestamp p.response_timestamp) then
     row_within 2 CONSUMER_REF.now _ refl (some_text_within 2 _ a.consumer_ref p.consumer_ref) then
     row_within 2 REQUEST_MESSAGE_REF.now _ refl (some_text_within 2 _ a.request_message_ref p.request_message_ref) then
@@ -85,7 +85,7 @@ received_within a p =
 pub check_within : (c : CheckStatusRequest) → IsProperCheck c → IsCanonicalWithin 1 (written_check_status c)
 unfolding written_check_status
 check_within c p =
-    object_within 0 (check_status_rows c) (
+    object_within 0 (rows_of_check_status c) (
     row_within 0 REQUEST_TIMESTAMP.now _ refl (some_moment_within 0 c.request_timestamp p.request_timestamp) then
     row_within 0 REQUESTOR_REF.now _ refl (some_text_within 0 _ c.requestor_ref p.requestor_ref) then
     row_within 0 MESSAGE_IDENTIFIER.now _ refl (some_text_within 0 _ c.message_identifier p.message_identifier) then
@@ -94,7 +94,7 @@ check_within c p =
 pub check_response_within : (c : CheckStatusResponse) → IsProperCheckResponse c → IsCanonicalWithin 1 (written_status_response c)
 unfolding written_status_response
 check_response_within c p =
-    object_within 0 (status_response_rows c) (
+    object_within 0 (rows_of_status_response c) (
     row_within 0 RESPONSE_TIMESTAMP.now _ refl (some_moment_within 0 c.response_timestamp p.response_timestamp) then
     row_within 0 PRODUCER_REF.now _ refl (some_text_within 0 _ c.producer_ref p.producer_ref) then
     row_within 0 REQUEST_MESSAGE_REF.now _ refl (some_text_within 0 _ c.request_message_ref p.request_message_ref) then
@@ -105,7 +105,7 @@ check_response_within c p =
 pub heartbeat_within : (h : HeartbeatNotification) → IsProperHeartbeat h → IsCanonicalWithin 1 (written_heartbeat h)
 unfolding written_heartbeat
 heartbeat_within h p =
-    object_within 0 (heartbeat_rows h) (
+    object_within 0 (rows_of_heartbeat h) (
     row_within 0 REQUEST_TIMESTAMP.now _ refl (some_moment_within 0 h.request_timestamp p.request_timestamp) then
     row_within 0 PRODUCER_REF.now _ refl (some_text_within 0 _ h.producer_ref p.producer_ref) then
     row_within 0 STATUS.now _ refl (some_flag_within 0 (Some h.status)) then

@@ -10,19 +10,18 @@ use Rattle.serde_json.specs.Data.{Data}
 use Rattle.siri_json.specs.Canonical.{as_texts}
 use Rattle.siri_json.specs.Values.{object_in}
 use Rattle.siri_items.specs.Refusals.{Refusal}
-use Rattle.siri_items.specs.Rules.{text, flag, number, span0, inside}
+use Rattle.siri_items.specs.Rules.{text, flag, number, non_negative_span, inside}
 use Rattle.siri_items.specs.Writing.{Row, row_object, written_text, written_flag, written_span}
-use Rattle.siri_items.specs.Proper.{IsText, IsNumber}
+use Rattle.siri_items.specs.Proper.{IsText, IsNumber, IsNonNegativeSpan}
 use Rattle.siri_items.proofs.Back.{GivesBack, in_rows, row_again}
-use Rattle.siri_items.proofs.BackValues.{text_back, flag_back, number_back, span0_back}
+use Rattle.siri_items.proofs.BackValues.{text_back, flag_back, number_back, non_negative_span_back}
 use Rattle.siri_items.proofs.BackLists.{only_row}
-use Rattle.siri_items.proofs.SpelledReads.{row_ok}
-use Rattle.siri_items.proofs.ReadSpelled.{row_spelled}
+use Rattle.siri_items.proofs.SpellsImpliesRead.{row_ok}
+use Rattle.siri_items.proofs.ReadImpliesSpells.{row_spelled}
 use Rattle.siri_items.proofs.CanonicalParts.{MayBeWithin, deeper, text_within, some_span_within, row_within, ◌then◌, object_within}
 use Rattle.siri_wire.specs.declared.names.TheConstants.{ERROR_CONDITION, ERROR_TEXT, OTHER_ERROR}
 use Rattle.siri_wire.specs.Errors.{other_error, error_condition}
 use Rattle.siri_wire.specs.WrittenValues.{written_error, written_identifier}
-use Rattle.siri_wire_laws.specs.ProperValues.{IsSpan0}
 use Rattle.siri_wire_laws.specs.SpellingValues.{SpellsOr, SpellsError}
 
 -- ---- rules in lists and objects
@@ -94,15 +93,15 @@ identifier_within most n is = text_within most (digits n) (IsUtf8-from_ascii (di
 
 -- ---- spans that aren't negative
 
-pub whole_span_back : (s : ℤ) → IsSpan0 s → GivesBack span0 (written_span s) (Some s)
-whole_span_back (pos n) is = span0_back n is
+pub whole_span_back : (s : ℤ) → IsNonNegativeSpan s → GivesBack non_negative_span (written_span s) (Some s)
+whole_span_back (pos n) is = non_negative_span_back n is
 whole_span_back (negsuc n) is = absurd is
 
-pub some_whole_span_back : (o : Option ℤ) → IfSome o IsSpan0 → GivesBack span0 (option_and_then written_span o) o
+pub some_whole_span_back : (o : Option ℤ) → IfSome o IsNonNegativeSpan → GivesBack non_negative_span (option_and_then written_span o) o
 some_whole_span_back None is = refl
 some_whole_span_back (Some s) is = whole_span_back s is
 
-pub some_whole_span_within : (most : ℕ) (o : Option ℤ) → IfSome o IsSpan0 → MayBeWithin most (option_and_then written_span o)
+pub some_whole_span_within : (most : ℕ) (o : Option ℤ) → IfSome o IsNonNegativeSpan → MayBeWithin most (option_and_then written_span o)
 some_whole_span_within most None is = tt
 some_whole_span_within most (Some (pos n)) is = some_span_within most (Some (pos n)) is
 some_whole_span_within most (Some (negsuc n)) is = absurd is

@@ -23,27 +23,28 @@ use Rattle.siri_messages.specs.declared.supplies.DataSupplyRequest.{DataSupplyRe
 use Rattle.siri_messages.specs.declared.supplies.Mark.{Mark}
 use Rattle.siri_items.specs.declared.names.TheConstants.{MONITORING_REF, LINE_REF, DIRECTION_REF, DATA_FRAME_REF, DATED_VEHICLE_JOURNEY_REF, PARTICIPANT_REF, SITUATION_NUMBER, RECORDED_AT_TIME}
 use Rattle.siri_items.specs.Refusals.{Refusal, refused}
-use Rattle.siri_items.specs.Rules.{name, moment, number, table, row, needed, list_of}
+use Rattle.siri_items.specs.Rules.{name, moment, number, table, row, required_row, list_of}
 use Rattle.siri_items.specs.Visits.{visit}
 use Rattle.siri_items.specs.Vehicles.{vehicle}
 use Rattle.siri_items.specs.Journeys.{journey}
 use Rattle.siri_items.specs.Situations.{situation}
-use Rattle.siri_items.specs.Proper.{TextsAreUtf8, IsName, IsMoment, IsNumber, IsListWithin, IsProperVisit, IsProperVehicle, IsProperJourney, IsProperSituation}
+use Rattle.siri_items.specs.Proper.{IsName, IsMoment, IsNumber, IsListWithin, IsProperVisit, IsProperVehicle, IsProperJourney, IsProperSituation}
+use Rattle.siri_json.specs.TextsOfTrees.{TextsAreUtf8}
 use Rattle.siri_items.proofs.ProperParts.{OnRead, Yields, reads_to, on_ok, on_map, on_bind, name_yields, moment_yields, number_yields, table_yields, row_on, row_is, inside_on, AreRead, list_of_on, at_name, lists_inside_on}
 use Rattle.siri_items.proofs.ProperTables.{visit_proper, vehicle_proper, journey_proper, situation_proper}
-use Rattle.siri_items.proofs.ReadSpelled.{visit_spelled, vehicle_spelled, journey_spelled, situation_spelled}
+use Rattle.siri_items.proofs.ReadImpliesSpells.{visit_spelled, vehicle_spelled, journey_spelled, situation_spelled}
 use Rattle.siri_wire.specs.declared.names.TheConstants.{CONSUMER_REF, ESTIMATED_JOURNEY_VERSION_FRAME, ESTIMATED_TIMETABLE_DELIVERY, ESTIMATED_VEHICLE_JOURNEY, EXTENSIONS, ITEM_REF, MESSAGE_IDENTIFIER, MONITORED_STOP_VISIT, MONITORED_STOP_VISIT_CANCELLATION, NUMBER, PART, PRODUCER_REF, PT_SITUATION_ELEMENT, REMOVED, REQUESTOR_REF, REQUEST_MESSAGE_REF, REQUEST_TIMESTAMP, RESPONSE_MESSAGE_IDENTIFIER, RESPONSE_TIMESTAMP, ROUND, SERVICE_STARTED_TIME, SITUATIONS, SITUATION_EXCHANGE_DELIVERY, START, STOP_MONITORING_DELIVERY, SUBSCRIBER_REF, SUBSCRIPTION_REF, VEHICLE_ACTIVITY, VEHICLE_ACTIVITY_CANCELLATION, VEHICLE_MONITORING_DELIVERY}
-use Rattle.siri_wire.specs.declared.read_parts.Extended.{Extended}
-use Rattle.siri_wire.specs.declared.read_parts.Standing.{Standing}
+use Rattle.siri_wire.specs.declared.read_parts.DeliveryExtensions.{DeliveryExtensions}
+use Rattle.siri_wire.specs.declared.read_parts.RoundPosition.{RoundPosition}
 use Rattle.siri_wire.specs.Deliveries.{visit_item, vehicle_item, situation_item, stop_monitoring_delivery, estimated_timetable_delivery, vehicle_monitoring_delivery, situation_exchange_delivery}
-use Rattle.siri_wire.specs.Frames.{own_or, framed_journey, journeys, frame, together, frames_of, framed_journeys}
-use Rattle.siri_wire.specs.Parts.{standing, extended, or_outside, or_none}
+use Rattle.siri_wire.specs.Frames.{own_or, journey_of_frame, journeys, frame, concat_frames, frames_of, journeys_of_frames}
+use Rattle.siri_wire.specs.Parts.{round_position, delivery_extensions, or_no_round, extensions_or_empty}
 use Rattle.siri_wire.specs.Removals.{visit_cancellation, vehicle_cancellation, removed_journey, removed_situation}
 use Rattle.siri_wire.specs.Supplies.{mark, lacks_mark, mark_if_any, optional_mark}
 use Rattle.siri_wire_laws.specs.ProperDeliveries.{IsProperMark, IsProperReady, IsProperReadyAcknowledgement, IsProperSupply, IsProperReceived, IsProperCheck, IsProperCheckResponse, IsProperHeartbeat, IsProperOf, IsProperRemoval, IsProperDelivery, IsProperServiceDelivery}
-use Rattle.siri_wire_laws.specs.SpellingDeliveries.{SpellsMark, SpellsReady, SpellsReadyAcknowledgement, SpellsSupply, SpellsReceived, SpellsCheck, SpellsCheckResponse, SpellsHeartbeat, SpellsBeside, SpellsStanding, SpellsPlace, SpellsRemovals, SpellsStopDelivery, SpellsTimetableDelivery, SpellsVehicleDelivery, SpellsSituationDelivery, SpellsServiceDelivery}
-use Rattle.siri_wire_laws.proofs.ProperReadValues.{needed_on, spelled_yields, list_is, all_joined, unless_absent, error_is}
-use Rattle.siri_wire_laws.proofs.SpelledDeliveries.{mark_spelled, standing_spelled, extended_spelled, stop_delivery_spelled, timetable_delivery_spelled, vehicle_delivery_spelled, situation_delivery_spelled}
+use Rattle.siri_wire_laws.specs.SpellingDeliveries.{SpellsMark, SpellsReady, SpellsReadyAcknowledgement, SpellsSupply, SpellsReceived, SpellsCheck, SpellsCheckResponse, SpellsHeartbeat, SpellsBeside, SpellsRoundPosition, SpellsPlace, SpellsRemovals, SpellsStopDelivery, SpellsTimetableDelivery, SpellsVehicleDelivery, SpellsSituationDelivery, SpellsServiceDelivery}
+use Rattle.siri_wire_laws.proofs.ProperReadValues.{required_row_on, spelled_yields, list_is, all_joined, unless_absent, error_is}
+use Rattle.siri_wire_laws.proofs.ReadImpliesSpellsDeliveries.{mark_spelled, round_position_spelled, delivery_extensions_spelled, stop_delivery_spelled, timetable_delivery_spelled, vehicle_delivery_spelled, situation_delivery_spelled}
 
 -- ---- marks
 
@@ -154,8 +155,8 @@ own_is : (own frame : Option ℕ) → IfSome own IsMoment → IfSome frame IsMom
 own_is None frame o f = f
 own_is (Some own) frame o f = o
 
-framed_is : (t : Option ℕ) (j : Journey) → IfSome t IsMoment → IsProperJourney j → IsProperOf service.Timetable (framed_journey t j)
-framed_is t j f is = record {
+framed_ref_is : (t : Option ℕ) (j : Journey) → IfSome t IsMoment → IsProperJourney j → IsProperOf service.Timetable (journey_of_frame t j)
+framed_ref_is t j f is = record {
   proper = record {
     recorded_at_time = own_is j.recorded_at_time t is.recorded_at_time f;
     line_ref = is.line_ref;
@@ -179,9 +180,9 @@ framed_is t j f is = record {
 abbrev AreJourneys : List Item → Type 0
 AreJourneys items = AllByRecursion (IsProperOf service.Timetable) items
 
-all_framed : (t : Option ℕ) (js : List Journey) → IfSome t IsMoment → AllByRecursion IsProperJourney js → AreJourneys (map (framed_journey t) js)
-all_framed t [] f all = tt
-all_framed t (j ∷ js) f all = (framed_is t j f all.0, all_framed t js f all.1)
+all_of_frame : (t : Option ℕ) (js : List Journey) → IfSome t IsMoment → AllByRecursion IsProperJourney js → AreJourneys (map (journey_of_frame t) js)
+all_of_frame t [] f all = tt
+all_of_frame t (j ∷ js) f all = (framed_ref_is t j f all.0, all_of_frame t js f all.1)
 
 journeys_on : (d : Data) → TextsAreUtf8 d → OnRead (journeys d) (AllByRecursion IsProperJourney)
 unfolding journeys
@@ -194,14 +195,14 @@ frame_on : (d : Data) → TextsAreUtf8 d → OnRead (frame d) AreJourneys
 unfolding frame
 frame_on d u =
     on_bind (λ o. IfSome o IsMoment) AreJourneys (row moment RECORDED_AT_TIME.now d) _ (row_on moment IsMoment moment_yields RECORDED_AT_TIME.now d u)
-    (λ t f. on_bind (AllByRecursion IsProperJourney) AreJourneys (journeys d) _ (journeys_on d u) (λ js all. all_framed t js f all))
+    (λ t f. on_bind (AllByRecursion IsProperJourney) AreJourneys (journeys d) _ (journeys_on d u) (λ js all. all_of_frame t js f all))
 
 frame_yields : Yields (table frame) AreJourneys
 frame_yields = table_yields frame AreJourneys frame_on
 
-all_together : (frames : List (List Item)) → AllByRecursion AreJourneys frames → AreJourneys (together frames)
-all_together [] all = tt
-all_together (items ∷ frames) all = all_joined (IsProperOf service.Timetable) items (together frames) all.0 (all_together frames all.1)
+all_concat : (frames : List (List Item)) → AllByRecursion AreJourneys frames → AreJourneys (concat_frames frames)
+all_concat [] all = tt
+all_concat (items ∷ frames) all = all_joined (IsProperOf service.Timetable) items (concat_frames frames) all.0 (all_concat frames all.1)
 
 few_by : (items : List Item) (b : Bool) → nat_le (length items) 20000 ≡ b → AreJourneys items → OnRead (cond b (Ok items) (refused TooMany)) (IsListWithin 20000 (IsProperOf service.Timetable))
 few_by items true fits all = record { bound = leb-true (length items) 20000 fits; each = all }
@@ -211,17 +212,17 @@ frames_on : (d : Data) → TextsAreUtf8 d → OnRead (frames_of d) (IsListWithin
 unfolding frames_of
 frames_on d u =
     on_bind (AreRead AreJourneys (entries_of d)) (IsListWithin 20000 (IsProperOf service.Timetable)) (list_of (table frame) d) _ (list_of_on (table frame) AreJourneys frame_yields d u)
-    (λ frames is. few_by (together frames) (nat_le (length (together frames)) 20000) refl (all_together frames is.each))
+    (λ frames is. few_by (concat_frames frames) (nat_le (length (concat_frames frames)) 20000) refl (all_concat frames is.each))
 
-framed_journeys_on : (d : Data) → TextsAreUtf8 d → OnRead (framed_journeys d) (IsListWithin 20000 (IsProperOf service.Timetable))
-unfolding framed_journeys
-framed_journeys_on d u =
+journeys_of_frames_on : (d : Data) → TextsAreUtf8 d → OnRead (journeys_of_frames d) (IsListWithin 20000 (IsProperOf service.Timetable))
+unfolding journeys_of_frames
+journeys_of_frames_on d u =
     at_name (IsListWithin 20000 (IsProperOf service.Timetable)) frames_of (record { bound = omega arith; each = tt }) frames_on ESTIMATED_JOURNEY_VERSION_FRAME.now d u
 
 -- ---- removals
 
-needed_name : (key : List ℕ) (d : Data) → TextsAreUtf8 d → OnRead (needed name key d) IsName
-needed_name key d u = needed_on name IsName name_yields key d u
+required_name : (key : List ℕ) (d : Data) → TextsAreUtf8 d → OnRead (required_row name key d) IsName
+required_name key d u = required_row_on name IsName name_yields key d u
 
 name_row : (key : List ℕ) (d : Data) → TextsAreUtf8 d → OnRead (row name key d) (λ o. IfSome o IsName)
 name_row key d u = row_on name IsName name_yields key d u
@@ -229,26 +230,26 @@ name_row key d u = row_on name IsName name_yields key d u
 visit_removal : (d : Data) → TextsAreUtf8 d → OnRead (visit_cancellation d) (IsProperRemoval service.Stop)
 unfolding visit_cancellation
 visit_removal d u =
-    on_bind IsName (IsProperRemoval service.Stop) (needed name ITEM_REF.now d) _ (needed_name ITEM_REF.now d u)
-    (λ visit v. on_bind IsName (IsProperRemoval service.Stop) (needed name MONITORING_REF.now d) _ (needed_name MONITORING_REF.now d u) (λ monitoring m. (m, v)))
+    on_bind IsName (IsProperRemoval service.Stop) (required_row name ITEM_REF.now d) _ (required_name ITEM_REF.now d u)
+    (λ visit v. on_bind IsName (IsProperRemoval service.Stop) (required_row name MONITORING_REF.now d) _ (required_name MONITORING_REF.now d u) (λ monitoring m. (m, v)))
 
 vehicle_removal : (d : Data) → TextsAreUtf8 d → OnRead (vehicle_cancellation d) (IsProperRemoval service.Vehicle)
 unfolding vehicle_cancellation
-vehicle_removal d u = on_bind IsName (IsProperRemoval service.Vehicle) (needed name ITEM_REF.now d) _ (needed_name ITEM_REF.now d u) (λ vehicle v. v)
+vehicle_removal d u = on_bind IsName (IsProperRemoval service.Vehicle) (required_row name ITEM_REF.now d) _ (required_name ITEM_REF.now d u) (λ vehicle v. v)
 
 journey_removal : (d : Data) → TextsAreUtf8 d → OnRead (removed_journey d) (IsProperRemoval service.Timetable)
 unfolding removed_journey
 journey_removal d u =
-    on_bind IsName (IsProperRemoval service.Timetable) (needed name LINE_REF.now d) _ (needed_name LINE_REF.now d u) (λ line l.
+    on_bind IsName (IsProperRemoval service.Timetable) (required_row name LINE_REF.now d) _ (required_name LINE_REF.now d u) (λ line l.
     on_bind (λ o. IfSome o IsName) (IsProperRemoval service.Timetable) (row name DIRECTION_REF.now d) _ (name_row DIRECTION_REF.now d u) (λ direction r.
     on_bind (λ o. IfSome o IsName) (IsProperRemoval service.Timetable) (row name DATA_FRAME_REF.now d) _ (name_row DATA_FRAME_REF.now d u) (λ frame f.
-    on_bind IsName (IsProperRemoval service.Timetable) (needed name DATED_VEHICLE_JOURNEY_REF.now d) _ (needed_name DATED_VEHICLE_JOURNEY_REF.now d u) (λ journey j. (l, r, f, j)))))
+    on_bind IsName (IsProperRemoval service.Timetable) (required_row name DATED_VEHICLE_JOURNEY_REF.now d) _ (required_name DATED_VEHICLE_JOURNEY_REF.now d u) (λ journey j. (l, r, f, j)))))
 
 situation_removal : (d : Data) → TextsAreUtf8 d → OnRead (removed_situation d) (IsProperRemoval service.Situation)
 unfolding removed_situation
 situation_removal d u =
     on_bind (λ o. IfSome o IsName) (IsProperRemoval service.Situation) (row name PARTICIPANT_REF.now d) _ (name_row PARTICIPANT_REF.now d u)
-    (λ participant p. on_bind IsName (IsProperRemoval service.Situation) (needed name SITUATION_NUMBER.now d) _ (needed_name SITUATION_NUMBER.now d u) (λ number n. (p, n)))
+    (λ participant p. on_bind IsName (IsProperRemoval service.Situation) (required_row name SITUATION_NUMBER.now d) _ (required_name SITUATION_NUMBER.now d u) (λ number n. (p, n)))
 
 -- ---- where in a round a delivery stands
 
@@ -263,11 +264,11 @@ beside_is : (round : Option ℕ) (key : List ℕ) (d : Data) (value : Option ℕ
 beside_is None key d value u s_ = subst (λ (o : Option ℕ). IfSome o IsNumber × (is_some o ≡ false)) (sym s_) (tt, refl)
 beside_is (Some round) key d value u s_ = (row_is number IsNumber number_yields key d value u s_.0, s_.1)
 
-abbrev IsStanding : Standing → Type 0
-IsStanding s = IsPlaced s.start s.round s.part
+abbrev IsRoundPosition : RoundPosition → Type 0
+IsRoundPosition s = IsPlaced s.start s.round s.part
 
-standing_proper : (d : Data) (s : Standing) → TextsAreUtf8 d → SpellsStanding d s → IsStanding s
-standing_proper d s u s_ =
+round_position_proper : (d : Data) (s : RoundPosition) → TextsAreUtf8 d → SpellsRoundPosition d s → IsRoundPosition s
+round_position_proper d s u s_ =
     let start = beside_is s.round START.now d s.start u s_.start in
     let part = beside_is s.round PART.now d s.part u s_.part in
     record {
@@ -278,38 +279,38 @@ standing_proper d s u s_ =
       part_stands = part.1;
     }
 
-standing_yields : Yields (table standing) IsStanding
-standing_yields = spelled_yields standing IsStanding (λ d s u e. standing_proper d s u (standing_spelled d s e))
+round_position_yields : Yields (table round_position) IsRoundPosition
+round_position_yields = spelled_yields round_position IsRoundPosition (λ d s u e. round_position_proper d s u (round_position_spelled d s e))
 
-or_outside_is : (o : Option Standing) → IfSome o IsStanding → IsStanding (or_outside o)
-or_outside_is None is = record { start_is = tt; round_is = tt; part_is = tt; start_stands = refl; part_stands = refl }
-or_outside_is (Some s) is = is
+or_no_round_is : (o : Option RoundPosition) → IfSome o IsRoundPosition → IsRoundPosition (or_no_round o)
+or_no_round_is None is = record { start_is = tt; round_is = tt; part_is = tt; start_stands = refl; part_stands = refl }
+or_no_round_is (Some s) is = is
 
-placed_at : (s : Standing) (start round part : Option ℕ) → IsStanding s → start ≡ s.start → round ≡ s.round → part ≡ s.part → IsPlaced start round part
+placed_at : (s : RoundPosition) (start round part : Option ℕ) → IsRoundPosition s → start ≡ s.start → round ≡ s.round → part ≡ s.part → IsPlaced start round part
 placed_at s start round part is e f g =
     subst (λ (o : Option ℕ). IsPlaced o round part) (sym e) (subst (λ (o : Option ℕ). IsPlaced s.start o part) (sym f) (subst (λ (o : Option ℕ). IsPlaced s.start s.round o) (sym g) is))
 
 place_is : (d : Data) (f : FunctionalDelivery) → TextsAreUtf8 d → SpellsPlace d f → IsPlaced f.start f.round f.part
 place_is d f u p =
-    placed_at (or_outside p.given) f.start f.round f.part (or_outside_is p.given (row_is (table standing) IsStanding standing_yields EXTENSIONS.now d p.given u p.spelled)) p.start_is p.round_is p.part_is
+    placed_at (or_no_round p.given) f.start f.round f.part (or_no_round_is p.given (row_is (table round_position) IsRoundPosition round_position_yields EXTENSIONS.now d p.given u p.spelled)) p.start_is p.round_is p.part_is
 
 -- the same, and what is removed besides
-record IsExtended (P : Key → Type 0) (e : Extended) : Type 0 where
-  standing : IsStanding e.standing
+record AreDeliveryExtensions (P : Key → Type 0) (e : DeliveryExtensions) : Type 0 where
+  round_position : IsRoundPosition e.round_position
   removals : IsListWithin 20000 P e.removals
 
-extended_yields : (removed : Data → Result Key Refusal) (P : Key → Type 0) → ((d : Data) → TextsAreUtf8 d → OnRead (removed d) P) → Yields (table (extended removed)) (IsExtended P)
-extended_yields removed P h = spelled_yields (extended removed) (IsExtended P) (λ d x u e.
-    let s_ = extended_spelled removed d x e in
-    record { standing = standing_proper d x.standing u s_.standing; removals = list_is (table removed) P (table_yields removed P h) 20000 REMOVED.now d x.removals u s_.removals })
+delivery_extensions_yields : (removed : Data → Result Key Refusal) (P : Key → Type 0) → ((d : Data) → TextsAreUtf8 d → OnRead (removed d) P) → Yields (table (delivery_extensions removed)) (AreDeliveryExtensions P)
+delivery_extensions_yields removed P h = spelled_yields (delivery_extensions removed) (AreDeliveryExtensions P) (λ d x u e.
+    let s_ = delivery_extensions_spelled removed d x e in
+    record { round_position = round_position_proper d x.round_position u s_.round_position; removals = list_is (table removed) P (table_yields removed P h) 20000 REMOVED.now d x.removals u s_.removals })
 
-or_none_is : (P : Key → Type 0) (o : Option Extended) → IfSome o (IsExtended P) → IsExtended P (or_none o)
-or_none_is P None is = record { standing = or_outside_is None tt; removals = record { bound = omega arith; each = tt } }
-or_none_is P (Some e) is = is
+extensions_or_empty_is : (P : Key → Type 0) (o : Option DeliveryExtensions) → IfSome o (AreDeliveryExtensions P) → AreDeliveryExtensions P (extensions_or_empty o)
+extensions_or_empty_is P None is = record { round_position = or_no_round_is None tt; removals = record { bound = omega arith; each = tt } }
+extensions_or_empty_is P (Some e) is = is
 
 given_is : (removed : Data → Result Key Refusal) (P : Key → Type 0) → ((d : Data) → TextsAreUtf8 d → OnRead (removed d) P) → (d : Data) (f : FunctionalDelivery) → TextsAreUtf8 d → (s_ : SpellsRemovals removed d f)
-    → IsExtended P (or_none s_.given)
-given_is removed P h d f u s_ = or_none_is P s_.given (row_is (table (extended removed)) (IsExtended P) (extended_yields removed P h) EXTENSIONS.now d s_.given u s_.spelled)
+    → AreDeliveryExtensions P (extensions_or_empty s_.given)
+given_is removed P h d f u s_ = extensions_or_empty_is P s_.given (row_is (table (delivery_extensions removed)) (AreDeliveryExtensions P) (delivery_extensions_yields removed P h) EXTENSIONS.now d s_.given u s_.spelled)
 
 -- ---- functional deliveries
 
@@ -333,7 +334,7 @@ stop_delivery_proper d f u s_ =
 timetable_delivery_proper : (d : Data) (f : FunctionalDelivery) → TextsAreUtf8 d → SpellsTimetableDelivery d f → IsProperDelivery service.Timetable f
 timetable_delivery_proper d f u s_ =
     let given = given_is removed_journey (IsProperRemoval service.Timetable) journey_removal d f u s_.extensions in
-    let place = placed_at (or_none s_.extensions.given).standing f.start f.round f.part given.standing s_.extensions.start_is s_.extensions.round_is s_.extensions.part_is in
+    let place = placed_at (extensions_or_empty s_.extensions.given).round_position f.start f.round f.part given.round_position s_.extensions.start_is s_.extensions.round_is s_.extensions.part_is in
     record {
       response_timestamp = row_is moment IsMoment moment_yields RESPONSE_TIMESTAMP.now d f.response_timestamp u s_.heading.response_timestamp;
       subscriber_ref = row_is name IsName name_yields SUBSCRIBER_REF.now d f.subscriber_ref u s_.heading.subscriber_ref;
@@ -344,7 +345,7 @@ timetable_delivery_proper d f u s_ =
       part = place.part_is;
       start_stands = place.start_stands;
       part_stands = place.part_stands;
-      items = on_ok (IsListWithin 20000 (IsProperOf service.Timetable)) (framed_journeys d) f.items (framed_journeys_on d u) s_.items;
+      items = on_ok (IsListWithin 20000 (IsProperOf service.Timetable)) (journeys_of_frames d) f.items (journeys_of_frames_on d u) s_.items;
       removals = subst (λ (ks : List Key). IsListWithin 20000 (IsProperRemoval service.Timetable) ks) (sym s_.extensions.removals_are) given.removals;
     }
 
@@ -368,7 +369,7 @@ vehicle_delivery_proper d f u s_ =
 situation_delivery_proper : (d : Data) (f : FunctionalDelivery) → TextsAreUtf8 d → SpellsSituationDelivery d f → IsProperDelivery service.Situation f
 situation_delivery_proper d f u s_ =
     let given = given_is removed_situation (IsProperRemoval service.Situation) situation_removal d f u s_.extensions in
-    let place = placed_at (or_none s_.extensions.given).standing f.start f.round f.part given.standing s_.extensions.start_is s_.extensions.round_is s_.extensions.part_is in
+    let place = placed_at (extensions_or_empty s_.extensions.given).round_position f.start f.round f.part given.round_position s_.extensions.start_is s_.extensions.round_is s_.extensions.part_is in
     record {
       response_timestamp = row_is moment IsMoment moment_yields RESPONSE_TIMESTAMP.now d f.response_timestamp u s_.heading.response_timestamp;
       subscriber_ref = row_is name IsName name_yields SUBSCRIBER_REF.now d f.subscriber_ref u s_.heading.subscriber_ref;

@@ -10,7 +10,7 @@ use Rattle.siri_messages.specs.declared.message.Message.TheVariants as message
 use Rattle.siri_messages.specs.Kinds.{kind_of}
 use Rattle.siri_items.specs.Refusals.{refused}
 use Rattle.siri_items.specs.Spelling.{IfFound}
-use Rattle.siri_items.specs.Proper.{TextsAreUtf8}
+use Rattle.siri_json.specs.TextsOfTrees.{TextsAreUtf8}
 use Rattle.siri_items.proofs.ProperParts.{OnFound, member_is, object_is}
 use Rattle.siri_wire.specs.declared.names.TheConstants.{SIRI}
 use Rattle.siri_wire.specs.Canonical.{canonical}
@@ -20,8 +20,8 @@ use Rattle.siri_wire_laws.specs.SpellingDocuments.{HasObject, SpellsBody, Spells
 use Rattle.siri_wire_laws.proofs.BackDocuments.{canonical_read}
 use Rattle.siri_wire_laws.proofs.ProperReadDeliveries.{ready_proper, ready_acknowledgement_proper, supply_proper, received_proper, check_proper, check_response_proper, heartbeat_proper, service_delivery_proper}
 use Rattle.siri_wire_laws.proofs.ProperReadRequests.{service_request_proper, subscription_request_proper, subscription_response_proper, termination_request_proper, termination_response_proper}
-use Rattle.siri_wire_laws.proofs.SpelledDocuments.{root_spelled}
-use Rattle.siri_wire_laws.proofs.TreeTexts.{tree_is_utf8}
+use Rattle.siri_wire_laws.proofs.ReadIffSpells.{root_spelled}
+use Rattle.siri_json.proofs.TreeTexts.{tree_is_utf8}
 
 body_proper : (d : Data) (m : Message) → TextsAreUtf8 d → SpellsBody d m → IsProper m
 body_proper d (message.ServiceRequest m) u s_ = service_request_proper d m u s_

@@ -16,18 +16,18 @@ use Rattle.siri_messages.specs.declared.terminations.TerminateSubscriptionReques
 use Rattle.siri_messages.specs.declared.terminations.TerminateSubscriptionResponse.{TerminateSubscriptionResponse}
 use Rattle.siri_messages.specs.declared.terminations.TerminationResponseStatus.{TerminationResponseStatus}
 use Rattle.siri_items.specs.declared.names.TheConstants.{MONITORING_REF, LINE_REF, DIRECTION_REF, OPERATOR_REF, DESTINATION_REF, START_TIME, VEHICLE_REF, STOP_POINT_REF}
-use Rattle.siri_items.specs.Rules.{name, moment, number, span0, table, inside}
-use Rattle.siri_items.specs.Proper.{TextsAreUtf8, IsName, IsMoment, IsNumber, IsListWithin}
-use Rattle.siri_items.proofs.ProperParts.{Yields, on_ok, name_yields, moment_yields, number_yields, row_is, some_list_on, lists_inside_on}
+use Rattle.siri_items.specs.Rules.{name, moment, number, non_negative_span, table, inside}
+use Rattle.siri_items.specs.Proper.{IsName, IsMoment, IsNumber, IsListWithin, IsNonNegativeSpan}
+use Rattle.siri_json.specs.TextsOfTrees.{TextsAreUtf8}
+use Rattle.siri_items.proofs.ProperParts.{Yields, on_ok, name_yields, moment_yields, number_yields, row_is, nonempty_list_on, lists_inside_on}
 use Rattle.siri_wire.specs.declared.names.TheConstants.{CHANGE_BEFORE_UPDATES, CONSUMER_ADDRESS, ESTIMATED_TIMETABLE_REQUEST, ESTIMATED_TIMETABLE_SUBSCRIPTION_REQUEST, HEARTBEAT_INTERVAL, INITIAL_TERMINATION_TIME, LINES, LINE_DIRECTION, MAXIMUM_STOP_VISITS, MESSAGE_IDENTIFIER, PREVIEW_INTERVAL, REQUESTOR_REF, REQUEST_MESSAGE_REF, REQUEST_TIMESTAMP, RESPONSE_STATUS, RESPONSE_TIMESTAMP, SITUATION_EXCHANGE_REQUEST, SITUATION_EXCHANGE_SUBSCRIPTION_REQUEST, STOP_MONITORING_REQUEST, STOP_MONITORING_SUBSCRIPTION_REQUEST, SUBSCRIBER_REF, SUBSCRIPTION_CONTEXT, SUBSCRIPTION_IDENTIFIER, SUBSCRIPTION_REF, TERMINATION_RESPONSE_STATUS, VALID_UNTIL, VEHICLE_MONITORING_REQUEST, VEHICLE_MONITORING_SUBSCRIPTION_REQUEST}
-use Rattle.siri_wire_laws.specs.ProperValues.{IsSpan0}
 use Rattle.siri_wire_laws.specs.ProperRequests.{IsProperLineDirection, IsProperTopic, IsProperServiceRequest, maximum_of, IsProperSubscription, IsProperSubscriptionRequest, IsProperResponseStatus, IsProperSubscriptionResponse, IsProperTerminationRequest, IsProperTerminationStatus, IsProperTerminationResponse}
 use Rattle.siri_wire_laws.specs.SpellingRequests.{SpellsLineDirection, SpellsTopic, SpellsServiceRequest, SpellsSubscriber, SpellsAsked, SpellsSlack, SpellsSubscription, SpellsSubscriptionRequest, SpellsResponseStatus, SpellsSubscriptionResponse, SpellsTerminationRequest, SpellsTerminationStatus, SpellsTerminationResponse}
 use Rattle.siri_wire.specs.Subscriptions.{subscription, response_status}
 use Rattle.siri_wire.specs.Terminations.{termination_status}
 use Rattle.siri_wire.specs.Topics.{stop_topic, subscribed_stop_topic, line_direction, timetable_topic, vehicle_topic, situation_topic}
-use Rattle.siri_wire_laws.proofs.ProperReadValues.{span0_yields, zero_or, inside_yields, spelled_yields, list_is, error_is}
-use Rattle.siri_wire_laws.proofs.SpelledRequests.{stop_topic_spelled, subscribed_stop_topic_spelled, line_direction_spelled, timetable_topic_spelled, vehicle_topic_spelled, situation_topic_spelled, subscription_spelled, response_status_spelled, termination_status_spelled}
+use Rattle.siri_wire_laws.proofs.ProperReadValues.{non_negative_span_yields, zero_or, inside_yields, spelled_yields, list_is, error_is}
+use Rattle.siri_wire_laws.proofs.ReadImpliesSpellsRequests.{stop_topic_spelled, subscribed_stop_topic_spelled, line_direction_spelled, timetable_topic_spelled, vehicle_topic_spelled, situation_topic_spelled, subscription_spelled, response_status_spelled, termination_status_spelled}
 
 -- ---- topics
 
@@ -47,12 +47,12 @@ topic_proper service.Stop d (topic.Stop t) u s_ = record {
   direction_ref = row_is name IsName name_yields DIRECTION_REF.now d t.direction_ref u s_.direction_ref;
   operator_ref = row_is name IsName name_yields OPERATOR_REF.now d t.operator_ref u s_.operator_ref;
   destination_ref = row_is name IsName name_yields DESTINATION_REF.now d t.destination_ref u s_.destination_ref;
-  preview_interval = row_is span0 IsSpan0 span0_yields PREVIEW_INTERVAL.now d t.preview_interval u s_.preview_interval;
+  preview_interval = row_is non_negative_span IsNonNegativeSpan non_negative_span_yields PREVIEW_INTERVAL.now d t.preview_interval u s_.preview_interval;
   start_time = row_is moment IsMoment moment_yields START_TIME.now d t.start_time u s_.start_time;
   maximum_stop_visits = row_is number IsNumber number_yields MAXIMUM_STOP_VISITS.now d t.maximum_stop_visits u s_.maximum_stop_visits;
 }
 topic_proper service.Timetable d (topic.Timetable t) u s_ = record {
-  preview_interval = row_is span0 IsSpan0 span0_yields PREVIEW_INTERVAL.now d t.preview_interval u s_.preview_interval;
+  preview_interval = row_is non_negative_span IsNonNegativeSpan non_negative_span_yields PREVIEW_INTERVAL.now d t.preview_interval u s_.preview_interval;
   operator_ref = row_is name IsName name_yields OPERATOR_REF.now d t.operator_ref u s_.operator_ref;
   lines = on_ok (IsListWithin 100 IsProperLineDirection) _ t.lines (lists_inside_on (table line_direction) IsProperLineDirection line_yields 100 LINES.now LINE_DIRECTION.now d u) s_.lines;
 }
@@ -65,7 +65,7 @@ topic_proper service.Situation d (topic.Situation t) u s_ = record {
   line_ref = row_is name IsName name_yields LINE_REF.now d t.line_ref u s_.line_ref;
   stop_point_ref = row_is name IsName name_yields STOP_POINT_REF.now d t.stop_point_ref u s_.stop_point_ref;
   operator_ref = row_is name IsName name_yields OPERATOR_REF.now d t.operator_ref u s_.operator_ref;
-  preview_interval = row_is span0 IsSpan0 span0_yields PREVIEW_INTERVAL.now d t.preview_interval u s_.preview_interval;
+  preview_interval = row_is non_negative_span IsNonNegativeSpan non_negative_span_yields PREVIEW_INTERVAL.now d t.preview_interval u s_.preview_interval;
   start_time = row_is moment IsMoment moment_yields START_TIME.now d t.start_time u s_.start_time;
 }
 topic_proper service.Stop d (topic.Timetable t) u s_ = absurd s_
@@ -152,11 +152,11 @@ subscriber_is : (requestor : Option (List ℕ)) (d : Data) (subscriber : List �
 subscriber_is requestor d subscriber r u (inl s_) = row_is name IsName name_yields SUBSCRIBER_REF.now d (Some subscriber) u s_
 subscriber_is requestor d subscriber r u (inr s_) = subst (λ (o : Option (List ℕ)). IfSome o IsName) s_.1 r
 
-slack_is : (s : Service) (d : Data) (slack : ℤ) → TextsAreUtf8 d → SpellsSlack s d slack → IsSpan0 slack
-slack_is service.Stop d slack u s_ = subst (λ (z : ℤ). IsSpan0 z) (sym s_.is) (zero_or s_.given (row_is span0 IsSpan0 span0_yields CHANGE_BEFORE_UPDATES.now d s_.given u s_.spelled))
-slack_is service.Timetable d slack u s_ = subst (λ (z : ℤ). IsSpan0 z) (sym s_.is) (zero_or s_.given (row_is span0 IsSpan0 span0_yields CHANGE_BEFORE_UPDATES.now d s_.given u s_.spelled))
-slack_is service.Vehicle d slack u s_ = subst (λ (z : ℤ). IsSpan0 z) (sym s_.is) (zero_or s_.given (row_is span0 IsSpan0 span0_yields CHANGE_BEFORE_UPDATES.now d s_.given u s_.spelled))
-slack_is service.Situation d slack u s_ = subst (λ (z : ℤ). IsSpan0 z) (sym s_) (zero_or None tt)
+slack_is : (s : Service) (d : Data) (slack : ℤ) → TextsAreUtf8 d → SpellsSlack s d slack → IsNonNegativeSpan slack
+slack_is service.Stop d slack u s_ = subst (λ (z : ℤ). IsNonNegativeSpan z) (sym s_.is) (zero_or s_.given (row_is non_negative_span IsNonNegativeSpan non_negative_span_yields CHANGE_BEFORE_UPDATES.now d s_.given u s_.spelled))
+slack_is service.Timetable d slack u s_ = subst (λ (z : ℤ). IsNonNegativeSpan z) (sym s_.is) (zero_or s_.given (row_is non_negative_span IsNonNegativeSpan non_negative_span_yields CHANGE_BEFORE_UPDATES.now d s_.given u s_.spelled))
+slack_is service.Vehicle d slack u s_ = subst (λ (z : ℤ). IsNonNegativeSpan z) (sym s_.is) (zero_or s_.given (row_is non_negative_span IsNonNegativeSpan non_negative_span_yields CHANGE_BEFORE_UPDATES.now d s_.given u s_.spelled))
+slack_is service.Situation d slack u s_ = subst (λ (z : ℤ). IsNonNegativeSpan z) (sym s_) (zero_or None tt)
 
 no_slack_is : (s : Service) (d : Data) (slack : ℤ) → SpellsSlack s d slack → s ≡ service.Situation → slack ≡ pos 0
 no_slack_is service.Stop d slack s_ e = absurd (cc e)
@@ -186,7 +186,7 @@ subscription_request_proper d m u s_ =
       requestor_ref = requestor;
       message_identifier = row_is number IsNumber number_yields MESSAGE_IDENTIFIER.now d (Some m.message_identifier) u s_.message_identifier;
       consumer_address = row_is name IsName name_yields CONSUMER_ADDRESS.now d m.consumer_address u s_.consumer_address;
-      heartbeat_interval = row_is (inside span0 HEARTBEAT_INTERVAL.now) IsSpan0 (inside_yields span0 IsSpan0 span0_yields HEARTBEAT_INTERVAL.now) SUBSCRIPTION_CONTEXT.now d m.heartbeat_interval u s_.heartbeat_interval;
+      heartbeat_interval = row_is (inside non_negative_span HEARTBEAT_INTERVAL.now) IsNonNegativeSpan (inside_yields non_negative_span IsNonNegativeSpan non_negative_span_yields HEARTBEAT_INTERVAL.now) SUBSCRIPTION_CONTEXT.now d m.heartbeat_interval u s_.heartbeat_interval;
       stop_monitoring_subscription_request = list_is (table (subscription service.Stop m.requestor_ref)) (IsProperSubscription service.Stop) (subscription_yields service.Stop m.requestor_ref requestor) 200 STOP_MONITORING_SUBSCRIPTION_REQUEST.now d m.stop_monitoring_subscription_request u s_.stop_monitoring_subscription_request;
       estimated_timetable_subscription_request = list_is (table (subscription service.Timetable m.requestor_ref)) (IsProperSubscription service.Timetable) (subscription_yields service.Timetable m.requestor_ref requestor) 200 ESTIMATED_TIMETABLE_SUBSCRIPTION_REQUEST.now d m.estimated_timetable_subscription_request u s_.estimated_timetable_subscription_request;
       vehicle_monitoring_subscription_request = list_is (table (subscription service.Vehicle m.requestor_ref)) (IsProperSubscription service.Vehicle) (subscription_yields service.Vehicle m.requestor_ref requestor) 200 VEHICLE_MONITORING_SUBSCRIPTION_REQUEST.now d m.vehicle_monitoring_subscription_request u s_.vehicle_monitoring_subscription_request;
@@ -218,7 +218,7 @@ pub termination_request_proper : (d : Data) (m : TerminateSubscriptionRequest) �
 termination_request_proper d m u s_ =
     let requestor : IfSome m.requestor_ref IsName = row_is name IsName name_yields REQUESTOR_REF.now d m.requestor_ref u s_.requestor_ref in
     let references : IsListWithin 200 IsName m.subscription_ref × (1 ≤ length m.subscription_ref) =
-    on_ok (λ xs. IsListWithin 200 IsName xs × (1 ≤ length xs)) _ m.subscription_ref (some_list_on name IsName name_yields 200 SUBSCRIPTION_REF.now d u) s_.subscription_ref in
+    on_ok (λ xs. IsListWithin 200 IsName xs × (1 ≤ length xs)) _ m.subscription_ref (nonempty_list_on name IsName name_yields 200 SUBSCRIPTION_REF.now d u) s_.subscription_ref in
     record {
       request_timestamp = row_is moment IsMoment moment_yields REQUEST_TIMESTAMP.now d m.request_timestamp u s_.request_timestamp;
       requestor_ref = requestor;

@@ -7,40 +7,40 @@ use Rattle.siri_json.specs.Values.{Found, found, absent, wrong, text_in}
 use Rattle.siri_json.specs.declared.path.Step.TheVariants.{Member}
 use Rattle.siri_time.specs.Span.{span_of}
 use Rattle.siri_items.specs.Refusals.{Refusal, ◌>>=◌, each}
-use Rattle.siri_items.specs.Rules.{unless_wrong, spelled, span_or, unless_negative, span0, text, table, row, needed, there, inside, list}
-use Rattle.siri_items.specs.Proper.{TextsAreUtf8, IsSpan, IsText, IsListWithin}
-use Rattle.siri_items.proofs.ProperParts.{OnRead, Yields, reads_to, on_ok, on_bind, there_on, text_yields, span_yields, table_yields, row_on, row_is, inside_on, list_on}
+use Rattle.siri_items.specs.Rules.{unless_wrong, read_from_text, span_or, unless_negative, non_negative_span, text, table, row, required_row, required, inside, list}
+use Rattle.siri_items.specs.Proper.{IsSpan, IsText, IsListWithin, IsNonNegativeSpan}
+use Rattle.siri_json.specs.TextsOfTrees.{TextsAreUtf8}
+use Rattle.siri_items.proofs.ProperParts.{OnRead, Yields, reads_to, on_ok, on_bind, required_on, text_yields, span_yields, table_yields, row_on, row_is, inside_on, list_on}
 use Rattle.siri_wire.specs.declared.names.TheConstants.{ERROR_CONDITION, ERROR_TEXT, OTHER_ERROR}
 use Rattle.siri_wire.specs.Errors.{other_error}
-use Rattle.siri_wire_laws.specs.ProperValues.{IsSpan0}
 use Rattle.siri_wire_laws.specs.SpellingValues.{SpellsError}
 
 -- ---- spans that aren't negative
 
-span0_after : (r : Result ℤ Refusal) → OnRead (r >>= λ y. Ok (Some y)) (λ o. IfSome o IsSpan) → OnRead ((r >>= unless_negative) >>= λ y. Ok (Some y)) (λ o. IfSome o IsSpan0)
-span0_after (Ok (pos n)) is = is
-span0_after (Ok (negsuc n)) is = tt
-span0_after (Err e) is = tt
+non_negative_span_after : (r : Result ℤ Refusal) → OnRead (r >>= λ y. Ok (Some y)) (λ o. IfSome o IsSpan) → OnRead ((r >>= unless_negative) >>= λ y. Ok (Some y)) (λ o. IfSome o IsNonNegativeSpan)
+non_negative_span_after (Ok (pos n)) is = is
+non_negative_span_after (Ok (negsuc n)) is = tt
+non_negative_span_after (Err e) is = tt
 
-span0_found : (read : List ℕ → Result ℤ Refusal) (f : Found (List ℕ)) → OnRead (unless_wrong f >>= each read) (λ o. IfSome o IsSpan)
-    → OnRead (unless_wrong f >>= each (λ t. read t >>= unless_negative)) (λ o. IfSome o IsSpan0)
-span0_found read (found t) is = span0_after (read t) is
-span0_found read absent is = tt
-span0_found read wrong is = tt
+non_negative_span_found : (read : List ℕ → Result ℤ Refusal) (f : Found (List ℕ)) → OnRead (unless_wrong f >>= each read) (λ o. IfSome o IsSpan)
+    → OnRead (unless_wrong f >>= each (λ t. read t >>= unless_negative)) (λ o. IfSome o IsNonNegativeSpan)
+non_negative_span_found read (found t) is = non_negative_span_after (read t) is
+non_negative_span_found read absent is = tt
+non_negative_span_found read wrong is = tt
 
-pub span0_yields : Yields span0 IsSpan0
-unfolding spelled
-span0_yields = λ d u. span0_found (λ t. span_or (span_of t)) (text_in d) (span_yields d u)
+pub non_negative_span_yields : Yields non_negative_span IsNonNegativeSpan
+unfolding read_from_text
+non_negative_span_yields = λ d u. non_negative_span_found (λ t. span_or (span_of t)) (text_in d) (span_yields d u)
 
-pub zero_or : (o : Option ℤ) → IfSome o IsSpan0 → IsSpan0 (unwrap_or o (pos 0))
+pub zero_or : (o : Option ℤ) → IfSome o IsNonNegativeSpan → IsNonNegativeSpan (unwrap_or o (pos 0))
 zero_or None is = omega arith
 zero_or (Some s) is = is
 
 -- ---- rows and lists
 
-pub needed_on : {A : Type 0} (rule : Data → Result (Option A) Refusal) (P : A → Type 0) → Yields rule P → (key : List ℕ) (d : Data) → TextsAreUtf8 d → OnRead (needed rule key d) P
-unfolding needed
-needed_on rule P y key d u = on_bind (λ o. IfSome o P) P (row rule key d) (there (Member key ∷ [])) (row_on rule P y key d u) (λ o is. there_on P (Member key ∷ []) o is)
+pub required_row_on : {A : Type 0} (rule : Data → Result (Option A) Refusal) (P : A → Type 0) → Yields rule P → (key : List ℕ) (d : Data) → TextsAreUtf8 d → OnRead (required_row rule key d) P
+unfolding required_row
+required_row_on rule P y key d u = on_bind (λ o. IfSome o P) P (row rule key d) (required (Member key ∷ [])) (row_on rule P y key d u) (λ o is. required_on P (Member key ∷ []) o is)
 
 pub inside_yields : {A : Type 0} (rule : Data → Result (Option A) Refusal) (P : A → Type 0) → Yields rule P → (key : List ℕ) → Yields (inside rule key) P
 unfolding inside

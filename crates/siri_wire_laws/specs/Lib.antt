@@ -1,4 +1,3 @@
-pub mod ProperValues
 pub mod SpellingValues
 pub mod ProperRequests
 pub mod SpellingRequests

@@ -18,8 +18,7 @@ use Rattle.siri_messages.specs.declared.subscriptions.SubscriptionResponse.{Subs
 use Rattle.siri_messages.specs.declared.terminations.TerminateSubscriptionRequest.{TerminateSubscriptionRequest}
 use Rattle.siri_messages.specs.declared.terminations.TerminateSubscriptionResponse.{TerminateSubscriptionResponse}
 use Rattle.siri_messages.specs.declared.terminations.TerminationResponseStatus.{TerminationResponseStatus}
-use Rattle.siri_items.specs.Proper.{IsName, IsText, IsMoment, IsNumber, IsListWithin}
-use Rattle.siri_wire_laws.specs.ProperValues.{IsSpan0}
+use Rattle.siri_items.specs.Proper.{IsName, IsText, IsMoment, IsNumber, IsListWithin, IsNonNegativeSpan}
 use Rattle.siri_wire.specs.Requests.{asks_nothing}
 use Rattle.siri_wire.specs.Subscriptions.{wants_nothing}
 use Rattle.siri_wire.specs.declared.read_subscriptions.Wanted.{Wanted}
@@ -33,7 +32,7 @@ pub record IsProperStopTopic (t : StopTopic) : Type 0 where
   pub direction_ref : IfSome t.direction_ref IsName
   pub operator_ref : IfSome t.operator_ref IsName
   pub destination_ref : IfSome t.destination_ref IsName
-  pub preview_interval : IfSome t.preview_interval IsSpan0
+  pub preview_interval : IfSome t.preview_interval IsNonNegativeSpan
   pub start_time : IfSome t.start_time IsMoment
   pub maximum_stop_visits : IfSome t.maximum_stop_visits IsNumber
 
@@ -44,7 +43,7 @@ pub record IsProperLineDirection (l : LineDirection) : Type 0 where
 
 -- EstimatedTimetableRequest
 pub record IsProperTimetableTopic (t : TimetableTopic) : Type 0 where
-  pub preview_interval : IfSome t.preview_interval IsSpan0
+  pub preview_interval : IfSome t.preview_interval IsNonNegativeSpan
   pub operator_ref : IfSome t.operator_ref IsName
   pub lines : IsListWithin 100 IsProperLineDirection t.lines
 
@@ -59,7 +58,7 @@ pub record IsProperSituationTopic (t : SituationTopic) : Type 0 where
   pub line_ref : IfSome t.line_ref IsName
   pub stop_point_ref : IfSome t.stop_point_ref IsName
   pub operator_ref : IfSome t.operator_ref IsName
-  pub preview_interval : IfSome t.preview_interval IsSpan0
+  pub preview_interval : IfSome t.preview_interval IsNonNegativeSpan
   pub start_time : IfSome t.start_time IsMoment
 
 -- a topic, which is of that service
@@ -99,7 +98,7 @@ pub record IsProperSubscription (s : Service) (x : Subscription) : Type 0 where
   pub termination : IsMoment x.termination
   pub topic : IsProperTopic s x.topic
   pub no_maximum : maximum_of x.topic ≡ None
-  pub slack : IsSpan0 x.slack
+  pub slack : IsNonNegativeSpan x.slack
   pub no_slack : s ≡ service.Situation → x.slack ≡ pos 0
 
 -- what a request wants
@@ -118,7 +117,7 @@ pub record IsProperSubscriptionRequest (m : SubscriptionRequest) : Type 0 where
   pub requestor_ref : IfSome m.requestor_ref IsName
   pub message_identifier : IsNumber m.message_identifier
   pub consumer_address : IfSome m.consumer_address IsName
-  pub heartbeat_interval : IfSome m.heartbeat_interval IsSpan0
+  pub heartbeat_interval : IfSome m.heartbeat_interval IsNonNegativeSpan
   pub stop_monitoring_subscription_request : IsListWithin 200 (IsProperSubscription service.Stop) m.stop_monitoring_subscription_request
   pub estimated_timetable_subscription_request : IsListWithin 200 (IsProperSubscription service.Timetable) m.estimated_timetable_subscription_request
   pub vehicle_monitoring_subscription_request : IsListWithin 200 (IsProperSubscription service.Vehicle) m.vehicle_monitoring_subscription_request

@@ -21,11 +21,11 @@ use Rattle.siri_items.specs.Refusals.{Refusal}
 use Rattle.siri_items.specs.Rules.{name, moment, number, flag, table, list, list_inside}
 use Rattle.siri_items.specs.Spelling.{Spells}
 use Rattle.siri_wire.specs.declared.names.TheConstants.{ALL_DATA, CONSUMER_REF, ESTIMATED_TIMETABLE_DELIVERY, EXTENSIONS, MESSAGE_IDENTIFIER, MONITORED_STOP_VISIT, MONITORED_STOP_VISIT_CANCELLATION, MORE_DATA, NUMBER, PART, PRODUCER_REF, PT_SITUATION_ELEMENT, REMOVED, REQUESTOR_REF, REQUEST_MESSAGE_REF, REQUEST_TIMESTAMP, RESPONSE_MESSAGE_IDENTIFIER, RESPONSE_TIMESTAMP, ROUND, SERVICE_STARTED_TIME, SITUATIONS, SITUATION_EXCHANGE_DELIVERY, START, STATUS, STOP_MONITORING_DELIVERY, SUBSCRIBER_REF, SUBSCRIPTION_REF, VEHICLE_ACTIVITY, VEHICLE_ACTIVITY_CANCELLATION, VEHICLE_MONITORING_DELIVERY}
-use Rattle.siri_wire.specs.declared.read_parts.Extended.{Extended}
-use Rattle.siri_wire.specs.declared.read_parts.Standing.{Standing}
+use Rattle.siri_wire.specs.declared.read_parts.DeliveryExtensions.{DeliveryExtensions}
+use Rattle.siri_wire.specs.declared.read_parts.RoundPosition.{RoundPosition}
 use Rattle.siri_wire.specs.Deliveries.{visit_item, vehicle_item, situation_item, stop_monitoring_delivery, estimated_timetable_delivery, vehicle_monitoring_delivery, situation_exchange_delivery}
-use Rattle.siri_wire.specs.Frames.{framed_journey, journeys, framed_journeys}
-use Rattle.siri_wire.specs.Parts.{standing, extended, or_outside, or_none}
+use Rattle.siri_wire.specs.Frames.{journey_of_frame, journeys, journeys_of_frames}
+use Rattle.siri_wire.specs.Parts.{round_position, delivery_extensions, or_no_round, extensions_or_empty}
 use Rattle.siri_wire.specs.Removals.{visit_cancellation, vehicle_cancellation, removed_journey, removed_situation}
 use Rattle.siri_wire_laws.specs.SpellingValues.{SpellsOr, SpellsError}
 use Rattle.siri_wire.specs.Supplies.{mark, optional_mark}
@@ -99,14 +99,14 @@ abbrev pub SpellsBeside : Option ℕ → List ℕ → Data → Option ℕ → Ty
 SpellsBeside None key d value = value ≡ None
 SpellsBeside (Some round) key d value = Spells number key d value × IsSome value
 
-pub record SpellsStanding (d : Data) (s : Standing) : Type 0 where
+pub record SpellsRoundPosition (d : Data) (s : RoundPosition) : Type 0 where
   pub round : Spells number ROUND.now d s.round
   pub start : SpellsBeside s.round START.now d s.start
   pub part : SpellsBeside s.round PART.now d s.part
 
 -- the same, and what is shown no more
-pub record SpellsExtended (removed : Data → Result Key Refusal) (d : Data) (e : Extended) : Type 0 where
-  pub standing : SpellsStanding d e.standing
+pub record SpellsDeliveryExtensions (removed : Data → Result Key Refusal) (d : Data) (e : DeliveryExtensions) : Type 0 where
+  pub round_position : SpellsRoundPosition d e.round_position
   pub removals : list (table removed) 20000 REMOVED.now d ≡ Ok e.removals
 
 -- ---- functional deliveries
@@ -121,20 +121,20 @@ pub record SpellsHeading (d : Data) (f : FunctionalDelivery) : Type 0 where
 
 -- Extensions where a service has cancellations: outside of rounds where they are absent
 pub record SpellsPlace (d : Data) (f : FunctionalDelivery) : Type 0 where
-  pub given : Option Standing
-  pub spelled : Spells (table standing) EXTENSIONS.now d given
-  pub start_is : f.start ≡ (or_outside given).start
-  pub round_is : f.round ≡ (or_outside given).round
-  pub part_is : f.part ≡ (or_outside given).part
+  pub given : Option RoundPosition
+  pub spelled : Spells (table round_position) EXTENSIONS.now d given
+  pub start_is : f.start ≡ (or_no_round given).start
+  pub round_is : f.round ≡ (or_no_round given).round
+  pub part_is : f.part ≡ (or_no_round given).part
 
 -- Extensions where it has none: nothing is removed where they are absent
 pub record SpellsRemovals (removed : Data → Result Key Refusal) (d : Data) (f : FunctionalDelivery) : Type 0 where
-  pub given : Option Extended
-  pub spelled : Spells (table (extended removed)) EXTENSIONS.now d given
-  pub start_is : f.start ≡ (or_none given).standing.start
-  pub round_is : f.round ≡ (or_none given).standing.round
-  pub part_is : f.part ≡ (or_none given).standing.part
-  pub removals_are : f.removals ≡ (or_none given).removals
+  pub given : Option DeliveryExtensions
+  pub spelled : Spells (table (delivery_extensions removed)) EXTENSIONS.now d given
+  pub start_is : f.start ≡ (extensions_or_empty given).round_position.start
+  pub round_is : f.round ≡ (extensions_or_empty given).round_position.round
+  pub part_is : f.part ≡ (extensions_or_empty given).round_position.part
+  pub removals_are : f.removals ≡ (extensions_or_empty given).removals
 
 -- visits, and visits that are no more
 pub record SpellsStopDelivery (d : Data) (f : FunctionalDelivery) : Type 0 where
@@ -147,7 +147,7 @@ pub record SpellsStopDelivery (d : Data) (f : FunctionalDelivery) : Type 0 where
 pub record SpellsTimetableDelivery (d : Data) (f : FunctionalDelivery) : Type 0 where
   pub heading : SpellsHeading d f
   pub extensions : SpellsRemovals removed_journey d f
-  pub items : framed_journeys d ≡ Ok f.items
+  pub items : journeys_of_frames d ≡ Ok f.items
 
 -- vehicle activities, and those that are no more
 pub record SpellsVehicleDelivery (d : Data) (f : FunctionalDelivery) : Type 0 where
@@ -168,7 +168,7 @@ pub record SpellsFrame (d : Data) (items : List Item) : Type 0 where
   pub spelled : Spells moment RECORDED_AT_TIME.now d recorded_at_time
   pub inside : List Journey
   pub journeys : journeys d ≡ Ok inside
-  pub are : items ≡ map (framed_journey recorded_at_time) inside
+  pub are : items ≡ map (journey_of_frame recorded_at_time) inside
 
 -- ---- all services
 

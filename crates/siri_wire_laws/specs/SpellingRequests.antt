@@ -20,7 +20,7 @@ use Rattle.siri_messages.specs.declared.terminations.TerminateSubscriptionReques
 use Rattle.siri_messages.specs.declared.terminations.TerminateSubscriptionResponse.{TerminateSubscriptionResponse}
 use Rattle.siri_messages.specs.declared.terminations.TerminationResponseStatus.{TerminationResponseStatus}
 use Rattle.siri_items.specs.declared.names.TheConstants.{MONITORING_REF, LINE_REF, DIRECTION_REF, OPERATOR_REF, DESTINATION_REF, START_TIME, VEHICLE_REF, STOP_POINT_REF}
-use Rattle.siri_items.specs.Rules.{name, text, moment, span0, number, flag, table, inside, list, some_list, list_inside}
+use Rattle.siri_items.specs.Rules.{name, text, moment, non_negative_span, number, flag, table, inside, list, nonempty_list, list_inside}
 use Rattle.siri_items.specs.Spelling.{Spells}
 use Rattle.siri_wire.specs.declared.names.TheConstants.{CHANGE_BEFORE_UPDATES, CONSUMER_ADDRESS, DELIVERY_METHOD, ESTIMATED_TIMETABLE_REQUEST, ESTIMATED_TIMETABLE_SUBSCRIPTION_REQUEST, EXTENSIONS, HEARTBEAT_INTERVAL, INCREMENTAL_UPDATES, INITIAL_TERMINATION_TIME, LINES, LINE_DIRECTION, MAXIMUM_STOP_VISITS, MESSAGE_IDENTIFIER, PREVIEW_INTERVAL, REQUESTOR_REF, REQUEST_MESSAGE_REF, REQUEST_TIMESTAMP, RESPONSE_STATUS, RESPONSE_TIMESTAMP, SITUATION_EXCHANGE_REQUEST, SITUATION_EXCHANGE_SUBSCRIPTION_REQUEST, STATUS, STOP_MONITORING_REQUEST, STOP_MONITORING_SUBSCRIPTION_REQUEST, SUBSCRIBER_REF, SUBSCRIPTION_CONTEXT, SUBSCRIPTION_IDENTIFIER, SUBSCRIPTION_REF, TERMINATION_RESPONSE_STATUS, VALID_UNTIL, VEHICLE_MONITORING_REQUEST, VEHICLE_MONITORING_SUBSCRIPTION_REQUEST}
 use Rattle.siri_wire_laws.specs.ProperRequests.{maximum_of, wanted_by}
@@ -39,7 +39,7 @@ pub record SpellsStopTopic (d : Data) (t : StopTopic) : Type 0 where
   pub direction_ref : Spells name DIRECTION_REF.now d t.direction_ref
   pub operator_ref : Spells name OPERATOR_REF.now d t.operator_ref
   pub destination_ref : Spells name DESTINATION_REF.now d t.destination_ref
-  pub preview_interval : Spells span0 PREVIEW_INTERVAL.now d t.preview_interval
+  pub preview_interval : Spells non_negative_span PREVIEW_INTERVAL.now d t.preview_interval
   pub start_time : Spells moment START_TIME.now d t.start_time
   pub maximum_stop_visits : Spells number MAXIMUM_STOP_VISITS.now d t.maximum_stop_visits
 
@@ -50,7 +50,7 @@ pub record SpellsLineDirection (d : Data) (l : LineDirection) : Type 0 where
 
 -- the journeys of an operator, on some lines
 pub record SpellsTimetableTopic (d : Data) (t : TimetableTopic) : Type 0 where
-  pub preview_interval : Spells span0 PREVIEW_INTERVAL.now d t.preview_interval
+  pub preview_interval : Spells non_negative_span PREVIEW_INTERVAL.now d t.preview_interval
   pub operator_ref : Spells name OPERATOR_REF.now d t.operator_ref
   pub lines : list_inside LINES.now (list (table line_direction) 100 LINE_DIRECTION.now) d ≡ Ok t.lines
 
@@ -65,7 +65,7 @@ pub record SpellsSituationTopic (d : Data) (t : SituationTopic) : Type 0 where
   pub line_ref : Spells name LINE_REF.now d t.line_ref
   pub stop_point_ref : Spells name STOP_POINT_REF.now d t.stop_point_ref
   pub operator_ref : Spells name OPERATOR_REF.now d t.operator_ref
-  pub preview_interval : Spells span0 PREVIEW_INTERVAL.now d t.preview_interval
+  pub preview_interval : Spells non_negative_span PREVIEW_INTERVAL.now d t.preview_interval
   pub start_time : Spells moment START_TIME.now d t.start_time
 
 -- a topic, which is of that service
@@ -110,9 +110,9 @@ SpellsAsked service.Situation d t = Spells (table situation_topic) SITUATION_EXC
 
 -- ChangeBeforeUpdates, which is zero where it is absent, and in SX
 abbrev pub SpellsSlack : Service → Data → ℤ → Type 0
-SpellsSlack service.Stop d slack = SpellsOr span0 CHANGE_BEFORE_UPDATES.now d (pos 0) slack
-SpellsSlack service.Timetable d slack = SpellsOr span0 CHANGE_BEFORE_UPDATES.now d (pos 0) slack
-SpellsSlack service.Vehicle d slack = SpellsOr span0 CHANGE_BEFORE_UPDATES.now d (pos 0) slack
+SpellsSlack service.Stop d slack = SpellsOr non_negative_span CHANGE_BEFORE_UPDATES.now d (pos 0) slack
+SpellsSlack service.Timetable d slack = SpellsOr non_negative_span CHANGE_BEFORE_UPDATES.now d (pos 0) slack
+SpellsSlack service.Vehicle d slack = SpellsOr non_negative_span CHANGE_BEFORE_UPDATES.now d (pos 0) slack
 SpellsSlack service.Situation d slack = slack ≡ pos 0
 
 -- DeliveryMethod in Extensions, which is `fetched`, or otherwise direct
@@ -137,7 +137,7 @@ pub record SpellsSubscriptionRequest (d : Data) (m : SubscriptionRequest) : Type
   pub requestor_ref : Spells name REQUESTOR_REF.now d m.requestor_ref
   pub message_identifier : Spells number MESSAGE_IDENTIFIER.now d (Some m.message_identifier)
   pub consumer_address : Spells name CONSUMER_ADDRESS.now d m.consumer_address
-  pub heartbeat_interval : Spells (inside span0 HEARTBEAT_INTERVAL.now) SUBSCRIPTION_CONTEXT.now d m.heartbeat_interval
+  pub heartbeat_interval : Spells (inside non_negative_span HEARTBEAT_INTERVAL.now) SUBSCRIPTION_CONTEXT.now d m.heartbeat_interval
   pub stop_monitoring_subscription_request : list (table (subscription service.Stop m.requestor_ref)) 200 STOP_MONITORING_SUBSCRIPTION_REQUEST.now d ≡ Ok m.stop_monitoring_subscription_request
   pub estimated_timetable_subscription_request : list (table (subscription service.Timetable m.requestor_ref)) 200 ESTIMATED_TIMETABLE_SUBSCRIPTION_REQUEST.now d ≡ Ok m.estimated_timetable_subscription_request
   pub vehicle_monitoring_subscription_request : list (table (subscription service.Vehicle m.requestor_ref)) 200 VEHICLE_MONITORING_SUBSCRIPTION_REQUEST.now d ≡ Ok m.vehicle_monitoring_subscription_request
@@ -166,7 +166,7 @@ pub record SpellsTerminationRequest (d : Data) (m : TerminateSubscriptionRequest
   pub requestor_ref : Spells name REQUESTOR_REF.now d m.requestor_ref
   pub message_identifier : Spells number MESSAGE_IDENTIFIER.now d (Some m.message_identifier)
   pub subscriber_ref : SpellsSubscriber m.requestor_ref d m.subscriber_ref
-  pub subscription_ref : some_list name 200 SUBSCRIPTION_REF.now d ≡ Ok m.subscription_ref
+  pub subscription_ref : nonempty_list name 200 SUBSCRIPTION_REF.now d ≡ Ok m.subscription_ref
 
 -- what became of a subscription that was to end
 pub record SpellsTerminationStatus (d : Data) (r : TerminationResponseStatus) : Type 0 where

@@ -8,20 +8,20 @@ ghost use Rattle.siri_records.specs.declared.key.Key.{Key};
 ghost use Rattle.siri_messages.specs.declared.deliveries.FunctionalDelivery.{FunctionalDelivery};
 ghost use Rattle.siri_messages.specs.declared.supplies.Mark.{Mark};
 ghost use Rattle.siri_items.specs.Refusals.{Refusal};
-ghost use Rattle.siri_wire.specs.declared.read_parts.Extended.{Extended};
-ghost use Rattle.siri_wire.specs.declared.read_parts.Standing.{Standing};
+ghost use Rattle.siri_wire.specs.declared.read_parts.DeliveryExtensions.{DeliveryExtensions};
+ghost use Rattle.siri_wire.specs.declared.read_parts.RoundPosition.{RoundPosition};
 ghost use Rattle.siri_wire.specs.Deliveries.{stop_monitoring_delivery, estimated_timetable_delivery, vehicle_monitoring_delivery, situation_exchange_delivery};
 ghost use Rattle.siri_wire.specs.Frames.{frame};
-ghost use Rattle.siri_wire.specs.Parts.{standing, extended};
-ghost use Rattle.siri_wire_laws.specs.SpellingDeliveries.{SpellsMark, SpellsStanding, SpellsExtended, SpellsFrame, SpellsStopDelivery, SpellsTimetableDelivery, SpellsVehicleDelivery, SpellsSituationDelivery};
+ghost use Rattle.siri_wire.specs.Parts.{round_position, delivery_extensions};
+ghost use Rattle.siri_wire_laws.specs.SpellingDeliveries.{SpellsMark, SpellsRoundPosition, SpellsDeliveryExtensions, SpellsFrame, SpellsStopDelivery, SpellsTimetableDelivery, SpellsVehicleDelivery, SpellsSituationDelivery};
 ghost use Rattle.siri_wire.specs.Supplies.{mark};
 
 /// A mark, where in a round a delivery stands, and what it removes besides, is read from an object exactly where the
 /// object spells it.
 pub fn places_are_spelled()
     ensures of_mark { (d : Data) (m : Mark) → (mark d ≡ Ok m) ↔ SpellsMark d m }
-    ensures of_standing { (d : Data) (s : Standing) → (standing d ≡ Ok s) ↔ SpellsStanding d s }
-    ensures of_extended { (removed : Data → Result Key Refusal) (d : Data) (e : Extended) → (extended removed d ≡ Ok e) ↔ SpellsExtended removed d e }
+    ensures of_round_position { (d : Data) (s : RoundPosition) → (round_position d ≡ Ok s) ↔ SpellsRoundPosition d s }
+    ensures of_delivery_extensions { (removed : Data → Result Key Refusal) (d : Data) (e : DeliveryExtensions) → (delivery_extensions removed d ≡ Ok e) ↔ SpellsDeliveryExtensions removed d e }
 {}
 
 /// The delivery of each service, and the items of a frame of journeys, are read from an object exactly where the object

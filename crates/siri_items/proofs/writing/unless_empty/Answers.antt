@@ -2,10 +2,10 @@ use Rattle.std.proofs.Common.{◌≡◌, List, [], ◌∷◌, Some, refl, length
 use Rattle.serde_json.specs.Data.{object}
 use Rattle.serde_json.specs.View.{members_view}
 use Rattle.serde_json.proofs.Views.{view-Object, Entry}
-use Rattle.siri_items.specs.Writing.{some_object}
+use Rattle.siri_items.specs.Writing.{object_unless_empty}
 use Rattle.siri_items.proofs.writing.unless_empty.Goals as goal
 
-not_empty : (es : List Entry) → (length es ≡ 0 → ⊥) → Some (object (members_view es)) ≡ some_object (members_view es)
+not_empty : (es : List Entry) → (length es ≡ 0 → ⊥) → Some (object (members_view es)) ≡ object_unless_empty (members_view es)
 not_empty [] h = absurd (h refl)
 not_empty (e ∷ es) h = refl
 

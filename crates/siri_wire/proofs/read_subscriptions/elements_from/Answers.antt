@@ -2,7 +2,7 @@ use Rattle.std.proofs.Common.{sym, ◌∙◌, ◌≡◌, ◌+◌, ap, false, tru
 use Rattle.std.proofs.lemmas.Result.{err_from_is_err_and}
 use Rattle.serde_json.specs.Data.{Data}
 use Rattle.serde_json.specs.View.{view}
-use Rattle.siri_items.specs.Rules.{entries_from, is_null, present, table}
+use Rattle.siri_items.specs.Rules.{entries_from, is_null, required_value, table}
 use Rattle.siri_items.proofs.Entries.{rest_from, rest_from-here, rest_from-all, passes, takes, fails, done, after}
 use Rattle.siri_wire.specs.Subscriptions.{subscription}
 use Rattle.siri_wire.proofs.read_subscriptions.elements_from.Goals as goal
@@ -18,7 +18,7 @@ returns-in_err-below_place c =
     let so_far = ap (λ (ds : List Data). after c.loop-place.found.items (entries_from rule place ds)) (sym here) ∙ c.loop-place.invariant in
     let not_null : is_null (view v) ≡ false = sym c.is_null.ensures ∙ c.if-not-is_null.true in
     let p = err_from_is_err_and c.from_residual.result c.from_residual.ensures.1 in
-    rw (p.1, p.2) (fails rule c.loop-place.found.items place (view v) (rest_from (place + 1) vs) _ _ not_null (c.in_err-below_place.ensures (present rule (view v)) c.element.ensures) so_far)
+    rw (p.1, p.2) (fails rule c.loop-place.found.items place (view v) (rest_from (place + 1) vs) _ _ not_null (c.in_err-below_place.ensures (required_value rule (view v)) c.element.ensures) so_far)
 
 pub loop-place-preserved : goal.loop-place-preserved
 loop-place-preserved c =
@@ -31,7 +31,7 @@ loop-place-preserved c =
     elim c.if-not-is_null.branch [
       | then-not-is_null+in_ok-below_place+in_ok-push w ↦
           let not_null : is_null (view v) ≡ false = sym c.is_null.ensures ∙ w.if-not-is_null.true in
-          rw (w.found-is, w.in_ok-push.ensures.items) (takes rule c.loop-place.found.items place (view v) (rest_from (place + 1) vs) _ _ not_null (w.in_ok-below_place.ensures (present rule (view v)) w.element.ensures) so_far)
+          rw (w.found-is, w.in_ok-push.ensures.items) (takes rule c.loop-place.found.items place (view v) (rest_from (place + 1) vs) _ _ not_null (w.in_ok-below_place.ensures (required_value rule (view v)) w.element.ensures) so_far)
       | else-not-is_null w ↦
           let null : is_null (view v) ≡ true = sym c.is_null.ensures ∙ w.if-not-is_null.false in
           rw (w.found-is) (passes rule c.loop-place.found.items place (view v) (rest_from (place + 1) vs) _ null so_far)

@@ -1,5 +1,5 @@
-use Rattle.siri_wire_laws.proofs.ReadsDeliveries.{stop_delivery_read, timetable_delivery_read, vehicle_delivery_read, situation_delivery_read, frame_read}
-use Rattle.siri_wire_laws.proofs.SpelledDeliveries.{stop_delivery_spelled, timetable_delivery_spelled, vehicle_delivery_spelled, situation_delivery_spelled, frame_spelled}
+use Rattle.siri_wire_laws.proofs.SpellsImpliesReadDeliveries.{stop_delivery_read, timetable_delivery_read, vehicle_delivery_read, situation_delivery_read, frame_read}
+use Rattle.siri_wire_laws.proofs.ReadImpliesSpellsDeliveries.{stop_delivery_spelled, timetable_delivery_spelled, vehicle_delivery_spelled, situation_delivery_spelled, frame_spelled}
 use Rattle.siri_wire_laws.proofs.delivery_laws.deliveries_are_spelled.Goals as goal
 
 pub returns-clause-of_stop : goal.returns-clause-of_stop

@@ -1,4 +1,4 @@
-use Rattle.siri_wire_laws.proofs.SpelledDocuments.{document_spelled, document_read}
+use Rattle.siri_wire_laws.proofs.ReadIffSpells.{document_spelled, document_read}
 use Rattle.siri_wire_laws.proofs.laws.document_is_spelled.Goals as goal
 
 pub returns : goal.returns

@@ -1,5 +1,5 @@
-use Rattle.siri_wire_laws.proofs.ReadsRequests.{response_status_read, termination_status_read}
-use Rattle.siri_wire_laws.proofs.SpelledRequests.{response_status_spelled, termination_status_spelled}
+use Rattle.siri_wire_laws.proofs.SpellsImpliesReadRequests.{response_status_read, termination_status_read}
+use Rattle.siri_wire_laws.proofs.ReadImpliesSpellsRequests.{response_status_spelled, termination_status_spelled}
 use Rattle.siri_wire_laws.proofs.request_laws.statuses_are_spelled.Goals as goal
 
 pub returns-clause-of_begun : goal.returns-clause-of_begun

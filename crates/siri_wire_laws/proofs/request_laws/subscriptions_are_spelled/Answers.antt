@@ -1,5 +1,5 @@
-use Rattle.siri_wire_laws.proofs.ReadsRequests.{subscription_read}
-use Rattle.siri_wire_laws.proofs.SpelledRequests.{subscription_spelled}
+use Rattle.siri_wire_laws.proofs.SpellsImpliesReadRequests.{subscription_read}
+use Rattle.siri_wire_laws.proofs.ReadImpliesSpellsRequests.{subscription_spelled}
 use Rattle.siri_wire_laws.proofs.request_laws.subscriptions_are_spelled.Goals as goal
 
 pub returns : goal.returns

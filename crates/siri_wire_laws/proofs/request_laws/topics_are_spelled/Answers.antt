@@ -1,5 +1,5 @@
-use Rattle.siri_wire_laws.proofs.ReadsRequests.{stop_topic_read, subscribed_stop_topic_read, line_direction_read, timetable_topic_read, vehicle_topic_read, situation_topic_read}
-use Rattle.siri_wire_laws.proofs.SpelledRequests.{stop_topic_spelled, subscribed_stop_topic_spelled, line_direction_spelled, timetable_topic_spelled, vehicle_topic_spelled, situation_topic_spelled}
+use Rattle.siri_wire_laws.proofs.SpellsImpliesReadRequests.{stop_topic_read, subscribed_stop_topic_read, line_direction_read, timetable_topic_read, vehicle_topic_read, situation_topic_read}
+use Rattle.siri_wire_laws.proofs.ReadImpliesSpellsRequests.{stop_topic_spelled, subscribed_stop_topic_spelled, line_direction_spelled, timetable_topic_spelled, vehicle_topic_spelled, situation_topic_spelled}
 use Rattle.siri_wire_laws.proofs.request_laws.topics_are_spelled.Goals as goal
 
 pub returns-clause-of_stop : goal.returns-clause-of_stop
