@@ -3,7 +3,7 @@
 //! Stands on `siri_cli`, whose `run` is the whole of the work.
 #![tactic(auto)]
 
-use siri_base::{Input, Output, PlainClock, PlainKeeper, PlainWire, Status};
+use siri_base::{InMemoryClock, InMemoryKeeper, InMemoryWire, Input, Output, Status};
 use siri_cli::run;
 use std::env;
 use std::io::Write;
@@ -29,9 +29,9 @@ fn do_words(rt: &HostRuntime) -> Status {
         &words,
         &mut Input::new(rt.stdin()),
         &mut Output::new(rt.stdout()),
-        &mut PlainWire::new(alloc, &[], &[]),
-        &mut PlainClock::new(&[]),
-        &mut PlainKeeper::new(99_999_999_999),
+        &mut InMemoryWire::new(alloc, &[], &[]),
+        &mut InMemoryClock::new(&[]),
+        &mut InMemoryKeeper::new(99_999_999_999),
     )
 }
 

@@ -1,7 +1,7 @@
 // The forms in memory of a clock, a keeper and a wire, and copies of values.
 use siri_base::{
-    Clock, Copies, Failed, Keeper, List, Moment, Name, OutsideError, PlainClock, PlainKeeper,
-    PlainWire, Text, TextError, Wire,
+    Clock, Copies, Failed, InMemoryClock, InMemoryKeeper, InMemoryWire, Keeper, List, Moment, Name,
+    OutsideError, Text, TextError, Wire,
 };
 use std::test::Fail;
 
@@ -10,7 +10,7 @@ fn a_clock_gives_its_moments_in_order(rt: HostRuntime) -> Result<(), Fail> {
     let early = Moment::new(0).ok_or("a moment")?;
     let late = Moment::new(1_714_550_400_000).ok_or("a moment")?;
     let moments = [late, early, late];
-    let mut clock = PlainClock::new(&moments);
+    let mut clock = InMemoryClock::new(&moments);
     for wanted in [Ok(late), Ok(early), Ok(late), Err(Failed), Err(Failed)] {
         assert_eq!(rt; clock.now(), wanted);
     }
@@ -32,7 +32,7 @@ fn a_keeper_counts_from_one_to_its_last_number(rt: HostRuntime) {
             Err(OutsideError::Failed),
         ),
     ] {
-        let mut keeper = PlainKeeper::new(kept);
+        let mut keeper = InMemoryKeeper::new(kept);
         assert_eq!(rt; keeper.raise(), first, "from {kept}");
         assert_eq!(rt; keeper.raise(), second, "from {kept}");
     }
@@ -44,7 +44,7 @@ fn a_wire_takes_its_connections_in_turn(rt: HostRuntime) -> Result<(), Fail> {
     let there = Name::new(rt.alloc(), "peer:80")?;
     let to_accept: [&[u8]; 2] = [b"one", b"two"];
     let to_dial: [&[u8]; 1] = [b"three"];
-    let mut wire = PlainWire::new(rt.alloc(), &to_accept, &to_dial);
+    let mut wire = InMemoryWire::new(rt.alloc(), &to_accept, &to_dial);
     let mut room = [0; 2];
     wire.listen(&here)?;
     wire.accept()?;

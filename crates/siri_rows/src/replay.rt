@@ -1,9 +1,9 @@
 // Scripts, each with the report, the number and the text of the status that it brings.
-ghost use Rattle.std.specs.Prelude.{Some};
+ghost use Rattle.std.specs.Prelude.{Some, []};
 
 use crate::running::run_words;
 use siri_base::{
-    Failed, MemorySink, MemorySource, OutOfMemory, PlainSink, PlainSource, Sink, Source,
+    Failed, FailingSink, FailingSource, InMemorySink, InMemorySource, OutOfMemory, Sink, Source,
     append_number,
 };
 use std::alloc::{AllocError, Global};
@@ -225,8 +225,8 @@ fn brings(
     text: &str,
 ) -> Result<bool, Fail> {
     let script = joined(alloc, script)?;
-    let mut source = PlainSource::new(&script);
-    let mut sink = PlainSink::new(alloc);
+    let mut source = InMemorySource::new(&script);
+    let mut sink = InMemorySink::new(alloc);
     let status = run_words(alloc, words, &mut source, &mut sink)?;
     let told = status.text(alloc)?;
     Ok(
@@ -279,6 +279,8 @@ struct ByteSource<'a> {
 impl<'a> Source for ByteSource<'a> {
     ghost left = { λ s. Some s.bytes.now };
 
+    ghost fails = { λ s. Some [] };
+
     ghost faults = { λ s. 0 };
 
     fn read(&mut self, into: &mut [u8]) -> Result<usize, Failed> {
@@ -294,7 +296,7 @@ impl<'a> Source for ByteSource<'a> {
 fn pieces_of_one_byte_bring_the_same(rt: HostRuntime) -> Result<(), Fail> {
     let script = edges(rt.alloc())?;
     let mut source = ByteSource { bytes: &script };
-    let mut sink = PlainSink::new(rt.alloc());
+    let mut sink = InMemorySink::new(rt.alloc());
     let status = run_words(rt.alloc(), &["replay"], &mut source, &mut sink)?;
     assert_eq!(rt; status.number(), 0);
     assert!(rt; sink.bytes() == SHOWN.as_bytes());
@@ -315,8 +317,8 @@ fn a_failed_read_ends_the_run(rt: HostRuntime) -> Result<(), Fail> {
     ];
     for (place, report) in cases {
         let places = [place];
-        let mut source = MemorySource::new(&script, &places);
-        let mut sink = PlainSink::new(rt.alloc());
+        let mut source = FailingSource::new(&script, &places);
+        let mut sink = InMemorySink::new(rt.alloc());
         let status = run_words(rt.alloc(), &["replay"], &mut source, &mut sink)?;
         let text = status.text(rt.alloc())?;
         assert_eq!(rt; status.number(), 66, "at {place}");
@@ -339,8 +341,8 @@ fn a_failed_write_ends_the_run(rt: HostRuntime) -> Result<(), Fail> {
     let script = edges(rt.alloc())?;
     for place in [0, 5, 10, 19, 20, 21, SHOWN.len() - 1] {
         let places = [place];
-        let mut source = PlainSource::new(&script);
-        let mut sink = MemorySink::new(rt.alloc(), &places);
+        let mut source = InMemorySource::new(&script);
+        let mut sink = FailingSink::new(rt.alloc(), &places);
         let status = run_words(rt.alloc(), &["replay"], &mut source, &mut sink)?;
         let text = status.text(rt.alloc())?;
         assert_eq!(rt; status.number(), 74, "at {place}");
@@ -433,8 +435,8 @@ fn as_many_items_are_live_as_may_be(rt: HostRuntime) -> Result<(), Fail> {
             FED,
         ],
     )?;
-    let mut source = PlainSource::new(&script);
-    let mut sink = PlainSink::new(rt.alloc());
+    let mut source = InMemorySource::new(&script);
+    let mut sink = InMemorySink::new(rt.alloc());
     let status = run_words(rt.alloc(), &["replay"], &mut source, &mut sink)?;
     assert_eq!(rt; status.number(), 0);
     assert!(rt;
@@ -453,8 +455,8 @@ fn as_many_items_are_live_as_may_be(rt: HostRuntime) -> Result<(), Fail> {
 fn a_line_is_text(rt: HostRuntime) -> Result<(), Fail> {
     let mut script = joined(rt.alloc(), &[EIGHT])?;
     script.extend_from_slice(b"\xff\n")?;
-    let mut source = PlainSource::new(&script);
-    let mut sink = PlainSink::new(rt.alloc());
+    let mut source = InMemorySource::new(&script);
+    let mut sink = InMemorySink::new(rt.alloc());
     let status = run_words(rt.alloc(), &["replay"], &mut source, &mut sink)?;
     let text = status.text(rt.alloc())?;
     assert_eq!(rt; status.number(), 65);

@@ -1,5 +1,5 @@
 // Runs of the top call over forms in memory.
-use siri_base::{PlainClock, PlainKeeper, PlainWire, Sink, Source, Status};
+use siri_base::{InMemoryClock, InMemoryKeeper, InMemoryWire, Sink, Source, Status};
 use siri_cli::run;
 use std::alloc::{AllocError, Global};
 
@@ -19,9 +19,9 @@ pub fn run_words<S: Source, K: Sink>(
     sink: &mut K,
 ) -> Result<Status, AllocError> {
     let words = words_of(alloc, words)?;
-    let mut wire = PlainWire::new(alloc, &[], &[]);
-    let mut clock = PlainClock::new(&[]);
-    let mut keeper = PlainKeeper::new(0);
+    let mut wire = InMemoryWire::new(alloc, &[], &[]);
+    let mut clock = InMemoryClock::new(&[]);
+    let mut keeper = InMemoryKeeper::new(0);
     Ok(run(
         alloc,
         &words,
