@@ -7,10 +7,11 @@ use Rattle.siri_base.specs.declared.status.Status.TheVariants as status
 use Rattle.siri_base.specs.declared.status.Status.{Status}
 use Rattle.siri_messages.specs.declared.deliveries.ServiceDelivery.{ServiceDelivery}
 use Rattle.siri_messages.specs.declared.requests.ServiceRequest.{ServiceRequest}
-use Rattle.siri_model.specs.History.{History, Step, State, Clock, Feed, Settle, entries_of, after_step, nothing, state_of}
+use Rattle.siri_model.specs.History.{History, Step, State, Clock, Feed, Settle, entries_of, after_step, nothing, state_of, now_of, current}
 use Rattle.siri_producer.specs.declared.feeding.Fed.{Fed}
 use Rattle.siri_producer.specs.Living.{live_of}
-use Rattle.siri_producer.proofs.Living.{live_step, live_told, live_response}
+use Rattle.siri_producer.proofs.Living.{live_step, live_told}
+use Rattle.siri_producer.proofs.Shown.{response_live}
 use Rattle.siri_cli.specs.declared.events.TheConstants.{PRODUCER}
 use Rattle.siri_cli.specs.declared.lines.Line.{Line}
 use Rattle.siri_cli.specs.declared.lines.Line.TheVariants as said
@@ -48,7 +49,7 @@ same_feed n delivery history =
     ap₂ (λ (fed : Fed) (s : Seen). Goes (fed_text fed) (Some s)) (live_told history (entries_of delivery)) (sym (seen_more history (Feed (entries_of delivery))))
 
 same_ask : (n : ℕ) (request : ServiceRequest) (history : History) → tells n (Some (seen_of history)) (said.Ask request) ≡ seen_as (option_map seen_of) (says n (Some history) (said.Ask request))
-same_ask n request history = ap (λ (delivery : ServiceDelivery). Goes (answer_text delivery) (Some (seen_of history))) (live_response PRODUCER.now (state_of history) request)
+same_ask n request history = ap (λ (delivery : ServiceDelivery). Goes (answer_text delivery) (Some (seen_of history))) (response_live PRODUCER.now (now_of history) (current history) request)
 
 same_tells : (n : ℕ) (world : World) (line : Line) → tells n (option_map seen_of world) line ≡ seen_as (option_map seen_of) (says n world line)
 same_tells n None said.Passed = refl

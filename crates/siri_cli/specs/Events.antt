@@ -45,7 +45,7 @@ tells n (Some s) (said.Clock moment) = Goes [] (Some (seen_after s (Clock moment
 tells n (Some s) (said.Feed delivery) =
     Goes (fed_text (told (counts_of s.state.now s.state.current (entries_of delivery))))
     (Some (seen_after s (Feed (entries_of delivery))))
-tells n (Some s) (said.Ask request) = Goes (answer_text (response s.name s.state request)) (Some s)
+tells n (Some s) (said.Ask request) = Goes (answer_text (response s.name s.state.now s.state.current request)) (Some s)
 
 abbrev pub seen_event : Events (Option Seen)
 seen_event n world line = tells n world (line_of (is_some world) line)

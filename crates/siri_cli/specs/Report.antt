@@ -3,7 +3,7 @@ use Rattle.std.specs.Prelude.{ℕ, List, [], ◌∷◌, ◌++◌, is_some, Optio
 use Rattle.siri_base.specs.declared.status.Status.TheVariants as status
 use Rattle.siri_base.specs.declared.reason.ScriptReason.{ScriptReason}
 use Rattle.siri_base.specs.declared.reason.ScriptReason.TheVariants as reason
-use Rattle.siri_model.specs.History.{History, Start, Clock, Feed, Settle, entries_of, state_of, now_of, current}
+use Rattle.siri_model.specs.History.{History, Start, Clock, Feed, Settle, entries_of, now_of, current}
 use Rattle.siri_model.specs.Fed.{counts_of}
 use Rattle.siri_model.specs.Direct.{response}
 use Rattle.siri_producer.specs.Told.{told}
@@ -35,7 +35,7 @@ says n (Some history) (said.Clock moment) = Goes [] (Some (history ++ Clock mome
 says n (Some history) (said.Feed delivery) =
     Goes (fed_text (told (counts_of (now_of history) (current history) (entries_of delivery))))
     (Some (history ++ Feed (entries_of delivery) ∷ Settle ∷ []))
-says n (Some history) (said.Ask request) = Goes (answer_text (response PRODUCER.now (state_of history) request)) (Some history)
+says n (Some history) (said.Ask request) = Goes (answer_text (response PRODUCER.now (now_of history) (current history) request)) (Some history)
 
 abbrev pub event : Events World
 event n world line = says n world (line_of (is_some world) line)

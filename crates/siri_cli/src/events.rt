@@ -58,7 +58,7 @@ fn start(
     }
     let name = producer_name(alloc)?;
     let text = started(alloc, 1)?;
-    *world = Some(Producer::new(alloc, name, 1, moment));
+    *world = Some(Producer::new(alloc, name, 1, moment)?);
     Ok(text)
 }
 
@@ -99,7 +99,7 @@ fn feed(
 {
     match world {
         Some(producer) => {
-            let told = producer.feed(delivery)?;
+            let told = producer.feed_owned(delivery)?;
             Ok(fed(alloc, told)?)
         }
         None => Err(refused(number, ScriptReason::NotStarted)),
@@ -152,7 +152,7 @@ fn answer(
     producer: &mut Producer,
     request: &ServiceRequest,
 ) -> Result<Vec<u8>, OutOfMemory>
-    ensures text { IfOk result (λ text. text.items ≡ answer_text (response (seen producer.old).name (seen producer.old).state request.now)) }
+    ensures text { IfOk result (λ text. text.items ≡ answer_text (response (seen producer.old).name (seen producer.old).state.now (seen producer.old).state.current request.now)) }
     ensures same { seen producer.new ≡ seen producer.old }
 {
     let delivery = producer.direct(request)?;

@@ -13,15 +13,11 @@ use Rattle.siri_topic.specs.Shown.{is_shown}
 use Rattle.siri_messages.specs.declared.deliveries.ServiceDelivery.{ServiceDelivery}
 use Rattle.siri_messages.specs.declared.deliveries.FunctionalDelivery.{FunctionalDelivery}
 use Rattle.siri_messages.specs.declared.requests.ServiceRequest.{ServiceRequest}
-use Rattle.siri_model.specs.History.{History, State, Items, state_of}
+use Rattle.siri_model.specs.History.{Items}
 
--- all current items that are shown to a topic, in order of key
-abbrev pub shown : Topic → State → Items
-shown topic state = filter (λ entry. is_shown topic entry.1 state.now) state.current
-
--- the direct response to a topic after a history
-abbrev pub direct : History → Topic → Items
-direct history topic = shown topic (state_of history)
+-- the direct response to a topic: all items that are shown to it at a moment, in order of key
+abbrev pub shown : ℕ → Items → Topic → Items
+shown now items topic = filter (λ entry. is_shown topic entry.1 now) items
 
 -- ---- MaximumStopVisits (EN 15531-3)
 
@@ -49,13 +45,13 @@ most_of other = None
 -- ---- the answer to a request
 
 -- the items that answer a topic
-unfoldable pub answering : Topic → State → List Item
-answering topic state = map (λ entry. entry.1) (at_most (most_of topic) (shown topic state))
+unfoldable pub answering : ℕ → Items → Topic → List Item
+answering now items topic = map (λ entry. entry.1) (at_most (most_of topic) (shown now items topic))
 
 -- the functional delivery that answers a topic: the producer's moment, Status and the items
-unfoldable pub answer : State → Topic → FunctionalDelivery
-answer state topic = record {
-  response_timestamp = Some state.now;
+unfoldable pub answer : ℕ → Items → Topic → FunctionalDelivery
+answer now items topic = record {
+  response_timestamp = Some now;
   subscriber_ref = None;
   subscription_ref = None;
   status = true;
@@ -63,22 +59,22 @@ answer state topic = record {
   start = None;
   round = None;
   part = None;
-  items = answering topic state;
+  items = answering now items topic;
   removals = [];
 }
 
--- the delivery that answers a request: one functional delivery for each topic, in the order of the lists
-unfoldable pub response : List ℕ → State → ServiceRequest → ServiceDelivery
-response name state request = record {
-  response_timestamp = Some state.now;
+-- the delivery by which a producer of this name answers a request: one functional delivery for each topic, in the order of the lists
+unfoldable pub response : List ℕ → ℕ → Items → ServiceRequest → ServiceDelivery
+response name now items request = record {
+  response_timestamp = Some now;
   producer_ref = Some name;
   response_message_identifier = None;
   request_message_ref = request.message_identifier;
   status = true;
   error_condition = None;
   more_data = false;
-  stop_monitoring_delivery = map (answer state) request.stop_monitoring_request;
-  estimated_timetable_delivery = map (answer state) request.estimated_timetable_request;
-  vehicle_monitoring_delivery = map (answer state) request.vehicle_monitoring_request;
-  situation_exchange_delivery = map (answer state) request.situation_exchange_request;
+  stop_monitoring_delivery = map (answer now items) request.stop_monitoring_request;
+  estimated_timetable_delivery = map (answer now items) request.estimated_timetable_request;
+  vehicle_monitoring_delivery = map (answer now items) request.vehicle_monitoring_request;
+  situation_exchange_delivery = map (answer now items) request.situation_exchange_request;
 }

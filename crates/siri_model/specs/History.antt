@@ -1,5 +1,6 @@
 -- The history of a producer, and what is current after it.
-use Rattle.std.specs.Prelude.{ℕ, List, [], ◌++◌, length, max, map, filter, flat_map, fold, Bool, ◌&&◌, not, nat_le, is_some, if◌then◌else◌, Option}
+use Rattle.std.specs.Prelude.{◌≡◌, ℕ, List, [], ◌++◌, length, max, map, filter, flat_map, fold, Bool, ◌&&◌, not, nat_le, is_some, if◌then◌else◌, Option}
+use Rattle.std.specs.List.{All}
 use Rattle.std.specs.Map.{lookup, remove_entry}
 use Rattle.std.specs.BTreeMap.{insert_entry, is_at}
 use Rattle.siri_records.specs.declared.item.Item.{Item}
@@ -9,6 +10,9 @@ use Rattle.siri_records.specs.Keys.{key_of}
 use Rattle.siri_records.specs.Order.{key_cmp}
 use Rattle.siri_messages.specs.declared.deliveries.ServiceDelivery.{ServiceDelivery}
 use Rattle.siri_messages.specs.declared.deliveries.FunctionalDelivery.{FunctionalDelivery}
+use Rattle.siri_messages.specs.declared.message.Message.{Message}
+use Rattle.siri_messages.specs.declared.message.Message.TheVariants as message
+use Rattle.siri_messages.specs.Rounds.{has_round}
 
 -- an entry of a feed: an item that was observed, or a key that was withdrawn
 pub data Entry : Type 0 where
@@ -23,21 +27,31 @@ entries_in d = map Observed d.items ++ map Withdrawn d.removals
 abbrev pub entries_of : ServiceDelivery → List Entry
 entries_of d = flat_map entries_in (d.stop_monitoring_delivery ++ d.estimated_timetable_delivery ++ d.vehicle_monitoring_delivery ++ d.situation_exchange_delivery)
 
+-- the entries that a taken message feeds: those of a ServiceDelivery that belongs to no round
+abbrev pub entries_fed : Message → List Entry
+entries_fed (message.ServiceDelivery d) = if has_round d then [] else entries_of d
+entries_fed other = []
+
 -- a step of a producer: its start, with its start number and moment; a moment of its clock; the entries of a feed in
--- their order; the end of an event
+-- their order; a message that it takes; the end of an event
 pub data Step : Type 0 where
   Start : ℕ → ℕ → Step
   Clock : ℕ → Step
   Feed : List Entry → Step
+  Take : Message → Step
   Settle : Step
 
--- the steps of one producer, from its start on
+-- the steps of one producer, from its start on. It has no name: a producer keeps its own, and no step changes it
 abbrev pub History : Type 0
 History = List Step
 
 -- items in order of key
 abbrev pub Items : Type 0
 Items = List (Key × Item)
+
+-- each item stands under its own key
+abbrev pub IsKeyed : Items → Type 0
+IsKeyed items = All (λ entry. entry.0 ≡ key_of entry.1) items
 
 -- those that aren't dead
 abbrev pub live : ℕ → Items → Items
@@ -72,17 +86,30 @@ pub record State : Type 0 where
 abbrev pub nothing : State
 nothing = record { start = 0; started = 0; now = 0; current = [] }
 
+-- the state after the entries of a feed
+abbrev pub fed : State → List Entry → State
+fed state entries = record state { current = fold (after_entry state.now) state.current entries }
+
+-- a start starts anew, wherever it stands; a message that feeds nothing leaves what is current
 unfoldable pub after_step : State → Step → State
-after_step state (Start number moment) = record { start = number; started = moment; now = max state.now moment; current = state.current }
+after_step state (Start number moment) = record { start = number; started = moment; now = moment; current = [] }
 after_step state (Clock moment) = record state { now = max state.now moment }
-after_step state (Feed entries) = record state { current = fold (after_entry state.now) state.current entries }
+after_step state (Feed entries) = fed state entries
+after_step state (Take message) = fed state (entries_fed message)
 after_step state Settle = state
 
 -- what it knows after its history
 abbrev pub state_of : History → State
 state_of history = fold after_step nothing history
 
--- the greatest moment of a history
+-- the number and the moment of a history's latest start
+abbrev pub start_of : History → ℕ
+start_of history = (state_of history).start
+
+abbrev pub started_of : History → ℕ
+started_of history = (state_of history).started
+
+-- the greatest moment since the latest start of a history
 abbrev pub now_of : History → ℕ
 now_of history = (state_of history).now
 

@@ -1,3 +1,4 @@
 pub mod History
 pub mod Fed
+pub mod Last
 pub mod Direct

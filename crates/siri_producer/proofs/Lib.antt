@@ -1,3 +1,4 @@
+pub mod Current
 pub mod Entries
 pub mod Fold
 pub mod Living

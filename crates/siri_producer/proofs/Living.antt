@@ -1,29 +1,23 @@
 -- What a producer knows after its calls, as states of live items; and a state and the same without its dead items, which
--- go on alike, and are told and answered alike.
-use Rattle.std.proofs.Common.{◌≡◌, ℕ, List, [], ◌∷◌, fold, max, Bool, true, false, not, None, Some, refl, sym, ap, ◌∙◌, map, arith}
+-- go on alike, and are told alike.
+use Rattle.std.proofs.Common.{◌≡◌, ℕ, List, [], ◌∷◌, fold, max, false, not, refl, sym, ap, ◌∙◌, arith}
 use Rattle.std.specs.List.{All}
 use Rattle.std.specs.Map.{values_of}
 use Rattle.std.proofs.lemmas.List.Elements.{All-head, All-tail}
 use Rattle.siri_records.specs.declared.item.Item.{Item}
-use Rattle.siri_records.specs.declared.key.Key.{Key}
 use Rattle.siri_records.specs.Ends.{is_dead}
 use Rattle.siri_records.specs.Order.{key_cmp}
-use Rattle.siri_topic.specs.declared.topics.Topic.{Topic}
-use Rattle.siri_topic.specs.Shown.{is_shown}
-use Rattle.siri_topic.proofs.Dead.{dead_are_never_shown}
-use Rattle.siri_messages.specs.declared.requests.ServiceRequest.{ServiceRequest}
-use Rattle.siri_messages.specs.declared.deliveries.FunctionalDelivery.{FunctionalDelivery}
-use Rattle.siri_model.specs.History.{Entry, Items, Step, Start, Clock, Feed, Settle, History, State, live, after_entry, after_step, state_of, now_of, current}
-use Rattle.siri_model.specs.Fed.{none_fed, counts_from, counts_of}
-use Rattle.siri_model.specs.Direct.{shown, most_of, at_most, answering, answer, response}
+use Rattle.siri_model.specs.History.{Entry, Items, Step, Start, Clock, Feed, Take, Settle, History, State, live, after_entry, after_step, entries_fed, state_of, now_of, current}
+use Rattle.siri_model.specs.Fed.{counts_of}
 use Rattle.siri_producer.specs.Answering.{InOrder}
-use Rattle.siri_producer.specs.Feeding.{Feeding, after_all}
+use Rattle.siri_producer.specs.declared.feeding.Feeding.{Feeding}
+use Rattle.siri_producer.specs.Feeding.{after_all}
 use Rattle.siri_producer.specs.declared.feeding.Fed.{Fed}
 use Rattle.siri_producer.specs.Known.{Known, StandsFor}
 use Rattle.siri_producer.specs.Living.{as_state, live_of}
 use Rattle.siri_producer.specs.Told.{told}
-use Rattle.siri_producer.proofs.Entries.{filter_stronger, sorted_passing}
-use Rattle.siri_producer.proofs.Fold.{fitting, entries_alike}
+use Rattle.siri_producer.proofs.Entries.{sorted_passing}
+use Rattle.siri_producer.proofs.Fold.{none_fed, fitting, all_alike}
 use Rattle.siri_producer.proofs.Stands.{current_in_order, live_later, store_of}
 
 -- ---- the entries of a feed
@@ -39,12 +33,12 @@ abbrev holding : ℕ → Items → Feeding
 holding now items = record { store = record { entries = items; moment = now; reads = 0 }; fed = told none_fed }
 
 fed_alike : (now : ℕ) (items : Items) (entries : List Entry) → InOrder items →
-    fitting now 0 (fold (after_entry now) (live now items) entries) (counts_from now (live now items) entries none_fed)
-    ≡ fitting now 0 (fold (after_entry now) items entries) (counts_from now items entries none_fed)
+    fitting now 0 (fold (after_entry now) (live now items) entries) (counts_of now (live now items) entries)
+    ≡ fitting now 0 (fold (after_entry now) items entries) (counts_of now items entries)
 fed_alike now items entries s =
-    sym (entries_alike now 0 (live now items) none_fed entries (live_in_order now items s))
+    sym (all_alike now 0 (live now items) entries (live_in_order now items s))
     ∙ ap (λ (l : Items). after_all (holding now l) entries) (live_again now items)
-    ∙ entries_alike now 0 items none_fed entries s
+    ∙ all_alike now 0 items entries s
 
 -- what is told of a feed
 pub live_told : (history : History) (entries : List Entry) → told (counts_of (now_of history) (live (now_of history) (current history)) entries) ≡ told (counts_of (now_of history) (current history) entries)
@@ -54,69 +48,19 @@ live_told history entries = ap (λ (f : Feeding). f.fed) (fed_alike (now_of hist
 
 step_alike : (state : State) (step : Step) → InOrder state.current → live_of (after_step (live_of state) step) ≡ live_of (after_step state step)
 unfolding after_step
-step_alike state (Start number moment) s =
-    ap (λ (l : Items). record { start = number; started = moment; now = max state.now moment; current = l }) (live_later state.now (max state.now moment) state.current (omega arith))
+step_alike state (Start number moment) s = refl
 step_alike state (Clock moment) s =
     ap (λ (l : Items). record { start = state.start; started = state.started; now = max state.now moment; current = l }) (live_later state.now (max state.now moment) state.current (omega arith))
 step_alike state (Feed entries) s =
     ap (λ (f : Feeding). record { start = state.start; started = state.started; now = state.now; current = f.store.entries }) (fed_alike state.now state.current entries s)
+step_alike state (Take message) s =
+    ap (λ (f : Feeding). record { start = state.start; started = state.started; now = state.now; current = f.store.entries }) (fed_alike state.now state.current (entries_fed message) s)
 step_alike state Settle s =
     ap (λ (l : Items). record { start = state.start; started = state.started; now = state.now; current = l }) (live_again state.now state.current)
 
 -- a step after a history
 pub live_step : (history : History) (step : Step) → live_of (after_step (live_of (state_of history)) step) ≡ live_of (after_step (state_of history) step)
 live_step history step = step_alike (state_of history) step (current_in_order history)
-
--- ---- answers
-
-alive_at : (topic : Topic) (i : Item) (now : ℕ) (dead : Bool) → is_dead i now ≡ dead → is_shown topic i now ≡ true → not dead ≡ true
-alive_at topic i now false e shown = refl
-alive_at topic i now true e shown = absurd (let none = dead_are_never_shown topic i now e in cc)
-
-shown_alive : (topic : Topic) (i : Item) (now : ℕ) → is_shown topic i now ≡ true → not (is_dead i now) ≡ true
-shown_alive topic i now shown = alive_at topic i now (is_dead i now) refl shown
-
-shown_alike : (topic : Topic) (state : State) → shown topic (live_of state) ≡ shown topic state
-shown_alike topic state =
-    filter_stronger (λ (e : Key × Item). not (is_dead e.1 state.now)) (λ (e : Key × Item). is_shown topic e.1 state.now) (λ e h. shown_alive topic e.1 state.now h) state.current
-
-answering_alike : (topic : Topic) (state : State) → answering topic (live_of state) ≡ answering topic state
-unfolding answering
-answering_alike topic state = ap (λ (items : Items). map (λ (e : Key × Item). e.1) (at_most (most_of topic) items)) (shown_alike topic state)
-
-answer_alike : (state : State) (topic : Topic) → answer (live_of state) topic ≡ answer state topic
-unfolding answer
-answer_alike state topic = λ i. record {
-  response_timestamp = Some state.now;
-  subscriber_ref = None;
-  subscription_ref = None;
-  status = true;
-  error_condition = None;
-  start = None;
-  round = None;
-  part = None;
-  items = answering_alike topic state i;
-  removals = [];
-}
-
--- the answer to a request
-pub live_response : (name : List ℕ) (state : State) (request : ServiceRequest) → response name (live_of state) request ≡ response name state request
-unfolding response
-live_response name state request = λ i.
-    let each : Topic → FunctionalDelivery = λ topic. answer_alike state topic i in
-    record {
-      response_timestamp = Some state.now;
-      producer_ref = Some name;
-      response_message_identifier = None;
-      request_message_ref = request.message_identifier;
-      status = true;
-      error_condition = None;
-      more_data = false;
-      stop_monitoring_delivery = map each request.stop_monitoring_request;
-      estimated_timetable_delivery = map each request.estimated_timetable_request;
-      vehicle_monitoring_delivery = map each request.vehicle_monitoring_request;
-      situation_exchange_delivery = map each request.situation_exchange_request;
-    }
 
 -- ---- what a producer knows after its calls
 
@@ -140,7 +84,7 @@ all_live now (e ∷ items) alive =
 held_fed : (k : Known) (entries : List Entry) → InOrder k.held → AreAlive k.moment k.held → after_all (store_of k) entries ≡ fitting k.moment k.reads (fold (after_entry k.moment) k.held entries) (counts_of k.moment k.held entries)
 held_fed k entries s alive =
     ap (λ (l : Items). after_all (record { store = record { entries = l; moment = k.moment; reads = k.reads }; fed = told none_fed }) entries) (sym (all_live k.moment k.held alive))
-    ∙ entries_alike k.moment k.reads k.held none_fed entries s
+    ∙ all_alike k.moment k.reads k.held entries s
 
 pub fed_state : (old : Known) (entries : List Entry) (start started now reads : ℕ) (held : Items) → InOrder old.held → AreAlive old.moment old.held → start ≡ old.start → started ≡ old.started → record { entries = held; moment = now; reads = reads } ≡ (after_all (store_of old) entries).store → record { start = start; started = started; now = now; current = held } ≡ live_of (after_step (as_state old) (Feed entries))
 unfolding after_step
@@ -150,31 +94,3 @@ fed_state old entries start started now reads held s alive b t is =
 
 pub fed_counts : (old : Known) (fed : Fed) (entries : List Entry) → InOrder old.held → AreAlive old.moment old.held → fed ≡ (after_all (store_of old) entries).fed → fed ≡ told (counts_of old.moment old.held entries)
 fed_counts old fed entries s alive is = is ∙ ap (λ (f : Feeding). f.fed) (held_fed old entries s alive)
-
--- ---- answers of a store
-
-own_answering : (start started now : ℕ) (held : Items) (topic : Topic) → answering topic (record { start = 0; started = 0; now = now; current = held }) ≡ answering topic (record { start = start; started = started; now = now; current = held })
-unfolding answering
-own_answering start started now held topic = refl
-
-own_answer : (start started now : ℕ) (held : Items) (topic : Topic) → answer (record { start = 0; started = 0; now = now; current = held }) topic ≡ answer (record { start = start; started = started; now = now; current = held }) topic
-unfolding answer
-own_answer start started now held topic = λ i. record {
-  response_timestamp = Some now;
-  subscriber_ref = None;
-  subscription_ref = None;
-  status = true;
-  error_condition = None;
-  start = None;
-  round = None;
-  part = None;
-  items = own_answering start started now held topic i;
-  removals = [];
-}
-
--- the answers of a store, which knows what the producer knows, are those of the producer's state
-pub own_answers : (known : Known) (topics : List Topic) (now : ℕ) (held : Items) (answers : List FunctionalDelivery) → now ≡ known.moment → held ≡ known.held → answers ≡ map (answer (record { start = 0; started = 0; now = now; current = held })) topics → answers ≡ map (answer (as_state known)) topics
-own_answers known topics now held answers moment entries is =
-    is
-    ∙ (λ i. map (answer (record { start = 0; started = 0; now = moment i; current = entries i })) topics)
-    ∙ (λ i. map (λ topic. own_answer known.start known.started known.moment known.held topic i) topics)

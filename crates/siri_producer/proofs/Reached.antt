@@ -1,5 +1,5 @@
 -- How far a feed came.
-use Rattle.std.proofs.Common.{◌≡◌, List, [], ◌∷◌, ◌++◌, flat_map, Result, Ok, Err, Bool, true, false, refl, sym, ap, ◌∙◌, append_assoc, append-nil}
+use Rattle.std.proofs.Common.{◌≡◌, ℕ, suc, zero, ◌+◌, ◌<◌, length, get_or, drop, add-one, arith, List, [], ◌∷◌, ◌++◌, flat_map, Result, Ok, Err, Bool, true, false, refl, sym, ap, ◌∙◌, append_assoc, append-nil}
 use Rattle.std.specs.Prelude.{OnErr}
 use Rattle.std.proofs.lemmas.List.Sums.{fold-append}
 use Rattle.std.proofs.lemmas.List.Concat.{flat_map-append}
@@ -12,7 +12,8 @@ use Rattle.siri_model.specs.History.{Entry, Observed, Withdrawn, entries_in}
 use Rattle.siri_store.specs.Calls.{refuses}
 use Rattle.siri_store.specs.Held.{Held}
 use Rattle.siri_producer.specs.Answering.{InOrder}
-use Rattle.siri_producer.specs.Feeding.{Feeding, after, after_all, Reaches, ReachesSome}
+use Rattle.siri_producer.specs.declared.feeding.Feeding.{Feeding}
+use Rattle.siri_producer.specs.Feeding.{after, after_all, Reaches, ReachesSome}
 use Rattle.siri_producer.proofs.Entries.{sorted_inserted, sorted_removed}
 
 pub reached_none : (f : Feeding) (entries : List Entry) → Reaches f f entries entries
@@ -66,6 +67,16 @@ deliveries_both a b c ds es first later =
     ∙ ap (λ f. after_all f (flat_map entries_in es)) first
     ∙ sym (fold-append after a (flat_map entries_in ds) (flat_map entries_in es))
     ∙ ap (after_all a) (sym (flat_map-append entries_in ds es))
+
+-- ---- an element of a list that is gone over
+
+dropped : {A : Type 0} (xs : List A) (i : ℕ) (x : A) → i < length xs → x ≡ get_or xs i x → drop i xs ≡ x ∷ drop (suc i) xs
+dropped [] i x lt is = absurd (omega (arith, lt))
+dropped (y ∷ xs) zero x lt is = ap (λ z. z ∷ xs) (sym is)
+dropped (y ∷ xs) (suc i) x lt is = dropped xs i x (omega (arith, lt)) is
+
+pub drop_here : {A : Type 0} (xs : List A) (i : ℕ) (x : A) → i < length xs → x ≡ get_or xs i x → drop i xs ≡ x ∷ drop (i + 1) xs
+drop_here xs i x lt is = rw add-one (dropped xs i x lt is)
 
 -- ---- what every entry keeps
 

@@ -1,5 +1,5 @@
 -- What is shown of the live items is what is shown of all.
-use Rattle.std.proofs.Common.{◌≡◌, ℕ, List, [], ◌∷◌, map, filter, Option, Some, None, Bool, true, false, not, refl, ap, ◌∙◌}
+use Rattle.std.proofs.Common.{◌≡◌, ℕ, List, [], map, Option, Some, None, Bool, true, false, not, refl, ap, ◌∙◌}
 use Rattle.std.specs.Map.{values_of}
 use Rattle.siri_records.specs.declared.item.Item.{Item}
 use Rattle.siri_records.specs.declared.key.Key.{Key}
@@ -11,8 +11,8 @@ use Rattle.siri_topic.specs.declared.topics.Topic.{Topic}
 use Rattle.siri_topic.specs.Shown.{is_shown}
 use Rattle.siri_topic.proofs.Dead.{dead_are_never_shown}
 use Rattle.siri_model.specs.Direct.{shown, at_most, most_of, soonest, answering, answer, response}
-use Rattle.siri_model.specs.History.{History, Items, State, state_of, now_of, live}
-use Rattle.siri_producer.specs.Answering.{InOrder, state_in}
+use Rattle.siri_model.specs.History.{History, Items, now_of, current, live}
+use Rattle.siri_producer.specs.Answering.{InOrder}
 use Rattle.siri_producer.specs.Known.{Known, StandsFor}
 use Rattle.siri_producer.proofs.Entries.{filter_stronger, sorted_passing}
 
@@ -20,50 +20,60 @@ alive_where_shown : (topic : Topic) (item : Item) (now : ℕ) (dead : Bool) → 
 alive_where_shown topic item now true dead shows = absurd (let hidden = dead_are_never_shown topic item now dead in cc)
 alive_where_shown topic item now false dead shows = refl
 
-shown_live : (topic : Topic) (now : ℕ) (items : Items) → filter (λ e. is_shown topic e.1 now) (live now items) ≡ filter (λ e. is_shown topic e.1 now) items
-shown_live topic now items =
+shown_live : (now : ℕ) (items : Items) (topic : Topic) → shown now (live now items) topic ≡ shown now items topic
+shown_live now items topic =
     filter_stronger (λ (e : Key × Item). not (is_dead e.1 now)) (λ (e : Key × Item). is_shown topic e.1 now) (λ e shows. alive_where_shown topic e.1 now (is_dead e.1 now) refl shows) items
 
--- a producer's store shows what its history shows
-shown_same : (known : Known) (h : History) (topic : Topic) (reads : ℕ) → StandsFor known h → shown topic (state_in (record { entries = known.held; moment = known.moment; reads = reads })) ≡ shown topic (state_of h)
-shown_same known h topic reads s =
-    ap (λ now. filter (λ e. is_shown topic e.1 now) known.held) s.moment
-    ∙ ap (filter (λ e. is_shown topic e.1 (now_of h))) s.held
-    ∙ shown_live topic (now_of h) (state_of h).current
-
-answering_same : (known : Known) (h : History) (topic : Topic) (reads : ℕ) → StandsFor known h → answering topic (state_in (record { entries = known.held; moment = known.moment; reads = reads })) ≡ answering topic (state_of h)
+answering_live : (now : ℕ) (items : Items) (topic : Topic) → answering now (live now items) topic ≡ answering now items topic
 unfolding answering
-answering_same known h topic reads s = ap (λ (items : Items). map (λ e. e.1) (at_most (most_of topic) items)) (shown_same known h topic reads s)
+answering_live now items topic = ap (λ (shown : Items). map (λ e. e.1) (at_most (most_of topic) shown)) (shown_live now items topic)
 
-answer_same : (known : Known) (h : History) (topic : Topic) (reads : ℕ) → StandsFor known h → answer (state_in (record { entries = known.held; moment = known.moment; reads = reads })) topic ≡ answer (state_of h) topic
+answer_live : (now : ℕ) (items : Items) (topic : Topic) → answer now (live now items) topic ≡ answer now items topic
 unfolding answer
-answer_same known h topic reads s =
-    λ i. record {
-      response_timestamp = Some (s.moment i);
-      subscriber_ref = None;
-      subscription_ref = None;
+answer_live now items topic = λ i. record {
+  response_timestamp = Some now;
+  subscriber_ref = None;
+  subscription_ref = None;
+  status = true;
+  error_condition = None;
+  start = None;
+  round = None;
+  part = None;
+  items = answering_live now items topic i;
+  removals = [];
+}
+
+-- the live items answer as all do
+pub response_live : (name : List ℕ) (now : ℕ) (items : Items) (request : ServiceRequest) → response name now (live now items) request ≡ response name now items request
+unfolding response
+response_live name now items request = λ i.
+    let each : Topic → FunctionalDelivery = λ topic. answer_live now items topic i in
+    record {
+      response_timestamp = Some now;
+      producer_ref = Some name;
+      response_message_identifier = None;
+      request_message_ref = request.message_identifier;
       status = true;
       error_condition = None;
-      start = None;
-      round = None;
-      part = None;
-      items = answering_same known h topic reads s i;
-      removals = [];
+      more_data = false;
+      stop_monitoring_delivery = map each request.stop_monitoring_request;
+      estimated_timetable_delivery = map each request.estimated_timetable_request;
+      vehicle_monitoring_delivery = map each request.vehicle_monitoring_request;
+      situation_exchange_delivery = map each request.situation_exchange_request;
     }
 
-map_alike : {A B : Type 0} (f g : A → B) → ((x : A) → f x ≡ g x) → (xs : List A) → map f xs ≡ map g xs
-map_alike f g alike [] = refl
-map_alike f g alike (x ∷ xs) = λ i. alike x i ∷ map_alike f g alike xs i
+-- a producer answers as the histories that it stands for
+pub response_of : (known : Known) (h : History) (request : ServiceRequest) → StandsFor known h → response known.name known.moment known.held request ≡ response known.name (now_of h) (current h) request
+response_of known h request s =
+    (λ i. response known.name (s.moment i) (s.held i) request)
+    ∙ response_live known.name (now_of h) (current h) request
 
--- the answers of a store, which knows what the producer knows, are those of its history
-pub answers_same : (known : Known) (h : History) (topics : List Topic) (now : ℕ) (held : Items) (answers : List FunctionalDelivery) → StandsFor known h → now ≡ known.moment → held ≡ known.held → answers ≡ map (answer (record { start = 0; started = 0; now = now; current = held })) topics → answers ≡ map (answer (state_of h)) topics
-answers_same known h topics now held answers s moment entries is =
-    is
-    ∙ (λ i. map (answer (record { start = 0; started = 0; now = moment i; current = entries i })) topics)
-    ∙ map_alike (answer (state_in (record { entries = known.held; moment = known.moment; reads = 0 }))) (answer (state_of h)) (λ topic. answer_same known h topic 0 s) topics
+-- the answers of a store that holds this at this moment
+pub answers_held : (moment now : ℕ) (held items : Items) (topics : List Topic) (answers : List FunctionalDelivery) → now ≡ moment → items ≡ held → answers ≡ map (answer now items) topics → answers ≡ map (answer moment held) topics
+answers_held moment now held items topics answers m h is = is ∙ (λ i. map (answer (m i) (h i)) topics)
 
-pub response_is : (name : List ℕ) (state : State) (request : ServiceRequest) (now : ℕ) (own : List ℕ) (asked : Option (List ℕ)) (stop timetable vehicle situation : List FunctionalDelivery) → now ≡ state.now → own ≡ name → asked ≡ request.message_identifier
-    → stop ≡ map (answer state) request.stop_monitoring_request → timetable ≡ map (answer state) request.estimated_timetable_request → vehicle ≡ map (answer state) request.vehicle_monitoring_request → situation ≡ map (answer state) request.situation_exchange_request
+pub response_is : (name : List ℕ) (moment : ℕ) (held : Items) (request : ServiceRequest) (now : ℕ) (own : List ℕ) (asked : Option (List ℕ)) (stop timetable vehicle situation : List FunctionalDelivery) → now ≡ moment → own ≡ name → asked ≡ request.message_identifier
+    → stop ≡ map (answer moment held) request.stop_monitoring_request → timetable ≡ map (answer moment held) request.estimated_timetable_request → vehicle ≡ map (answer moment held) request.vehicle_monitoring_request → situation ≡ map (answer moment held) request.situation_exchange_request
     → record {
       response_timestamp = Some now;
       producer_ref = Some own;
@@ -76,9 +86,9 @@ pub response_is : (name : List ℕ) (state : State) (request : ServiceRequest) (
       estimated_timetable_delivery = timetable;
       vehicle_monitoring_delivery = vehicle;
       situation_exchange_delivery = situation;
-    } ≡ response name state request
+    } ≡ response name moment held request
 unfolding response
-response_is name state request now own asked stop timetable vehicle situation n o a s t v x = λ i. record {
+response_is name moment held request now own asked stop timetable vehicle situation n o a s t v x = λ i. record {
   response_timestamp = Some (n i);
   producer_ref = Some (o i);
   response_message_identifier = None;
@@ -94,13 +104,13 @@ response_is name state request now own asked stop timetable vehicle situation n 
 
 -- ---- a topic that names a number, and one that doesn't
 
-pub answering_most : (topic : Topic) (state : State) (most : ℕ) → Some most ≡ most_of topic → values_of (soonest most (shown topic state)) ≡ answering topic state
+pub answering_most : (now : ℕ) (items : Items) (topic : Topic) (most : ℕ) → Some most ≡ most_of topic → values_of (soonest most (shown now items topic)) ≡ answering now items topic
 unfolding answering
-answering_most topic state most is = ap (λ m. values_of (at_most m (shown topic state))) is
+answering_most now items topic most is = ap (λ m. values_of (at_most m (shown now items topic))) is
 
-pub answering_all : (topic : Topic) (state : State) → None ≡ most_of topic → values_of (shown topic state) ≡ answering topic state
+pub answering_all : (now : ℕ) (items : Items) (topic : Topic) → None ≡ most_of topic → values_of (shown now items topic) ≡ answering now items topic
 unfolding answering
-answering_all topic state is = ap (λ m. values_of (at_most m (shown topic state))) is
+answering_all now items topic is = ap (λ m. values_of (at_most m (shown now items topic))) is
 
-pub shown_in_order : (topic : Topic) (state : State) → InOrder state.current → InOrder (shown topic state)
-shown_in_order topic state s = sorted_passing key_cmp (λ item. is_shown topic item state.now) state.current s
+pub shown_in_order : (now : ℕ) (items : Items) (topic : Topic) → InOrder items → InOrder (shown now items topic)
+shown_in_order now items topic s = sorted_passing key_cmp (λ item. is_shown topic item now) items s

@@ -8,44 +8,46 @@ use Rattle.std.specs.List.Sorted.{IsStrictlySortedBy}
 use Rattle.siri_records.specs.declared.item.Item.{Item}
 use Rattle.siri_records.specs.declared.key.Key.{Key}
 use Rattle.siri_records.specs.Ends.{is_dead, is_closed, end_of}
-use Rattle.siri_model.specs.History.{Entry, Items, Step, Start, Clock, Feed, Settle, History, State, nothing, live, after_entry, after_step, state_of, now_of, current}
-use Rattle.siri_model.specs.Fed.{none_fed, counts_of}
+use Rattle.siri_model.specs.History.{Entry, Items, Step, Start, Clock, Feed, Take, Settle, History, State, nothing, live, after_entry, after_step, entries_fed, state_of, now_of, current}
+use Rattle.siri_model.specs.Fed.{counts_of}
 use Rattle.siri_store.specs.Held.{Held}
 use Rattle.siri_producer.specs.declared.feeding.Fed.{Fed}
 use Rattle.siri_producer.specs.Answering.{InOrder}
-use Rattle.siri_producer.specs.Feeding.{Feeding, after_all, ReachesSome}
+use Rattle.siri_producer.specs.declared.feeding.Feeding.{Feeding}
+use Rattle.siri_producer.specs.Feeding.{after_all, ReachesSome}
 use Rattle.siri_producer.specs.Known.{Known, StandsFor, TookSome}
 use Rattle.siri_producer.specs.Told.{told}
 use Rattle.siri_producer.proofs.Entries.{filter_stronger}
-use Rattle.siri_producer.proofs.Fold.{in_order_after, fitting, entries_alike}
+use Rattle.siri_producer.proofs.Fold.{in_order_after, none_fed, fitting, all_alike}
 
 -- ---- the current items are in order of key
 
-in_order_all : (now : ℕ) (items : Items) (entries : List Entry) → InOrder items → InOrder (fold (after_entry now) items entries)
+pub none_in_order : InOrder []
+unfolding IsStrictlySortedBy
+none_in_order = tt
+
+pub in_order_all : (now : ℕ) (items : Items) (entries : List Entry) → InOrder items → InOrder (fold (after_entry now) items entries)
 in_order_all now items [] s = s
 in_order_all now items (e ∷ entries) s = in_order_all now (after_entry now items e) entries (in_order_after now items e s)
 
-in_order_step : (state : State) (step : Step) → InOrder state.current → InOrder (after_step state step).current
+pub in_order_step : (state : State) (step : Step) → InOrder state.current → InOrder (after_step state step).current
 unfolding after_step
-in_order_step state (Start n m) s = s
+in_order_step state (Start n m) s = none_in_order
 in_order_step state (Clock m) s = s
 in_order_step state (Feed entries) s = in_order_all state.now state.current entries s
+in_order_step state (Take message) s = in_order_all state.now state.current (entries_fed message) s
 in_order_step state Settle s = s
 
 in_order_from : (state : State) (steps : History) → InOrder state.current → InOrder (fold after_step state steps).current
 in_order_from state [] s = s
 in_order_from state (step ∷ steps) s = in_order_from (after_step state step) steps (in_order_step state step s)
 
-none_in_order : InOrder []
-unfolding IsStrictlySortedBy
-none_in_order = tt
-
 pub current_in_order : (h : History) → InOrder (current h)
 current_in_order h = in_order_from nothing h none_in_order
 
 -- ---- one more step
 
-more_steps : (h : History) (step : Step) → state_of (h ++ step ∷ []) ≡ after_step (state_of h) step
+pub more_steps : (h : History) (step : Step) → state_of (h ++ step ∷ []) ≡ after_step (state_of h) step
 more_steps h step = fold-append after_step nothing h (step ∷ [])
 
 stands_as : (known : Known) (h : History) (state : State) → state_of h ≡ state → known.start ≡ state.start → known.started ≡ state.started → known.moment ≡ state.now → known.held ≡ live state.now state.current → StandsFor known h
@@ -63,7 +65,7 @@ unfolding after_step
 stands_new known number now start started moment held = record {
   start = start;
   started = started;
-  moment = moment ∙ omega arith;
+  moment = moment;
   held = held;
 }
 
@@ -105,7 +107,7 @@ store_fits : (k : Known) (h : History) → StandsFor k h → store_of k ≡ fitt
 store_fits k h s = λ i. record { store = record { entries = s.held i; moment = s.moment i; reads = k.reads }; fed = told_none i }
 
 fed_is : (k : Known) (h : History) (entries : List Entry) → StandsFor k h → after_all (store_of k) entries ≡ fitting (now_of h) k.reads (fold (after_entry (now_of h)) (current h) entries) (counts_of (now_of h) (current h) entries)
-fed_is k h entries s = ap (λ f. after_all f entries) (store_fits k h s) ∙ entries_alike (now_of h) k.reads (current h) none_fed entries (current_in_order h)
+fed_is k h entries s = ap (λ f. after_all f entries) (store_fits k h s) ∙ all_alike (now_of h) k.reads (current h) entries (current_in_order h)
 
 pub stands_fed : (old new : Known) (entries : List Entry) (h : History) → StandsFor old h → new.start ≡ old.start → new.started ≡ old.started → record { entries = new.held; moment = new.moment; reads = new.reads } ≡ (after_all (store_of old) entries).store → StandsFor new (h ++ Feed entries ∷ [])
 unfolding after_step

@@ -1,5 +1,6 @@
+-- Inner words: cited by private functions alone.
 -- What answers are made of.
-use Rattle.std.specs.Prelude.{ℕ, List, map, filter, Option, length, ◌+◌}
+use Rattle.std.specs.Prelude.{ℕ, List, map, filter, Option}
 use Rattle.std.specs.declared.alloc.Global.{Global}
 use Rattle.std.specs.declared.cmp.Ordering.{Ordering}
 use Rattle.std.specs.declared.rc.Rc.{Rc}
@@ -11,25 +12,15 @@ use Rattle.std.specs.Ordering.{nat_cmp, on, then_cmp, is_le}
 use Rattle.siri_records.specs.declared.item.Item.{Item}
 use Rattle.siri_records.specs.Ends.{entry_of}
 use Rattle.siri_records.specs.Order.{key_cmp}
-use Rattle.siri_messages.specs.declared.requests.ServiceRequest.{ServiceRequest}
-use Rattle.siri_model.specs.History.{Items, State}
-use Rattle.siri_store.specs.Held.{Held}
+use Rattle.siri_model.specs.History.{Items}
 
 -- in order of key, each key once
 abbrev pub InOrder : Items → Type 0
 InOrder items = IsStrictlySortedBy key_cmp (keys_of items)
 
--- what an answer needs to know: the moment and the items
-abbrev pub state_in : Held → State
-state_in store = record { start = 0; started = 0; now = store.moment; current = store.entries }
-
 -- the items, however they are shared
 abbrev pub unshared : List (Rc Item Global) → List Item
 unshared items = map (λ item. item.value) items
-
--- how many topics a request has
-abbrev pub topics_in : ServiceRequest → ℕ
-topics_in r = length r.stop_monitoring_request + length r.estimated_timetable_request + length r.vehicle_monitoring_request + length r.situation_exchange_request
 
 -- ---- by call moment and then by place
 

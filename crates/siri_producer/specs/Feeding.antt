@@ -1,15 +1,10 @@
+-- Inner words: cited by private functions alone.
 -- What a store holds, and what is told of it, after the entries of a feed.
 use Rattle.std.specs.Prelude.{◌≡◌, ℕ, ◌+◌, List, ◌++◌, fold, if◌then◌else◌}
 use Rattle.siri_model.specs.History.{Entry, Observed, Withdrawn}
 use Rattle.siri_store.specs.Calls.{refuses, observed, without}
-use Rattle.siri_store.specs.Held.{Held}
-use Rattle.siri_producer.specs.declared.feeding.Fed.{Fed}
+use Rattle.siri_producer.specs.declared.feeding.Feeding.{Feeding}
 use Rattle.siri_producer.specs.Told.{at_most_greatest}
-
--- a store with what was told so far
-pub record Feeding : Type 0 where
-  pub store : Held
-  pub fed : Fed
 
 -- one more
 abbrev pub more : ℕ → ℕ

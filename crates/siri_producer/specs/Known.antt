@@ -1,6 +1,7 @@
 -- What a producer knows, and the histories that it stands for.
-use Rattle.std.specs.Prelude.{◌≡◌, ℕ, List, ◌∷◌, [], ◌++◌, take}
-use Rattle.siri_model.specs.History.{Entry, Feed, History, Items, state_of, now_of, current, live}
+use Rattle.std.specs.Prelude.{◌≡◌, ℕ, ◌+◌, List, ◌∷◌, [], ◌++◌, take, length}
+use Rattle.siri_messages.specs.declared.requests.ServiceRequest.{ServiceRequest}
+use Rattle.siri_model.specs.History.{Entry, Feed, History, Items, Step, start_of, started_of, now_of, current, live}
 
 -- its name, its start number and the moment of its start, its moment, the items that it holds in order of key, and the
 -- steps that were counted
@@ -14,11 +15,23 @@ pub record Known : Type 0 where
 
 -- a producer stands for a history whose start and moments it has, and whose live current items it holds
 pub record StandsFor (known : Known) (history : History) : Type 0 where
-  pub start : known.start ≡ (state_of history).start
-  pub started : known.started ≡ (state_of history).started
+  pub start : known.start ≡ start_of history
+  pub started : known.started ≡ started_of history
   pub moment : known.moment ≡ now_of history
   pub held : known.held ≡ live (now_of history) (current history)
 
+-- whatever history a producer stood for before a call, it stands for that history and one more step after it
+abbrev pub GoesOn : Known → Known → Step → Type 0
+GoesOn old new step = (h : History) → StandsFor old h → StandsFor new (h ++ step ∷ [])
+
 -- some first entries of a feed were taken, and no other
 abbrev pub TookSome : Known → Known → List Entry → Type 0
-TookSome old new entries = (n : ℕ) × ((h : History) → StandsFor old h → StandsFor new (h ++ Feed (take n entries) ∷ []))
+TookSome old new entries = (n : ℕ) × GoesOn old new (Feed (take n entries))
+
+-- how many topics a request has
+abbrev pub topics_in : ServiceRequest → ℕ
+topics_in r =
+    length r.stop_monitoring_request
+    + length r.estimated_timetable_request
+    + length r.vehicle_monitoring_request
+    + length r.situation_exchange_request

@@ -2,7 +2,7 @@
 ghost use Rattle.std.specs.Prelude.{◌≡◌, ◌+◌, ◌*◌, ◌≤◌, IfOk, length, map};
 ghost use Rattle.siri_model.specs.Direct as direct;
 ghost use Rattle.siri_store.specs.Walk.{shown_of};
-ghost use Rattle.siri_producer.specs.Answering.{InOrder, state_in, unshared};
+ghost use Rattle.siri_producer.specs.Answering.{InOrder, unshared};
 
 use crate::soonest::{copies, soonest};
 use siri_base::{List, OutOfMemory};
@@ -20,7 +20,7 @@ pub(crate) fn answer_all(
     topics: &List<Topic>,
 ) -> Result<List<FunctionalDelivery>, OutOfMemory>
     requires { InOrder store.old.entries }
-    ensures ok { IfOk result (λ answers. answers ≡ map (direct.answer (state_in store.old)) topics.now) }
+    ensures ok { IfOk result (λ answers. answers ≡ map (direct.answer store.old.moment store.old.entries) topics.now) }
     ensures rest { store.new ≡ record store.old { reads = store.new.reads } }
     ensures risen { store.old.reads ≤ store.new.reads }
     ensures reads { store.new.reads ≤ store.old.reads + length store.old.entries * length topics.now }
@@ -41,7 +41,7 @@ fn answer(
     topic: &Topic,
 ) -> Result<FunctionalDelivery, OutOfMemory>
     requires { InOrder store.old.entries }
-    ensures ok { IfOk result (λ answer. answer ≡ direct.answer (state_in store.old) topic.now) }
+    ensures ok { IfOk result (λ answer. answer ≡ direct.answer store.old.moment store.old.entries topic.now) }
     ensures rest { store.new ≡ record store.old { reads = store.new.reads } }
     ensures risen { store.old.reads ≤ store.new.reads }
     ensures reads { store.new.reads ≤ store.old.reads + length store.old.entries }
@@ -64,7 +64,7 @@ fn answer(
 // Copies of the items that answer a topic, in order of key.
 fn answering(alloc: Global, store: &mut Store, topic: &Topic) -> Result<List<Item>, OutOfMemory>
     requires { InOrder store.old.entries }
-    ensures ok { IfOk result (λ items. items ≡ direct.answering topic.now (state_in store.old)) }
+    ensures ok { IfOk result (λ items. items ≡ direct.answering store.old.moment store.old.entries topic.now) }
     ensures rest { store.new ≡ record store.old { reads = store.new.reads } }
     ensures risen { store.old.reads ≤ store.new.reads }
     ensures reads { store.new.reads ≤ store.old.reads + length store.old.entries }

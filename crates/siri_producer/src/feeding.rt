@@ -4,7 +4,7 @@ ghost use Rattle.siri_model.specs.History.{Observed, Withdrawn, entries_in, entr
 ghost use Rattle.siri_store.specs.Calls.{NoneDead};
 ghost use Rattle.siri_producer.specs.Feeding.{after, after_all, ReachesSome};
 
-use siri_base::{List, OutOfMemory};
+use siri_base::{Copies, OutOfMemory};
 use siri_messages::{FunctionalDelivery, ServiceDelivery};
 use siri_records::{Item, Key};
 use siri_store::{ObserveError, Store};
@@ -22,128 +22,140 @@ pub struct Fed {
     pub full: u64,
 }
 
-// The delivery's entries, in the order Stop Monitoring, Estimated Timetable, Vehicle Monitoring, Situation Exchange. After
-// want of memory the entries before the refused one stand.
-pub(crate) fn feed(
-    alloc: Global,
-    store: &mut Store,
-    fed: &mut Fed,
-    delivery: ServiceDelivery,
-) -> Result<(), OutOfMemory>
-    requires { NoneDead store.old }
-    ensures ok { OnOk result (record { store = store.new; fed = fed.new } ≡ after_all (record { store = store.old; fed = fed.old }) (entries_of delivery)) }
-    ensures err { OnErr result (ReachesSome (record { store = store.old; fed = fed.old }) (record { store = store.new; fed = fed.new }) (entries_of delivery)) }
-    ensures alive { NoneDead store.new }
-{
-    let ServiceDelivery {
-        stop_monitoring_delivery,
-        estimated_timetable_delivery,
-        vehicle_monitoring_delivery,
-        situation_exchange_delivery,
-        ..
-    } = delivery;
-    feed_all(alloc, store, fed, stop_monitoring_delivery)?;
-    feed_all(alloc, store, fed, estimated_timetable_delivery)?;
-    feed_all(alloc, store, fed, vehicle_monitoring_delivery)?;
-    feed_all(alloc, store, fed, situation_exchange_delivery)?;
-    Ok(())
+// The store of a producer, with what is told of the feed that it is given. After want of memory the entries before the
+// refused one stand.
+#[derive(Drop)]
+pub(crate) struct Feeding {
+    pub(crate) store: Store,
+    pub(crate) fed: Fed,
 }
 
-// The entries of one service, delivery by delivery.
-fn feed_all(
-    alloc: Global,
-    store: &mut Store,
-    fed: &mut Fed,
-    deliveries: List<FunctionalDelivery>,
-) -> Result<(), OutOfMemory>
-    requires { NoneDead store.old }
-    ensures ok { OnOk result (record { store = store.new; fed = fed.new } ≡ after_all (record { store = store.old; fed = fed.old }) (flat_map entries_in deliveries)) }
-    ensures err { OnErr result (ReachesSome (record { store = store.old; fed = fed.old }) (record { store = store.new; fed = fed.new }) (flat_map entries_in deliveries)) }
-    ensures alive { NoneDead store.new }
-{
-    for delivery in deliveries.into_vec() {
-        feed_one(alloc, store, fed, delivery)?;
-    }
-    Ok(())
-}
-
-// Items before removals.
-fn feed_one(
-    alloc: Global,
-    store: &mut Store,
-    fed: &mut Fed,
-    delivery: FunctionalDelivery,
-) -> Result<(), OutOfMemory>
-    requires { NoneDead store.old }
-    ensures ok { OnOk result (record { store = store.new; fed = fed.new } ≡ after_all (record { store = store.old; fed = fed.old }) (entries_in delivery)) }
-    ensures err { OnErr result (ReachesSome (record { store = store.old; fed = fed.old }) (record { store = store.new; fed = fed.new }) (entries_in delivery)) }
-    ensures alive { NoneDead store.new }
-{
-    let FunctionalDelivery {
-        items,
-        removals,
-        ..
-    } = delivery;
-    observe_all(alloc, store, fed, items)?;
-    withdraw_all(store, fed, removals);
-    Ok(())
-}
-
-fn observe_all(
-    alloc: Global,
-    store: &mut Store,
-    fed: &mut Fed,
-    items: List<Item>,
-) -> Result<(), OutOfMemory>
-    requires { NoneDead store.old }
-    ensures ok { OnOk result (record { store = store.new; fed = fed.new } ≡ after_all (record { store = store.old; fed = fed.old }) (map Observed items)) }
-    ensures err { OnErr result (ReachesSome (record { store = store.old; fed = fed.old }) (record { store = store.new; fed = fed.new }) (map Observed items)) }
-    ensures alive { NoneDead store.new }
-{
-    for item in items.into_vec() {
-        observe(alloc, store, fed, item)?;
-    }
-    Ok(())
-}
-
-// An item that isn't dead, and whose key isn't live, is refused where as many keys are live as may be.
-fn observe(alloc: Global, store: &mut Store, fed: &mut Fed, item: Item) -> Result<(), OutOfMemory>
-    requires { NoneDead store.old }
-    ensures ok { OnOk result (record { store = store.new; fed = fed.new } ≡ after (record { store = store.old; fed = fed.old }) (Observed item)) }
-    ensures same_store { OnErr result (store.new ≡ store.old) }
-    ensures same_fed { OnErr result (fed.new ≡ fed.old) }
-    ensures alive { NoneDead store.new }
-{
-    let item = Rc::new(alloc, item)?;
-    match store.observe(item) {
-        Ok(()) => {
-            fed.observed = fed.observed.saturating_add(1);
-            Ok(())
+impl Feeding {
+    // Nothing was fed yet.
+    pub(crate) fn new(store: Store) -> Feeding
+        ensures store { result.store ≡ store }
+        ensures fed { result.fed ≡ record { observed = 0; withdrawn = 0; full = 0 } }
+    {
+        Feeding {
+            store,
+            fed: Fed {
+                observed: 0,
+                withdrawn: 0,
+                full: 0,
+            },
         }
-        Err(ObserveError::StoreFull) => {
-            fed.full = fed.full.saturating_add(1);
-            Ok(())
+    }
+
+    // A new feed begins, of which nothing is told yet.
+    pub(crate) fn begin(&mut self)
+        ensures { self.new ≡ record self.old { fed = record { observed = 0; withdrawn = 0; full = 0 } } }
+    {
+        self.fed = Fed {
+            observed: 0,
+            withdrawn: 0,
+            full: 0,
+        };
+    }
+
+    // The entries of a delivery, in the order Stop Monitoring, Estimated Timetable, Vehicle Monitoring, Situation
+    // Exchange. Each item is copied as it comes.
+    pub(crate) fn feed(
+        &mut self,
+        alloc: Global,
+        delivery: &ServiceDelivery,
+    ) -> Result<(), OutOfMemory>
+        requires { NoneDead self.old.store }
+        ensures ok { OnOk result (self.new ≡ after_all self.old (entries_of delivery.now)) }
+        ensures err { OnErr result (ReachesSome self.old self.new (entries_of delivery.now)) }
+        ensures alive { NoneDead self.new.store }
+    {
+        self.feed_all(alloc, delivery.stop_monitoring_delivery.slice())?;
+        self.feed_all(alloc, delivery.estimated_timetable_delivery.slice())?;
+        self.feed_all(alloc, delivery.vehicle_monitoring_delivery.slice())?;
+        self.feed_all(alloc, delivery.situation_exchange_delivery.slice())?;
+        Ok(())
+    }
+
+    // The entries of one service, delivery by delivery.
+    fn feed_all(
+        &mut self,
+        alloc: Global,
+        deliveries: &[FunctionalDelivery],
+    ) -> Result<(), OutOfMemory>
+        requires { NoneDead self.old.store }
+        ensures ok { OnOk result (self.new ≡ after_all self.old (flat_map entries_in deliveries.now)) }
+        ensures err { OnErr result (ReachesSome self.old self.new (flat_map entries_in deliveries.now)) }
+        ensures alive { NoneDead self.new.store }
+    {
+        for delivery in deliveries {
+            self.feed_one(alloc, delivery)?;
         }
-        Err(ObserveError::OutOfMemory) => Err(OutOfMemory),
+        Ok(())
     }
-}
 
-fn withdraw_all(store: &mut Store, fed: &mut Fed, removals: List<Key>)
-    requires { NoneDead store.old }
-    ensures now { record { store = store.new; fed = fed.new } ≡ after_all (record { store = store.old; fed = fed.old }) (map Withdrawn removals) }
-    ensures alive { NoneDead store.new }
-{
-    for key in removals.into_vec() {
-        withdraw(store, fed, key);
+    // Items before removals.
+    fn feed_one(&mut self, alloc: Global, delivery: &FunctionalDelivery) -> Result<(), OutOfMemory>
+        requires { NoneDead self.old.store }
+        ensures ok { OnOk result (self.new ≡ after_all self.old (entries_in delivery.now)) }
+        ensures err { OnErr result (ReachesSome self.old self.new (entries_in delivery.now)) }
+        ensures alive { NoneDead self.new.store }
+    {
+        self.observe_all(alloc, delivery.items.slice())?;
+        self.withdraw_all(delivery.removals.slice());
+        Ok(())
     }
-}
 
-// The key has no item afterwards, whether it had one or not.
-fn withdraw(store: &mut Store, fed: &mut Fed, key: Key)
-    requires { NoneDead store.old }
-    ensures now { record { store = store.new; fed = fed.new } ≡ after (record { store = store.old; fed = fed.old }) (Withdrawn key) }
-    ensures alive { NoneDead store.new }
-{
-    let _ = store.withdraw(&key);
-    fed.withdrawn = fed.withdrawn.saturating_add(1);
+    fn observe_all(&mut self, alloc: Global, items: &[Item]) -> Result<(), OutOfMemory>
+        requires { NoneDead self.old.store }
+        ensures ok { OnOk result (self.new ≡ after_all self.old (map Observed items.now)) }
+        ensures err { OnErr result (ReachesSome self.old self.new (map Observed items.now)) }
+        ensures alive { NoneDead self.new.store }
+    {
+        for item in items {
+            let copy = item.copy()?;
+            self.observe(alloc, copy)?;
+        }
+        Ok(())
+    }
+
+    // An item that isn't dead, and whose key isn't live, is refused where as many keys are live as may be.
+    pub(crate) fn observe(&mut self, alloc: Global, item: Item) -> Result<(), OutOfMemory>
+        requires { NoneDead self.old.store }
+        ensures ok { OnOk result (self.new ≡ after self.old (Observed item)) }
+        ensures err { OnErr result (self.new ≡ self.old) }
+        ensures alive { NoneDead self.new.store }
+    {
+        let item = Rc::new(alloc, item)?;
+        match self.store.observe(item) {
+            Ok(()) => {
+                self.fed.observed = self.fed.observed.saturating_add(1);
+                Ok(())
+            }
+            Err(ObserveError::StoreFull) => {
+                self.fed.full = self.fed.full.saturating_add(1);
+                Ok(())
+            }
+            Err(ObserveError::OutOfMemory) => Err(OutOfMemory),
+        }
+    }
+
+    pub(crate) fn withdraw_all(&mut self, removals: &[Key])
+        requires { NoneDead self.old.store }
+        ensures now { self.new ≡ after_all self.old (map Withdrawn removals.now) }
+        ensures alive { NoneDead self.new.store }
+    {
+        for key in removals {
+            self.withdraw(key);
+        }
+    }
+
+    // The key has no item afterwards, whether it had one or not.
+    fn withdraw(&mut self, key: &Key)
+        requires { NoneDead self.old.store }
+        ensures now { self.new ≡ after self.old (Withdrawn key.now) }
+        ensures alive { NoneDead self.new.store }
+    {
+        let _ = self.store.withdraw(key);
+        self.fed.withdrawn = self.fed.withdrawn.saturating_add(1);
+    }
 }

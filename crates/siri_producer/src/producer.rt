@@ -2,14 +2,13 @@
 ghost use Rattle.std.specs.Prelude.{◌≡◌, ◌+◌, ◌*◌, ◌≤◌, [], ◌∷◌, ◌++◌, length, IfOk, OnOk, OnErr};
 ghost use Rattle.siri_model.specs.Direct.{response};
 ghost use Rattle.siri_model.specs.Fed.{counts_of};
-ghost use Rattle.siri_model.specs.History.{History, Start, Clock, Feed, after_step, entries_of, state_of, now_of, current, nothing};
-ghost use Rattle.siri_producer.specs.Answering.{topics_in};
-ghost use Rattle.siri_producer.specs.Known.{StandsFor, TookSome};
+ghost use Rattle.siri_model.specs.History.{History, Start, Clock, Feed, after_step, entries_of, now_of, current, nothing};
+ghost use Rattle.siri_producer.specs.Known.{StandsFor, GoesOn, TookSome, topics_in};
 ghost use Rattle.siri_producer.specs.Living.{as_state, live_of};
 ghost use Rattle.siri_producer.specs.Told.{told};
 
 use crate::answers::answer_all;
-use crate::feeding::{Fed, feed};
+use crate::feeding::{Fed, Feeding};
 use siri_base::{Copies, Moment, Name, OutOfMemory};
 use siri_messages::{ServiceDelivery, ServiceRequest};
 use siri_store::Store;
@@ -24,7 +23,7 @@ pub struct Producer {
     name: Name,
     start: u64,
     started: Moment,
-    store: Store,
+    feeding: Feeding,
 }
 
 impl Model for Producer {
@@ -34,46 +33,59 @@ impl Model for Producer {
 
     ghost Value = { Known };
 
-    ghost view = { λ p. record { name = p.name; start = p.start; started = p.started; moment = p.store.moment; held = p.store.entries; reads = p.store.reads } };
+    ghost view = { λ p. record { name = p.name; start = p.start; started = p.started; moment = p.feeding.store.moment; held = p.feeding.store.entries; reads = p.feeding.store.reads } };
 
-    ghost invariant = { λ p. record { alive : NoneDead p.store; in_order : InOrder p.store.entries } };
+    ghost invariant = { λ p. record { alive : NoneDead p.feeding.store; in_order : InOrder p.feeding.store.entries } };
 }
 
 impl Producer {
-    /// A producer at its start, of a number from 1 to 999,999,999,999,999,999. It holds nothing and takes no memory.
-    pub fn new(alloc: Global, name: Name, start: u64, now: Moment) -> Producer
+    /// A producer at its start, of a number from 1 to 999,999,999,999,999,999. It holds nothing.
+    pub fn new(alloc: Global, name: Name, start: u64, now: Moment) -> Result<Producer, OutOfMemory>
         requires from_one { 1 ≤ start }
         requires to_eighteen_digits { start ≤ 999999999999999999 }
-        ensures stands { StandsFor result (Start start now ∷ []) }
-        ensures name { result.name ≡ name }
-        ensures reads { result.reads ≡ 0 }
-        ensures state { as_state result ≡ live_of (after_step nothing (Start start now)) }
+        ensures stands { IfOk result (λ producer. StandsFor producer (Start start now ∷ [])) }
+        ensures name { IfOk result (λ producer. producer.name ≡ name) }
+        ensures reads { IfOk result (λ producer. producer.reads ≡ 0) }
+        ensures state { IfOk result (λ producer. as_state producer ≡ live_of (after_step nothing (Start start now))) }
     {
-        Producer {
+        Ok(Producer {
             alloc,
             name,
             start,
             started: now,
-            store: Store::new(alloc, now),
-        }
+            feeding: Feeding::new(Store::new(alloc, now)),
+        })
     }
 
     /// Its moment becomes the later one, and dead items leave. It takes no memory.
     pub fn clock(&mut self, now: Moment)
-        ensures stands { (h : History) → StandsFor self.old h → StandsFor self.new (h ++ Clock now ∷ []) }
+        ensures stands { GoesOn self.old self.new (Clock now) }
         ensures name { self.new.name ≡ self.old.name }
         ensures reads { self.new.reads ≡ self.old.reads }
         ensures state { as_state self.new ≡ live_of (after_step (as_state self.old) (Clock now)) }
     {
-        self.store.advance(now);
-        let _ = self.store.expire();
+        self.feeding.store.advance(now);
+        let _ = self.feeding.store.expire();
     }
 
     /// Takes the items and removals of a delivery, in the order Stop Monitoring, Estimated Timetable, Vehicle Monitoring,
-    /// Situation Exchange, delivery by delivery, items before removals, and tells how many. After want of memory the entries
-    /// before the refused one stand.
-    pub fn feed(&mut self, delivery: ServiceDelivery) -> Result<Fed, OutOfMemory>
-        ensures ok { IfOk result (λ fed. (h : History) → StandsFor self.old h → StandsFor self.new (h ++ Feed (entries_of delivery) ∷ [])) }
+    /// Situation Exchange, delivery by delivery, items before removals, and tells how many. Each item is copied as it
+    /// comes. After want of memory the entries before the refused one stand.
+    pub fn feed(&mut self, delivery: &ServiceDelivery) -> Result<Fed, OutOfMemory>
+        ensures ok { OnOk result (GoesOn self.old self.new (Feed (entries_of delivery.now))) }
+        ensures told { IfOk result (λ fed. (h : History) → StandsFor self.old h → fed ≡ told (counts_of (now_of h) (current h) (entries_of delivery.now))) }
+        ensures err { OnErr result (TookSome self.old self.new (entries_of delivery.now)) }
+        ensures name { self.new.name ≡ self.old.name }
+        ensures reads { self.new.reads ≡ self.old.reads }
+    {
+        self.feeding.begin();
+        self.feeding.feed(self.alloc, delivery)?;
+        Ok(self.feeding.fed)
+    }
+
+    /// As `feed`, of a delivery that is handed over: its items are kept and none is copied.
+    pub fn feed_owned(&mut self, delivery: ServiceDelivery) -> Result<Fed, OutOfMemory>
+        ensures ok { OnOk result (GoesOn self.old self.new (Feed (entries_of delivery))) }
         ensures told { IfOk result (λ fed. (h : History) → StandsFor self.old h → fed ≡ told (counts_of (now_of h) (current h) (entries_of delivery))) }
         ensures err { OnErr result (TookSome self.old self.new (entries_of delivery)) }
         ensures name { self.new.name ≡ self.old.name }
@@ -81,25 +93,9 @@ impl Producer {
         ensures state { OnOk result (as_state self.new ≡ live_of (after_step (as_state self.old) (Feed (entries_of delivery)))) }
         ensures counts { IfOk result (λ fed. fed ≡ told (counts_of self.old.moment self.old.held (entries_of delivery))) }
     {
-        let mut fed = Fed {
-            observed: 0,
-            withdrawn: 0,
-            full: 0,
-        };
-        feed(self.alloc, &mut self.store, &mut fed, delivery)?;
-        Ok(fed)
-    }
-
-    /// Takes a copy of a delivery, as `feed` does. Where there is no memory for the copy nothing is taken.
-    pub fn feed_copy(&mut self, delivery: &ServiceDelivery) -> Result<Fed, OutOfMemory>
-        ensures ok { IfOk result (λ fed. (h : History) → StandsFor self.old h → StandsFor self.new (h ++ Feed (entries_of delivery.now) ∷ [])) }
-        ensures told { IfOk result (λ fed. (h : History) → StandsFor self.old h → fed ≡ told (counts_of (now_of h) (current h) (entries_of delivery.now))) }
-        ensures err { OnErr result (TookSome self.old self.new (entries_of delivery.now)) }
-        ensures name { self.new.name ≡ self.old.name }
-        ensures reads { self.new.reads ≡ self.old.reads }
-    {
-        let delivery = delivery.copy()?;
-        self.feed(delivery)
+        self.feeding.begin();
+        self.feeding.feed_owned(self.alloc, delivery)?;
+        Ok(self.feeding.fed)
     }
 
     /// The direct response to a request: one functional delivery for each of its topics, in the order Stop Monitoring,
@@ -107,13 +103,13 @@ impl Producer {
     /// and that rises by at most as many steps as items are held, for each topic.
     #[tactic(auto, unfolding(siri_model::specs::Direct::response))]
     pub fn direct(&mut self, request: &ServiceRequest) -> Result<ServiceDelivery, OutOfMemory>
-        ensures ok { IfOk result (λ delivery. (h : History) → StandsFor self.old h → delivery ≡ response self.old.name (state_of h) request.now) }
-        ensures state { IfOk result (λ delivery. delivery ≡ response self.old.name (as_state self.old) request.now) }
+        ensures ok { IfOk result (λ delivery. (h : History) → StandsFor self.old h → delivery ≡ response self.old.name (now_of h) (current h) request.now) }
+        ensures held { IfOk result (λ delivery. delivery ≡ response self.old.name self.old.moment self.old.held request.now) }
         ensures rest { self.new ≡ record self.old { reads = self.new.reads } }
         ensures risen { self.old.reads ≤ self.new.reads }
         ensures reads { self.new.reads ≤ self.old.reads + length self.old.held * topics_in request.now }
     {
-        let store = &mut self.store;
+        let store = &mut self.feeding.store;
         Ok(ServiceDelivery {
             response_timestamp: Some(store.now()),
             producer_ref: Some(self.name.copy()?),
@@ -170,20 +166,20 @@ impl Producer {
     pub fn now(&self) -> Moment
         ensures { result ≡ self.now.moment }
     {
-        self.store.now()
+        self.feeding.store.now()
     }
 
     /// How many items it holds.
     pub fn held(&self) -> usize
         ensures { result ≡ length self.now.held }
     {
-        self.store.held()
+        self.feeding.store.held()
     }
 
     /// The steps that its store counted: held items that were looked at. It is 0 at first and never falls.
     pub fn reads(&self) -> u64
         ensures { result ≡ self.now.reads }
     {
-        self.store.reads()
+        self.feeding.store.reads()
     }
 }

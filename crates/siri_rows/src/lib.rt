@@ -9,6 +9,8 @@ mod documents;
 #[cfg(test)]
 mod outside;
 #[cfg(test)]
+mod producer;
+#[cfg(test)]
 mod records;
 #[cfg(test)]
 mod replay;

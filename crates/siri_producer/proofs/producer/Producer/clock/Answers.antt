@@ -14,7 +14,7 @@ use Rattle.siri_producer.proofs.producer.Producer.clock.Goals as goal
 pub invariant_of-self : goal.invariant_of-self
 invariant_of-self c = record {
   alive = c.expire.ensures.alive;
-  in_order = rw (c.expire.ensures.rest, c.advance.ensures) (sorted_passing key_cmp (λ (i : Item). not (is_dead i (max c.self.inside.store.moment c.args.now))) c.self.inside.store.entries c.self.invariant.in_order);
+  in_order = rw (c.expire.ensures.rest, c.advance.ensures) (sorted_passing key_cmp (λ (i : Item). not (is_dead i (max c.self.inside.feeding.store.moment c.args.now))) c.self.inside.feeding.store.entries c.self.invariant.in_order);
 }
 
 pub returns-clause-stands : goal.returns-clause-stands

@@ -1,4 +1,4 @@
-use Rattle.std.proofs.Common.{refl, ap}
+use Rattle.std.proofs.Common.{refl, ap, ◌∙◌}
 use Rattle.siri_store.specs.Held.{Held}
 use Rattle.siri_producer.proofs.Living.{state_where}
 use Rattle.siri_producer.proofs.Stands.{stands_new}
@@ -6,7 +6,8 @@ use Rattle.siri_producer.proofs.producer.Producer.new.Goals as goal
 
 pub returns-clause-stands : goal.returns-clause-stands
 returns-clause-stands c =
-    stands_new _ c.args.start c.args.now refl refl (ap (λ (s : Held). s.moment) c.new.ensures.value) (ap (λ (s : Held). s.entries) c.new.ensures.value)
+    let store = c.new-2.ensures.store ∙ c.new.ensures.value in
+    stands_new _ c.args.start c.args.now refl refl (ap (λ (s : Held). s.moment) store) (ap (λ (s : Held). s.entries) store)
 
 pub returns-clause-state : goal.returns-clause-state
 returns-clause-state c = state_where _ _ (returns-clause-stands c)

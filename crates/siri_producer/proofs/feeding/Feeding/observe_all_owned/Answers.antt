@@ -1,7 +1,7 @@
 use Rattle.std.proofs.Common.{[], ◌∷◌}
 use Rattle.siri_model.specs.History.{Observed}
 use Rattle.siri_producer.proofs.Reached.{reached_more}
-use Rattle.siri_producer.proofs.feeding.observe_all.Goals as goal
+use Rattle.siri_producer.proofs.feeding.Feeding.observe_all_owned.Goals as goal
 
 pub loop-item-preserved : goal.loop-item-preserved
 loop-item-preserved c = record {

@@ -1,7 +1,8 @@
-// Each call once on its happy path. What is expected follows from what the calls mean for a few visits and situations.
-use crate::{Fed, Producer};
+// The producer, each call once on its happy path. What is expected follows from what the calls mean for a few visits and
+// situations.
 use siri_base::{List, Moment, Name};
 use siri_messages::{FunctionalDelivery, ServiceDelivery, ServiceRequest};
+use siri_producer::{Fed, Producer};
 use siri_records::{Item, Key, Period, Situation, StopCall, Visit, VisitJourney};
 use siri_topic::{SituationTopic, StopTopic, Topic};
 use std::alloc::Global;
@@ -198,10 +199,10 @@ fn is_visit(item: &Item, identifier: &str) -> bool {
 
 // A producer at 08:00 that was fed the three visits and the situation.
 fn fed(alloc: Global) -> Result<(Producer, Fed), Fail> {
-    let mut producer = Producer::new(alloc, Name::new(alloc, "producer")?, 7, moment(EIGHT)?);
+    let mut producer = Producer::new(alloc, Name::new(alloc, "producer")?, 7, moment(EIGHT)?)?;
     let visits = functional(alloc, three_visits(alloc)?, List::new(alloc))?;
     let situations = functional(alloc, situations(alloc)?, List::new(alloc))?;
-    let fed = producer.feed(delivery(alloc, visits, situations))?;
+    let fed = producer.feed_owned(delivery(alloc, visits, situations))?;
     Ok((producer, fed))
 }
 
@@ -251,9 +252,9 @@ fn removals_come_after_items(rt: HostRuntime) -> Result<(), Fail> {
         withdrawn: 2,
         full: 0,
     };
-    assert_eq!(rt; producer.feed_copy(&delivery)?, told);
+    assert_eq!(rt; producer.feed(&delivery)?, told);
     assert_eq!(rt; producer.held(), 3);
-    assert_eq!(rt; producer.feed(delivery)?, told);
+    assert_eq!(rt; producer.feed_owned(delivery)?, told);
     assert_eq!(rt; producer.held(), 3);
     Ok(())
 }
