@@ -78,7 +78,8 @@ number_of-digits n lt =
     let wide : n < 2 ^ 64 = omega arith in
     let short : nat_le (length (digits n)) 18 ≡ true = le-leb _ _ (length-decimal-le 18 n (omega arith) lt wide) in
     let all : list_all is_ascii_digit (digits n) ≡ true = digits_are (digits n) ∙ digits_decimal own n wide in
-    rw (short, all, digits_value-decimal own n wide) refl
+    let some : nat_le 1 (length (digits n)) ≡ true = le-leb _ _ (decimal_nonempty n wide) in
+    rw (some, short, all, digits_value-decimal own n wide) refl
 
 pub number_back : (n : ℕ) → IsNumber n → GivesBack number (written_number n) (Some n)
 number_back n lt = text_again (λ t. or_refused _ (number_of t)) (digits n) n (decimal_nonempty n (omega arith)) (ap (or_refused _) (number_of-digits n lt))

@@ -191,16 +191,17 @@ span_yields = read_from_text_yields IsSpan (λ t. span_or (span_of t)) (λ t is.
 own : IsNumeralModel (λ ds. all_ascii_digits ds ≡ true) (digits_value 10)
 own = numerals_by_value _ tells_all_ascii_digits
 
-number_by : (t : List ℕ) (b : Bool) → nat_le (length t) 18 && list_all is_ascii_digit t ≡ b → OnRead (or_refused BadNumber (cond b (Some (digits_value 10 t)) None)) IsNumber
+number_by : (t : List ℕ) (b : Bool) → nat_le 1 (length t) && (nat_le (length t) 18 && list_all is_ascii_digit t) ≡ b → OnRead (or_refused BadNumber (cond b (Some (digits_value 10 t)) None)) IsNumber
 number_by t true passes =
-    let parts = and_parts (nat_le (length t) 18) (list_all is_ascii_digit t) passes in
+    let all_parts = and_parts (nat_le 1 (length t)) (nat_le (length t) 18 && list_all is_ascii_digit t) passes in
+    let parts = and_parts (nat_le (length t) 18) (list_all is_ascii_digit t) all_parts.1 in
     let all : all_ascii_digits t ≡ true = sym (digits_are t) ∙ parts.1 in
     digits_value_short own t 18 all (leb-true _ _ parts.0)
 number_by t false passes = tt
 
 number_is : (t : List ℕ) → OnRead (or_refused BadNumber (number_of t)) IsNumber
 unfolding number_of
-number_is t = number_by t (nat_le (length t) 18 && list_all is_ascii_digit t) refl
+number_is t = number_by t (nat_le 1 (length t) && (nat_le (length t) 18 && list_all is_ascii_digit t)) refl
 
 pub number_yields : Yields number IsNumber
 number_yields = read_from_text_yields IsNumber (λ t. or_refused BadNumber (number_of t)) (λ t is. number_is t)

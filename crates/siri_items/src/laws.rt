@@ -1,6 +1,6 @@
 //! What holds of the definitions: each function has a law for its clause, and does nothing when it is called.
 
-ghost use Rattle.std.specs.Prelude.{◌≡◌, ◌↔◌, ◌≤◌, Ok, Some, option_map};
+ghost use Rattle.std.specs.Prelude.{◌≡◌, ◌↔◌, ◌≤◌, ℕ, List, Ok, Some, option_map};
 ghost use Rattle.serde_json.specs.Data.{Data, depth};
 ghost use Rattle.siri_records.specs.declared.call.StopCall.{StopCall};
 ghost use Rattle.siri_records.specs.declared.visit.VehicleLocation.{VehicleLocation};
@@ -64,8 +64,9 @@ pub fn written_text_is_read()
     ensures { (i : Item) → IsProper i → option_map (item_of (service_of i)) (tree_of (compact_text (written_item i))) ≡ Some (Ok (as_written i)) }
 {}
 
-/// An item that is read of a tree whose texts are UTF-8 is proper: so the laws of written items speak of each item that
-/// can be read.
+/// An item that is read of a tree whose texts are UTF-8, as it is of the tree of each document, is proper: so the laws of
+/// written items speak of each item that can be read.
 pub fn read_is_proper()
-    ensures { (service : Service) (d : Data) (i : Item) → TextsAreUtf8 d → item_of service d ≡ Ok i → IsProper i }
+    ensures of_document { (service : Service) (document : List ℕ) (d : Data) (i : Item) → tree_of document ≡ Some d → item_of service d ≡ Ok i → IsProper i }
+    ensures of_tree { (service : Service) (d : Data) (i : Item) → TextsAreUtf8 d → item_of service d ≡ Ok i → IsProper i }
 {}

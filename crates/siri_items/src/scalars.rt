@@ -18,13 +18,12 @@ fn is_all_digits(text: &[u8]) -> bool
     text.iter().all(|byte| byte.is_ascii_digit())
 }
 
-/// The number that 1 to 18 digits spell; `None` exactly where the text isn't of this form.
+/// The number of 1 to 18 digits; `None` exactly where the text isn't of this form.
 #[tactic(auto, unfolding(crate::specs::Scalars::number_of))]
 pub fn number_of(text: &str) -> Option<u64>
-    requires { 0 < length text.now }
     ensures { result ≡ Spec.number_of text.now }
 {
-    if text.len() <= 18 && is_all_digits(text.as_bytes()) {
+    if text.len() >= 1 && text.len() <= 18 && is_all_digits(text.as_bytes()) {
         text.parse().ok()
     } else {
         None

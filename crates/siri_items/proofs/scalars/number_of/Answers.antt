@@ -24,6 +24,7 @@ pub returns-then-is_all_digits : goal.returns-then-is_all_digits
 unfolding number_of
 returns-then-is_all_digits c =
     let all : list_all is_ascii_digit c.args.text.now ≡ true = cc in
-    let read = parsed c.args.text.now c.parse.result c.parse.ensures.value.0 c.requires c.if-text-le18.true all in
+    let read = parsed c.args.text.now c.parse.result c.parse.ensures.value.0 c.if-text-ge1.true c.if-text-le18.true all in
+    let some : nat_le 1 (length c.args.text.now) ≡ true = le-leb _ _ c.if-text-ge1.true in
     let short : nat_le (length c.args.text.now) 18 ≡ true = le-leb _ _ c.if-text-le18.true in
-    rw (c.ok.ensures.value, read, short, all) refl
+    rw (c.ok.ensures.value, read, some, short, all) refl
