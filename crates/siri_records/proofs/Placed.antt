@@ -1,5 +1,5 @@
 -- What stands at a place.
-use Rattle.std.proofs.Common.{◌≡◌, ℕ, suc, zero, ◌<◌, ◌≤◌, List, [], ◌∷◌, ◌++◌, length, get_or, drop, take, Some, None, slice_get, ◌+◌, refl, ap, sym, subst, ◌∙◌, arith, add-one}
+use Rattle.std.proofs.Common.{◌≡◌, ℕ, suc, zero, ◌<◌, ◌≤◌, List, [], ◌∷◌, ◌++◌, length, get_or, drop, take, map, Some, None, slice_get, ◌+◌, refl, ap, sym, subst, ◌∙◌, arith, add-one}
 use Rattle.std.specs.Map.{keys_of}
 use Rattle.std.specs.List.{AllByRecursion}
 use Rattle.std.specs.List.Sorted.{IsStrictlySortedBy}
@@ -36,23 +36,27 @@ none_at [] i le = refl
 none_at (x ∷ es) zero le = absurd (omega (arith, le))
 none_at (x ∷ es) (suc i) le = none_at es i (omega (arith, le))
 
--- what is from the place of an entry on begins with it
-placed_here : (es : List (Key × Shared)) (i : ℕ) (e : Key × Shared) → i < length es → e ≡ get_or es i e → drop i (entries_view es) ≡ (e.0, e.1.value) ∷ drop (suc i) (entries_view es)
-placed_here [] i e lt is = absurd (omega (arith, lt))
-placed_here (x ∷ es) zero e lt is = ap (λ (y : Key × Shared). (y.0, y.1.value) ∷ entries_view es) (sym is)
-placed_here (x ∷ es) (suc i) e lt is = placed_here es i e (omega (arith, lt)) is
+-- what is from the place of an element on begins with it
+placed_here : {A B : Type 0} (f : A → B) (xs : List A) (i : ℕ) (x : A) → i < length xs → x ≡ get_or xs i x → drop i (map f xs) ≡ f x ∷ drop (suc i) (map f xs)
+placed_here f [] i x lt is = absurd (omega (arith, lt))
+placed_here f (y ∷ xs) zero x lt is = ap (λ z. f z ∷ map f xs) (sym is)
+placed_here f (y ∷ xs) (suc i) x lt is = placed_here f xs i x (omega (arith, lt)) is
 
-pub placed_at : (es : List (Key × Shared)) (i : ℕ) (e : Key × Shared) → i < length es → e ≡ get_or es i e → PlacedAt (entries_view es) i (Some (e.0, e.1.value))
-placed_at es i e lt is = (rw add-one (placed_here es i e lt is), omega (arith, lt, length_viewed es))
+pub length_mapped : {A B : Type 0} (f : A → B) (xs : List A) → length (map f xs) ≡ length xs
+length_mapped f [] = refl
+length_mapped f (x ∷ xs) = ap suc (length_mapped f xs)
 
-past_end : (es : List (Key × Shared)) (i : ℕ) → length es ≤ i → drop i (entries_view es) ≡ []
-past_end [] zero le = refl
-past_end [] (suc i) le = refl
-past_end (x ∷ es) zero le = absurd (omega (arith, le))
-past_end (x ∷ es) (suc i) le = past_end es i (omega (arith, le))
+pub placed_at : {A B : Type 0} (f : A → B) (xs : List A) (i : ℕ) (x : A) → i < length xs → x ≡ get_or xs i x → PlacedAt (map f xs) i (Some (f x))
+placed_at f xs i x lt is = (rw add-one (placed_here f xs i x lt is), omega (arith, lt, length_mapped f xs))
 
-pub placed_none : (es : List (Key × Shared)) (i : ℕ) → length es ≤ i → PlacedAt (entries_view es) i None
-placed_none es i le = (past_end es i le, omega (arith, le, length_viewed es))
+past_end : {A B : Type 0} (f : A → B) (xs : List A) (i : ℕ) → length xs ≤ i → drop i (map f xs) ≡ []
+past_end f [] zero le = refl
+past_end f [] (suc i) le = refl
+past_end f (x ∷ xs) zero le = absurd (omega (arith, le))
+past_end f (x ∷ xs) (suc i) le = past_end f xs i (omega (arith, le))
+
+pub placed_none : {A B : Type 0} (f : A → B) (xs : List A) (i : ℕ) → length xs ≤ i → PlacedAt (map f xs) i None
+placed_none f xs i le = (past_end f xs i le, omega (arith, le, length_mapped f xs))
 
 -- ---- a place in order
 

@@ -39,6 +39,10 @@ dead_of moment items = filter (λ entry. is_dead entry.1 moment) items
 abbrev pub living : ℕ → Items → Items
 living moment items = filter (λ entry. not (is_dead entry.1 moment)) items
 
+-- the most keys that are live at once: each has a current item that isn't dead
+abbrev pub most_live : ℕ
+most_live = 20000
+
 -- what is at a place is the first of those from there on
 abbrev pub PlacedAt : {A : Type 0} → List A → ℕ → Option A → Type 0
 PlacedAt es place None = (drop place es ≡ []) × (length es ≤ place)

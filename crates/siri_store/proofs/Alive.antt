@@ -1,6 +1,5 @@
 -- No held item is dead.
-use Rattle.std.proofs.Common.{◌≡◌, ℕ, List, [], ◌∷◌, Option, None, option_map, false, refl, sym, ap, ◌∙◌}
-use Rattle.std.specs.Prelude.{◌↔◌}
+use Rattle.std.proofs.Common.{◌≡◌, ℕ, [], false}
 use Rattle.std.specs.List.{All}
 use Rattle.std.specs.Map.{values_of, remove_entry}
 use Rattle.std.specs.BTreeMap.{insert_entry, is_at}
@@ -10,28 +9,24 @@ use Rattle.siri_records.specs.declared.key.Key.{Key}
 use Rattle.siri_records.specs.declared.item.Item.{Item}
 use Rattle.siri_records.specs.Ends.{is_dead}
 use Rattle.siri_records.specs.Order.{key_cmp}
-use Rattle.siri_store.specs.Calls.{living, dead_of, first_by_end}
-use Rattle.siri_store.proofs.Kept.{passing, none_passes, all_fail}
+use Rattle.siri_records.specs.Keyed.{Items, living, dead_of}
+use Rattle.siri_records.proofs.Kept.{passing, none_passes, all_fail}
 
-abbrev pub AllAlive : ℕ → List (Key × Item) → Type 0
+abbrev pub AllAlive : ℕ → Items → Type 0
 AllAlive now es = All (λ i. is_dead i now ≡ false) (values_of es)
 
-pub alive_removed : (now : ℕ) (es : List (Key × Item)) (k : Key) → AllAlive now es → AllAlive now (remove_entry (is_at (key_cmp k)) es)
+pub alive_removed : (now : ℕ) (es : Items) (k : Key) → AllAlive now es → AllAlive now (remove_entry (is_at (key_cmp k)) es)
 alive_removed now es k alive = All-map-remove_entry (is_at (key_cmp k)) (λ e. e.1) (λ i. is_dead i now ≡ false) es alive
 
-pub alive_put : (now : ℕ) (es : List (Key × Item)) (k : Key) (i : Item) → AllAlive now es → is_dead i now ≡ false → AllAlive now (insert_entry key_cmp es k i)
+pub alive_put : (now : ℕ) (es : Items) (k : Key) (i : Item) → AllAlive now es → is_dead i now ≡ false → AllAlive now (insert_entry key_cmp es k i)
 alive_put now es k i alive live = All-values-insert_entry key_cmp k i (λ i. is_dead i now ≡ false) es alive live
 
-pub alive_living : (now : ℕ) (es : List (Key × Item)) → AllAlive now (living now es)
+pub alive_living : (now : ℕ) (es : Items) → AllAlive now (living now es)
 alive_living now es = All-from_recursion (λ i. is_dead i now ≡ false) (values_of (living now es)) (passing (λ i. is_dead i now) es)
 
-none_first : (es : List (Key × Item)) → option_map (λ (e : Key × Item). e.0) (first_by_end es) ≡ None → es ≡ []
-none_first [] none = refl
-none_first (e ∷ es) none = absurd (cc none)
+-- where no entry is dead no item is
+pub none_dead : (now : ℕ) (es : Items) → dead_of now es ≡ [] → AllAlive now es
+none_dead now es none = All-from_recursion (λ i. is_dead i now ≡ false) (values_of es) (none_passes (λ i. is_dead i now) es none)
 
--- none leaves exactly where none is dead
-pub none_leaves : (now : ℕ) (es : List (Key × Item)) (key : Option Key) → key ≡ option_map (λ e. e.0) (first_by_end (dead_of now es)) → (key ≡ None) ↔ AllAlive now es
-none_leaves now es key is = (
-  (λ none. All-from_recursion (λ i. is_dead i now ≡ false) (values_of es) (none_passes (λ i. is_dead i now) es (none_first (dead_of now es) (sym is ∙ none)))),
-  (λ alive. is ∙ ap (λ d. option_map (λ (e : Key × Item). e.0) (first_by_end d)) (all_fail (λ i. is_dead i now) es (recursion_from_All (λ i. is_dead i now ≡ false) (values_of es) alive))),
-)
+pub alive_no_dead : (now : ℕ) (es : Items) → AllAlive now es → dead_of now es ≡ []
+alive_no_dead now es alive = all_fail (λ i. is_dead i now) es (recursion_from_All (λ i. is_dead i now ≡ false) (values_of es) alive)

@@ -1,6 +1,3 @@
 pub mod Alive
-pub mod Edited
-pub mod Found
-pub mod Kept
-pub mod Leaving
-pub mod Placed
+pub mod Earliest
+pub mod Gathered

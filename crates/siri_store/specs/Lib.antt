@@ -1,4 +1,4 @@
-pub mod Calls
 pub mod Held
-pub mod Places
+pub mod Calls
 pub mod Walk
+pub mod Leaving

@@ -1,12 +1,12 @@
 -- A walk over the items that are shown to a topic.
-use Rattle.std.specs.Prelude.{Bool, ◌≡◌, ℕ, ◌+◌, ◌-◌, ◌≤◌, max, List, [], ◌∷◌, length, drop, Option, MatchOption}
-use Rattle.std.specs.List.{filter}
+use Rattle.std.specs.Prelude.{Bool, ◌≡◌, ℕ, ◌+◌, ◌-◌, ◌≤◌, max, List, [], ◌∷◌, length, drop, filter, Option, MatchOption}
 use Rattle.std.specs.Map.{values_of}
 use Rattle.std.specs.Borrow.{Bor}
 use Rattle.std.specs.declared.rc.Rc.{Rc}
 use Rattle.std.specs.declared.alloc.Global.{Global}
 use Rattle.siri_records.specs.declared.key.Key.{Key}
 use Rattle.siri_records.specs.declared.item.Item.{Item}
+use Rattle.siri_records.specs.Keyed.{Items}
 use Rattle.siri_topic.specs.declared.topics.Topic.{Topic}
 use Rattle.siri_topic.specs.Shown.{is_shown}
 use Rattle.siri_store.specs.Held.{counted}
@@ -16,9 +16,13 @@ use Rattle.siri_store.specs.declared.selected.Selected.{Selected}
 abbrev pub shown_at : Topic → ℕ → Key × Item → Bool
 shown_at topic moment e = is_shown topic e.1 moment
 
+-- the entries whose items are shown to a topic at a moment, in order of key
+abbrev pub shown_entries : Topic → ℕ → Items → Items
+shown_entries topic moment es = filter (shown_at topic moment) es
+
 -- the items that are shown to a topic at a moment, in order of key
-abbrev pub shown_of : Topic → ℕ → List (Key × Item) → List Item
-shown_of topic moment es = values_of (filter (shown_at topic moment) es)
+abbrev pub shown_of : Topic → ℕ → Items → List Item
+shown_of topic moment es = values_of (shown_entries topic moment es)
 
 -- the items that a walk has still to lend: those that are shown from its place on
 abbrev pub to_lend : Selected → List Item

@@ -4,10 +4,10 @@ ghost use Rattle.siri_store.specs.Held.{counted};
 
 use std::marker::Model;
 
-/// How many held items were looked at. It never falls, and stays where it can rise no more. Only the store makes and
-/// raises it.
+// How many held items were looked at. It never falls, and stays where it can rise no more. No other crate gets one: only the
+// store makes and raises it.
 #[derive(Drop)]
-pub struct Counter {
+pub(crate) struct Counter {
     steps: u64,
 }
 
@@ -26,8 +26,8 @@ impl Counter {
         Counter { steps: 0 }
     }
 
-    /// The steps that were counted.
-    pub fn steps(&self) -> u64
+    // The steps that were counted.
+    pub(crate) fn steps(&self) -> u64
         ensures { result ≡ self.now }
     {
         self.steps

@@ -7,24 +7,25 @@
 //!
 //!     key           -> look      ---> the item of that key         one step
 //!     topic         -> select    ---> the items that are shown     a step for each item that is looked at
+//!     topic         -> shown     ---> all of them in one call      a step for each item that is held
 //! ```
 //!
 //! An item leaves once it is dead at the store's moment: the store's owner moves the moment by `advance` and then lets the
 //! dead items go by `expire` (or one by one by `expire_one`), before it observes again. No more than 20,000 keys are held.
 //!
-//! Each held item that a caller gets or that is tested for a topic is counted as a step, by a counter that never falls.
+//! Each held item that a caller gets or that is tested for a topic is counted as a step, by a counter that never falls. No
+//! other crate gets hold of the counter or of the items beside it.
 //!
 //! Stands on `siri_base`, `siri_records` and `siri_topic`. It knows no subscription, no message and no clock.
 #![tactic(auto)]
 
 mod counter;
-mod entries;
+mod leaving;
 mod selected;
 mod store;
 #[cfg(test)]
 mod tests;
+mod walk;
 
-pub use counter::Counter;
-pub use entries::Entries;
 pub use selected::Selected;
 pub use store::{HELD_LIMIT, ObserveError, Store};

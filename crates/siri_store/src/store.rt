@@ -1,15 +1,19 @@
 // The store of current items.
-ghost use Rattle.std.specs.Prelude.{◌≡◌, ◌↔◌, max, [], length, option_map, true, false, None, OnOk, OnErr, IsErrOf, ⊤};
+ghost use Rattle.std.specs.Prelude.{◌≡◌, ◌↔◌, ◌+◌, ◌≤◌, max, [], length, option_map, true, false, None, IfOk, OnOk, OnErr, IsErrOf, ⊤};
 ghost use mathlib.Core.Option.{none};
 ghost use Rattle.std.specs.Borrow.{sem, follows, follows_so};
-ghost use Rattle.siri_store.specs.Calls.{NoneDead, living, dead_of, item_of, is_held, without, refuses, observed, first_dead, after_leave};
+ghost use Rattle.siri_records.specs.Keyed.{InOrder, item_of, dead_of, living, unshared};
+ghost use Rattle.siri_store.specs.Calls.{NoneDead, is_held, without, refuses, observed, IsNextToLeave, after_expiry};
 ghost use Rattle.siri_store.specs.Held.{counted};
+ghost use Rattle.siri_store.specs.Walk.{shown_entries, shown_of};
 ghost use Rattle.siri_store.specs.contracts.counter.Counter.{the_row as counter_row};
 ghost use Rattle.siri_store.specs.contracts.store.Store.{the_row};
 
-use crate::{Counter, Entries, Selected};
+use crate::counter::Counter;
+use crate::leaving::first_to_leave;
+use crate::{Selected, walk};
 use siri_base::{Moment, OutOfMemory};
-use siri_records::{Item, Key, dead, key_of};
+use siri_records::{Item, Key, KeyedItems, dead, key_of};
 use siri_topic::Topic;
 use std::alloc::Global;
 use std::marker::Model;
@@ -42,7 +46,7 @@ impl From<OutOfMemory> for ObserveError {
 /// the moment and the counter.
 #[derive(Drop)]
 pub struct Store {
-    entries: Entries,
+    entries: KeyedItems,
     moment: Moment,
     counter: Counter,
 }
@@ -62,7 +66,7 @@ impl Store {
         ensures alive { NoneDead result }
     {
         Store {
-            entries: Entries::new(alloc),
+            entries: KeyedItems::new(alloc),
             moment: now,
             counter: Counter::new(),
         }
@@ -86,14 +90,14 @@ impl Store {
         before - self.entries.len()
     }
 
-    /// Lets the first dead item by end and then key go, and gives its key: `None` exactly where none is dead. A closed
-    /// item that has no end counts as ended at moment 0. It takes no memory.
+    /// Lets the dead item go that leaves first, by end and then by key, and gives its key: `None` exactly where none is
+    /// dead. A closed item that has no end counts as ended at moment 0. It takes no memory.
     pub fn expire_one(&mut self) -> Option<Key>
-        ensures key { result ≡ option_map (λ e. e.0) (first_dead self.old) }
-        ensures rest { self.new ≡ after_leave self.old result }
+        ensures key { IsNextToLeave self.old result }
+        ensures rest { self.new ≡ after_expiry self.old result }
         ensures none { (result ≡ None) ↔ NoneDead self.old }
     {
-        match self.entries.first_dead(self.moment) {
+        match first_to_leave(&self.entries, self.moment) {
             None => None,
             Some(place) => Some(self.entries.remove_at(place)),
         }
@@ -140,7 +144,8 @@ impl Store {
         self.entries.remove(key)
     }
 
-    /// The steps that were counted, 0 in a new store. A step is one held item that `look` or `select` looks at.
+    /// The steps that were counted, 0 in a new store. A step is one held item that `look`, `select`,
+    /// `shown` or `shown_entries` looks at.
     pub fn reads(&self) -> u64
         ensures { result ≡ self.now.reads }
     {
@@ -150,7 +155,7 @@ impl Store {
     /// The item of a key. It takes one step.
     pub fn look(&mut self, key: &Key) -> Option<&Rc<Item>>
         ensures* step { sem 𝓛 (follows_so the_row the_row self.entry.ghost_name none (λ _ _. ⊤) (λ new. new ≡ record self.old { reads = counted self.old.reads 1 })) }
-        ensures item { option_map (λ item. item.now.value) result ≡ item_of self.old key.now }
+        ensures item { option_map (λ item. item.now.value) result ≡ item_of self.old.entries key.now }
     {
         self.counter.count();
         self.entries.get(key)
@@ -176,9 +181,37 @@ impl Store {
         }
     }
 
-    /// How many keys are held.
+    /// All held items that are shown to a topic at the store's moment, in order of key, shared with the store. Each held
+    /// item is a step. After want of memory nothing but the counter has changed.
+    pub fn shown(&mut self, alloc: Global, topic: &Topic) -> Result<Vec<Rc<Item>>, OutOfMemory>
+        ensures ok { IfOk result (λ items. unshared items.items ≡ shown_of topic.now self.old.moment self.old.entries) }
+        ensures steps { OnOk result (self.new.reads ≡ counted self.old.reads (length self.old.entries)) }
+        ensures rest { self.new ≡ record self.old { reads = self.new.reads } }
+        ensures risen { self.old.reads ≤ self.new.reads }
+        ensures at_most { self.new.reads ≤ self.old.reads + length self.old.entries }
+        ensures ordered { InOrder self.old.entries }
+    {
+        let moment = self.moment;
+        walk::shown_items(alloc, &self.entries, &mut self.counter, topic, moment)
+    }
+
+    /// The same items with their keys.
+    pub fn shown_entries(&mut self, alloc: Global, topic: &Topic) -> Result<KeyedItems, OutOfMemory>
+        ensures ok { IfOk result (λ items. items ≡ shown_entries topic.now self.old.moment self.old.entries) }
+        ensures steps { OnOk result (self.new.reads ≡ counted self.old.reads (length self.old.entries)) }
+        ensures rest { self.new ≡ record self.old { reads = self.new.reads } }
+        ensures risen { self.old.reads ≤ self.new.reads }
+        ensures at_most { self.new.reads ≤ self.old.reads + length self.old.entries }
+        ensures ordered { InOrder self.old.entries }
+    {
+        let moment = self.moment;
+        walk::shown_entries(alloc, &self.entries, &mut self.counter, topic, moment)
+    }
+
+    /// How many keys are held. Items are held in order of key, each key once.
     pub fn held(&self) -> usize
-        ensures { result ≡ length self.now.entries }
+        ensures number { result ≡ length self.now.entries }
+        ensures ordered { InOrder self.now.entries }
     {
         self.entries.len()
     }
@@ -190,6 +223,9 @@ impl Store {
         self.moment
     }
 }
+
+// Each lets one value go and does nothing else: the letting go of an item's or a key's fields would otherwise be opened on
+// each path of the caller's proof.
 
 fn discard_item(_item: Rc<Item>) {}
 

@@ -2,7 +2,7 @@
 ghost use Rattle.std.specs.Prelude.{IfOk};
 ghost use Rattle.siri_store.specs.Calls.{NoneDead};
 
-use crate::{HELD_LIMIT, ObserveError, Selected, Store};
+use crate::{HELD_LIMIT, ObserveError, Store};
 use siri_base::{List, Moment, Name};
 use siri_records::{Item, Key, Period, Situation};
 use siri_topic::{SituationTopic, Topic};
@@ -185,22 +185,14 @@ fn lends_what_is_shown(rt: HostRuntime) -> Result<(), Fail> {
 }
 
 #[test]
-fn goes_on_over_a_loan_of_the_counter(rt: HostRuntime) -> Result<(), Fail> {
+fn gives_all_that_is_shown(rt: HostRuntime) -> Result<(), Fail> {
     let alloc = rt.alloc();
     let mut store = three(alloc)?;
-    let topic = topic(None);
-    let Selected {
-        counter,
-        topic,
-        moment,
-        entries,
-        place: _,
-    } = store.select(&topic);
-    assert_eq!(rt;
-        Selected::over(&mut *counter, topic, moment, entries).count(),
-        3
-    );
-    assert_eq!(rt; counter.steps(), 3);
+    let topic = topic(Some(Name::new(alloc, "L1")?));
+    assert_eq!(rt; store.shown(alloc, &topic)?.len(), 2);
+    assert_eq!(rt; store.reads(), 3);
+    assert_eq!(rt; store.shown_entries(alloc, &topic)?.len(), 2);
+    assert_eq!(rt; store.reads(), 6);
     Ok(())
 }
 

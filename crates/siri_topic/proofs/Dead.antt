@@ -8,7 +8,7 @@ use Rattle.siri_records.specs.declared.situation.Period.{Period}
 use Rattle.siri_records.specs.Ends.{later, greatest, end_of, is_closed}
 use Rattle.siri_topic.specs.declared.topics.Topic.{Topic}
 use Rattle.siri_topic.specs.Agreement.{agrees}
-use Rattle.siri_topic.specs.Shown.{start_of, near_edge, window_of, is_from, is_before, is_over, is_period_in, is_in, DeadAreNeverShown}
+use Rattle.siri_topic.specs.Shown.{start_of, near_edge, window_of, is_from, is_before, ends_before, is_period_in, is_in, DeadAreNeverShown}
 
 -- there is no such end, or it is before now
 abbrev is_below : ℕ → Option ℕ → Bool
@@ -28,9 +28,9 @@ after_now None now = omega arith
 after_now (Some s) now = omega arith
 
 -- what ended before now ended before the near edge
-ended_is_over : (now near : ℕ) (end : Option ℕ) → now ≤ near → has_ended now end ≡ true → is_over (pos near) end ≡ true
-ended_is_over now near None le h = h
-ended_is_over now near (Some e) le h = grind arith
+ended_ends_before : (now near : ℕ) (end : Option ℕ) → now ≤ near → has_ended now end ≡ true → ends_before (pos near) end ≡ true
+ended_ends_before now near None le h = h
+ended_ends_before now near (Some e) le h = grind arith
 
 over_not_from : (now near : ℕ) (end : Option ℕ) → now ≤ near → has_ended now end ≡ true → is_from (pos near) end ≡ false
 over_not_from now near None le h = refl
@@ -47,10 +47,10 @@ below_fold now first (e ∷ es) h = (below_later now first e (below_fold now (la
 
 -- a period that ended before now doesn't begin before the far edge and last to the near edge
 period_is_out : (begins : Bool) (now near : ℕ) (end : Option ℕ) → now ≤ near → is_none end ≡ false → is_below now end ≡ true
-    → (begins && not (is_over (pos near) end)) ≡ false
+    → (begins && not (ends_before (pos near) end)) ≡ false
 period_is_out begins now near None le closed below = cc
 period_is_out false now near (Some e) le closed below = refl
-period_is_out true now near (Some e) le closed below = rw (ended_is_over now near (Some e) le below) refl
+period_is_out true now near (Some e) le closed below = rw (ended_ends_before now near (Some e) le below) refl
 
 none_of_both : (a b : Bool) → (a || b) ≡ false → (a ≡ false) × (b ≡ false)
 none_of_both false b h = (refl, h)
@@ -86,7 +86,7 @@ not_in_window topic (item.Visit v) now h =
     left_false _ _ (over_not_from now (near_edge (start_of topic) now) (end_of (item.Visit v)) (after_now (start_of topic) now) h)
 not_in_window topic (item.Journey j) now h =
     left_false _ _ (over_not_from now (near_edge (start_of topic) now) (end_of (item.Journey j)) (after_now (start_of topic) now) h)
-not_in_window topic (item.Vehicle v) now h = rw (ended_is_over now now v.valid_until_time (omega arith) h) refl
+not_in_window topic (item.Vehicle v) now h = rw (ended_ends_before now now v.valid_until_time (omega arith) h) refl
 not_in_window topic (item.Situation s) now h =
     let parts = closed_and_ended now (list_any (λ p. is_none p.end_time) s.validity_period) (greatest (map (λ p. p.end_time) s.validity_period)) h in
     periods_are_out now (near_edge (start_of topic) now) (window_of topic now).to None s.validity_period (after_now (start_of topic) now)

@@ -8,7 +8,7 @@ use Rattle.siri_records.specs.declared.situation.Situation.{Situation}
 use Rattle.siri_records.specs.Ends.{entry_of, end_of, is_closed, is_dead}
 use Rattle.siri_topic.specs.declared.topics.Topic.{Topic}
 use Rattle.siri_topic.specs.declared.topics.Topic.TheVariants as topic
-use Rattle.siri_topic.specs.declared.edges.Window.{Window}
+use Rattle.siri_topic.specs.declared.windows.Window.{Window}
 use Rattle.siri_topic.specs.Agreement.{agrees}
 
 -- the StartTime of a topic, where it has one
@@ -48,13 +48,13 @@ is_before None (Some moment) = true
 is_before (Some to) (Some moment) = int_lt (pos moment) to
 
 -- there is an end, and it is before this moment
-abbrev pub is_over : ℤ → Option ℕ → Bool
-is_over from None = false
-is_over from (Some end) = int_lt (pos end) from
+abbrev pub ends_before : ℤ → Option ℕ → Bool
+ends_before from None = false
+ends_before from (Some end) = int_lt (pos end) from
 
 -- a period begins before the far edge and doesn't end before the near edge
 abbrev pub is_period_in : Window → Period → Bool
-is_period_in window p = is_before window.to (Some p.start_time) && not (is_over window.from p.end_time)
+is_period_in window p = is_before window.to (Some p.start_time) && not (ends_before window.from p.end_time)
 
 -- some one period of a situation is in the window
 abbrev pub has_period_in : Window → Situation → Bool
@@ -68,7 +68,7 @@ is_between window i = is_from window.from (end_of i) && is_before window.to (ent
 abbrev pub is_in : Window → ℕ → Item → Bool
 is_in window now (item.Visit v) = is_between window (item.Visit v)
 is_in window now (item.Journey j) = is_between window (item.Journey j)
-is_in window now (item.Vehicle v) = not (is_over (pos now) v.valid_until_time)
+is_in window now (item.Vehicle v) = not (ends_before (pos now) v.valid_until_time)
 is_in window now (item.Situation s) = has_period_in window s
 
 -- an item is shown to a topic at a moment: it agrees with the topic, isn't closed, and is in the window

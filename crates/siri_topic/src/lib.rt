@@ -13,16 +13,16 @@
 #![tactic(auto)]
 
 mod agreement;
-mod edges;
+mod shown_items;
 mod subscription;
 mod topics;
-mod view;
+mod windows;
 
 pub use agreement::matches;
-pub use edges::Window;
+pub use shown_items::{dead_items_are_never_shown, shown, window};
 pub use subscription::Subscription;
 pub use topics::{LineDirection, SituationTopic, StopTopic, TimetableTopic, Topic, VehicleTopic};
-pub use view::{dead_items_are_never_shown, shown, window};
+pub use windows::Window;
 
 #[cfg(test)]
 mod tests;

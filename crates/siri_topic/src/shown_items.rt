@@ -67,7 +67,7 @@ fn is_in(window: &Window, now: Moment, item: &Item) -> bool
         Item::Visit(_) | Item::Journey(_) => {
             is_from(window.from, end_of(item)) && is_before(window.to, entry_of(item))
         }
-        Item::Vehicle(vehicle) => !is_over(now.ms(), vehicle.valid_until_time),
+        Item::Vehicle(vehicle) => !ends_before(now.ms(), vehicle.valid_until_time),
         Item::Situation(situation) => has_period_in(window, situation),
     }
 }
@@ -86,7 +86,7 @@ fn has_period_in(window: &Window, situation: &Situation) -> bool
 fn is_period_in(window: &Window, period: &Period) -> bool
     ensures { result ≡ definition.is_period_in window.now period.now }
 {
-    is_before(window.to, Some(period.start_time)) && !is_over(window.from, period.end_time)
+    is_before(window.to, Some(period.start_time)) && !ends_before(window.from, period.end_time)
 }
 
 fn is_from(from: i64, moment: Option<Moment>) -> bool
@@ -109,8 +109,8 @@ fn is_before(to: Option<i64>, moment: Option<Moment>) -> bool
 }
 
 // There is an end, and it is before this moment.
-fn is_over(from: i64, end: Option<Moment>) -> bool
-    ensures { result ≡ definition.is_over from end }
+fn ends_before(from: i64, end: Option<Moment>) -> bool
+    ensures { result ≡ definition.ends_before from end }
 {
     match end {
         Some(end) => end.ms() < from,
