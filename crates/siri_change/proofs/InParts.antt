@@ -1,4 +1,4 @@
--- Changes in parts of a hundred, of each the items before the removals.
+-- Changes in parts of a part_after, of each the items before the removals.
 use Rattle.std.proofs.Common.{◌≡◌, ℕ, ℤ, option_map, zero, suc, ◌+◌, ◌*◌, ◌/◌, ◌<◌, ◌≤◌, max, List, [], ◌∷◌, ◌++◌, length, map, filter, fold, take, drop, Bool, true, false, not, ◌||◌, Option, Some, None, refl, ap, sym, ◌∙◌, subst, arith}
 use Rattle.std.specs.List.{flat_map, range_with_len}
 use Rattle.std.specs.List.Sorted.{IsStrictlySortedBy}
@@ -10,10 +10,10 @@ use Rattle.siri_records.specs.declared.item.Item.{Item}
 use Rattle.siri_records.specs.Near.{is_near}
 use Rattle.siri_records.specs.Order.{key_cmp}
 use Rattle.siri_records.proofs.NearLaws.{near_itself}
-use Rattle.siri_change.specs.Views.{Items, InOrder, item_of}
-use Rattle.siri_change.specs.Changes.{KeyChange, with_item, keys_of_both, kept_or_new, meets, changes, after_change, apply, target}
-use Rattle.siri_change.specs.Parts.{whole, load, ground, hundred, parts_count, parts_of, has_item, as_sent, apply_parts}
-use Rattle.siri_change.proofs.Placed.{take_whole}
+use Rattle.siri_records.specs.Keyed.{Items, InOrder, item_of, with_item, KeyChange, after_change, apply}
+use Rattle.siri_change.specs.Changes.{keys_of_both, acknowledged_if_near, meets, changes, target}
+use Rattle.siri_change.specs.Parts.{whole, load, base_view, part_after, parts_count, parts_of, has_item, as_sent, apply_parts}
+use Rattle.siri_records.proofs.Placed.{take_whole}
 use Rattle.siri_change.proofs.Walks.{above_first, changes_added, changed, chosen, keys_chosen}
 use Rattle.siri_change.proofs.Leads.{tied, one_key, all_from, mentions, Fits, leads, fits_on, without_change}
 
@@ -39,11 +39,11 @@ take_twice (suc i) j k [] e = take_none j ∙ sym (take_none k)
 take_twice (suc i) j zero (x ∷ xs) e = absurd (omega (arith, e))
 take_twice (suc i) j (suc k) (x ∷ xs) e = ap (λ l. x ∷ l) (take_twice i j k xs (omega (arith, e)))
 
-joined : {A : Type 0} (list : List A) (from n : ℕ) → flat_map (λ x. x) (map (hundred list) (range_with_len from n)) ≡ take (100 * n) (drop (100 * from) list)
+joined : {A : Type 0} (list : List A) (from n : ℕ) → flat_map (λ x. x) (map (part_after list) (range_with_len from n)) ≡ take (100 * n) (drop (100 * from) list)
 joined list from zero = refl
 joined list from (suc n) =
-    ap (λ l. hundred list from ++ l) (joined list (from + 1) n)
-    ∙ (ap (λ l. hundred list from ++ take (100 * n) l) (sym (drop_twice (100 * from) 100 (100 * (from + 1)) list (omega arith)))
+    ap (λ l. part_after list from ++ l) (joined list (from + 1) n)
+    ∙ (ap (λ l. part_after list from ++ take (100 * n) l) (sym (drop_twice (100 * from) 100 (100 * (from + 1)) list (omega arith)))
     ∙ take_twice 100 (100 * n) (100 * suc n) (drop (100 * from) list) (omega arith))
 
 fills : (n : ℕ) → n ≤ 100 * max 1 ((n + 99) / 100)
@@ -62,12 +62,12 @@ length_range : (from n : ℕ) → length (range_with_len from n) ≡ n
 length_range from zero = refl
 length_range from (suc n) = ap suc (length_range (from + 1) n)
 
-length_map : {A B : Type 0} (f : A → B) (xs : List A) → length (map f xs) ≡ length xs
+pub length_map : {A B : Type 0} (f : A → B) (xs : List A) → length (map f xs) ≡ length xs
 length_map f [] = refl
 length_map f (x ∷ xs) = ap suc (length_map f xs)
 
 pub parts_number : {A : Type 0} (list : List A) → length (parts_of list) ≡ parts_count list
-parts_number list = length_map (hundred list) (range_with_len 0 (parts_count list)) ∙ length_range 0 (parts_count list)
+parts_number list = length_map (part_after list) (range_with_len 0 (parts_count list)) ∙ length_range 0 (parts_count list)
 
 pub some_part : {A : Type 0} (list : List A) → 0 < length (parts_of list)
 some_part list = rw (parts_number list) (fewest (length list))
@@ -147,7 +147,7 @@ fits_parts t [] h = tt
 fits_parts t (p ∷ parts) h =
     fits_append t (as_sent p) (all_sent parts) (fits_sent t p (left_fits t p (all_of parts) h)) (fits_parts t parts (right_fits t p (all_of parts) h))
 
-applied_append : (a : Items) (cs ds : List KeyChange) → apply a (cs ++ ds) ≡ apply (apply a cs) ds
+pub applied_append : (a : Items) (cs ds : List KeyChange) → apply a (cs ++ ds) ≡ apply (apply a cs) ds
 applied_append a [] ds = refl
 applied_append a (c ∷ cs) ds = applied_append (after_change a c) cs ds
 
@@ -175,7 +175,7 @@ empty_order : InOrder {X = Item} []
 unfolding IsStrictlySortedBy
 empty_order = tt
 
-pub load_leads : (a t : Items) (incremental : Bool) → InOrder a → InOrder t → apply_parts (ground a incremental) (parts_of (load a t incremental)) ≡ t
+pub load_leads : (a t : Items) (incremental : Bool) → InOrder a → InOrder t → apply_parts (base_view a incremental) (parts_of (load a t incremental)) ≡ t
 load_leads a t true s r = parts_lead a t (changes a t) s r (fits_on a t (keys_of_both a t)) (without_change a t)
 load_leads a t false s r =
     ap (λ l. apply_parts [] (parts_of l)) (sym (whole_changes t r))
@@ -231,24 +231,24 @@ pub target_length : (slack : ℤ) (incremental : Bool) (a direct : Items) → le
 target_length slack true a direct = length_map (chosen slack a) direct
 target_length slack false a direct = refl
 
-chosen_case : (slack : ℤ) (a direct : Items) (e : Key × Item) (q : Key) (t : Bool) → tied q e.0 ≡ t → item_of (map (chosen slack a) direct) q ≡ option_map (kept_or_new slack (item_of a q)) (item_of direct q) → item_of (map (chosen slack a) (e ∷ direct)) q ≡ option_map (kept_or_new slack (item_of a q)) (item_of (e ∷ direct) q)
-chosen_case slack a direct e q true h rest = rw h (ap (λ k. Some (kept_or_new slack (item_of a k) e.1)) (sym (one_key q e.0 h)))
+chosen_case : (slack : ℤ) (a direct : Items) (e : Key × Item) (q : Key) (t : Bool) → tied q e.0 ≡ t → item_of (map (chosen slack a) direct) q ≡ option_map (acknowledged_if_near slack (item_of a q)) (item_of direct q) → item_of (map (chosen slack a) (e ∷ direct)) q ≡ option_map (acknowledged_if_near slack (item_of a q)) (item_of (e ∷ direct) q)
+chosen_case slack a direct e q true h rest = rw h (ap (λ k. Some (acknowledged_if_near slack (item_of a k) e.1)) (sym (one_key q e.0 h)))
 chosen_case slack a direct e q false h rest = rw h rest
 
 -- the target has of each key the chosen one of its items
-item_chosen : (slack : ℤ) (a direct : Items) (q : Key) → item_of (map (chosen slack a) direct) q ≡ option_map (kept_or_new slack (item_of a q)) (item_of direct q)
+item_chosen : (slack : ℤ) (a direct : Items) (q : Key) → item_of (map (chosen slack a) direct) q ≡ option_map (acknowledged_if_near slack (item_of a q)) (item_of direct q)
 item_chosen slack a [] q = refl
 item_chosen slack a (e ∷ direct) q = chosen_case slack a direct e q (tied q e.0) refl (item_chosen slack a direct q)
 
-kept_is_near : (slack : ℤ) (held : Item) (listed : Item) (t : Bool) → is_near slack held listed ≡ t → is_near slack (kept_or_new slack (Some held) listed) listed ≡ true
+kept_is_near : (slack : ℤ) (held : Item) (listed : Item) (t : Bool) → is_near slack held listed ≡ t → is_near slack (acknowledged_if_near slack (Some held) listed) listed ≡ true
 kept_is_near slack held listed true h = rw (h, h) refl
 kept_is_near slack held listed false h = rw h (near_itself slack listed)
 
-chosen_is_near : (slack : ℤ) (held : Option Item) (listed : Item) → is_near slack (kept_or_new slack held listed) listed ≡ true
+chosen_is_near : (slack : ℤ) (held : Option Item) (listed : Item) → is_near slack (acknowledged_if_near slack held listed) listed ≡ true
 chosen_is_near slack None listed = near_itself slack listed
 chosen_is_near slack (Some held) listed = kept_is_near slack held listed (is_near slack held listed) refl
 
-agree_chosen : (slack : ℤ) (held : Option Item) (listed : Option Item) → option_eq (is_near slack) (option_map (kept_or_new slack held) listed) listed ≡ true
+agree_chosen : (slack : ℤ) (held : Option Item) (listed : Option Item) → option_eq (is_near slack) (option_map (acknowledged_if_near slack held) listed) listed ≡ true
 agree_chosen slack held None = refl
 agree_chosen slack held (Some listed) = chosen_is_near slack held listed
 

@@ -14,9 +14,9 @@ use Rattle.siri_records.specs.declared.item.Item.{Item}
 use Rattle.siri_records.specs.Near.{is_near}
 use Rattle.siri_records.specs.Order.{key_cmp}
 use Rattle.siri_records.proofs.Order.{key_cmp_exact, key_cmp_same}
-use Rattle.siri_change.specs.Views.{Items, InOrder, item_of}
+use Rattle.siri_records.specs.Keyed.{Items, InOrder, item_of, with_item, KeyChange, after_change, apply}
 use Rattle.siri_change.specs.Same.{is_same}
-use Rattle.siri_change.specs.Changes.{KeyChange, with_item, keys_of_both, agree_on, Meets, meets, changes, after_change, apply}
+use Rattle.siri_change.specs.Changes.{keys_of_both, agree_on, Meets, meets, changes}
 use Rattle.std.proofs.lemmas.Bool.{and_parts, and_from}
 use Rattle.siri_change.proofs.SameItems.{same_exact}
 use Rattle.siri_change.proofs.Walks.{Above, reversed, above_trans, above_with, none_below, item_here, changes_on, on_same, on_changed}

@@ -1,7 +1,6 @@
-pub mod Edited
-pub mod Found
+pub mod Carriage
 pub mod InParts
 pub mod Leads
-pub mod Placed
 pub mod SameItems
+pub mod Viewed
 pub mod Walks

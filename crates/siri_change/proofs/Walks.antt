@@ -12,10 +12,10 @@ use Rattle.siri_records.specs.declared.item.Item.{Item}
 use Rattle.siri_records.specs.Near.{is_near}
 use Rattle.siri_records.specs.Order.{key_cmp}
 use Rattle.siri_records.proofs.Order.{key_cmp_total, key_cmp_exact, key_cmp_same}
-use Rattle.siri_change.specs.Views.{Items, InOrder, item_of}
+use Rattle.siri_records.specs.Keyed.{Items, InOrder, item_of, with_item, KeyChange}
 use Rattle.siri_change.specs.Same.{is_same}
-use Rattle.siri_change.specs.Changes.{KeyChange, with_item, keys_of_both, agree_on, meets, kept_or_new, target, changes}
-use Rattle.siri_change.proofs.Placed.{drop_at, drop_past, take_at, take_past, keys_append}
+use Rattle.siri_change.specs.Changes.{keys_of_both, agree_on, meets, acknowledged_if_near, target, changes}
+use Rattle.siri_records.proofs.Placed.{drop_at, drop_past, take_at, take_past, keys_append}
 
 -- ---- keys above one
 
@@ -276,7 +276,7 @@ unmet_shorter slack a b i f t is also =
 -- ---- the target, item by item
 
 abbrev pub chosen : ℤ → Items → Key × Item → Key × Item
-chosen slack acknowledged entry = (entry.0, kept_or_new slack (item_of acknowledged entry.0) entry.1)
+chosen slack acknowledged entry = (entry.0, acknowledged_if_near slack (item_of acknowledged entry.0) entry.1)
 
 pub keys_chosen : (slack : ℤ) (acknowledged l : Items) → keys_of (map (chosen slack acknowledged) l) ≡ keys_of l
 keys_chosen slack acknowledged [] = refl
@@ -308,7 +308,7 @@ next_in_order slack acknowledged direct target i e k s is so_far same =
     ∙ (sym (keys_append (take i direct) e) ∙ ap keys_of (sym (take_at direct i e (sym is))))) in
     rw keys (order_taken direct (i + 1) s)
 
-pub chosen_next : (slack : ℤ) (acknowledged direct target more : Items) (i : ℕ) (e : Key × Item) (k : Key) (x : Item) → Some e ≡ slice_get direct i → target ≡ map (chosen slack acknowledged) (take i direct) → more ≡ target ++ (k, x) ∷ [] → k ≡ e.0 → x ≡ kept_or_new slack (item_of acknowledged e.0) e.1 → more ≡ map (chosen slack acknowledged) (take (i + 1) direct)
+pub chosen_next : (slack : ℤ) (acknowledged direct target more : Items) (i : ℕ) (e : Key × Item) (k : Key) (x : Item) → Some e ≡ slice_get direct i → target ≡ map (chosen slack acknowledged) (take i direct) → more ≡ target ++ (k, x) ∷ [] → k ≡ e.0 → x ≡ acknowledged_if_near slack (item_of acknowledged e.0) e.1 → more ≡ map (chosen slack acknowledged) (take (i + 1) direct)
 chosen_next slack acknowledged direct target more i e k x is so_far one same which =
     one
     ∙ ((λ t. so_far t ++ (same t, which t) ∷ [])

@@ -3,22 +3,12 @@
 use Rattle.std.specs.Prelude.{◌≡◌, ℤ, Bool, true, not, List, map, filter, fold, Option, Some, None, is_some, if◌then◌else◌}
 use Rattle.std.specs.List.{list_all}
 use Rattle.std.specs.Option.{option_eq}
-use Rattle.std.specs.Map.{keys_of, remove_entry}
-use Rattle.std.specs.BTreeMap.{insert_entry, is_at}
+use Rattle.std.specs.Map.{keys_of}
 use Rattle.siri_records.specs.declared.key.Key.{Key}
 use Rattle.siri_records.specs.declared.item.Item.{Item}
 use Rattle.siri_records.specs.Near.{is_near}
-use Rattle.siri_records.specs.Order.{key_cmp}
-use Rattle.siri_change.specs.Views.{Items, item_of}
+use Rattle.siri_records.specs.Keyed.{Items, item_of, with_item, KeyChange}
 use Rattle.siri_change.specs.Same.{is_same}
-
--- a key with its new item, or with none where it is removed
-abbrev pub KeyChange : Type 0
-KeyChange = Key × Option Item
-
--- a view with an item as the one of its key
-abbrev pub with_item : Items → Key × Item → Items
-with_item view entry = insert_entry key_cmp view entry.0 entry.1
 
 -- the keys of either view, in order
 abbrev pub keys_of_both : Items → Items → List Key
@@ -42,26 +32,17 @@ meets slack view list = list_all (agree_on (is_near slack) view list) (keys_of_b
 -- ---- the target of a round
 
 -- the acknowledged item of a key where there is one and it is near, else the new one
-abbrev pub kept_or_new : ℤ → Option Item → Item → Item
-kept_or_new slack None listed = listed
-kept_or_new slack (Some held) listed = if is_near slack held listed then held else listed
+abbrev pub acknowledged_if_near : ℤ → Option Item → Item → Item
+acknowledged_if_near slack None listed = listed
+acknowledged_if_near slack (Some held) listed = if is_near slack held listed then held else listed
 
 -- the direct response itself, or for incremental updates, for each of its items the acknowledged one that is near
 abbrev pub target : ℤ → Bool → Items → Items → Items
 target slack incremental acknowledged direct =
-    if incremental then map (λ entry. (entry.0, kept_or_new slack (item_of acknowledged entry.0) entry.1)) direct else direct
+    if incremental then map (λ entry. (entry.0, acknowledged_if_near slack (item_of acknowledged entry.0) entry.1)) direct else direct
 
 -- ---- changes
 
 -- in order of key, each key on which two views differ, with the item that the second has of it or none
 abbrev pub changes : Items → Items → List KeyChange
 changes before after = map (λ key. (key, item_of after key)) (filter (λ key. not (agree_on is_same before after key)) (keys_of_both before after))
-
--- a view after a change of one key
-abbrev pub after_change : Items → KeyChange → Items
-after_change view (key, None) = remove_entry (is_at (key_cmp key)) view
-after_change view (key, Some item) = insert_entry key_cmp view key item
-
--- a view after changes, one after the other
-abbrev pub apply : Items → List KeyChange → Items
-apply view list = fold after_change view list

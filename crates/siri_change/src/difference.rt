@@ -5,12 +5,13 @@ ghost use Rattle.siri_records.specs.Near.{is_near};
 ghost use Rattle.siri_records.specs.Order.{key_cmp};
 ghost use Rattle.siri_change.specs.Changes as definition;
 
-use crate::entries::{Entry, compare};
 use crate::{Change, View, same};
 use siri_base::{Copies, List, OutOfMemory, Span};
-use siri_records::{Item, near};
+use siri_records::{Item, Key, near};
 use std::cmp::Ordering;
 use std::rc::Rc;
+
+type Entry = (Key, Rc<Item>);
 
 /// Whether two views differ: they don't have the same keys, or the two items of some key aren't near with the slack. It
 /// goes over both once and takes no memory.
@@ -31,6 +32,12 @@ pub fn differ(view: &View, wanted: &View, slack: Span) -> bool
         }
         place += 1;
     }
+}
+
+fn compare(a: &Key, b: &Key) -> Ordering
+    ensures { result ≡ key_cmp a.now b.now }
+{
+    a.cmp(b)
 }
 
 // Whether two entries have one key and near items.
@@ -60,7 +67,7 @@ pub fn target(
         match direct.entry(place) {
             None => return Ok(target),
             Some(entry) => {
-                let item = kept_or_new(acknowledged.get(&entry.0), &entry.1, slack);
+                let item = acknowledged_if_near(acknowledged.get(&entry.0), &entry.1, slack);
                 target.push_last(entry.0.copy()?, item.clone()?)?;
             }
         }
@@ -69,8 +76,12 @@ pub fn target(
 }
 
 // The acknowledged item of a key where there is one and it is near, else the new one.
-fn kept_or_new<'a>(held: Option<&'a Rc<Item>>, new: &'a Rc<Item>, slack: Span) -> &'a Rc<Item>
-    ensures { result.now.value ≡ definition.kept_or_new slack (option_map (λ item. item.now.value) held.entry) new.now.value }
+fn acknowledged_if_near<'a>(
+    held: Option<&'a Rc<Item>>,
+    new: &'a Rc<Item>,
+    slack: Span,
+) -> &'a Rc<Item>
+    ensures { result.now.value ≡ definition.acknowledged_if_near slack (option_map (λ item. item.now.value) held.entry) new.now.value }
 {
     match held {
         Some(held) if near(held, new, slack) => held,

@@ -1,10 +1,12 @@
 // What follows from the definitions of views and changes.
-ghost use Rattle.std.specs.Prelude.{◌≡◌, ◌↔◌, ◌<◌, ◌≤◌, ℤ, Bool, true, List, length};
+ghost use Rattle.std.specs.Prelude.{◌≡◌, ◌↔◌, ◌<◌, ◌≤◌, ℕ, ℤ, Bool, true, List, [], length, map, flat_map, slice_get, Option, Some, None};
 ghost use Rattle.siri_records.specs.declared.item.Item.{Item};
-ghost use Rattle.siri_change.specs.Views.{Items, InOrder};
+ghost use Rattle.siri_records.specs.declared.key.Key.{Key};
+ghost use Rattle.siri_records.specs.Keyed.{Items, InOrder, KeyChange, after_change, apply};
 ghost use Rattle.siri_change.specs.Same.{is_same};
-ghost use Rattle.siri_change.specs.Changes.{KeyChange, Meets, meets, target, changes, after_change, apply};
-ghost use Rattle.siri_change.specs.Parts.{load, ground, parts_of, apply_parts};
+ghost use Rattle.siri_change.specs.Changes.{Meets, meets, target, changes};
+ghost use Rattle.siri_change.specs.Views.{is_keyed, is_view, is_keyed_change, are_keyed};
+ghost use Rattle.siri_change.specs.Parts.{load, base_view, part_after, parts_count, parts_of, as_sent, apply_parts, Carried, carried, changes_in, apply_carried};
 
 /// A law, which does nothing when it is called: two items pass the test of sameness exactly where they are equal.
 pub fn same_items_are_equal()
@@ -24,7 +26,7 @@ pub fn changes_lead_to_the_view()
 /// A law: what a round carries leads to its target part by part, though of each part the items are made before the
 /// removals. There is at least one part, and at most 400 where neither view has more than 20,000 items.
 pub fn parts_lead_to_the_target()
-    ensures whole { (acknowledged target : Items) (incremental : Bool) → InOrder acknowledged → InOrder target → apply_parts (ground acknowledged incremental) (parts_of (load acknowledged target incremental)) ≡ target }
+    ensures whole { (acknowledged target : Items) (incremental : Bool) → InOrder acknowledged → InOrder target → apply_parts (base_view acknowledged incremental) (parts_of (load acknowledged target incremental)) ≡ target }
     ensures some_part { (list : List KeyChange) → 0 < length (parts_of list) }
     ensures few_parts { (acknowledged target : Items) (incremental : Bool) → length acknowledged ≤ 20000 → length target ≤ 20000 → length (parts_of (load acknowledged target incremental)) ≤ 400 }
 {}
@@ -35,9 +37,59 @@ pub fn targets_meet_the_response()
     ensures { (slack : ℤ) (incremental : Bool) (acknowledged direct : Items) → meets slack (target slack incremental acknowledged direct) direct ≡ true }
 {}
 
-/// A law: changes keep a view in order, and a target is in order and as long as the direct response.
+/// A law: changes keep a view in order, one or many, and a target is in order and as long as the direct response.
 pub fn views_stay_in_order()
+    ensures changes { (view : Items) (list : List KeyChange) → InOrder view → InOrder (apply view list) }
     ensures change { (view : Items) (change : KeyChange) → InOrder view → InOrder (after_change view change) }
     ensures target { (slack : ℤ) (incremental : Bool) (acknowledged direct : Items) → InOrder direct → InOrder (target slack incremental acknowledged direct) }
     ensures length { (slack : ℤ) (incremental : Bool) (acknowledged direct : Items) → length (target slack incremental acknowledged direct) ≡ length direct }
+{}
+
+/// A law: the parts of a list, joined in order, are the list. Each is the next hundred of it, and none has more than 100.
+pub fn parts_are_the_list<A>()
+    ensures joined { (list : List A) → flat_map (λ part. part) (parts_of list) ≡ list }
+    ensures count { (list : List A) → length (parts_of list) ≡ parts_count list }
+    ensures each { (list : List A) (place : ℕ) → place < parts_count list → slice_get (parts_of list) place ≡ Some (part_after list place) }
+    ensures most { (list : List A) (place : ℕ) → length (part_after list place) ≤ 100 }
+{}
+
+/// A law: parts that are made one after the other are all their changes, joined and made at once; so are parts as they
+/// are carried.
+pub fn parts_are_made_as_one()
+    ensures sent { (view : Items) (parts : List (List KeyChange)) → apply_parts view parts ≡ apply view (flat_map as_sent parts) }
+    ensures carried { (view : Items) (parts : List Carried) → apply_carried view parts ≡ apply view (flat_map changes_in parts) }
+{}
+
+/// A law: what a part carries, items without their keys and removals, are its changes, where each of its items is under
+/// its own key.
+pub fn items_carry_their_keys()
+    ensures part { (part : List KeyChange) → are_keyed part ≡ true → changes_in (carried part) ≡ as_sent part }
+    ensures load { (acknowledged target : Items) (incremental : Bool) → is_keyed target ≡ true → are_keyed (load acknowledged target incremental) ≡ true }
+{}
+
+/// A law: what a round's parts carry leads to its target, one after the other, where its items are under their own keys.
+/// There is at least one part, and of views at most 400.
+pub fn carried_parts_lead_to_the_target()
+    ensures whole { (acknowledged target : Items) (incremental : Bool) → InOrder acknowledged → InOrder target → is_keyed target ≡ true
+        → apply_carried (base_view acknowledged incremental) (map carried (parts_of (load acknowledged target incremental))) ≡ target }
+    ensures of_views { (acknowledged target : Items) (incremental : Bool) → is_view acknowledged ≡ true → is_view target ≡ true
+        → apply_carried (base_view acknowledged incremental) (map carried (parts_of (load acknowledged target incremental))) ≡ target }
+    ensures some_part { (acknowledged target : Items) (incremental : Bool) → 0 < length (map carried (parts_of (load acknowledged target incremental))) }
+    ensures few_parts { (acknowledged target : Items) (incremental : Bool) → is_view acknowledged ≡ true → is_view target ≡ true
+        → length (map carried (parts_of (load acknowledged target incremental))) ≤ 400 }
+{}
+
+/// A law: the test of a view says that it is in order of key, each item under its own, and has at most 20,000.
+pub fn views_are_tested()
+    ensures { (view : Items) → (is_view view ≡ true) ↔ (InOrder view × (is_keyed view ≡ true) × (length view ≤ 20000)) }
+{}
+
+/// A law: a view stays one. The empty one is; after a removal it is; after an item of its own key, and after what a part
+/// carries, it is while it has at most 20,000; the target of two views is.
+pub fn views_stay_views()
+    ensures empty { is_view [] ≡ true }
+    ensures removal { (view : Items) (key : Key) → is_view view ≡ true → is_view (after_change view (key, None)) ≡ true }
+    ensures change { (view : Items) (change : KeyChange) → is_view view ≡ true → is_keyed_change change ≡ true → length (after_change view change) ≤ 20000 → is_view (after_change view change) ≡ true }
+    ensures part { (view : Items) (part : Carried) → is_view view ≡ true → length (apply view (changes_in part)) ≤ 20000 → is_view (apply view (changes_in part)) ≡ true }
+    ensures target { (slack : ℤ) (incremental : Bool) (acknowledged direct : Items) → is_view acknowledged ≡ true → is_view direct ≡ true → is_view (target slack incremental acknowledged direct) ≡ true }
 {}

@@ -1,15 +1,13 @@
 // Views of current items.
-ghost use Rattle.std.specs.Prelude.{◌≡◌, vec_len, [], ◌∷◌, ◌++◌, length, option_map, slice_get, ◌+◌, ◌<◌, ◌^◌, IsNone, IsSome, IsOk, OnSome, OnOk, OnErr, IfOk};
+ghost use Rattle.std.specs.Prelude.{◌≡◌, [], ◌∷◌, ◌++◌, length, option_map, slice_get, ◌+◌, ◌<◌, ◌^◌, IsNone, IsSome, IsOk, OnSome, OnOk, OnErr};
 ghost use Rattle.std.specs.List.Sorted.{IsStrictlySortedBy};
 ghost use Rattle.std.specs.Map.{keys_of};
 ghost use Rattle.siri_records.specs.Order.{key_cmp};
-ghost use Rattle.siri_change.specs.Views.{InOrder, item_of, deref_entry};
-ghost use Rattle.siri_change.specs.Changes.{after_change, apply};
+ghost use Rattle.siri_records.specs.Keyed.{InOrder, item_of, deref_entry, after_change, apply};
 
 use crate::Change;
-use crate::entries::{Entry, find, make};
 use siri_base::{Copies, List, OutOfMemory};
-use siri_records::{Item, Key};
+use siri_records::{Item, Key, KeyedItems};
 use std::alloc::Global;
 use std::marker::Model;
 use std::rc::Rc;
@@ -17,17 +15,15 @@ use std::rc::Rc;
 /// Shared items by their keys. Contracts see the keys with the items themselves, in order of key, each key once.
 #[derive(Drop)]
 pub struct View {
-    entries: Vec<(Key, Rc<Item>)>,
+    items: KeyedItems,
 }
 
 impl Model for View {
-    ghost use Rattle.siri_change.specs.Views.{Items, InOrder, entries_view};
+    ghost use Rattle.siri_records.specs.Keyed.{Items};
 
     ghost Value = { Items };
 
-    ghost view = { λ s. entries_view s.entries.items };
-
-    ghost invariant = { λ s. InOrder s.entries.items };
+    ghost view = { λ v. v.items };
 }
 
 impl View {
@@ -36,7 +32,7 @@ impl View {
         ensures { result ≡ [] }
     {
         View {
-            entries: Vec::new(alloc),
+            items: KeyedItems::new(alloc),
         }
     }
 
@@ -45,17 +41,14 @@ impl View {
         ensures number { result ≡ length self.now }
         ensures ordered { InOrder self.now }
     {
-        self.entries.len()
+        self.items.len()
     }
 
     /// The item of a key.
     pub fn get(&self, key: &Key) -> Option<&Rc<Item>>
         ensures { option_map (λ item. item.now.value) result ≡ item_of self.now key.now }
     {
-        match find(&self.entries, key) {
-            Ok(at) => Some(&self.entries[at].1),
-            Err(_) => None,
-        }
+        self.items.get(key)
     }
 
     /// The item at a place in order of key, counted from 0, or `None` exactly where the place isn't below the length.
@@ -75,10 +68,7 @@ impl View {
         ensures small { OnSome result (place + 1 < 2 ^ 64) }
         ensures ordered { InOrder self.now }
     {
-        match self.entries.get(place) {
-            Some(entry) => Some(entry),
-            None => None,
-        }
+        self.items.entry(place)
     }
 
     /// Makes a change: an item becomes the one of its key, and a removal removes the key, where it is held. After want of
@@ -89,7 +79,16 @@ impl View {
         ensures removal { IsNone change.1 → IsOk result }
         ensures held { IsSome (item_of self.old change.0) → IsOk result }
     {
-        make(&mut self.entries, change)
+        self.items.change(change)
+    }
+
+    /// Makes changes, one after the other, as of all parts of a round. The memory for all of them is taken before the
+    /// first: after want of memory the view is as before.
+    pub fn put_changes(&mut self, list: List<Change>) -> Result<(), OutOfMemory>
+        ensures ok { OnOk result (self.new ≡ apply self.old list) }
+        ensures err { OnErr result (self.new ≡ self.old) }
+    {
+        self.items.change_all(list)
     }
 
     /// Puts an item at the end: its key is above those that are held. After want of memory the view is as before.
@@ -98,42 +97,26 @@ impl View {
         ensures ok { OnOk result (self.new ≡ self.old ++ (key, item.value) ∷ []) }
         ensures err { OnErr result (self.new ≡ self.old) }
     {
-        self.entries.push((key, item))?;
-        Ok(())
+        self.items.push_last(key, item)
     }
 
     pub(crate) fn allocator(&self) -> Global {
-        *self.entries.allocator()
+        self.items.allocator()
     }
 }
 
-/// Makes changes, one after the other. After want of memory the view is as before.
+/// Makes changes, one after the other, and leaves them to the caller. After want of memory the view is as before.
 pub fn patch(view: &mut View, list: &List<Change>) -> Result<(), OutOfMemory>
     ensures ok { OnOk result (view.new ≡ apply view.old list.now) }
     ensures err { OnErr result (view.new ≡ view.old) }
 {
-    let ready = list.copy()?.into_vec();
-    view.entries.reserve(ready.len())?;
-    for change in ready {
-        make(&mut view.entries, change)?;
-    }
-    Ok(())
+    view.put_changes(list.copy()?)
 }
 
 impl Copies for View {
     fn copy(&self) -> Result<Self, OutOfMemory> {
-        let mut entries = Vec::new(self.allocator());
-        for entry in &self.entries {
-            entries.push(copy_entry(entry)?)?;
-        }
-        Ok(View { entries })
+        Ok(View {
+            items: self.items.copy()?,
+        })
     }
-}
-
-// The same shared item under a copy of its key.
-fn copy_entry(entry: &Entry) -> Result<Entry, OutOfMemory>
-    ensures { IfOk result (λ copy. (copy.0 ≡ entry.now.0) × (copy.1.value ≡ entry.now.1.value)) }
-{
-    let item = entry.1.clone()?;
-    Ok((entry.0.copy()?, item))
 }

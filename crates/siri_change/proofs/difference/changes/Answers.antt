@@ -1,6 +1,6 @@
 use Rattle.std.proofs.Common.{◌≡◌, ◌∙◌, ap, sym, arith, ◌++◌, append-nil}
-use Rattle.siri_change.specs.Views.{deref_entry}
-use Rattle.siri_change.proofs.Placed.{below_length}
+use Rattle.siri_records.specs.Keyed.{deref_entry}
+use Rattle.siri_records.proofs.Placed.{below_length}
 use Rattle.siri_change.proofs.Walks.{reversed, above_from, above_past, removed_at, added_at, kept_at, replaced_at, none_left, written}
 use Rattle.std.specs.declared.cmp.Ordering.TheVariants.{Greater}
 use Rattle.siri_change.specs.Same.{is_same}

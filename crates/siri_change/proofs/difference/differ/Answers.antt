@@ -1,6 +1,6 @@
 use Rattle.std.proofs.Common.{◌∙◌, ap, sym, arith, not}
-use Rattle.siri_change.specs.Views.{deref_entry}
-use Rattle.siri_change.proofs.Placed.{below_length}
+use Rattle.siri_records.specs.Keyed.{deref_entry}
+use Rattle.siri_records.proofs.Placed.{below_length}
 use Rattle.siri_change.proofs.Walks.{met_past, unmet_longer, unmet_shorter, apart_here, met_here}
 use Rattle.siri_change.proofs.difference.differ.Goals as goal
 

@@ -1,7 +1,7 @@
 use Rattle.std.proofs.Common.{◌∙◌, ap, sym, arith}
-use Rattle.siri_change.specs.Views.{deref_entry}
-use Rattle.siri_change.specs.Changes.{kept_or_new}
-use Rattle.siri_change.proofs.Placed.{below_length}
+use Rattle.siri_records.specs.Keyed.{deref_entry}
+use Rattle.siri_change.specs.Changes.{acknowledged_if_near}
+use Rattle.siri_records.proofs.Placed.{below_length}
 use Rattle.siri_change.proofs.Walks.{all_chosen, next_in_order, chosen_next}
 use Rattle.siri_change.proofs.difference.target.Goals as goal
 
@@ -17,7 +17,7 @@ loop-target-smaller c =
 pub loop-target-preserved : goal.loop-target-preserved
 loop-target-preserved c =
     let e = deref_entry c.in-Some.entry in
-    let which = c.in_ok-clone-in-Some.ensures.cases ∙ (c.kept_or_new-item.ensures ∙ ap (λ held. kept_or_new c.args.slack held e.1) c.get.ensures) in
+    let which = c.in_ok-clone-in-Some.ensures.cases ∙ (c.acknowledged_if_near-item.ensures ∙ ap (λ held. acknowledged_if_near c.args.slack held e.1) c.get.ensures) in
     chosen_next c.args.slack c.args.acknowledged.now c.args.direct.now c.loop-target.target _ c.loop-target.place e c.in_ok-copy-in-Some.field-0 c.in_ok-clone-in-Some.field-0.value
     c.in-Some.ensures.entry c.loop-target.invariant c.in_ok-push_last-in-Some.ensures.ok c.in_ok-copy-in-Some.ensures which
 

@@ -1,6 +1,9 @@
 use Rattle.siri_change.proofs.InParts.{target_order, target_length}
-use Rattle.siri_change.proofs.Leads.{order_after}
+use Rattle.siri_change.proofs.Leads.{order_after, order_applied}
 use Rattle.siri_change.proofs.laws.views_stay_in_order.Goals as goal
+
+pub returns-clause-changes : goal.returns-clause-changes
+returns-clause-changes c = order_applied
 
 pub returns-clause-change : goal.returns-clause-change
 returns-clause-change c = order_after

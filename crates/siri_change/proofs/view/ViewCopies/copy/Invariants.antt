@@ -1,7 +1,0 @@
-use Rattle.std.proofs.Common.{◌≡◌, take}
-use Rattle.siri_change.specs.Views.{entries_view}
-use Rattle.siri_change.proofs.view.ViewCopies.copy.Given as goal
-
--- the entries so far are copied
-abbrev pub invariant-loop-entry : goal.invariant-loop-entry
-invariant-loop-entry l = entries_view l.entries.items ≡ take l.entry-index (entries_view l.entry-items)
