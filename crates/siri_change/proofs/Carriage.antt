@@ -1,16 +1,15 @@
 -- Parts as a message carries them.
-use Rattle.std.proofs.Common.{◌≡◌, ℕ, zero, suc, ◌+◌, ◌*◌, ◌<◌, ◌≤◌, List, [], ◌∷◌, ◌++◌, length, map, filter, fold, take, drop, Bool, true, false, not, ◌&&◌, Option, Some, None, slice_get, option_map, refl, ap, sym, ◌∙◌, arith}
+use Rattle.std.proofs.Common.{◌≡◌, ℕ, zero, suc, ◌+◌, ◌*◌, ◌<◌, ◌≤◌, List, [], ◌∷◌, ◌++◌, length, map, filter, fold, take, drop, Bool, true, not, Some, None, slice_get, option_map, refl, ap, sym, ◌∙◌, arith}
 use Rattle.std.specs.List.{AllByRecursion, filter_map, flat_map, list_all, range_with_len}
 use Rattle.std.specs.Map.{keys_of}
 use Rattle.std.proofs.lemmas.Bool.{and_parts, and_from}
 use Rattle.std.proofs.lemmas.List.{length-take}
 use Rattle.std.proofs.lemmas.Option.{slice_get-map}
 use Rattle.siri_records.specs.declared.key.Key.{Key}
-use Rattle.siri_records.specs.declared.item.Item.{Item}
 use Rattle.siri_records.specs.Keys.{key_of}
-use Rattle.siri_records.specs.Keyed.{Items, InOrder, KeyChange, after_change, apply}
+use Rattle.siri_records.specs.Keyed.{Items, InOrder, KeyChange, apply}
 use Rattle.siri_change.specs.Views.{is_keyed, is_view, is_keyed_change, are_keyed}
-use Rattle.siri_change.specs.Parts.{load, base_view, part_after, parts_count, parts_of, has_item, as_sent, apply_parts, Carried, carried, changes_in, apply_carried}
+use Rattle.siri_change.specs.Parts.{load, base_view, part_after, parts_count, parts_of, has_item, as_sent, apply_parts, carried, changes_in, apply_carried}
 use Rattle.siri_change.proofs.Leads.{tied, one_key}
 use Rattle.siri_change.proofs.InParts.{applied_append, load_leads, load_few, length_map, some_part}
 use Rattle.siri_change.proofs.Viewed.{load_keyed, view_parts}

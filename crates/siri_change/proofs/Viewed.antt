@@ -1,5 +1,5 @@
 -- The test of a view, and what keeps it.
-use Rattle.std.proofs.Common.{◌≡◌, ◌≤◌, List, [], ◌∷◌, ◌++◌, length, map, filter, fold, Bool, true, false, cond, not, ◌&&◌, Option, Some, None, refl, ap, sym, ◌∙◌, subst, arith}
+use Rattle.std.proofs.Common.{◌≡◌, ◌≤◌, List, [], ◌∷◌, ◌++◌, length, map, Bool, true, false, cond, ◌&&◌, Option, Some, None, refl, ap, sym, ◌∙◌, arith}
 use Rattle.std.specs.Prelude.{◌↔◌, ℤ, nat_le}
 use Rattle.std.specs.List.{list_all}
 use Rattle.std.specs.List.Sorted.{IsStrictlySortedBy}
@@ -15,9 +15,9 @@ use Rattle.siri_records.specs.Keys.{key_of}
 use Rattle.siri_records.specs.Near.{is_near}
 use Rattle.siri_records.specs.Order.{key_cmp}
 use Rattle.siri_records.proofs.Order.{key_cmp_exact, key_cmp_same}
-use Rattle.siri_records.specs.Keyed.{Items, InOrder, item_of, KeyChange, after_change, apply}
-use Rattle.siri_change.specs.Views.{is_in_order, is_keyed, most_items, is_view, is_keyed_change, are_keyed}
-use Rattle.siri_change.specs.Changes.{acknowledged_if_near, keys_of_both, target, changes}
+use Rattle.siri_records.specs.Keyed.{Items, InOrder, item_of, KeyChange, after_change, apply, most_live}
+use Rattle.siri_change.specs.Views.{is_in_order, is_keyed, is_view, is_keyed_change, are_keyed}
+use Rattle.siri_change.specs.Changes.{acknowledged_if_near, target}
 use Rattle.siri_change.specs.Parts.{whole, load, Carried, changes_in}
 use Rattle.siri_change.proofs.Walks.{Above, chosen}
 use Rattle.siri_change.proofs.Leads.{tied, one_key, order_after, order_applied}
@@ -64,14 +64,14 @@ pub record IsView (view : Items) : Type 0 where
 
 pub view_parts : (view : Items) → is_view view ≡ true → IsView view
 view_parts view t =
-    let both = and_parts (is_in_order view) (is_keyed view && nat_le (length view) most_items) t in
-    let rest = and_parts (is_keyed view) (nat_le (length view) most_items) both.1 in
-    record { ordered = order_from view both.0; keyed = rest.0; small = leb-true (length view) most_items rest.1 }
+    let both = and_parts (is_in_order view) (is_keyed view && nat_le (length view) most_live) t in
+    let rest = and_parts (is_keyed view) (nat_le (length view) most_live) both.1 in
+    record { ordered = order_from view both.0; keyed = rest.0; small = leb-true (length view) most_live rest.1 }
 
 pub view_from : (view : Items) → IsView view → is_view view ≡ true
 view_from view v =
-    and_from (is_in_order view) (is_keyed view && nat_le (length view) most_items) (order_test view v.ordered)
-    (and_from (is_keyed view) (nat_le (length view) most_items) v.keyed (le-leb (length view) most_items v.small))
+    and_from (is_in_order view) (is_keyed view && nat_le (length view) most_live) (order_test view v.ordered)
+    (and_from (is_keyed view) (nat_le (length view) most_live) v.keyed (le-leb (length view) most_live v.small))
 
 pub view_stated : (view : Items) → (is_view view ≡ true) ↔ (InOrder view × (is_keyed view ≡ true) × (length view ≤ 20000))
 view_stated view = (

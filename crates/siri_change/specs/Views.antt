@@ -1,11 +1,11 @@
 -- Views of current items: what a direct response, an acknowledged view and a target are.
-use Rattle.std.specs.Prelude.{ℕ, nat_le, Bool, true, ◌&&◌, List, [], ◌∷◌, length, Some, None}
+use Rattle.std.specs.Prelude.{nat_le, Bool, true, ◌&&◌, List, [], ◌∷◌, length, Some, None}
 use Rattle.std.specs.List.{list_all}
 use Rattle.std.specs.BTreeMap.{is_at}
 use Rattle.std.specs.Ordering.{is_lt}
 use Rattle.siri_records.specs.Keys.{key_of}
 use Rattle.siri_records.specs.Order.{key_cmp}
-use Rattle.siri_records.specs.Keyed.{Items, KeyChange}
+use Rattle.siri_records.specs.Keyed.{Items, KeyChange, most_live}
 
 -- each key is above those before it
 abbrev pub is_in_order : Items → Bool
@@ -16,13 +16,9 @@ is_in_order (entry ∷ view) = list_all (λ later. is_lt (key_cmp entry.0 later.
 abbrev pub is_keyed : Items → Bool
 is_keyed view = list_all (λ entry. is_at (key_cmp (key_of entry.1)) entry.0) view
 
--- how many items a view has at most: as many as may be current
-abbrev pub most_items : ℕ
-most_items = 20000
-
--- a view of current items: in order of key, each item under its own, and not too many
+-- a view of current items: in order of key, each item under its own, and no more than are live at once
 abbrev pub is_view : Items → Bool
-is_view view = is_in_order view && (is_keyed view && nat_le (length view) most_items)
+is_view view = is_in_order view && (is_keyed view && nat_le (length view) most_live)
 
 -- ---- changes
 
