@@ -12,7 +12,7 @@ use Rattle.siri_messages.specs.declared.subscriptions.SubscriptionResponse.{Subs
 use Rattle.siri_items.specs.Refusals.{Refusal, ◌>>=◌, refused}
 use Rattle.siri_items.specs.Rules.{name, text, moment, non_negative_span, number, flag, table, row, required_row, inside, list}
 use Rattle.siri_wire.specs.declared.names.TheConstants.{REQUEST_TIMESTAMP, REQUESTOR_REF, MESSAGE_IDENTIFIER, CONSUMER_ADDRESS, SUBSCRIPTION_CONTEXT, HEARTBEAT_INTERVAL, STOP_MONITORING_SUBSCRIPTION_REQUEST, ESTIMATED_TIMETABLE_SUBSCRIPTION_REQUEST, VEHICLE_MONITORING_SUBSCRIPTION_REQUEST, SITUATION_EXCHANGE_SUBSCRIPTION_REQUEST, SUBSCRIPTION_IDENTIFIER, INITIAL_TERMINATION_TIME, STOP_MONITORING_REQUEST, ESTIMATED_TIMETABLE_REQUEST, VEHICLE_MONITORING_REQUEST, SITUATION_EXCHANGE_REQUEST, INCREMENTAL_UPDATES, CHANGE_BEFORE_UPDATES, EXTENSIONS, DELIVERY_METHOD, RESPONSE_TIMESTAMP, REQUEST_MESSAGE_REF, RESPONSE_STATUS, SUBSCRIBER_REF, SUBSCRIPTION_REF, STATUS, VALID_UNTIL}
-use Rattle.siri_wire.specs.declared.read_subscriptions.Wanted.{Wanted}
+use Rattle.siri_wire.specs.declared.read_subscriptions.RequestedSubscriptions.{RequestedSubscriptions}
 use Rattle.siri_wire.specs.Errors.{error_condition}
 use Rattle.siri_wire.specs.Subscribers.{subscriber_or}
 use Rattle.siri_wire.specs.Topics.{subscribed_stop_topic, timetable_topic, vehicle_topic, situation_topic}
@@ -58,13 +58,13 @@ subscription s requestor d = do
 
 -- ---- requests
 
--- how often a heartbeat is wanted
+-- how often a heartbeat is requested
 unfoldable pub heartbeat_interval : Data → Result (Option ℤ) Refusal
 heartbeat_interval d = row (inside non_negative_span HEARTBEAT_INTERVAL.now) SUBSCRIPTION_CONTEXT.now d
 
--- what is wanted: the heartbeat, and the subscriptions of the four services
-unfoldable pub read_wanted_rows : Option (List ℕ) → Data → Result Wanted Refusal
-read_wanted_rows requestor d = do
+-- what is requested: the heartbeat, and the subscriptions of the four services
+unfoldable pub read_requested_rows : Option (List ℕ) → Data → Result RequestedSubscriptions Refusal
+read_requested_rows requestor d = do
   heartbeat_interval ← heartbeat_interval d
   stops ← list (table (subscription service.Stop requestor)) 200 STOP_MONITORING_SUBSCRIPTION_REQUEST.now d
   timetables ← list (table (subscription service.Timetable requestor)) 200 ESTIMATED_TIMETABLE_SUBSCRIPTION_REQUEST.now d
@@ -78,15 +78,15 @@ read_wanted_rows requestor d = do
     situations = situations;
   })
 
-abbrev pub wants_nothing : Wanted → Bool
-wants_nothing w = length w.stops == 0 && length w.timetables == 0 && length w.vehicles == 0 && length w.situations == 0
+abbrev pub requests_nothing : RequestedSubscriptions → Bool
+requests_nothing w = length w.stops == 0 && length w.timetables == 0 && length w.vehicles == 0 && length w.situations == 0
 
 -- a request for no subscription isn't carried
-abbrev pub unless_for_none : Wanted → Result Wanted Refusal
-unless_for_none w = if wants_nothing w then refused NotCarried else Ok w
+abbrev pub unless_for_none : RequestedSubscriptions → Result RequestedSubscriptions Refusal
+unless_for_none w = if requests_nothing w then refused NotCarried else Ok w
 
-unfoldable pub wanted : Option (List ℕ) → Data → Result Wanted Refusal
-wanted requestor d = read_wanted_rows requestor d >>= unless_for_none
+unfoldable pub requested : Option (List ℕ) → Data → Result RequestedSubscriptions Refusal
+requested requestor d = read_requested_rows requestor d >>= unless_for_none
 
 -- SubscriptionRequest: a request for subscriptions (EN 15531-2)
 unfoldable pub subscription_request : Data → Result SubscriptionRequest Refusal
@@ -95,17 +95,17 @@ subscription_request d = do
   requestor_ref ← row name REQUESTOR_REF.now d
   message_identifier ← required_row number MESSAGE_IDENTIFIER.now d
   consumer_address ← row name CONSUMER_ADDRESS.now d
-  wanted ← wanted requestor_ref d
+  requested ← requested requestor_ref d
   Ok (record {
     request_timestamp = request_timestamp;
     requestor_ref = requestor_ref;
     message_identifier = message_identifier;
     consumer_address = consumer_address;
-    heartbeat_interval = wanted.heartbeat_interval;
-    stop_monitoring_subscription_request = wanted.stops;
-    estimated_timetable_subscription_request = wanted.timetables;
-    vehicle_monitoring_subscription_request = wanted.vehicles;
-    situation_exchange_subscription_request = wanted.situations;
+    heartbeat_interval = requested.heartbeat_interval;
+    stop_monitoring_subscription_request = requested.stops;
+    estimated_timetable_subscription_request = requested.timetables;
+    vehicle_monitoring_subscription_request = requested.vehicles;
+    situation_exchange_subscription_request = requested.situations;
   })
 
 -- ---- answers

@@ -12,6 +12,7 @@
 mod document;
 mod encoding;
 mod kinds;
+mod laws;
 pub mod names;
 mod read_deliveries;
 mod read_error;
@@ -35,3 +36,4 @@ mod write_values;
 
 pub use document::{DecodeError, Refusal, decode};
 pub use encoding::encode;
+pub use laws::members_are_spelled;

@@ -5,7 +5,7 @@ ghost use Rattle.serde_json.specs.Data.{Data};
 ghost use Rattle.serde_json.specs.View.{view};
 ghost use Rattle.siri_items.specs.Refusals.{Gives, is_key};
 ghost use Rattle.siri_items.specs.Rules.{at_most, row, inside, required_value, entries_from, list_of, list, table};
-ghost use Rattle.siri_wire.specs.Subscriptions.{topic_of, slack_of, is_fetched, subscription, heartbeat_interval, read_wanted_rows, wants_nothing, wanted, subscription_request, response_status, subscription_response};
+ghost use Rattle.siri_wire.specs.Subscriptions.{topic_of, slack_of, is_fetched, subscription, heartbeat_interval, read_requested_rows, requests_nothing, requested, subscription_request, response_status, subscription_response};
 ghost use Rattle.siri_records.specs.declared.item.Service.TheVariants as service;
 
 use crate::names;
@@ -195,7 +195,7 @@ fn subscriptions(
 
 /// What a request for subscriptions asks for.
 #[derive(Drop)]
-pub struct Wanted {
+pub struct RequestedSubscriptions {
     /// The HeartbeatInterval of its SubscriptionContext.
     pub heartbeat_interval: Option<Span>,
     pub stops: List<Subscription>,
@@ -216,15 +216,15 @@ fn heartbeat_interval(alloc: Global, tree: &Value) -> Result<Option<Span>, ItemE
     )
 }
 
-#[tactic(auto, unfolding(crate::specs::Subscriptions::read_wanted_rows))]
-fn read_wanted_rows(
+#[tactic(auto, unfolding(crate::specs::Subscriptions::read_requested_rows))]
+fn read_requested_rows(
     alloc: Global,
     tree: &Value,
     requestor: &Option<Name>,
-) -> Result<Wanted, ItemError>
-    ensures { Gives result (read_wanted_rows requestor.now (view tree.now)) }
+) -> Result<RequestedSubscriptions, ItemError>
+    ensures { Gives result (read_requested_rows requestor.now (view tree.now)) }
 {
-    Ok(Wanted {
+    Ok(RequestedSubscriptions {
         heartbeat_interval: heartbeat_interval(alloc, tree)?,
         stops: subscriptions(
             alloc,
@@ -257,27 +257,27 @@ fn read_wanted_rows(
     })
 }
 
-fn wants_nothing(wanted: &Wanted) -> bool
-    ensures { result ≡ wants_nothing wanted.now }
+fn requests_nothing(requested: &RequestedSubscriptions) -> bool
+    ensures { result ≡ requests_nothing requested.now }
 {
-    wanted.stops.len() == 0
-        && wanted.timetables.len() == 0
-        && wanted.vehicles.len() == 0
-        && wanted.situations.len() == 0
+    requested.stops.len() == 0
+        && requested.timetables.len() == 0
+        && requested.vehicles.len() == 0
+        && requested.situations.len() == 0
 }
 
 /// What an object asks for in the name of this requestor, who subscribes where an element names no subscriber (EN
 /// 15531-2, SubscriptionRequest): `NotCarried` where it asks for no subscription.
-#[tactic(auto, unfolding(crate::specs::Subscriptions::wanted))]
-pub fn read_wanted(
+#[tactic(auto, unfolding(crate::specs::Subscriptions::requested))]
+pub fn read_requested(
     alloc: Global,
     tree: &Value,
     requestor: &Option<Name>,
-) -> Result<Wanted, ItemError>
-    ensures { Gives result (wanted requestor.now (view tree.now)) }
+) -> Result<RequestedSubscriptions, ItemError>
+    ensures { Gives result (requested requestor.now (view tree.now)) }
 {
-    let found = read_wanted_rows(alloc, tree, requestor)?;
-    if wants_nothing(&found) {
+    let found = read_requested_rows(alloc, tree, requestor)?;
+    if requests_nothing(&found) {
         return refuse(alloc, Reason::NotCarried);
     }
     Ok(found)
@@ -302,17 +302,17 @@ impl Table for SubscriptionRequestTable {
             names::MESSAGE_IDENTIFIER,
         )?;
         let consumer_address = row::<NameRule>(alloc, tree, names::CONSUMER_ADDRESS)?;
-        let wanted = read_wanted(alloc, tree, &requestor_ref)?;
+        let requested = read_requested(alloc, tree, &requestor_ref)?;
         Ok(SubscriptionRequest {
             request_timestamp,
             requestor_ref,
             message_identifier,
             consumer_address,
-            heartbeat_interval: wanted.heartbeat_interval,
-            stop_monitoring_subscription_request: wanted.stops,
-            estimated_timetable_subscription_request: wanted.timetables,
-            vehicle_monitoring_subscription_request: wanted.vehicles,
-            situation_exchange_subscription_request: wanted.situations,
+            heartbeat_interval: requested.heartbeat_interval,
+            stop_monitoring_subscription_request: requested.stops,
+            estimated_timetable_subscription_request: requested.timetables,
+            vehicle_monitoring_subscription_request: requested.vehicles,
+            situation_exchange_subscription_request: requested.situations,
         })
     }
 }

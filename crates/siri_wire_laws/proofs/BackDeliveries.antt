@@ -1,5 +1,5 @@
 -- What was written is read again: deliveries, a line a row.
-use Rattle.std.proofs.Common.{◌≡◌, ℕ, ◌+◌, ◌≤◌, inl, inr, Bool, true, false, nat_le, List, [], ◌∷◌, ◌++◌, length, map, Option, Some, None, Result, Ok, refl, sym, ap, ◌∙◌}
+use Rattle.std.proofs.Common.{◌≡◌, ℕ, ◌+◌, ◌≤◌, inl, inr, true, nat_le, List, [], ◌∷◌, length, map, Option, Some, None, Result, Ok, refl, sym, ap, ◌∙◌}
 use Rattle.std.specs.Prelude.{IfSome, is_some, option_and_then}
 use Rattle.std.specs.List.{filter_map, AllByRecursion}
 use Rattle.std.proofs.lemmas.Bool.{le-leb}
@@ -16,13 +16,13 @@ use Rattle.siri_records.specs.declared.key.Key.TheVariants as key
 use Rattle.siri_messages.specs.declared.deliveries.FunctionalDelivery.{FunctionalDelivery}
 use Rattle.siri_messages.specs.declared.deliveries.ServiceDelivery.{ServiceDelivery}
 use Rattle.siri_items.specs.declared.names.TheConstants.{DATA_FRAME_REF, DATED_VEHICLE_JOURNEY_REF, DIRECTION_REF, LINE_REF, MONITORING_REF, PARTICIPANT_REF, RECORDED_AT_TIME, SITUATION_NUMBER}
-use Rattle.siri_items.specs.Refusals.{Refusal, ◌>>=◌}
-use Rattle.siri_items.specs.Rules.{name, moment, number, flag, table, required_value, entries_from, list_of, list, list_inside, or_empty}
+use Rattle.siri_items.specs.Refusals.{Refusal}
+use Rattle.siri_items.specs.Rules.{name, moment, number, table, required_value, entries_from, list_of, list, list_inside, or_empty}
 use Rattle.siri_items.specs.Journeys.{journey}
 use Rattle.siri_items.specs.Vehicles.{vehicle}
 use Rattle.siri_items.specs.Situations.{situation}
 use Rattle.siri_items.specs.Visits.{visit}
-use Rattle.siri_items.specs.Proper.{IsName, IsText, IsMoment, IsNumber, IsProperJourney}
+use Rattle.siri_items.specs.Proper.{IsName, IsNumber, IsProperJourney}
 use Rattle.siri_items.specs.Writing.{Row, with_rows, row_object, array_unless_empty, written_list, written_text, written_moment, written_number, written_flag}
 use Rattle.siri_items.specs.Written.{rows_of_visit, written_visit, rows_of_vehicle, written_vehicle, rows_of_journey, written_journey, rows_of_situation, written_situation}
 use Rattle.siri_items.proofs.Back.{found_again, GivesBack, in_rows, member_again, row_again}
@@ -36,7 +36,7 @@ use Rattle.siri_wire.specs.declared.read_parts.DeliveryExtensions.{DeliveryExten
 use Rattle.siri_wire.specs.declared.read_parts.RoundPosition.{RoundPosition}
 use Rattle.siri_wire.specs.Deliveries.{visit_item, vehicle_item, situation_item, stop_monitoring_delivery, estimated_timetable_delivery, vehicle_monitoring_delivery, situation_exchange_delivery, service_delivery}
 use Rattle.siri_wire.specs.Errors.{other_error}
-use Rattle.siri_wire.specs.Frames.{journeys, frame, concat_frames, few_in_all, frames_of, journeys_of_frames}
+use Rattle.siri_wire.specs.Frames.{journeys, frame, concat_frames, frames_of, journeys_of_frames}
 use Rattle.siri_wire.specs.Parts.{no_round, round_position, delivery_extensions, extensions_or_empty}
 use Rattle.siri_wire_laws.specs.ProperDeliveries.{IsProperOf, IsProperRemoval, IsProperDelivery, IsProperServiceDelivery}
 use Rattle.siri_wire.specs.Removals.{visit_cancellation, vehicle_cancellation, removed_journey, removed_situation}

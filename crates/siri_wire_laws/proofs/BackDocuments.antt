@@ -1,11 +1,11 @@
 -- What was written is read again: whole documents.
-use Rattle.std.proofs.Common.{◌≡◌, ℕ, ◌≤◌, Bool, true, false, cond, nat_lt, List, [], ◌∷◌, length, bytes_eq, filter, Option, Some, None, Result, Ok, refl, ap, ◌∙◌, subst, arith}
+use Rattle.std.proofs.Common.{◌≡◌, ℕ, ◌≤◌, Bool, true, false, cond, nat_lt, List, [], ◌∷◌, ◌++◌, length, bytes_eq, filter, Option, Some, None, Result, Ok, refl, ap, ◌∙◌, subst, arith}
 use Rattle.std.proofs.lemmas.Bool.{le-ltb}
 use Rattle.serde_json.specs.Data.{Data, object, Members, no_members}
-use Rattle.serde_json.specs.Written.{compact_text}
-use Rattle.siri_json.specs.Canonical.{IsCanonical, as_texts}
+use Rattle.siri_json.specs.Canonical.{as_texts}
 use Rattle.siri_json.specs.Tree.{tree_of}
-use Rattle.siri_json.specs.Values.{object_in, member_of}
+use Rattle.siri_json.specs.Values.{object_in}
+use Rattle.siri_json.proofs.LineFeed.{tree_of-line}
 use Rattle.siri_json.proofs.Read.{tree_of-compact_text}
 use Rattle.siri_messages.specs.declared.message.Message.{Message}
 use Rattle.siri_messages.specs.declared.message.Message.TheVariants as message
@@ -19,11 +19,10 @@ use Rattle.siri_items.proofs.BackLists.{only_row}
 use Rattle.siri_items.proofs.CanonicalParts.{are_ascii, IsCanonicalWithin, row_within, ◌then◌, object_within}
 use Rattle.siri_items.proofs.SpellsImpliesRead.{required_row_ok}
 use Rattle.siri_wire.specs.declared.kinds.Kind.{Kind}
-use Rattle.siri_wire.specs.declared.kinds.Kind.TheVariants as kind
 use Rattle.siri_wire.specs.declared.names.TheConstants.{SIRI, CHECK_STATUS_REQUEST, CHECK_STATUS_RESPONSE, DATA_READY_ACKNOWLEDGEMENT, DATA_READY_NOTIFICATION, DATA_RECEIVED_ACKNOWLEDGEMENT, DATA_SUPPLY_REQUEST, HEARTBEAT_NOTIFICATION, SERVICE_DELIVERY, SERVICE_REQUEST, SUBSCRIPTION_REQUEST, SUBSCRIPTION_RESPONSE, TERMINATE_SUBSCRIPTION_REQUEST, TERMINATE_SUBSCRIPTION_RESPONSE}
 use Rattle.siri_wire.specs.Canonical.{written_body, written_message, canonical}
 use Rattle.siri_wire.specs.Deliveries.{service_delivery}
-use Rattle.siri_wire.specs.Documents.{kinds, name_of, message_at, message_or, is_member_there, holds, held, only, only_held, siri, root, message_in, message_of}
+use Rattle.siri_wire.specs.Documents.{kinds, name_of, message_at, is_member_there, holds, held, only, only_held, siri, root, message_of}
 use Rattle.siri_wire_laws.specs.ProperMessages.{IsProper}
 use Rattle.siri_wire.specs.Requests.{service_request}
 use Rattle.siri_wire_laws.specs.SpellingDocuments.{kind_in}
@@ -198,3 +197,17 @@ unfolding message_of
 canonical_read m p le =
     let short : nat_lt 8388608 (length (canonical m)) ≡ false = le-ltb _ _ le in
     rw (short, message_text m p) (message_back m p)
+
+-- ---- the same with a line feed at its end
+
+line_text : (m : Message) → IsProper m → tree_of (canonical m ++ 10 ∷ []) ≡ Some (as_texts (written_message m))
+unfolding canonical written_message
+line_text m p =
+    let is = message_within m p in
+    tree_of-line (with_rows no_members ((SIRI.now, Some (row_object ((kind_of m, Some (written_body m)) ∷ []))) ∷ [])) is.canonical (omega (arith, is.shallow))
+
+pub line_read : (m : Message) → IsProper m → length (canonical m ++ 10 ∷ []) ≤ 8388608 → message_of (canonical m ++ 10 ∷ []) ≡ Ok m
+unfolding message_of
+line_read m p le =
+    let short : nat_lt 8388608 (length (canonical m ++ 10 ∷ [])) ≡ false = le-ltb _ _ le in
+    rw (short, line_text m p) (message_back m p)

@@ -1,6 +1,6 @@
 -- What was written is read again: the messages by which rounds are announced, fetched and acknowledged, and by which the producer
 -- tells that it is there, a line a row.
-use Rattle.std.proofs.Common.{◌≡◌, ℕ, Bool, true, false, List, [], ◌∷◌, Option, Some, None, Result, Ok, refl}
+use Rattle.std.proofs.Common.{◌≡◌, ℕ, Bool, true, false, List, Option, Some, None, Ok, refl}
 use Rattle.std.specs.Prelude.{IfSome, option_and_then}
 use Rattle.serde_json.specs.Data.{Data, object, Members, no_members}
 use Rattle.siri_json.specs.Canonical.{as_texts}

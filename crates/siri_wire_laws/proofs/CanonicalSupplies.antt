@@ -1,6 +1,6 @@
 -- What is written is canonical and not deep: the messages by which rounds are announced, fetched and acknowledged, and by which the
 -- producer tells that it is there, a line a row.
-use Rattle.std.proofs.Common.{◌≡◌, ℕ, ◌≤◌, Bool, true, false, List, [], ◌∷◌, Option, Some, None, refl, arith}
+use Rattle.std.proofs.Common.{ℕ, ◌≤◌, Bool, true, false, Option, Some, None, refl, arith}
 use Rattle.std.specs.Prelude.{IfSome, option_and_then}
 use Rattle.siri_messages.specs.declared.statuses.CheckStatusRequest.{CheckStatusRequest}
 use Rattle.siri_messages.specs.declared.statuses.CheckStatusResponse.{CheckStatusResponse}
@@ -10,7 +10,6 @@ use Rattle.siri_messages.specs.declared.supplies.DataReadyNotification.{DataRead
 use Rattle.siri_messages.specs.declared.supplies.DataReceivedAcknowledgement.{DataReceivedAcknowledgement}
 use Rattle.siri_messages.specs.declared.supplies.DataSupplyRequest.{DataSupplyRequest}
 use Rattle.siri_messages.specs.declared.supplies.Mark.{Mark}
-use Rattle.siri_items.specs.Writing.{row_object}
 use Rattle.siri_items.proofs.CanonicalParts.{IsCanonicalWithin, MayBeWithin, deeper, text_within, some_text_within, some_flag_within, number_within, some_moment_within, row_within, ◌then◌, object_within}
 use Rattle.siri_wire.specs.declared.names.TheConstants.{ALL_DATA, CONSUMER_REF, ERROR_CONDITION, EXTENSIONS, MESSAGE_IDENTIFIER, NUMBER, PART, PRODUCER_REF, REQUESTOR_REF, REQUEST_MESSAGE_REF, REQUEST_TIMESTAMP, RESPONSE_TIMESTAMP, ROUND, SERVICE_STARTED_TIME, START, STATUS, SUBSCRIPTION_REF}
 use Rattle.siri_wire_laws.specs.ProperDeliveries.{IsProperMark, IsProperReady, IsProperReadyAcknowledgement, IsProperSupply, IsProperReceived, IsProperCheck, IsProperCheckResponse, IsProperHeartbeat}

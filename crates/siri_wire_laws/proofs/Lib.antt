@@ -1,4 +1,3 @@
-pub mod Documents
 pub mod MessageValues
 pub mod SpellsImpliesReadRequests
 pub mod BackRequests
@@ -11,6 +10,7 @@ pub mod CanonicalSupplies
 pub mod CanonicalDeliveries
 pub mod BackDocuments
 pub mod ReadImpliesSpellsDeliveries
+pub mod ReadIffSpellsParts
 pub mod ReadIffSpells
 pub mod ProperReadValues
 pub mod ProperReadRequests

@@ -1,5 +1,5 @@
 -- A message that a document spells is proper, so that its canonical text is a document of it.
-use Rattle.std.proofs.Common.{◌≡◌, ℕ, ◌≤◌, Bool, true, false, nat_lt, List, length, Option, Some, None, Ok, refl}
+use Rattle.std.proofs.Common.{◌≡◌, ℕ, ◌≤◌, Bool, true, false, nat_lt, List, [], ◌∷◌, ◌++◌, length, Option, Some, None, Ok, refl}
 use Rattle.std.specs.Prelude.{IfSome, IsSomeAnd, if◌then◌else◌}
 use Rattle.serde_json.specs.Data.{Data, null, boolean, number, string, array, object}
 use Rattle.siri_base.specs.declared.reason.Reason.TheVariants.{TooLong}
@@ -17,7 +17,7 @@ use Rattle.siri_wire.specs.Canonical.{canonical}
 use Rattle.siri_wire.specs.Documents.{root, message_in, message_of}
 use Rattle.siri_wire_laws.specs.ProperMessages.{IsProper}
 use Rattle.siri_wire_laws.specs.SpellingDocuments.{HasObject, SpellsBody, SpellsSiri, SpellsRoot}
-use Rattle.siri_wire_laws.proofs.BackDocuments.{canonical_read}
+use Rattle.siri_wire_laws.proofs.BackDocuments.{canonical_read, line_read}
 use Rattle.siri_wire_laws.proofs.ProperReadDeliveries.{ready_proper, ready_acknowledgement_proper, supply_proper, received_proper, check_proper, check_response_proper, heartbeat_proper, service_delivery_proper}
 use Rattle.siri_wire_laws.proofs.ProperReadRequests.{service_request_proper, subscription_request_proper, subscription_response_proper, termination_request_proper, termination_response_proper}
 use Rattle.siri_wire_laws.proofs.ReadIffSpells.{root_spelled}
@@ -83,3 +83,6 @@ document_proper document m e = document_by document m (nat_lt 8388608 (length do
 
 pub converted_read : (document : List ℕ) (m : Message) → message_of document ≡ Ok m → length (canonical m) ≤ 8388608 → message_of (canonical m) ≡ Ok m
 converted_read document m e le = canonical_read m (document_proper document m e) le
+
+pub converted_line_read : (document : List ℕ) (m : Message) → message_of document ≡ Ok m → length (canonical m ++ 10 ∷ []) ≤ 8388608 → message_of (canonical m ++ 10 ∷ []) ≡ Ok m
+converted_line_read document m e le = line_read m (document_proper document m e) le

@@ -1,5 +1,5 @@
 -- A document is read as a message exactly where it spells it.
-use Rattle.std.proofs.Common.{◌≡◌, ℕ, ◌≤◌, Bool, true, false, nat_lt, List, length, Option, Some, None, Result, Ok, refl, sym, ap, ◌∙◌, subst}
+use Rattle.std.proofs.Common.{◌≡◌, ℕ, Bool, true, false, nat_lt, List, length, Option, Some, None, Result, Ok, refl, sym, ap, ◌∙◌, subst}
 use Rattle.std.specs.Prelude.{IsSomeAnd, if◌then◌else◌}
 use Rattle.std.proofs.lemmas.Bool.{le-ltb, ltb-false}
 use Rattle.serde_json.specs.Data.{Data, null, boolean, number, string, array, object}
@@ -11,7 +11,7 @@ use Rattle.siri_messages.specs.declared.message.Message.TheVariants as message
 use Rattle.siri_messages.specs.Kinds.{kind_of}
 use Rattle.siri_items.specs.Refusals.{Refusal, ◌>>=◌, refused, each}
 use Rattle.siri_items.specs.Rules.{table, unless_wrong, maybe, required_row}
-use Rattle.siri_items.specs.Spelling.{Spells, IfFound}
+use Rattle.siri_items.specs.Spelling.{IfFound}
 use Rattle.siri_items.proofs.SpellsImpliesRead.{required_row_ok}
 use Rattle.siri_items.proofs.ReadImpliesSpells.{bind_ok, required_row_spelled}
 use Rattle.siri_wire.specs.declared.kinds.Kind.{Kind}

@@ -23,13 +23,13 @@ use Rattle.siri_items.specs.Rules.{name, text, moment, non_negative_span, number
 use Rattle.siri_items.specs.Spelling.{Spells}
 use Rattle.siri_items.proofs.ReadImpliesSpells.{bind_ok, row_spelled, required_row_spelled}
 use Rattle.siri_wire.specs.declared.names.TheConstants.{CHANGE_BEFORE_UPDATES, CONSUMER_ADDRESS, DELIVERY_METHOD, ESTIMATED_TIMETABLE_REQUEST, ESTIMATED_TIMETABLE_SUBSCRIPTION_REQUEST, EXTENSIONS, HEARTBEAT_INTERVAL, INCREMENTAL_UPDATES, INITIAL_TERMINATION_TIME, LINES, LINE_DIRECTION, MAXIMUM_STOP_VISITS, MESSAGE_IDENTIFIER, PREVIEW_INTERVAL, REQUESTOR_REF, REQUEST_MESSAGE_REF, REQUEST_TIMESTAMP, RESPONSE_STATUS, RESPONSE_TIMESTAMP, SITUATION_EXCHANGE_REQUEST, SITUATION_EXCHANGE_SUBSCRIPTION_REQUEST, STATUS, STOP_MONITORING_REQUEST, STOP_MONITORING_SUBSCRIPTION_REQUEST, SUBSCRIBER_REF, SUBSCRIPTION_CONTEXT, SUBSCRIPTION_IDENTIFIER, SUBSCRIPTION_REF, TERMINATION_RESPONSE_STATUS, VALID_UNTIL, VEHICLE_MONITORING_REQUEST, VEHICLE_MONITORING_SUBSCRIPTION_REQUEST}
-use Rattle.siri_wire.specs.declared.read_subscriptions.Wanted.{Wanted}
+use Rattle.siri_wire.specs.declared.read_subscriptions.RequestedSubscriptions.{RequestedSubscriptions}
 use Rattle.siri_wire_laws.specs.SpellingRequests.{SpellsStopTopic, SpellsLineDirection, SpellsTopic, SpellsSubscribed, SpellsServiceRequest, SpellsSubscriber, SpellsAsked, SpellsSlack, SpellsSubscription, SpellsSubscriptionRequest, SpellsResponseStatus, SpellsSubscriptionResponse, SpellsTerminationRequest, SpellsTerminationStatus, SpellsTerminationResponse}
 use Rattle.siri_wire.specs.Errors.{error_condition}
 use Rattle.siri_wire.specs.Topics.{read_stop_topic_rows, stop_topic, without_maximum, subscribed_stop_topic, line_direction, timetable_topic, vehicle_topic, situation_topic}
 use Rattle.siri_wire.specs.Requests.{service_request, read_service_request_rows, asks_nothing}
 use Rattle.siri_wire.specs.Subscribers.{named_or, subscriber_or}
-use Rattle.siri_wire.specs.Subscriptions.{topic_of, slack_of, subscription, heartbeat_interval, read_wanted_rows, wants_nothing, wanted, subscription_request, response_status, subscription_response}
+use Rattle.siri_wire.specs.Subscriptions.{topic_of, slack_of, subscription, heartbeat_interval, read_requested_rows, requests_nothing, requested, subscription_request, response_status, subscription_response}
 use Rattle.siri_wire.specs.Terminations.{termination_request, termination_status, termination_response}
 use Rattle.siri_wire_laws.proofs.MessageValues.{error_spelled}
 use Rattle.siri_wire_laws.proofs.SpellsImpliesReadRequests.{service_request_read, subscription_request_read, subscription_response_read, termination_request_read, termination_response_read}
@@ -212,23 +212,23 @@ subscription_spelled s requestor d x e =
       fetched = record { method = r7.0; spelled = row_spelled (inside text DELIVERY_METHOD.now) EXTENSIONS.now d r7.0 r7.1; is = refl };
     })
 
--- what is wanted, row by row
-record SpellsWanted (requestor : Option (List ℕ)) (d : Data) (w : Wanted) : Type 0 where
+-- what is requested, row by row
+record SpellsRequested (requestor : Option (List ℕ)) (d : Data) (w : RequestedSubscriptions) : Type 0 where
   heartbeat_is : Spells (inside non_negative_span HEARTBEAT_INTERVAL.now) SUBSCRIPTION_CONTEXT.now d w.heartbeat_interval
   stops_are : list (table (subscription service.Stop requestor)) 200 STOP_MONITORING_SUBSCRIPTION_REQUEST.now d ≡ Ok w.stops
   timetables_are : list (table (subscription service.Timetable requestor)) 200 ESTIMATED_TIMETABLE_SUBSCRIPTION_REQUEST.now d ≡ Ok w.timetables
   vehicles_are : list (table (subscription service.Vehicle requestor)) 200 VEHICLE_MONITORING_SUBSCRIPTION_REQUEST.now d ≡ Ok w.vehicles
   situations_are : list (table (subscription service.Situation requestor)) 200 SITUATION_EXCHANGE_SUBSCRIPTION_REQUEST.now d ≡ Ok w.situations
 
-wanted_rows_spelled : (requestor : Option (List ℕ)) (d : Data) (w : Wanted) → read_wanted_rows requestor d ≡ Ok w → SpellsWanted requestor d w
-unfolding read_wanted_rows heartbeat_interval
-wanted_rows_spelled requestor d w e =
+requested_rows_spelled : (requestor : Option (List ℕ)) (d : Data) (w : RequestedSubscriptions) → read_requested_rows requestor d ≡ Ok w → SpellsRequested requestor d w
+unfolding read_requested_rows heartbeat_interval
+requested_rows_spelled requestor d w e =
     let r1 = bind_ok (row (inside non_negative_span HEARTBEAT_INTERVAL.now) SUBSCRIPTION_CONTEXT.now d) _ w e in
     let r2 = bind_ok (list (table (subscription service.Stop requestor)) 200 STOP_MONITORING_SUBSCRIPTION_REQUEST.now d) _ w r1.2 in
     let r3 = bind_ok (list (table (subscription service.Timetable requestor)) 200 ESTIMATED_TIMETABLE_SUBSCRIPTION_REQUEST.now d) _ w r2.2 in
     let r4 = bind_ok (list (table (subscription service.Vehicle requestor)) 200 VEHICLE_MONITORING_SUBSCRIPTION_REQUEST.now d) _ w r3.2 in
     let r5 = bind_ok (list (table (subscription service.Situation requestor)) 200 SITUATION_EXCHANGE_SUBSCRIPTION_REQUEST.now d) _ w r4.2 in
-    subst (λ (x : Wanted). SpellsWanted requestor d x) (ok_is _ w r5.2) (record {
+    subst (λ (x : RequestedSubscriptions). SpellsRequested requestor d x) (ok_is _ w r5.2) (record {
       heartbeat_is = row_spelled (inside non_negative_span HEARTBEAT_INTERVAL.now) SUBSCRIPTION_CONTEXT.now d r1.0 r1.1;
       stops_are = r2.1;
       timetables_are = r3.1;
@@ -236,12 +236,12 @@ wanted_rows_spelled requestor d w e =
       situations_are = r5.1;
     })
 
-wanted_spelled : (requestor : Option (List ℕ)) (d : Data) (w : Wanted) → wanted requestor d ≡ Ok w → SpellsWanted requestor d w × (wants_nothing w ≡ false)
-unfolding wanted
-wanted_spelled requestor d w e =
-    let r = bind_ok (read_wanted_rows requestor d) _ w e in
-    let wants = unless_is r.0 w (wants_nothing r.0) r.2 in
-    subst (λ (x : Wanted). SpellsWanted requestor d x × (wants_nothing x ≡ false)) wants.1 (wanted_rows_spelled requestor d r.0 r.1, wants.0)
+requested_spelled : (requestor : Option (List ℕ)) (d : Data) (w : RequestedSubscriptions) → requested requestor d ≡ Ok w → SpellsRequested requestor d w × (requests_nothing w ≡ false)
+unfolding requested
+requested_spelled requestor d w e =
+    let r = bind_ok (read_requested_rows requestor d) _ w e in
+    let wants = unless_is r.0 w (requests_nothing r.0) r.2 in
+    subst (λ (x : RequestedSubscriptions). SpellsRequested requestor d x × (requests_nothing x ≡ false)) wants.1 (requested_rows_spelled requestor d r.0 r.1, wants.0)
 
 pub subscription_request_spelled : (d : Data) (m : SubscriptionRequest) → subscription_request d ≡ Ok m → SpellsSubscriptionRequest d m
 unfolding subscription_request
@@ -250,8 +250,8 @@ subscription_request_spelled d m e =
     let r2 = bind_ok (row name REQUESTOR_REF.now d) _ m r1.2 in
     let r3 = bind_ok (required_row number MESSAGE_IDENTIFIER.now d) _ m r2.2 in
     let r4 = bind_ok (row name CONSUMER_ADDRESS.now d) _ m r3.2 in
-    let r5 = bind_ok (wanted r2.0 d) _ m r4.2 in
-    let w = wanted_spelled r2.0 d r5.0 r5.1 in
+    let r5 = bind_ok (requested r2.0 d) _ m r4.2 in
+    let w = requested_spelled r2.0 d r5.0 r5.1 in
     subst (λ (x : SubscriptionRequest). SpellsSubscriptionRequest d x) (ok_is _ m r5.2) (record {
       request_timestamp = row_spelled moment REQUEST_TIMESTAMP.now d r1.0 r1.1;
       requestor_ref = row_spelled name REQUESTOR_REF.now d r2.0 r2.1;

@@ -1,5 +1,5 @@
 -- What is spelled is read: rounds, statuses and deliveries.
-use Rattle.std.proofs.Common.{◌≡◌, ℕ, Bool, true, false, List, Option, Some, None, Result, Ok, refl}
+use Rattle.std.proofs.Common.{◌≡◌, ℕ, true, false, List, Option, Some, None, Result, Ok, refl}
 use Rattle.serde_json.specs.Data.{Data}
 use Rattle.siri_json.specs.Values.{Found, found, absent, wrong, member_of, text_in}
 use Rattle.siri_records.specs.declared.item.Item.{Item}

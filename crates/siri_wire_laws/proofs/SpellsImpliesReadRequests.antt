@@ -20,13 +20,13 @@ use Rattle.siri_items.specs.declared.names.TheConstants.{MONITORING_REF, LINE_RE
 use Rattle.siri_items.specs.Rules.{name, text, moment, non_negative_span, number, flag, table, inside}
 use Rattle.siri_items.proofs.SpellsImpliesRead.{row_ok, required_row_ok}
 use Rattle.siri_wire.specs.declared.names.TheConstants.{CHANGE_BEFORE_UPDATES, CONSUMER_ADDRESS, DELIVERY_METHOD, ESTIMATED_TIMETABLE_REQUEST, EXTENSIONS, HEARTBEAT_INTERVAL, INCREMENTAL_UPDATES, INITIAL_TERMINATION_TIME, MAXIMUM_STOP_VISITS, MESSAGE_IDENTIFIER, PREVIEW_INTERVAL, REQUESTOR_REF, REQUEST_MESSAGE_REF, REQUEST_TIMESTAMP, RESPONSE_TIMESTAMP, SITUATION_EXCHANGE_REQUEST, STATUS, STOP_MONITORING_REQUEST, SUBSCRIBER_REF, SUBSCRIPTION_CONTEXT, SUBSCRIPTION_IDENTIFIER, SUBSCRIPTION_REF, VALID_UNTIL, VEHICLE_MONITORING_REQUEST}
-use Rattle.siri_wire.specs.declared.read_subscriptions.Wanted.{Wanted}
-use Rattle.siri_wire_laws.specs.ProperRequests.{wanted_by}
+use Rattle.siri_wire.specs.declared.read_subscriptions.RequestedSubscriptions.{RequestedSubscriptions}
+use Rattle.siri_wire_laws.specs.ProperRequests.{requested_by}
 use Rattle.siri_wire_laws.specs.SpellingRequests.{SpellsStopTopic, SpellsLineDirection, SpellsTopic, SpellsSubscribed, SpellsServiceRequest, SpellsSubscriber, SpellsAsked, SpellsSlack, SpellsSubscription, SpellsSubscriptionRequest, SpellsResponseStatus, SpellsSubscriptionResponse, SpellsTerminationRequest, SpellsTerminationStatus, SpellsTerminationResponse}
 use Rattle.siri_wire.specs.Topics.{read_stop_topic_rows, stop_topic, without_maximum, subscribed_stop_topic, line_direction, timetable_topic, vehicle_topic, situation_topic}
 use Rattle.siri_wire.specs.Requests.{service_request, read_service_request_rows, unless_for_nothing, asks_nothing}
 use Rattle.siri_wire.specs.Subscribers.{subscriber_or}
-use Rattle.siri_wire.specs.Subscriptions.{topic_of, slack_of, subscription, heartbeat_interval, read_wanted_rows, wants_nothing, unless_for_none, wanted, subscription_request, response_status, subscription_response}
+use Rattle.siri_wire.specs.Subscriptions.{topic_of, slack_of, subscription, heartbeat_interval, read_requested_rows, requests_nothing, unless_for_none, requested, subscription_request, response_status, subscription_response}
 use Rattle.siri_wire.specs.Terminations.{termination_request, termination_status, termination_response}
 use Rattle.siri_wire_laws.proofs.MessageValues.{error_ok}
 
@@ -176,19 +176,19 @@ with_slack s requestor d x given read is s_ =
 pub subscription_read : (s : Service) (requestor : Option (List ℕ)) (d : Data) (x : Subscription) → SpellsSubscription s requestor d x → subscription s requestor d ≡ Ok x
 subscription_read s requestor d x s_ = let slack = slack_ok s d x.slack s_.slack in with_slack s requestor d x slack.given slack.read slack.is s_
 
-for_some_ok : (w : Wanted) → wants_nothing w ≡ false → unless_for_none w ≡ Ok w
+for_some_ok : (w : RequestedSubscriptions) → requests_nothing w ≡ false → unless_for_none w ≡ Ok w
 for_some_ok w h = rw h refl
 
-wanted_read : (d : Data) (m : SubscriptionRequest) → SpellsSubscriptionRequest d m → wanted m.requestor_ref d ≡ Ok (wanted_by m)
-unfolding wanted read_wanted_rows heartbeat_interval
-wanted_read d m s_ =
+requested_read : (d : Data) (m : SubscriptionRequest) → SpellsSubscriptionRequest d m → requested m.requestor_ref d ≡ Ok (requested_by m)
+unfolding requested read_requested_rows heartbeat_interval
+requested_read d m s_ =
     rw (
       row_ok (inside non_negative_span HEARTBEAT_INTERVAL.now) SUBSCRIPTION_CONTEXT.now d m.heartbeat_interval s_.heartbeat_interval,
       s_.stop_monitoring_subscription_request,
       s_.estimated_timetable_subscription_request,
       s_.vehicle_monitoring_subscription_request,
       s_.situation_exchange_subscription_request,
-    ) (for_some_ok (wanted_by m) s_.for_some)
+    ) (for_some_ok (requested_by m) s_.for_some)
 
 pub subscription_request_read : (d : Data) (m : SubscriptionRequest) → SpellsSubscriptionRequest d m → subscription_request d ≡ Ok m
 unfolding subscription_request
@@ -198,7 +198,7 @@ subscription_request_read d m s_ =
       row_ok name REQUESTOR_REF.now d m.requestor_ref s_.requestor_ref,
       required_row_ok number MESSAGE_IDENTIFIER.now d m.message_identifier s_.message_identifier,
       row_ok name CONSUMER_ADDRESS.now d m.consumer_address s_.consumer_address,
-      wanted_read d m s_,
+      requested_read d m s_,
     ) refl
 
 pub response_status_read : (d : Data) (r : ResponseStatus) → SpellsResponseStatus d r → response_status d ≡ Ok r

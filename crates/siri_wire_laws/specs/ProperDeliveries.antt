@@ -1,7 +1,7 @@
 -- Proper messages by which rounds are announced, fetched, delivered and acknowledged, and by which the producer tells that it
 -- is there: each field has a value that its row can give, what has to be there is there, items and removals are of their
 -- list's service, and nothing stands in them that isn't carried.
-use Rattle.std.specs.Prelude.{◌≡◌, ℕ, List, false, is_some, Option, IfSome}
+use Rattle.std.specs.Prelude.{◌≡◌, false, is_some, IfSome}
 use Rattle.siri_records.specs.declared.item.Item.{Item}
 use Rattle.siri_records.specs.declared.item.Service.{Service}
 use Rattle.siri_records.specs.declared.item.Service.TheVariants as service

@@ -20,8 +20,8 @@ use Rattle.siri_messages.specs.declared.terminations.TerminateSubscriptionRespon
 use Rattle.siri_messages.specs.declared.terminations.TerminationResponseStatus.{TerminationResponseStatus}
 use Rattle.siri_items.specs.Proper.{IsName, IsText, IsMoment, IsNumber, IsListWithin, IsNonNegativeSpan}
 use Rattle.siri_wire.specs.Requests.{asks_nothing}
-use Rattle.siri_wire.specs.Subscriptions.{wants_nothing}
-use Rattle.siri_wire.specs.declared.read_subscriptions.Wanted.{Wanted}
+use Rattle.siri_wire.specs.Subscriptions.{requests_nothing}
+use Rattle.siri_wire.specs.declared.read_subscriptions.RequestedSubscriptions.{RequestedSubscriptions}
 
 -- ---- topics, a line a row
 
@@ -101,9 +101,9 @@ pub record IsProperSubscription (s : Service) (x : Subscription) : Type 0 where
   pub slack : IsNonNegativeSpan x.slack
   pub no_slack : s ≡ service.Situation → x.slack ≡ pos 0
 
--- what a request wants
-abbrev pub wanted_by : SubscriptionRequest → Wanted
-wanted_by m = record {
+-- the subscriptions that a request asks for
+abbrev pub requested_by : SubscriptionRequest → RequestedSubscriptions
+requested_by m = record {
   heartbeat_interval = m.heartbeat_interval;
   stops = m.stop_monitoring_subscription_request;
   timetables = m.estimated_timetable_subscription_request;
@@ -111,7 +111,7 @@ wanted_by m = record {
   situations = m.situation_exchange_subscription_request;
 }
 
--- SubscriptionRequest, which wants some subscription
+-- SubscriptionRequest, which asks for some subscription
 pub record IsProperSubscriptionRequest (m : SubscriptionRequest) : Type 0 where
   pub request_timestamp : IfSome m.request_timestamp IsMoment
   pub requestor_ref : IfSome m.requestor_ref IsName
@@ -122,7 +122,7 @@ pub record IsProperSubscriptionRequest (m : SubscriptionRequest) : Type 0 where
   pub estimated_timetable_subscription_request : IsListWithin 200 (IsProperSubscription service.Timetable) m.estimated_timetable_subscription_request
   pub vehicle_monitoring_subscription_request : IsListWithin 200 (IsProperSubscription service.Vehicle) m.vehicle_monitoring_subscription_request
   pub situation_exchange_subscription_request : IsListWithin 200 (IsProperSubscription service.Situation) m.situation_exchange_subscription_request
-  pub for_some : wants_nothing (wanted_by m) ≡ false
+  pub for_some : requests_nothing (requested_by m) ≡ false
 
 -- ResponseStatus
 pub record IsProperResponseStatus (r : ResponseStatus) : Type 0 where

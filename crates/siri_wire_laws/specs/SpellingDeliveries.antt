@@ -1,11 +1,14 @@
 -- The relation of trees and of the messages by which rounds are announced, fetched, delivered and acknowledged, and by which the
 -- producer tells that it is there: the member of each row spells the field's value under the row's rule, or is absent where
 -- there is none. Members that no row names are free.
-use Rattle.std.specs.Prelude.{◌≡◌, ℕ, List, map, false, true, Option, Some, None, IsSome, Result, Ok}
+use Rattle.std.specs.Prelude.{◌≡◌, ℕ, ◌≤◌, List, length, map, false, true, Option, Some, None, IsSome, Result, Ok}
 use Rattle.serde_json.specs.Data.{Data}
 use Rattle.siri_records.specs.declared.item.Item.{Item}
+use Rattle.siri_records.specs.declared.item.Service.{Service}
+use Rattle.siri_records.specs.declared.item.Service.TheVariants as service
 use Rattle.siri_records.specs.declared.journey.Journey.{Journey}
 use Rattle.siri_records.specs.declared.key.Key.{Key}
+use Rattle.siri_records.specs.declared.key.Key.TheVariants as key
 use Rattle.siri_messages.specs.declared.deliveries.FunctionalDelivery.{FunctionalDelivery}
 use Rattle.siri_messages.specs.declared.deliveries.ServiceDelivery.{ServiceDelivery}
 use Rattle.siri_messages.specs.declared.statuses.CheckStatusRequest.{CheckStatusRequest}
@@ -16,18 +19,20 @@ use Rattle.siri_messages.specs.declared.supplies.DataReadyNotification.{DataRead
 use Rattle.siri_messages.specs.declared.supplies.DataReceivedAcknowledgement.{DataReceivedAcknowledgement}
 use Rattle.siri_messages.specs.declared.supplies.DataSupplyRequest.{DataSupplyRequest}
 use Rattle.siri_messages.specs.declared.supplies.Mark.{Mark}
-use Rattle.siri_items.specs.declared.names.TheConstants.{RECORDED_AT_TIME}
+use Rattle.siri_items.specs.declared.names.TheConstants.{DATA_FRAME_REF, DATED_VEHICLE_JOURNEY_REF, DIRECTION_REF, LINE_REF, MONITORING_REF, PARTICIPANT_REF, RECORDED_AT_TIME, SITUATION_NUMBER}
+use Rattle.siri_json.specs.Values.{member_of}
 use Rattle.siri_items.specs.Refusals.{Refusal}
 use Rattle.siri_items.specs.Rules.{name, moment, number, flag, table, list, list_inside}
 use Rattle.siri_items.specs.Spelling.{Spells}
-use Rattle.siri_wire.specs.declared.names.TheConstants.{ALL_DATA, CONSUMER_REF, ESTIMATED_TIMETABLE_DELIVERY, EXTENSIONS, MESSAGE_IDENTIFIER, MONITORED_STOP_VISIT, MONITORED_STOP_VISIT_CANCELLATION, MORE_DATA, NUMBER, PART, PRODUCER_REF, PT_SITUATION_ELEMENT, REMOVED, REQUESTOR_REF, REQUEST_MESSAGE_REF, REQUEST_TIMESTAMP, RESPONSE_MESSAGE_IDENTIFIER, RESPONSE_TIMESTAMP, ROUND, SERVICE_STARTED_TIME, SITUATIONS, SITUATION_EXCHANGE_DELIVERY, START, STATUS, STOP_MONITORING_DELIVERY, SUBSCRIBER_REF, SUBSCRIPTION_REF, VEHICLE_ACTIVITY, VEHICLE_ACTIVITY_CANCELLATION, VEHICLE_MONITORING_DELIVERY}
+use Rattle.siri_items.specs.Journeys.{journey}
+use Rattle.siri_wire.specs.declared.names.TheConstants.{ALL_DATA, CONSUMER_REF, ESTIMATED_JOURNEY_VERSION_FRAME, ESTIMATED_TIMETABLE_DELIVERY, ESTIMATED_VEHICLE_JOURNEY, EXTENSIONS, ITEM_REF, MESSAGE_IDENTIFIER, MONITORED_STOP_VISIT, MONITORED_STOP_VISIT_CANCELLATION, MORE_DATA, NUMBER, PART, PRODUCER_REF, PT_SITUATION_ELEMENT, REMOVED, REQUESTOR_REF, REQUEST_MESSAGE_REF, REQUEST_TIMESTAMP, RESPONSE_MESSAGE_IDENTIFIER, RESPONSE_TIMESTAMP, ROUND, SERVICE_STARTED_TIME, SITUATIONS, SITUATION_EXCHANGE_DELIVERY, START, STATUS, STOP_MONITORING_DELIVERY, SUBSCRIBER_REF, SUBSCRIPTION_REF, VEHICLE_ACTIVITY, VEHICLE_ACTIVITY_CANCELLATION, VEHICLE_MONITORING_DELIVERY}
 use Rattle.siri_wire.specs.declared.read_parts.DeliveryExtensions.{DeliveryExtensions}
 use Rattle.siri_wire.specs.declared.read_parts.RoundPosition.{RoundPosition}
 use Rattle.siri_wire.specs.Deliveries.{visit_item, vehicle_item, situation_item, stop_monitoring_delivery, estimated_timetable_delivery, vehicle_monitoring_delivery, situation_exchange_delivery}
-use Rattle.siri_wire.specs.Frames.{journey_of_frame, journeys, journeys_of_frames}
+use Rattle.siri_wire.specs.Frames.{journey_of_frame, journeys, frame, concat_frames, journeys_of_frames}
 use Rattle.siri_wire.specs.Parts.{round_position, delivery_extensions, or_no_round, extensions_or_empty}
 use Rattle.siri_wire.specs.Removals.{visit_cancellation, vehicle_cancellation, removed_journey, removed_situation}
-use Rattle.siri_wire_laws.specs.SpellingValues.{SpellsOr, SpellsError}
+use Rattle.siri_wire_laws.specs.SpellingValues.{SpellsOr, SpellsError, SpellsEntries}
 use Rattle.siri_wire.specs.Supplies.{mark, optional_mark}
 
 -- ---- rounds
@@ -109,6 +114,17 @@ pub record SpellsDeliveryExtensions (removed : Data → Result Key Refusal) (d :
   pub round_position : SpellsRoundPosition d e.round_position
   pub removals : list (table removed) 20000 REMOVED.now d ≡ Ok e.removals
 
+-- ---- what is shown no more
+
+-- the key of an item that is no more, under the names that its service has for the key's parts
+abbrev pub SpellsRemoval : Service → Data → Key → Type 0
+SpellsRemoval service.Stop d (key.Visit monitoring visit) = Spells name ITEM_REF.now d (Some visit) × Spells name MONITORING_REF.now d (Some monitoring)
+SpellsRemoval service.Timetable d (key.Journey line direction frame journey) =
+    Spells name LINE_REF.now d (Some line) × Spells name DIRECTION_REF.now d direction × Spells name DATA_FRAME_REF.now d frame × Spells name DATED_VEHICLE_JOURNEY_REF.now d (Some journey)
+SpellsRemoval service.Vehicle d (key.Vehicle vehicle) = Spells name ITEM_REF.now d (Some vehicle)
+SpellsRemoval service.Situation d (key.Situation participant number) = Spells name PARTICIPANT_REF.now d participant × Spells name SITUATION_NUMBER.now d (Some number)
+SpellsRemoval s d k = ⊥
+
 -- ---- functional deliveries
 
 -- the rows before Extensions
@@ -161,6 +177,17 @@ pub record SpellsSituationDelivery (d : Data) (f : FunctionalDelivery) : Type 0 
   pub heading : SpellsHeading d f
   pub extensions : SpellsRemovals removed_situation d f
   pub items : list_inside SITUATIONS.now (list (table situation_item) 20000 PT_SITUATION_ELEMENT.now) d ≡ Ok f.items
+
+-- the journeys of a frame, entry by entry
+abbrev pub SpellsJourneys : Data → List Journey → Type 0
+SpellsJourneys d inside = SpellsEntries (table journey) (member_of ESTIMATED_VEHICLE_JOURNEY.now d) inside
+
+-- the journeys of all frames, frame by frame: at most 20,000 together
+pub record SpellsFrames (d : Data) (items : List Item) : Type 0 where
+  pub frames : List (List Item)
+  pub spelled : SpellsEntries (table frame) (member_of ESTIMATED_JOURNEY_VERSION_FRAME.now d) frames
+  pub are : items ≡ concat_frames frames
+  pub few : length items ≤ 20000
 
 -- a frame: each of its journeys with its own RecordedAtTime or the frame's
 pub record SpellsFrame (d : Data) (items : List Item) : Type 0 where

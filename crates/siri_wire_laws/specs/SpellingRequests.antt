@@ -23,10 +23,10 @@ use Rattle.siri_items.specs.declared.names.TheConstants.{MONITORING_REF, LINE_RE
 use Rattle.siri_items.specs.Rules.{name, text, moment, non_negative_span, number, flag, table, inside, list, nonempty_list, list_inside}
 use Rattle.siri_items.specs.Spelling.{Spells}
 use Rattle.siri_wire.specs.declared.names.TheConstants.{CHANGE_BEFORE_UPDATES, CONSUMER_ADDRESS, DELIVERY_METHOD, ESTIMATED_TIMETABLE_REQUEST, ESTIMATED_TIMETABLE_SUBSCRIPTION_REQUEST, EXTENSIONS, HEARTBEAT_INTERVAL, INCREMENTAL_UPDATES, INITIAL_TERMINATION_TIME, LINES, LINE_DIRECTION, MAXIMUM_STOP_VISITS, MESSAGE_IDENTIFIER, PREVIEW_INTERVAL, REQUESTOR_REF, REQUEST_MESSAGE_REF, REQUEST_TIMESTAMP, RESPONSE_STATUS, RESPONSE_TIMESTAMP, SITUATION_EXCHANGE_REQUEST, SITUATION_EXCHANGE_SUBSCRIPTION_REQUEST, STATUS, STOP_MONITORING_REQUEST, STOP_MONITORING_SUBSCRIPTION_REQUEST, SUBSCRIBER_REF, SUBSCRIPTION_CONTEXT, SUBSCRIPTION_IDENTIFIER, SUBSCRIPTION_REF, TERMINATION_RESPONSE_STATUS, VALID_UNTIL, VEHICLE_MONITORING_REQUEST, VEHICLE_MONITORING_SUBSCRIPTION_REQUEST}
-use Rattle.siri_wire_laws.specs.ProperRequests.{maximum_of, wanted_by}
+use Rattle.siri_wire_laws.specs.ProperRequests.{maximum_of, requested_by}
 use Rattle.siri_wire.specs.Requests.{asks_nothing}
 use Rattle.siri_wire_laws.specs.SpellingValues.{SpellsOr, SpellsError}
-use Rattle.siri_wire.specs.Subscriptions.{subscription, is_fetched, wants_nothing, response_status}
+use Rattle.siri_wire.specs.Subscriptions.{subscription, is_fetched, requests_nothing, response_status}
 use Rattle.siri_wire.specs.Terminations.{termination_status}
 use Rattle.siri_wire.specs.Topics.{stop_topic, subscribed_stop_topic, line_direction, timetable_topic, vehicle_topic, situation_topic}
 
@@ -142,7 +142,7 @@ pub record SpellsSubscriptionRequest (d : Data) (m : SubscriptionRequest) : Type
   pub estimated_timetable_subscription_request : list (table (subscription service.Timetable m.requestor_ref)) 200 ESTIMATED_TIMETABLE_SUBSCRIPTION_REQUEST.now d ≡ Ok m.estimated_timetable_subscription_request
   pub vehicle_monitoring_subscription_request : list (table (subscription service.Vehicle m.requestor_ref)) 200 VEHICLE_MONITORING_SUBSCRIPTION_REQUEST.now d ≡ Ok m.vehicle_monitoring_subscription_request
   pub situation_exchange_subscription_request : list (table (subscription service.Situation m.requestor_ref)) 200 SITUATION_EXCHANGE_SUBSCRIPTION_REQUEST.now d ≡ Ok m.situation_exchange_subscription_request
-  pub for_some : wants_nothing (wanted_by m) ≡ false
+  pub for_some : requests_nothing (requested_by m) ≡ false
 
 -- what became of a subscription that was asked for
 pub record SpellsResponseStatus (d : Data) (r : ResponseStatus) : Type 0 where

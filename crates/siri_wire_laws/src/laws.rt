@@ -1,14 +1,12 @@
 //! What holds of documents: each function has laws for its clauses, and does nothing when it is called.
 
-ghost use Rattle.std.specs.Prelude.{◌≡◌, ◌↔◌, ◌⊎◌, ℕ, ◌≤◌, List, length, Result, Ok, Err};
+ghost use Rattle.std.specs.Prelude.{◌≡◌, ◌↔◌, ℕ, ◌≤◌, List, [], ◌∷◌, ◌++◌, length, Ok};
 ghost use Rattle.serde_json.specs.Data.{depth};
 ghost use Rattle.siri_json.specs.Canonical.{IsCanonical};
 ghost use Rattle.siri_messages.specs.declared.message.Message.{Message};
 ghost use Rattle.siri_wire.specs.Canonical.{written_message, canonical};
-ghost use Rattle.siri_wire.specs.Documents.{message_of, Decodes};
+ghost use Rattle.siri_wire.specs.Documents.{message_of};
 ghost use Rattle.siri_wire_laws.specs.SpellingDocuments.{SpellsDocument};
-ghost use Rattle.siri_wire.specs.declared.document.DecodeError.{DecodeError};
-ghost use Rattle.siri_wire.specs.declared.document.DecodeError.TheVariants as errors;
 ghost use Rattle.siri_wire_laws.specs.ProperMessages.{IsProper};
 
 /// A document is read as a message exactly where it spells it: it has at most 8,388,608 bytes, its tree is an object, the
@@ -28,9 +26,10 @@ pub fn canonical_is_read()
     ensures { (m : Message) → IsProper m → length (canonical m) ≤ 8388608 → message_of (canonical m) ≡ Ok m }
 {}
 
-/// What decoding returns for the canonical text of a proper message is that message, unless there was no memory.
-pub fn encoded_is_decoded()
-    ensures { (m : Message) (decoded : Result Message DecodeError) → IsProper m → length (canonical m) ≤ 8388608 → Decodes decoded (message_of (canonical m)) → (decoded ≡ Ok m) ⊎ (decoded ≡ Err errors.OutOfMemory) }
+/// The canonical text of a proper message and a line feed, which is what is written of it, are a document of that message
+/// too, where they have at most 8,388,608 bytes.
+pub fn canonical_line_is_read()
+    ensures { (m : Message) → IsProper m → length (canonical m ++ 10 ∷ []) ≤ 8388608 → message_of (canonical m ++ 10 ∷ []) ≡ Ok m }
 {}
 
 /// A message that a document spells is proper.
@@ -42,4 +41,9 @@ pub fn read_is_proper()
 /// spells the same message.
 pub fn converted_is_read()
     ensures { (document : List ℕ) (m : Message) → message_of document ≡ Ok m → length (canonical m) ≤ 8388608 → message_of (canonical m) ≡ Ok m }
+{}
+
+/// The same of that text and a line feed: converting once more what was written of a document changes nothing.
+pub fn converted_line_is_read()
+    ensures { (document : List ℕ) (m : Message) → message_of document ≡ Ok m → length (canonical m ++ 10 ∷ []) ≤ 8388608 → message_of (canonical m ++ 10 ∷ []) ≡ Ok m }
 {}

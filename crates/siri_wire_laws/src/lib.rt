@@ -3,7 +3,8 @@
 //!
 //! ```text
 //!   document --message_of--> message                    exactly where the document spells the message, row by row
-//!   message  --canonical---> text --message_of--> the same message, where it is proper and its text isn't too long
+//!   message  --canonical---> text --message_of--> the same message, where it is proper and its text isn't too long,
+//!                                                 with a line feed at its end or without
 //! ```
 //!
 //! A message that is read is proper, so converting twice is converting once. `siri_wire` reads and writes; the relation of
@@ -13,10 +14,14 @@
 mod delivery_laws;
 mod laws;
 mod request_laws;
+mod value_laws;
 
-pub use delivery_laws::{deliveries_are_spelled, places_are_spelled};
+pub use delivery_laws::{
+    deliveries_are_spelled, journeys_are_spelled, places_are_spelled, removals_are_spelled,
+};
 pub use laws::{
-    canonical_is_read, converted_is_read, document_is_spelled, encoded_is_decoded, read_is_proper,
-    written_is_canonical,
+    canonical_is_read, canonical_line_is_read, converted_is_read, converted_line_is_read,
+    document_is_spelled, read_is_proper, written_is_canonical,
 };
 pub use request_laws::{statuses_are_spelled, subscriptions_are_spelled, topics_are_spelled};
+pub use value_laws::{errors_are_spelled, inner_rows_are_spelled};

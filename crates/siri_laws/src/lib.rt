@@ -1,0 +1,14 @@
+//! What holds from one end of the program to the other, over what the crates below promise: each law is the contract of a
+//! function that does nothing when it is called.
+//!
+//! ```text
+//!   document --convert--> text --convert--> the same text
+//!   proper feeds and a proper request --response--> a proper delivery --canonical--> text --message_of--> that delivery
+//! ```
+#![tactic(auto)]
+
+mod document_laws;
+mod history_laws;
+
+pub use document_laws::converting_twice_is_converting_once;
+pub use history_laws::{answer_is_read, feed_is_proper, response_is_proper};

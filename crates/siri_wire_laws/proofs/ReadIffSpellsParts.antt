@@ -1,0 +1,263 @@
+-- What is read is spelled and the other way round: rows inside objects, errors, removals, and the journeys of frames.
+use Rattle.std.proofs.Common.{◌≡◌, ℕ, ◌+◌, ◌≤◌, Bool, true, false, not, nat_le, List, [], ◌∷◌, length, filter, map, Option, Some, None, Result, Ok, Err, refl, sym, ap, ap₂, ◌∙◌, subst, arith, if◌then◌else◌}
+use Rattle.std.proofs.lemmas.Bool.{le-leb, leb-true}
+use Rattle.serde_json.specs.Data.{Data}
+use Rattle.siri_base.specs.declared.reason.Reason.TheVariants.{TooMany}
+use Rattle.siri_json.specs.Values.{Found, found, absent, wrong, object_in, member_of, entries_of}
+use Rattle.siri_json.specs.declared.path.Step.{Step}
+use Rattle.siri_json.specs.declared.path.Step.TheVariants.{Member, Place}
+use Rattle.siri_records.specs.declared.item.Item.{Item}
+use Rattle.siri_records.specs.declared.item.Service.TheVariants as service
+use Rattle.siri_records.specs.declared.journey.Journey.{Journey}
+use Rattle.siri_records.specs.declared.key.Key.{Key}
+use Rattle.siri_records.specs.declared.key.Key.TheVariants as key
+use Rattle.siri_items.specs.declared.names.TheConstants.{DATA_FRAME_REF, DATED_VEHICLE_JOURNEY_REF, DIRECTION_REF, LINE_REF, MONITORING_REF, PARTICIPANT_REF, SITUATION_NUMBER}
+use Rattle.siri_items.specs.Journeys.{journey}
+use Rattle.siri_items.specs.Refusals.{Refusal, ◌>>=◌, refused, below}
+use Rattle.siri_items.specs.Rules.{name, text, table, maybe, unless_wrong, required, row, required_row, inside, required_value, is_null, entries_from, list_of, or_empty}
+use Rattle.siri_items.specs.Spelling.{Spells}
+use Rattle.siri_items.proofs.ReadImpliesSpells.{bind_ok, row_spelled, required_row_spelled}
+use Rattle.siri_items.proofs.SpellsImpliesRead.{row_ok, required_row_ok}
+use Rattle.siri_wire.specs.declared.names.TheConstants.{ERROR_TEXT, ESTIMATED_JOURNEY_VERSION_FRAME, ESTIMATED_VEHICLE_JOURNEY, ITEM_REF, OTHER_ERROR}
+use Rattle.siri_wire.specs.Errors.{other_error}
+use Rattle.siri_wire.specs.Frames.{journeys, frame, concat_frames, few_in_all, frames_of, journeys_of_frames}
+use Rattle.siri_wire.specs.Removals.{visit_cancellation, vehicle_cancellation, removed_journey, removed_situation}
+use Rattle.siri_wire_laws.specs.SpellingDeliveries.{SpellsRemoval, SpellsJourneys, SpellsFrames}
+use Rattle.siri_wire_laws.specs.SpellingValues.{SpellsFound, SpellsInside, SpellsErrorCondition, SpellsEntries}
+
+abbrev done : {A : Type 0} → A → Result A Refusal
+done x = Ok x
+
+ok_is : {A : Type 0} (x y : A) → done x ≡ done y → x ≡ y
+ok_is x y e = cc
+
+-- ---- rows inside objects
+
+found_spelled : {A : Type 0} (rule : Data → Result (Option A) Refusal) (key : List ℕ) (f : Found Data) (value : Option A) → (unless_wrong f >>= maybe (row rule key)) ≡ Ok value
+    → SpellsFound f (λ o given. Spells rule key o given) value
+found_spelled rule key (found o) value e = row_spelled rule key o value e
+found_spelled rule key absent value e = sym (ok_is None value e)
+found_spelled rule key wrong value e = absurd cc
+
+found_read : {A : Type 0} (rule : Data → Result (Option A) Refusal) (key : List ℕ) (f : Found Data) (value : Option A) → SpellsFound f (λ o given. Spells rule key o given) value
+    → (unless_wrong f >>= maybe (row rule key)) ≡ Ok value
+found_read rule key (found o) value is = row_ok rule key o value is
+found_read rule key absent value is = ap (λ (v : Option _). done v) (sym is)
+found_read rule key wrong value is = absurd is
+
+pub inside_spelled : {A : Type 0} (rule : Data → Result (Option A) Refusal) (key : List ℕ) (d : Data) (value : Option A) → inside rule key d ≡ Ok value → SpellsInside rule key d value
+unfolding inside
+inside_spelled rule key d value e = found_spelled rule key (object_in d) value e
+
+pub inside_read : {A : Type 0} (rule : Data → Result (Option A) Refusal) (key : List ℕ) (d : Data) (value : Option A) → SpellsInside rule key d value → inside rule key d ≡ Ok value
+unfolding inside
+inside_read rule key d value is = found_read rule key (object_in d) value is
+
+pub error_condition_spelled : (d : Data) (error : Option (List ℕ)) → other_error d ≡ Ok error → SpellsErrorCondition d error
+unfolding other_error
+error_condition_spelled d error e = inside_spelled (inside text ERROR_TEXT.now) OTHER_ERROR.now d error e
+
+pub error_condition_read : (d : Data) (error : Option (List ℕ)) → SpellsErrorCondition d error → other_error d ≡ Ok error
+unfolding other_error
+error_condition_read d error is = inside_read (inside text ERROR_TEXT.now) OTHER_ERROR.now d error is
+
+-- ---- removals
+
+pub visit_cancellation_spelled : (d : Data) (k : Key) → visit_cancellation d ≡ Ok k → SpellsRemoval service.Stop d k
+unfolding visit_cancellation
+visit_cancellation_spelled d k e =
+    let r1 = bind_ok (required_row name ITEM_REF.now d) _ k e in
+    let r2 = bind_ok (required_row name MONITORING_REF.now d) _ k r1.2 in
+    subst (λ (x : Key). SpellsRemoval service.Stop d x) (ok_is _ k r2.2)
+    (required_row_spelled name ITEM_REF.now d r1.0 r1.1, required_row_spelled name MONITORING_REF.now d r2.0 r2.1)
+
+pub visit_cancellation_read : (d : Data) (k : Key) → SpellsRemoval service.Stop d k → visit_cancellation d ≡ Ok k
+unfolding visit_cancellation
+visit_cancellation_read d (key.Visit monitoring visit) is =
+    rw (required_row_ok name ITEM_REF.now d visit is.0, required_row_ok name MONITORING_REF.now d monitoring is.1) refl
+visit_cancellation_read d (key.Journey line direction frame journey) is = absurd is
+visit_cancellation_read d (key.Vehicle vehicle) is = absurd is
+visit_cancellation_read d (key.Situation participant number) is = absurd is
+
+pub vehicle_cancellation_spelled : (d : Data) (k : Key) → vehicle_cancellation d ≡ Ok k → SpellsRemoval service.Vehicle d k
+unfolding vehicle_cancellation
+vehicle_cancellation_spelled d k e =
+    let r1 = bind_ok (required_row name ITEM_REF.now d) _ k e in
+    subst (λ (x : Key). SpellsRemoval service.Vehicle d x) (ok_is _ k r1.2) (required_row_spelled name ITEM_REF.now d r1.0 r1.1)
+
+pub vehicle_cancellation_read : (d : Data) (k : Key) → SpellsRemoval service.Vehicle d k → vehicle_cancellation d ≡ Ok k
+unfolding vehicle_cancellation
+vehicle_cancellation_read d (key.Vehicle vehicle) is = rw (required_row_ok name ITEM_REF.now d vehicle is) refl
+vehicle_cancellation_read d (key.Visit monitoring visit) is = absurd is
+vehicle_cancellation_read d (key.Journey line direction frame journey) is = absurd is
+vehicle_cancellation_read d (key.Situation participant number) is = absurd is
+
+pub removed_journey_spelled : (d : Data) (k : Key) → removed_journey d ≡ Ok k → SpellsRemoval service.Timetable d k
+unfolding removed_journey
+removed_journey_spelled d k e =
+    let r1 = bind_ok (required_row name LINE_REF.now d) _ k e in
+    let r2 = bind_ok (row name DIRECTION_REF.now d) _ k r1.2 in
+    let r3 = bind_ok (row name DATA_FRAME_REF.now d) _ k r2.2 in
+    let r4 = bind_ok (required_row name DATED_VEHICLE_JOURNEY_REF.now d) _ k r3.2 in
+    subst (λ (x : Key). SpellsRemoval service.Timetable d x) (ok_is _ k r4.2) (
+      required_row_spelled name LINE_REF.now d r1.0 r1.1,
+      row_spelled name DIRECTION_REF.now d r2.0 r2.1,
+      row_spelled name DATA_FRAME_REF.now d r3.0 r3.1,
+      required_row_spelled name DATED_VEHICLE_JOURNEY_REF.now d r4.0 r4.1,
+    )
+
+pub removed_journey_read : (d : Data) (k : Key) → SpellsRemoval service.Timetable d k → removed_journey d ≡ Ok k
+unfolding removed_journey
+removed_journey_read d (key.Journey line direction frame journey) is =
+    rw (
+      required_row_ok name LINE_REF.now d line is.0,
+      row_ok name DIRECTION_REF.now d direction is.1,
+      row_ok name DATA_FRAME_REF.now d frame is.2,
+      required_row_ok name DATED_VEHICLE_JOURNEY_REF.now d journey is.3,
+    ) refl
+removed_journey_read d (key.Visit monitoring visit) is = absurd is
+removed_journey_read d (key.Vehicle vehicle) is = absurd is
+removed_journey_read d (key.Situation participant number) is = absurd is
+
+pub removed_situation_spelled : (d : Data) (k : Key) → removed_situation d ≡ Ok k → SpellsRemoval service.Situation d k
+unfolding removed_situation
+removed_situation_spelled d k e =
+    let r1 = bind_ok (row name PARTICIPANT_REF.now d) _ k e in
+    let r2 = bind_ok (required_row name SITUATION_NUMBER.now d) _ k r1.2 in
+    subst (λ (x : Key). SpellsRemoval service.Situation d x) (ok_is _ k r2.2)
+    (row_spelled name PARTICIPANT_REF.now d r1.0 r1.1, required_row_spelled name SITUATION_NUMBER.now d r2.0 r2.1)
+
+pub removed_situation_read : (d : Data) (k : Key) → SpellsRemoval service.Situation d k → removed_situation d ≡ Ok k
+unfolding removed_situation
+removed_situation_read d (key.Situation participant number) is =
+    rw (row_ok name PARTICIPANT_REF.now d participant is.0, required_row_ok name SITUATION_NUMBER.now d number is.1) refl
+removed_situation_read d (key.Visit monitoring visit) is = absurd is
+removed_situation_read d (key.Journey line direction frame journey) is = absurd is
+removed_situation_read d (key.Vehicle vehicle) is = absurd is
+
+-- ---- lists, entry by entry
+
+-- what is asked of the entries
+EachSpells : {A : Type 0} → (Data → Result (Option A) Refusal) → List Data → List A → Type 0
+EachSpells rule ds xs = map rule (filter (λ e. not (is_null e)) ds) ≡ map (λ x. done (Some x)) xs
+
+below_ok : {A : Type 0} (step : Step) (r : Result A Refusal) (x : A) → below step r ≡ Ok x → r ≡ Ok x
+below_ok step (Ok y) x e = e
+below_ok step (Err r) x e = absurd cc
+
+required_is : {A : Type 0} (r : Result (Option A) Refusal) (x : A) → (r >>= required []) ≡ Ok x → r ≡ Ok (Some x)
+required_is (Ok None) x e = absurd cc
+required_is (Ok (Some y)) x e = ap (λ (v : _). done (Some v)) (ok_is y x e)
+required_is (Err r) x e = absurd cc
+
+value_is : {A : Type 0} (rule : Data → Result (Option A) Refusal) (d : Data) (x : A) → required_value rule d ≡ Ok x → rule d ≡ Ok (Some x)
+unfolding required_value
+value_is rule d x e = required_is (rule d) x e
+
+entry_spelled : {A : Type 0} (rule : Data → Result (Option A) Refusal) (place : ℕ) (d : Data) (ds : List Data) (xs : List A) (null : Bool) → ((ys : List A) → entries_from rule (place + 1) ds ≡ Ok ys → EachSpells rule ds ys)
+    → (if null then entries_from rule (place + 1) ds else (below (Place place) (required_value rule d) >>= λ first. entries_from rule (place + 1) ds >>= λ others. done (first ∷ others))) ≡ Ok xs
+    → map rule (if not null then d ∷ filter (λ e. not (is_null e)) ds else filter (λ e. not (is_null e)) ds) ≡ map (λ x. done (Some x)) xs
+unfolding EachSpells
+entry_spelled rule place d ds xs true h e = h xs e
+entry_spelled rule place d ds xs false h e =
+    let r1 = bind_ok (below (Place place) (required_value rule d)) _ xs e in
+    let r2 = bind_ok (entries_from rule (place + 1) ds) _ xs r1.2 in
+    let first : rule d ≡ done (Some r1.0) = value_is rule d r1.0 (below_ok (Place place) (required_value rule d) r1.0 r1.1) in
+    ap₂ (λ (a : Result _ Refusal) (rest : List (Result _ Refusal)). a ∷ rest) first (h r2.0 r2.1) ∙ ap (map (λ x. done (Some x))) (ok_is (r1.0 ∷ r2.0) xs r2.2)
+
+entries_spelled : {A : Type 0} (rule : Data → Result (Option A) Refusal) (place : ℕ) (ds : List Data) (xs : List A) → entries_from rule place ds ≡ Ok xs → EachSpells rule ds xs
+unfolding entries_from EachSpells
+entries_spelled rule place [] xs e = ap (map (λ x. done (Some x))) (ok_is [] xs e)
+entries_spelled rule place (d ∷ ds) xs e = entry_spelled rule place d ds xs (is_null d) (λ ys f. entries_spelled rule (place + 1) ds ys f) e
+
+first_is : {A : Type 0} (a b : A) (xs ys : List A) → a ∷ xs ≡ b ∷ ys → a ≡ b
+first_is a b xs ys e = cc
+
+others_are : {A : Type 0} (a b : A) (xs ys : List A) → a ∷ xs ≡ b ∷ ys → xs ≡ ys
+others_are a b xs ys e = cc
+
+value_read : {A : Type 0} (rule : Data → Result (Option A) Refusal) (d : Data) (x : A) → rule d ≡ Ok (Some x) → required_value rule d ≡ Ok x
+unfolding required_value
+value_read rule d x is = rw is refl
+
+entry_read : {A : Type 0} (rule : Data → Result (Option A) Refusal) (place : ℕ) (d : Data) (ds : List Data) (xs : List A) (null : Bool) → ((ys : List A) → EachSpells rule ds ys → entries_from rule (place + 1) ds ≡ Ok ys)
+    → map rule (if not null then d ∷ filter (λ e. not (is_null e)) ds else filter (λ e. not (is_null e)) ds) ≡ map (λ x. done (Some x)) xs
+    → (if null then entries_from rule (place + 1) ds else (below (Place place) (required_value rule d) >>= λ first. entries_from rule (place + 1) ds >>= λ others. done (first ∷ others))) ≡ Ok xs
+unfolding EachSpells
+entry_read rule place d ds xs true h e = h xs e
+entry_read rule place d ds [] false h e = absurd cc
+entry_read rule place d ds (x ∷ xs) false h e =
+    rw (value_read rule d x (first_is _ _ _ _ e), h xs (others_are _ _ _ _ e)) refl
+
+entries_read : {A : Type 0} (rule : Data → Result (Option A) Refusal) (place : ℕ) (ds : List Data) (xs : List A) → EachSpells rule ds xs → entries_from rule place ds ≡ Ok xs
+unfolding entries_from EachSpells
+entries_read rule place [] [] e = refl
+entries_read rule place [] (x ∷ xs) e = absurd cc
+entries_read rule place (d ∷ ds) xs e = entry_read rule place d ds xs (is_null d) (λ ys f. entries_read rule (place + 1) ds ys f) e
+
+list_spelled : {A : Type 0} (rule : Data → Result (Option A) Refusal) (o : Option Data) (xs : List A) → or_empty (list_of rule) o ≡ Ok xs → SpellsEntries rule o xs
+unfolding list_of EachSpells
+list_spelled rule None xs e = sym (ok_is [] xs e)
+list_spelled rule (Some d) xs e = entries_spelled rule 0 (entries_of d) xs e
+
+list_read : {A : Type 0} (rule : Data → Result (Option A) Refusal) (o : Option Data) (xs : List A) → SpellsEntries rule o xs → or_empty (list_of rule) o ≡ Ok xs
+unfolding list_of EachSpells
+list_read rule None xs is = ap (λ (ys : List _). done ys) (sym is)
+list_read rule (Some d) xs is = entries_read rule 0 (entries_of d) xs is
+
+-- ---- the journeys of frames
+
+pub journeys_spelled : (d : Data) (inside : List Journey) → journeys d ≡ Ok inside → SpellsJourneys d inside
+unfolding journeys
+journeys_spelled d inside e = list_spelled (table journey) (member_of ESTIMATED_VEHICLE_JOURNEY.now d) inside (below_ok (Member ESTIMATED_VEHICLE_JOURNEY.now) _ inside e)
+
+pub journeys_read : (d : Data) (inside : List Journey) → SpellsJourneys d inside → journeys d ≡ Ok inside
+unfolding journeys
+journeys_read d inside is = rw (list_read (table journey) (member_of ESTIMATED_VEHICLE_JOURNEY.now d) inside is) refl
+
+few_is : (all items : List Item) (few : Bool) → nat_le (length all) 20000 ≡ few → (if few then done all else refused TooMany) ≡ Ok items → (items ≡ all) × (length items ≤ 20000)
+few_is all items true at e =
+    let same = ok_is all items e in
+    (sym same, subst (λ (x : List Item). length x ≤ 20000) same (leb-true (length all) 20000 at))
+few_is all items false at e = absurd cc
+
+frames_spelled : (o : Option Data) (d : Data) (items : List Item) → o ≡ member_of ESTIMATED_JOURNEY_VERSION_FRAME.now d → or_empty frames_of o ≡ Ok items → SpellsFrames d items
+unfolding frames_of
+frames_spelled None d items at e =
+    let none = ok_is [] items e in
+    record {
+      frames = [];
+      spelled = subst (λ (x : Option Data). SpellsEntries (table frame) x []) at refl;
+      are = sym none;
+      few = subst (λ (x : List Item). length x ≤ 20000) none (omega arith);
+    }
+frames_spelled (Some v) d items at e =
+    let r = bind_ok (list_of (table frame) v) _ items e in
+    let is = few_is (concat_frames r.0) items (nat_le (length (concat_frames r.0)) 20000) refl r.2 in
+    record {
+      frames = r.0;
+      spelled = subst (λ (x : Option Data). SpellsEntries (table frame) x r.0) at (list_spelled (table frame) (Some v) r.0 r.1);
+      are = is.0;
+      few = is.1;
+    }
+
+pub journeys_of_frames_spelled : (d : Data) (items : List Item) → journeys_of_frames d ≡ Ok items → SpellsFrames d items
+unfolding journeys_of_frames
+journeys_of_frames_spelled d items e = frames_spelled (member_of ESTIMATED_JOURNEY_VERSION_FRAME.now d) d items refl (below_ok (Member ESTIMATED_JOURNEY_VERSION_FRAME.now) _ items e)
+
+few_read : (all items : List Item) → items ≡ all → length items ≤ 20000 → few_in_all all ≡ Ok items
+few_read all items are few =
+    let all_few : length all ≤ 20000 = subst (λ (x : List Item). length x ≤ 20000) are few in
+    rw (le-leb (length all) 20000 all_few) (ap (λ (x : List Item). done x) (sym are))
+
+frames_read : (o : Option Data) (frames : List (List Item)) (items : List Item) → SpellsEntries (table frame) o frames → items ≡ concat_frames frames → length items ≤ 20000
+    → or_empty frames_of o ≡ Ok items
+unfolding frames_of
+frames_read None frames items is are few =
+    let none : items ≡ [] = are ∙ ap concat_frames is in
+    ap (λ (x : List Item). done x) (sym none)
+frames_read (Some v) frames items is are few = rw (list_read (table frame) (Some v) frames is) (few_read (concat_frames frames) items are few)
+
+pub journeys_of_frames_read : (d : Data) (items : List Item) → SpellsFrames d items → journeys_of_frames d ≡ Ok items
+unfolding journeys_of_frames
+journeys_of_frames_read d items s_ = rw (frames_read (member_of ESTIMATED_JOURNEY_VERSION_FRAME.now d) s_.frames items s_.spelled s_.are s_.few) refl

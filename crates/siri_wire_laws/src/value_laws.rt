@@ -1,0 +1,24 @@
+//! What holds of rows inside an object of their own, and of errors: each function has laws for its clauses, and does
+//! nothing when it is called.
+
+ghost use Rattle.std.specs.Prelude.{◌≡◌, ◌↔◌, ℕ, ℤ, List, Option, Result, Ok};
+ghost use Rattle.serde_json.specs.Data.{Data};
+ghost use Rattle.siri_items.specs.Refusals.{Refusal};
+ghost use Rattle.siri_items.specs.Rules.{text, inside};
+ghost use Rattle.siri_wire.specs.declared.names.TheConstants.{ERROR_TEXT};
+ghost use Rattle.siri_wire.specs.Errors.{other_error};
+ghost use Rattle.siri_wire_laws.specs.SpellingValues.{SpellsInside, SpellsErrorCondition, SpellsOtherError};
+
+/// A text or a span that is the only row of an object is read from a value exactly where that object spells it, or where
+/// the value counts as absent and nothing is read.
+pub fn inner_rows_are_spelled()
+    ensures of_text { (rule : Data → Result (Option (List ℕ)) Refusal) (key : List ℕ) (d : Data) (value : Option (List ℕ)) → (inside rule key d ≡ Ok value) ↔ SpellsInside rule key d value }
+    ensures of_span { (rule : Data → Result (Option ℤ) Refusal) (key : List ℕ) (d : Data) (value : Option ℤ) → (inside rule key d ≡ Ok value) ↔ SpellsInside rule key d value }
+{}
+
+/// The text of an error is read from a value exactly where the value spells it: ErrorCondition is an object with
+/// OtherError, and that one with ErrorText.
+pub fn errors_are_spelled()
+    ensures of_error_condition { (d : Data) (error : Option (List ℕ)) → (other_error d ≡ Ok error) ↔ SpellsErrorCondition d error }
+    ensures of_other_error { (d : Data) (error : Option (List ℕ)) → (inside text ERROR_TEXT.now d ≡ Ok error) ↔ SpellsOtherError d error }
+{}
