@@ -14,7 +14,7 @@ returns-in-Some-clause-ok c =
     let held = c.args.store.now.entries in
     let same = sym (ap unshared c.deref.ensures.value ∙ c.in_ok-shown.ensures.ok) in
     IfOk-weaker c.soonest.result (λ kept. (entries : Items) → InOrder entries → values_of entries ≡ unshared c.deref.result.now → kept ≡ values_of (soonest c.in-Some.most entries)) _
-    (λ kept is. is (shown now held topic) (shown_in_order now held topic c.requires) same ∙ answering_most now held topic c.in-Some.most c.in-Some.ensures) c.soonest.ensures
+    (λ kept is. is (shown now held topic) (shown_in_order now held topic c.in_ok-shown.ensures.ordered) same ∙ answering_most now held topic c.in-Some.most c.in-Some.ensures) c.soonest.ensures
 
 pub returns-clause-ok : goal.returns-clause-ok
 returns-clause-ok c =

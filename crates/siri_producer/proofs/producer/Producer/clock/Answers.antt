@@ -3,7 +3,7 @@ use Rattle.siri_records.specs.declared.item.Item.{Item}
 use Rattle.siri_records.specs.Ends.{is_dead}
 use Rattle.siri_records.specs.Order.{key_cmp}
 use Rattle.siri_model.specs.History.{live}
-use Rattle.siri_store.specs.Calls.{living}
+use Rattle.siri_records.specs.Keyed.{living}
 use Rattle.siri_store.specs.Held.{Held}
 use Rattle.siri_producer.specs.Known.{Known}
 use Rattle.siri_producer.proofs.Entries.{sorted_passing}

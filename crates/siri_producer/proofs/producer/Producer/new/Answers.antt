@@ -6,7 +6,7 @@ use Rattle.siri_producer.proofs.producer.Producer.new.Goals as goal
 
 pub returns-clause-stands : goal.returns-clause-stands
 returns-clause-stands c =
-    let store = c.new-2.ensures.store ∙ c.new.ensures.value in
+    let store = c.new-2.ensures.store ∙ c.in_ok-new.ensures.value in
     stands_new _ c.args.start c.args.now refl refl (ap (λ (s : Held). s.moment) store) (ap (λ (s : Held). s.entries) store)
 
 pub returns-clause-state : goal.returns-clause-state
