@@ -50,7 +50,7 @@ impl Producer {
             name,
             start,
             started: now,
-            feeding: Feeding::new(Store::new(alloc, now)),
+            feeding: Feeding::new(Store::new(alloc, now)?),
         })
     }
 
