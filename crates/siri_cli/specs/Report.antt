@@ -6,7 +6,7 @@ use Rattle.siri_base.specs.declared.reason.ScriptReason.TheVariants as reason
 use Rattle.siri_model.specs.History.{History, Start, Clock, Feed, Settle, entries_of, now_of, current}
 use Rattle.siri_model.specs.Fed.{counts_of}
 use Rattle.siri_model.specs.Direct.{response}
-use Rattle.siri_producer.specs.Told.{told}
+use Rattle.siri_producer.specs.FedCounts.{fed_counts}
 use Rattle.siri_cli.specs.declared.events.TheConstants.{PRODUCER}
 use Rattle.siri_cli.specs.declared.lines.Line.{Line}
 use Rattle.siri_cli.specs.declared.lines.Line.TheVariants as said
@@ -33,7 +33,7 @@ says n None other = refused n reason.NotStarted
 says n (Some history) (said.Start moment) = refused n reason.NotYet
 says n (Some history) (said.Clock moment) = Goes [] (Some (history ++ Clock moment ∷ Settle ∷ []))
 says n (Some history) (said.Feed delivery) =
-    Goes (fed_text (told (counts_of (now_of history) (current history) (entries_of delivery))))
+    Goes (fed_text (fed_counts (counts_of (now_of history) (current history) (entries_of delivery))))
     (Some (history ++ Feed (entries_of delivery) ∷ Settle ∷ []))
 says n (Some history) (said.Ask request) = Goes (answer_text (response PRODUCER.now (now_of history) (current history) request)) (Some history)
 

@@ -7,13 +7,13 @@ use Rattle.siri_records.specs.declared.item.Item.{Item}
 use Rattle.siri_records.specs.declared.key.Key.{Key}
 use Rattle.siri_records.specs.Ends.{entry_of}
 use Rattle.siri_records.specs.Order.{key_cmp}
+use Rattle.siri_records.specs.Keyed.{Items}
 use Rattle.siri_topic.specs.declared.topics.Topic.{Topic}
 use Rattle.siri_topic.specs.declared.topics.Topic.TheVariants as topic
 use Rattle.siri_topic.specs.Shown.{is_shown}
 use Rattle.siri_messages.specs.declared.deliveries.ServiceDelivery.{ServiceDelivery}
 use Rattle.siri_messages.specs.declared.deliveries.FunctionalDelivery.{FunctionalDelivery}
 use Rattle.siri_messages.specs.declared.requests.ServiceRequest.{ServiceRequest}
-use Rattle.siri_model.specs.History.{Items}
 
 -- the direct response to a topic: all items that are shown to it at a moment, in order of key
 abbrev pub shown : ℕ → Items → Topic → Items
@@ -25,13 +25,13 @@ shown now items topic = filter (λ entry. is_shown topic entry.1 now) items
 abbrev pub soonest_cmp : Key × Item → Key × Item → Ordering
 soonest_cmp = then_cmp (on (λ entry. entry_of entry.1) (option_cmp nat_cmp)) (on (λ entry. entry.0) key_cmp)
 
--- how many of the items come sooner than one
-abbrev pub sooner : Items → Key × Item → ℕ
-sooner items entry = count_by (λ other. is_lt (soonest_cmp other entry)) items
+-- how many of the items come before one by call moment and key
+abbrev pub items_before : Items → Key × Item → ℕ
+items_before items entry = count_by (λ other. is_lt (soonest_cmp other entry)) items
 
 -- the first so many by call moment and then key, in order of key
 abbrev pub soonest : ℕ → Items → Items
-soonest most items = filter (λ entry. nat_lt (sooner items entry) most) items
+soonest most items = filter (λ entry. nat_lt (items_before items entry) most) items
 
 abbrev pub at_most : Option ℕ → Items → Items
 at_most None items = items

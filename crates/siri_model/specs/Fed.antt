@@ -2,7 +2,8 @@
 -- observations were refused.
 use Rattle.std.specs.Prelude.{ℕ, List, Bool, true, false, not, ◌&&◌, map, filter, count_by}
 use Rattle.std.specs.List.{scan}
-use Rattle.siri_model.specs.History.{Entry, Observed, Withdrawn, Items, is_refused, after_entry}
+use Rattle.siri_records.specs.Keyed.{Items}
+use Rattle.siri_model.specs.History.{Entry, Observed, Withdrawn, is_refused, after_entry}
 
 abbrev pub is_observation : Entry → Bool
 is_observation (Observed item) = true

@@ -1,13 +1,11 @@
 -- The history of a producer, and what is current after it.
 use Rattle.std.specs.Prelude.{◌≡◌, ℕ, List, [], ◌++◌, length, max, map, filter, flat_map, fold, Bool, ◌&&◌, not, nat_le, is_some, if◌then◌else◌, Option}
 use Rattle.std.specs.List.{All}
-use Rattle.std.specs.Map.{lookup, remove_entry}
-use Rattle.std.specs.BTreeMap.{insert_entry, is_at}
 use Rattle.siri_records.specs.declared.item.Item.{Item}
 use Rattle.siri_records.specs.declared.key.Key.{Key}
 use Rattle.siri_records.specs.Ends.{is_dead}
+use Rattle.siri_records.specs.Keyed.{Items, item_of, with_item, without_key, living, most_live}
 use Rattle.siri_records.specs.Keys.{key_of}
-use Rattle.siri_records.specs.Order.{key_cmp}
 use Rattle.siri_messages.specs.declared.deliveries.ServiceDelivery.{ServiceDelivery}
 use Rattle.siri_messages.specs.declared.deliveries.FunctionalDelivery.{FunctionalDelivery}
 use Rattle.siri_messages.specs.declared.message.Message.{Message}
@@ -45,34 +43,22 @@ pub data Step : Type 0 where
 abbrev pub History : Type 0
 History = List Step
 
--- items in order of key
-abbrev pub Items : Type 0
-Items = List (Key × Item)
-
 -- each item stands under its own key
 abbrev pub IsKeyed : Items → Type 0
 IsKeyed items = All (λ entry. entry.0 ≡ key_of entry.1) items
 
--- those that aren't dead
-abbrev pub live : ℕ → Items → Items
-live now items = filter (λ entry. not (is_dead entry.1 now)) items
-
 -- a key is live where its current item isn't dead
 abbrev pub is_live : ℕ → Items → Key → Bool
-is_live now items key = is_some (lookup (is_at (key_cmp key)) (live now items))
-
--- the most keys that are live at once
-abbrev pub most_live : ℕ
-most_live = 20000
+is_live now items key = is_some (item_of (living now items) key)
 
 -- an observation is refused where it isn't dead, its key isn't live, and as many keys are live as may be
 abbrev pub is_refused : ℕ → Items → Item → Bool
-is_refused now items item = not (is_dead item now) && (not (is_live now items (key_of item)) && nat_le most_live (length (live now items)))
+is_refused now items item = not (is_dead item now) && (not (is_live now items (key_of item)) && nat_le most_live (length (living now items)))
 
 -- the items after an entry: an observed item becomes the one of its key, unless it is refused; a withdrawn key has none
 abbrev pub after_entry : ℕ → Items → Entry → Items
-after_entry now items (Observed item) = if is_refused now items item then items else insert_entry key_cmp items (key_of item) item
-after_entry now items (Withdrawn key) = remove_entry (is_at (key_cmp key)) items
+after_entry now items (Observed item) = if is_refused now items item then items else with_item items (key_of item, item)
+after_entry now items (Withdrawn key) = without_key items key
 
 -- what a producer knows: its start number, the moment of its start, its moment, which is the greatest that it was given,
 -- and the current items, dead ones among them
@@ -119,4 +105,4 @@ current history = (state_of history).current
 
 -- the current item of a key: the last that was observed of it and taken, unless the key was withdrawn after that
 abbrev pub current_at : History → Key → Option Item
-current_at history key = lookup (is_at (key_cmp key)) (current history)
+current_at history key = item_of (current history) key

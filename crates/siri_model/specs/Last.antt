@@ -7,8 +7,9 @@ use Rattle.siri_records.specs.declared.item.Item.{Item}
 use Rattle.siri_records.specs.declared.key.Key.{Key}
 use Rattle.siri_records.specs.Keys.{key_of}
 use Rattle.siri_records.specs.Order.{key_cmp}
+use Rattle.siri_records.specs.Keyed.{Items}
 use Rattle.siri_model.specs.Fed.{refuses, taken}
-use Rattle.siri_model.specs.History.{Entry, Observed, Withdrawn, Items, State, Step, Start, Clock, Feed, Take, Settle, History, nothing, after_step, entries_fed}
+use Rattle.siri_model.specs.History.{Entry, Observed, Withdrawn, State, Step, Start, Clock, Feed, Take, Settle, History, nothing, after_step, entries_fed}
 
 -- the key that an entry observes or withdraws
 abbrev pub entry_key : Entry → Key

@@ -19,10 +19,11 @@ use Rattle.siri_records.specs.Ends.{is_dead}
 use Rattle.siri_records.specs.Keys.{key_of}
 use Rattle.siri_records.specs.Order.{key_cmp}
 use Rattle.siri_records.proofs.Order.{key_cmp_total, key_cmp_exact}
+use Rattle.siri_records.specs.Keyed.{Items, living, InOrder, most_live}
 use Rattle.siri_model.specs.Fed.{refuses, taken}
-use Rattle.siri_model.specs.History.{Entry, Observed, Withdrawn, Items, IsKeyed, Step, Start, Clock, Feed, Take, Settle, History, State, nothing, live, most_live, is_refused, after_entry, after_step, entries_fed, now_of, current, current_at}
+use Rattle.siri_model.specs.History.{Entry, Observed, Withdrawn, IsKeyed, Step, Start, Clock, Feed, Take, Settle, History, State, nothing, is_refused, after_entry, after_step, entries_fed, now_of, current, current_at}
 use Rattle.siri_model.specs.Last.{is_of, left_by, left_by_last, last_of, after_one, taken_from, taken_in}
-use Rattle.siri_producer.specs.Answering.{InOrder}
+use Rattle.siri_producer.specs.Known.{Known, StandsFor}
 use Rattle.siri_producer.proofs.Entries.{IsBelow, below_tied, sorted_passing, passing_removed, passing_inserted, passing_inserted_failing}
 use Rattle.siri_producer.proofs.Fold.{in_order_after}
 use Rattle.siri_producer.proofs.Stands.{none_in_order, in_order_all, in_order_step, current_in_order, live_later, more_steps}
@@ -159,31 +160,31 @@ few_where : (new old : ℕ) (held : Option Item) → new + unwrap_or (option_map
 few_where new old (Some item) longer room few = omega (arith, longer, few)
 few_where new old None longer room few = let below = leb-false most_live old room in omega (arith, longer, below)
 
-few_inserted : (now : ℕ) (items : Items) (item : Item) (held : Option Item) → InOrder items → is_dead item now ≡ false → lookup (is_at (key_cmp (key_of item))) (live now items) ≡ held → not (is_some held) && nat_le most_live (length (live now items)) ≡ false → length (live now items) ≤ most_live → length (live now (insert_entry key_cmp items (key_of item) item)) ≤ most_live
+few_inserted : (now : ℕ) (items : Items) (item : Item) (held : Option Item) → InOrder items → is_dead item now ≡ false → lookup (is_at (key_cmp (key_of item))) (living now items) ≡ held → not (is_some held) && nat_le most_live (length (living now items)) ≡ false → length (living now items) ≤ most_live → length (living now (insert_entry key_cmp items (key_of item) item)) ≤ most_live
 few_inserted now items item held s alive is room few =
     let p : Item → Bool = λ i. not (is_dead i now) in
     let through = passing_inserted key_cmp_total p (key_of item) (key_cmp_exact (key_of item)) item (ap not alive) items s in
-    let longer = length_inserted key_cmp_total key_cmp_exact (key_of item) item (live now items) (sorted_passing key_cmp p items s) in
-    rw through (few_where (length (insert_entry key_cmp (live now items) (key_of item) item)) (length (live now items)) held (rw is at longer) room few)
+    let longer = length_inserted key_cmp_total key_cmp_exact (key_of item) item (living now items) (sorted_passing key_cmp p items s) in
+    rw through (few_where (length (insert_entry key_cmp (living now items) (key_of item) item)) (length (living now items)) held (rw is at longer) room few)
 
-few_after_at : (now : ℕ) (items : Items) (item : Item) (refused dead : Bool) → InOrder items → is_refused now items item ≡ refused → is_dead item now ≡ dead → length (live now items) ≤ most_live → length (live now (if refused then items else insert_entry key_cmp items (key_of item) item)) ≤ most_live
+few_after_at : (now : ℕ) (items : Items) (item : Item) (refused dead : Bool) → InOrder items → is_refused now items item ≡ refused → is_dead item now ≡ dead → length (living now items) ≤ most_live → length (living now (if refused then items else insert_entry key_cmp items (key_of item) item)) ≤ most_live
 few_after_at now items item true dead s r d few = few
 few_after_at now items item false true s r d few =
     let p : Item → Bool = λ i. not (is_dead i now) in
     let through = passing_inserted_failing key_cmp_total p (key_of item) item (ap not d) items s in
-    let shorter = length_removed key_cmp_total key_cmp_exact (key_of item) (live now items) in
+    let shorter = length_removed key_cmp_total key_cmp_exact (key_of item) (living now items) in
     rw through (omega (arith, shorter, few))
 few_after_at now items item false false s r d few =
-    few_inserted now items item (lookup (is_at (key_cmp (key_of item))) (live now items)) s d refl (rw d at r) few
+    few_inserted now items item (lookup (is_at (key_cmp (key_of item))) (living now items)) s d refl (rw d at r) few
 
-few_after : (now : ℕ) (items : Items) (e : Entry) → InOrder items → length (live now items) ≤ most_live → length (live now (after_entry now items e)) ≤ most_live
+few_after : (now : ℕ) (items : Items) (e : Entry) → InOrder items → length (living now items) ≤ most_live → length (living now (after_entry now items e)) ≤ most_live
 few_after now items (Observed item) s few = few_after_at now items item (is_refused now items item) (is_dead item now) s refl refl few
 few_after now items (Withdrawn key) s few =
     let through = passing_removed key_cmp_total (λ (i : Item). not (is_dead i now)) key items s in
-    let shorter = length_removed key_cmp_total key_cmp_exact key (live now items) in
+    let shorter = length_removed key_cmp_total key_cmp_exact key (living now items) in
     rw through (omega (arith, shorter, few))
 
-few_all : (now : ℕ) (items : Items) (entries : List Entry) → InOrder items → length (live now items) ≤ most_live → length (live now (fold (after_entry now) items entries)) ≤ most_live
+few_all : (now : ℕ) (items : Items) (entries : List Entry) → InOrder items → length (living now items) ≤ most_live → length (living now (fold (after_entry now) items entries)) ≤ most_live
 few_all now items [] s few = few
 few_all now items (e ∷ entries) s few = few_all now (after_entry now items e) entries (in_order_after now items e s) (few_after now items e s few)
 
@@ -194,12 +195,12 @@ shorter : {X : Type 0} (p : X → Bool) (xs : List X) → length (filter p xs) �
 shorter p [] = omega arith
 shorter p (x ∷ xs) = shorter_at p x xs (shorter p xs)
 
-few_later : (now later : ℕ) (items : Items) → now ≤ later → length (live now items) ≤ most_live → length (live later items) ≤ most_live
+few_later : (now later : ℕ) (items : Items) → now ≤ later → length (living now items) ≤ most_live → length (living later items) ≤ most_live
 few_later now later items le few =
-    let less = shorter (λ (e : Key × Item). not (is_dead e.1 later)) (live now items) in
+    let less = shorter (λ (e : Key × Item). not (is_dead e.1 later)) (living now items) in
     rw (sym (live_later now later items le)) (omega (arith, less, few))
 
-few_step : (state : State) (step : Step) → InOrder state.current → length (live state.now state.current) ≤ most_live → length (live (after_step state step).now (after_step state step).current) ≤ most_live
+few_step : (state : State) (step : Step) → InOrder state.current → length (living state.now state.current) ≤ most_live → length (living (after_step state step).now (after_step state step).current) ≤ most_live
 unfolding after_step
 few_step state (Start n m) s few = omega arith
 few_step state (Clock m) s few = few_later state.now (max state.now m) state.current (omega arith) few
@@ -207,11 +208,11 @@ few_step state (Feed entries) s few = few_all state.now state.current entries s 
 few_step state (Take message) s few = few_all state.now state.current (entries_fed message) s few
 few_step state Settle s few = few
 
-few_from : (state : State) (steps : History) → InOrder state.current → length (live state.now state.current) ≤ most_live → length (live (fold after_step state steps).now (fold after_step state steps).current) ≤ most_live
+few_from : (state : State) (steps : History) → InOrder state.current → length (living state.now state.current) ≤ most_live → length (living (fold after_step state steps).now (fold after_step state steps).current) ≤ most_live
 few_from state [] s few = few
 few_from state (step ∷ steps) s few = few_from (after_step state step) steps (in_order_step state step s) (few_step state step s few)
 
-pub few_live : (h : History) → length (live (now_of h) (current h)) ≤ most_live
+pub few_live : (h : History) → length (living (now_of h) (current h)) ≤ most_live
 few_live h = few_from nothing h none_in_order (omega arith)
 
 -- ---- the item of a key after an entry
@@ -293,3 +294,23 @@ last_from state entries (Settle ∷ steps) s last = last_from (after_step state 
 
 pub last_taken : (h : History) (key : Key) → current_at h key ≡ left_by_last (last_of key (taken_in h))
 last_taken h = last_from nothing [] h none_in_order (λ key. refl)
+
+-- ---- what a producer holds
+
+keyed_passing : (p : Item → Bool) (es : Items) → IsKeyed es → IsKeyed (filter (λ e. p e.1) es)
+keyed_passing p [] k = k
+keyed_passing p (e ∷ es) k =
+    let rest = keyed_passing p es (All-tail (λ (e : Key × Item). e.0 ≡ key_of e.1) e es k) in
+    elim (p e.1) as (λ b. IsKeyed (cond b (e ∷ filter (λ e. p e.1) es) (filter (λ e. p e.1) es))) [
+      | true ↦ All-cons (λ (e : Key × Item). e.0 ≡ key_of e.1) e (filter (λ e. p e.1) es) (All-head (λ (e : Key × Item). e.0 ≡ key_of e.1) e es k) rest
+      | false ↦ rest
+    ]
+
+pub held_in_order : (known : Known) → ((h : History) × StandsFor known h) → InOrder known.held
+held_in_order known has = rw (has.1.held) (sorted_passing key_cmp (λ (i : Item). not (is_dead i (now_of has.0))) (current has.0) (current_in_order has.0))
+
+pub held_keyed : (known : Known) → ((h : History) × StandsFor known h) → IsKeyed known.held
+held_keyed known has = rw (has.1.held) (keyed_passing (λ (i : Item). not (is_dead i (now_of has.0))) (current has.0) (current_keyed has.0))
+
+pub held_few : (known : Known) → ((h : History) × StandsFor known h) → length known.held ≤ most_live
+held_few known has = rw (has.1.held) (few_live has.0)

@@ -1,7 +1,6 @@
 pub mod Current
 pub mod Entries
 pub mod Fold
-pub mod Living
 pub mod Ranks
 pub mod Reached
 pub mod Shown

@@ -19,9 +19,9 @@ use Rattle.siri_records.specs.declared.key.Key.{Key}
 use Rattle.siri_records.specs.Ends.{entry_of}
 use Rattle.siri_records.specs.Order.{key_cmp}
 use Rattle.siri_records.proofs.Order.{key_cmp_total}
-use Rattle.siri_model.specs.Direct.{soonest_cmp, sooner, soonest}
-use Rattle.siri_model.specs.History.{Items}
-use Rattle.siri_producer.specs.Answering.{InOrder, Rank, rank_cmp, rank_of, ranks_of, up_to, up_to_from}
+use Rattle.siri_records.specs.Keyed.{Items, InOrder}
+use Rattle.siri_model.specs.Direct.{soonest_cmp, items_before, soonest}
+use Rattle.siri_producer.specs.Answering.{Rank, rank_cmp, rank_of, ranks_of, up_to, up_to_from}
 
 -- ---- counting
 
@@ -105,7 +105,7 @@ module _ {X : Type 0} {R : X → X → Ordering} (total : IsTotalOrder R) where
       before_at (get_or xs j last) rank last (R rank last) (R last (get_or xs j last)) refl refl later up) in
       le-ltb _ _ (omega (arith, many))
 
-  -- of sorted ranks at most so many come sooner than a rank, exactly where it isn't after the one at that place
+  -- of sorted ranks at most so many come items_before than a rank, exactly where it isn't after the one at that place
   pub sorted_place : (xs ys : List X) (before : ℕ) (last : X) → IsPermutation xs ys → IsSorted R ys → before < length xs → last ≡ get_or ys before last → (rank : X) → nat_lt (count_by (λ x. is_lt (R x rank)) xs) (before + 1) ≡ is_le (R rank last)
   sorted_place xs ys before last moved sorted lt is rank =
       let same = sum_by-IsPermutation (λ x. cond (is_lt (R x rank)) 1 0) xs ys moved in
@@ -176,20 +176,20 @@ keys_alike : (es : Items) (i j : ℕ) (d : Key × Item) → InOrder es → i < l
 keys_alike es i j d s li lj =
     rw (← key_at es i d, ← key_at es j d) (places_alike key_cmp_total (keys_of es) i j d.0 s (rw (length_keys es) li) (rw (length_keys es) lj))
 
--- as many come sooner by call moment and key as by call moment and place
-sooner_alike : (es : Items) (i : ℕ) (d : Key × Item) → InOrder es → i < length es → sooner es (get_or es i d) ≡ count_by (λ r. is_lt (rank_cmp r (rank_of (i, (get_or es i d).1)))) (ranks_of (values_of es))
+-- as many come items_before by call moment and key as by call moment and place
+sooner_alike : (es : Items) (i : ℕ) (d : Key × Item) → InOrder es → i < length es → items_before es (get_or es i d) ≡ count_by (λ r. is_lt (rank_cmp r (rank_of (i, (get_or es i d).1)))) (ranks_of (values_of es))
 sooner_alike es i d s li =
     count_alike (λ o. is_lt (soonest_cmp o (get_or es i d))) d (λ r. is_lt (rank_cmp r (rank_of (i, (get_or es i d).1)))) 0 es
     (λ j lj.
     ap (λ o. is_lt (ordering_then (option_cmp nat_cmp (entry_of (get_or es j d).1) (entry_of (get_or es i d).1)) o)) (keys_alike es j i d s lj li)
     ∙ ap (λ n. is_lt (rank_cmp (rank_of (n, (get_or es j d).1)) (rank_of (i, (get_or es i d).1)))) (from_none j))
 
--- those up to a rank, of which so many come sooner, are the soonest
+-- those up to a rank, of which so many come items_before, are the soonest
 pub soonest_up_to : (es : Items) (before : ℕ) (last : Rank) → InOrder es → ((rank : Rank) → nat_lt (count_by (λ r. is_lt (rank_cmp r rank)) (ranks_of (values_of es))) (before + 1) ≡ is_le (rank_cmp rank last)) → values_of (soonest (before + 1) es) ≡ up_to last (values_of es)
 soonest_up_to [] before last s exact = refl
 soonest_up_to (e ∷ es) before last s exact =
     let all : Items = e ∷ es in
-    filter_alike (λ x. nat_lt (sooner all x) (before + 1)) e (λ x. is_le (rank_cmp (rank_of x) last)) 0 all
+    filter_alike (λ x. nat_lt (items_before all x) (before + 1)) e (λ x. is_le (rank_cmp (rank_of x) last)) 0 all
     (λ j lj.
     ap (λ n. nat_lt n (before + 1)) (sooner_alike all j e s lj)
     ∙ exact (rank_of (j, (get_or all j e).1))
@@ -200,13 +200,13 @@ pub soonest_all : (es : Items) (most : ℕ) → length es ≤ most → soonest m
 soonest_all [] most le = refl
 soonest_all (e ∷ es) most le =
     let all : Items = e ∷ es in
-    filter_all (λ x. nat_lt (sooner all x) most) e all (λ j lj.
+    filter_all (λ x. nat_lt (items_before all x) most) e all (λ j lj.
     let x = get_or all j e in
     let itself = ap is_lt (tied_itself (then_total (on_total (λ (o : Key × Item). entry_of o.1) (options_total nat_cmp_total)) (on_total (λ (o : Key × Item). o.0) key_cmp_total)) x) in
     lt-ltb _ _ (omega (arith, le, count_below (λ o. is_lt (soonest_cmp o x)) e j all lj itself)))
 
 pub soonest_none : (es : Items) → soonest 0 es ≡ []
-soonest_none es = filter_none (λ x. nat_lt (sooner es x) 0) (λ x. le-ltb _ _ (omega arith)) es
+soonest_none es = filter_none (λ x. nat_lt (items_before es x) 0) (λ x. le-ltb _ _ (omega arith)) es
 
 -- ---- lists that grow
 

@@ -5,16 +5,11 @@ use Rattle.std.proofs.lemmas.List.Sums.{fold-append}
 use Rattle.std.proofs.lemmas.List.Concat.{flat_map-append}
 use Rattle.siri_records.specs.declared.item.Item.{Item}
 use Rattle.siri_records.specs.Ends.{is_dead}
-use Rattle.siri_records.specs.Keys.{key_of}
-use Rattle.siri_records.proofs.Order.{key_cmp_total}
 use Rattle.siri_messages.specs.declared.deliveries.FunctionalDelivery.{FunctionalDelivery}
 use Rattle.siri_model.specs.History.{Entry, Observed, Withdrawn, entries_in}
 use Rattle.siri_store.specs.Calls.{refuses}
-use Rattle.siri_store.specs.Held.{Held}
-use Rattle.siri_producer.specs.Answering.{InOrder}
 use Rattle.siri_producer.specs.declared.feeding.Feeding.{Feeding}
 use Rattle.siri_producer.specs.Feeding.{after, after_all, Reaches, ReachesSome}
-use Rattle.siri_producer.proofs.Entries.{sorted_inserted, sorted_removed}
 
 pub reached_none : (f : Feeding) (entries : List Entry) → Reaches f f entries entries
 reached_none f entries = record { taken = []; apart = refl; stands = refl }
@@ -78,33 +73,23 @@ dropped (y ∷ xs) (suc i) x lt is = dropped xs i x (omega (arith, lt)) is
 pub drop_here : {A : Type 0} (xs : List A) (i : ℕ) (x : A) → i < length xs → x ≡ get_or xs i x → drop i xs ≡ x ∷ drop (i + 1) xs
 drop_here xs i x lt is = rw add-one (dropped xs i x lt is)
 
--- ---- what every entry keeps
+-- ---- no entry counts a step
 
--- another store of as many steps, in order of key
-abbrev pub Kept : Held → Held → Type 0
-Kept old new = (new.reads ≡ old.reads) × (InOrder old.entries → InOrder new.entries)
+reads_observed : (f : Feeding) (item : Item) (refused dead : Bool) → refuses f.store item ≡ refused → is_dead item f.store.moment ≡ dead → (after f (Observed item)).store.reads ≡ f.store.reads
+reads_observed f item true dead r d = rw r refl
+reads_observed f item false true r d = rw (r, d) refl
+reads_observed f item false false r d = rw (r, d) refl
 
-kept_observed : (f : Feeding) (item : Item) (refused dead : Bool) → refuses f.store item ≡ refused → is_dead item f.store.moment ≡ dead → Kept f.store (after f (Observed item)).store
-kept_observed f item true dead r d = rw r (refl, λ s. s)
-kept_observed f item false true r d = rw (r, d) (refl, sorted_removed key_cmp_total (key_of item) f.store.entries)
-kept_observed f item false false r d = rw (r, d) (refl, sorted_inserted key_cmp_total (key_of item) item f.store.entries)
+reads_entry : (f : Feeding) (e : Entry) → (after f e).store.reads ≡ f.store.reads
+reads_entry f (Observed item) = reads_observed f item (refuses f.store item) (is_dead item f.store.moment) refl refl
+reads_entry f (Withdrawn key) = refl
 
-kept_entry : (f : Feeding) (e : Entry) → Kept f.store (after f e).store
-kept_entry f (Observed item) = kept_observed f item (refuses f.store item) (is_dead item f.store.moment) refl refl
-kept_entry f (Withdrawn key) = (refl, sorted_removed key_cmp_total key f.store.entries)
+pub kept_all : (f : Feeding) (entries : List Entry) → (after_all f entries).store.reads ≡ f.store.reads
+kept_all f [] = refl
+kept_all f (e ∷ entries) = kept_all (after f e) entries ∙ reads_entry f e
 
-pub kept_all : (f : Feeding) (entries : List Entry) → Kept f.store (after_all f entries).store
-kept_all f [] = (refl, λ s. s)
-kept_all f (e ∷ entries) =
-    let one = kept_entry f e in
-    let rest = kept_all (after f e) entries in
-    (rest.0 ∙ one.0, λ s. rest.1 (one.1 s))
-
-pub kept_some : (a b : Feeding) (entries : List Entry) → ReachesSome a b entries → Kept a.store b.store
-kept_some a b entries some =
-    let r = some.1 in
-    let kept = kept_all a r.taken in
-    (ap (λ (f : Feeding). f.store.reads) r.stands ∙ kept.0, λ s. rw (r.stands) (kept.1 s))
+pub kept_some : (a b : Feeding) (entries : List Entry) → ReachesSome a b entries → b.store.reads ≡ a.store.reads
+kept_some a b entries some = ap (λ (f : Feeding). f.store.reads) some.1.stands ∙ kept_all a some.1.taken
 
 -- ---- what holds after want of memory
 

@@ -5,14 +5,14 @@ use Rattle.siri_records.specs.declared.item.Item.{Item}
 use Rattle.siri_records.specs.declared.key.Key.{Key}
 use Rattle.siri_records.specs.Ends.{is_dead}
 use Rattle.siri_records.specs.Order.{key_cmp}
+use Rattle.siri_records.specs.Keyed.{Items, living, InOrder}
 use Rattle.siri_messages.specs.declared.deliveries.FunctionalDelivery.{FunctionalDelivery}
 use Rattle.siri_messages.specs.declared.requests.ServiceRequest.{ServiceRequest}
 use Rattle.siri_topic.specs.declared.topics.Topic.{Topic}
 use Rattle.siri_topic.specs.Shown.{is_shown}
 use Rattle.siri_topic.proofs.Dead.{dead_are_never_shown}
 use Rattle.siri_model.specs.Direct.{shown, at_most, most_of, soonest, answering, answer, response}
-use Rattle.siri_model.specs.History.{History, Items, now_of, current, live}
-use Rattle.siri_producer.specs.Answering.{InOrder}
+use Rattle.siri_model.specs.History.{History, now_of, current}
 use Rattle.siri_producer.specs.Known.{Known, StandsFor}
 use Rattle.siri_producer.proofs.Entries.{filter_stronger, sorted_passing}
 
@@ -20,15 +20,15 @@ alive_where_shown : (topic : Topic) (item : Item) (now : ℕ) (dead : Bool) → 
 alive_where_shown topic item now true dead shows = absurd (let hidden = dead_are_never_shown topic item now dead in cc)
 alive_where_shown topic item now false dead shows = refl
 
-shown_live : (now : ℕ) (items : Items) (topic : Topic) → shown now (live now items) topic ≡ shown now items topic
+shown_live : (now : ℕ) (items : Items) (topic : Topic) → shown now (living now items) topic ≡ shown now items topic
 shown_live now items topic =
     filter_stronger (λ (e : Key × Item). not (is_dead e.1 now)) (λ (e : Key × Item). is_shown topic e.1 now) (λ e shows. alive_where_shown topic e.1 now (is_dead e.1 now) refl shows) items
 
-answering_live : (now : ℕ) (items : Items) (topic : Topic) → answering now (live now items) topic ≡ answering now items topic
+answering_live : (now : ℕ) (items : Items) (topic : Topic) → answering now (living now items) topic ≡ answering now items topic
 unfolding answering
 answering_live now items topic = ap (λ (shown : Items). map (λ e. e.1) (at_most (most_of topic) shown)) (shown_live now items topic)
 
-answer_live : (now : ℕ) (items : Items) (topic : Topic) → answer now (live now items) topic ≡ answer now items topic
+answer_live : (now : ℕ) (items : Items) (topic : Topic) → answer now (living now items) topic ≡ answer now items topic
 unfolding answer
 answer_live now items topic = λ i. record {
   response_timestamp = Some now;
@@ -44,7 +44,7 @@ answer_live now items topic = λ i. record {
 }
 
 -- the live items answer as all do
-pub response_live : (name : List ℕ) (now : ℕ) (items : Items) (request : ServiceRequest) → response name now (live now items) request ≡ response name now items request
+pub response_live : (name : List ℕ) (now : ℕ) (items : Items) (request : ServiceRequest) → response name now (living now items) request ≡ response name now items request
 unfolding response
 response_live name now items request = λ i.
     let each : Topic → FunctionalDelivery = λ topic. answer_live now items topic i in

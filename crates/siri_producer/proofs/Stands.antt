@@ -8,21 +8,22 @@ use Rattle.std.specs.List.Sorted.{IsStrictlySortedBy}
 use Rattle.siri_records.specs.declared.item.Item.{Item}
 use Rattle.siri_records.specs.declared.key.Key.{Key}
 use Rattle.siri_records.specs.Ends.{is_dead, is_closed, end_of}
-use Rattle.siri_model.specs.History.{Entry, Items, Step, Start, Clock, Feed, Take, Settle, History, State, nothing, live, after_entry, after_step, entries_fed, state_of, now_of, current}
+use Rattle.siri_records.specs.Keyed.{Items, living, InOrder}
+use Rattle.siri_model.specs.History.{Entry, Step, Start, Clock, Feed, Take, Settle, History, State, nothing, after_entry, after_step, entries_fed, state_of, now_of, current}
 use Rattle.siri_model.specs.Fed.{counts_of}
 use Rattle.siri_store.specs.Held.{Held}
 use Rattle.siri_producer.specs.declared.feeding.Fed.{Fed}
-use Rattle.siri_producer.specs.Answering.{InOrder}
 use Rattle.siri_producer.specs.declared.feeding.Feeding.{Feeding}
 use Rattle.siri_producer.specs.Feeding.{after_all, ReachesSome}
 use Rattle.siri_producer.specs.Known.{Known, StandsFor, TookSome}
-use Rattle.siri_producer.specs.Told.{told}
+use Rattle.siri_producer.specs.Standing.{HasHistory}
+use Rattle.siri_producer.specs.FedCounts.{fed_counts}
 use Rattle.siri_producer.proofs.Entries.{filter_stronger}
 use Rattle.siri_producer.proofs.Fold.{in_order_after, none_fed, fitting, all_alike}
 
 -- ---- the current items are in order of key
 
-pub none_in_order : InOrder []
+pub none_in_order : InOrder {X = Item} []
 unfolding IsStrictlySortedBy
 none_in_order = tt
 
@@ -50,12 +51,12 @@ current_in_order h = in_order_from nothing h none_in_order
 pub more_steps : (h : History) (step : Step) → state_of (h ++ step ∷ []) ≡ after_step (state_of h) step
 more_steps h step = fold-append after_step nothing h (step ∷ [])
 
-stands_as : (known : Known) (h : History) (state : State) → state_of h ≡ state → known.start ≡ state.start → known.started ≡ state.started → known.moment ≡ state.now → known.held ≡ live state.now state.current → StandsFor known h
+stands_as : (known : Known) (h : History) (state : State) → state_of h ≡ state → known.start ≡ state.start → known.started ≡ state.started → known.moment ≡ state.now → known.held ≡ living state.now state.current → StandsFor known h
 stands_as known h state is start started moment held = record {
   start = start ∙ ap (λ (s : State). s.start) (sym is);
   started = started ∙ ap (λ (s : State). s.started) (sym is);
   moment = moment ∙ ap (λ (s : State). s.now) (sym is);
-  held = held ∙ ap (λ (s : State). live s.now s.current) (sym is);
+  held = held ∙ ap (λ (s : State). living s.now s.current) (sym is);
 }
 
 -- ---- the start
@@ -80,16 +81,16 @@ alive_later_at : (closed : Bool) (end : Option ℕ) (now later : ℕ) → now �
 alive_later_at true end now later le h = h
 alive_later_at false end now later le h = ended_later end now later le h
 
-pub live_later : (now later : ℕ) (items : Items) → now ≤ later → live later (live now items) ≡ live later items
+pub live_later : (now later : ℕ) (items : Items) → now ≤ later → living later (living now items) ≡ living later items
 live_later now later items le = filter_stronger (λ (e : Key × Item). not (is_dead e.1 now)) (λ (e : Key × Item). not (is_dead e.1 later)) (λ e h. alive_later_at (is_closed e.1) (end_of e.1) now later le h) items
 
-pub stands_clock : (old new : Known) (moment : ℕ) (h : History) → StandsFor old h → new.start ≡ old.start → new.started ≡ old.started → new.moment ≡ max old.moment moment → new.held ≡ live (max old.moment moment) old.held → StandsFor new (h ++ Clock moment ∷ [])
+pub stands_clock : (old new : Known) (moment : ℕ) (h : History) → StandsFor old h → new.start ≡ old.start → new.started ≡ old.started → new.moment ≡ max old.moment moment → new.held ≡ living (max old.moment moment) old.held → StandsFor new (h ++ Clock moment ∷ [])
 unfolding after_step
 stands_clock old new moment h s start started now held = stands_as new (h ++ Clock moment ∷ []) (after_step (state_of h) (Clock moment)) (more_steps h (Clock moment))
     (start ∙ s.start)
     (started ∙ s.started)
     (now ∙ ap (λ n. max n moment) s.moment)
-    (held ∙ ap (λ n. live (max n moment) old.held) s.moment ∙ ap (live (max (now_of h) moment)) s.held ∙ live_later (now_of h) (max (now_of h) moment) (current h) (omega arith))
+    (held ∙ ap (λ n. living (max n moment) old.held) s.moment ∙ ap (living (max (now_of h) moment)) s.held ∙ live_later (now_of h) (max (now_of h) moment) (current h) (omega arith))
 
 -- ---- a feed
 
@@ -100,7 +101,7 @@ nothing_told = record { observed = 0; withdrawn = 0; full = 0 }
 abbrev pub store_of : Known → Feeding
 store_of k = record { store = record { entries = k.held; moment = k.moment; reads = k.reads }; fed = nothing_told }
 
-told_none : told none_fed ≡ nothing_told
+told_none : fed_counts none_fed ≡ nothing_told
 told_none = refl
 
 store_fits : (k : Known) (h : History) → StandsFor k h → store_of k ≡ fitting (now_of h) k.reads (current h) none_fed
@@ -119,7 +120,7 @@ stands_fed old new entries h s start started is =
     (ap (λ (t : Held). t.moment) fed)
     (ap (λ (t : Held). t.entries) fed)
 
-pub told_fed : (old : Known) (fed : Fed) (entries : List Entry) (h : History) → StandsFor old h → fed ≡ (after_all (store_of old) entries).fed → fed ≡ told (counts_of (now_of h) (current h) entries)
+pub told_fed : (old : Known) (fed : Fed) (entries : List Entry) (h : History) → StandsFor old h → fed ≡ (after_all (store_of old) entries).fed → fed ≡ fed_counts (counts_of (now_of h) (current h) entries)
 told_fed old fed entries h s is = is ∙ ap (λ (f : Feeding). f.fed) (fed_is old h entries s)
 
 pub took_some : (old new : Known) (fed : Fed) (entries : List Entry) → new.start ≡ old.start → new.started ≡ old.started → ReachesSome (store_of old) (record { store = record { entries = new.held; moment = new.moment; reads = new.reads }; fed = fed }) entries → TookSome old new entries
@@ -131,3 +132,33 @@ took_some old new fed entries start started some =
 -- nothing was fed
 pub took_none : (known : Known) (entries : List Entry) → TookSome known known entries
 took_none known entries = (0, λ h s. stands_fed known known [] h s refl refl refl)
+
+-- ---- some history that a producer stands for
+
+-- neither the name nor the counter matters
+pub stands_named : (known : Known) (name : List ℕ) (reads : ℕ) (h : History) → StandsFor known h → StandsFor (record known { name = name; reads = reads }) h
+stands_named known name reads h s = record { start = s.start; started = s.started; moment = s.moment; held = s.held }
+
+-- what a producer knows, but for its name and its counter
+abbrev unnamed : ℕ → ℕ → ℕ → Items → Known
+unnamed start started moment held = record { name = []; start = start; started = started; moment = moment; held = held; reads = 0 }
+
+pub history_new : (number now : ℕ) → HasHistory number now now []
+history_new number now = (Start number now ∷ [], stands_new (unnamed number now now []) number now refl refl refl refl)
+
+pub history_clock : (start started moment : ℕ) (held : Items) (now : ℕ) → HasHistory start started moment held → HasHistory start started (max moment now) (living (max moment now) held)
+history_clock start started moment held now has =
+    (has.0 ++ Clock now ∷ [], stands_clock (unnamed start started moment held) (unnamed start started (max moment now) (living (max moment now) held)) now has.0 has.1 refl refl refl refl)
+
+pub history_fed : (start started : ℕ) (old new : Feeding) (entries : List Entry) → HasHistory start started old.store.moment old.store.entries → new ≡ after_all (record old { fed = nothing_told }) entries → HasHistory start started new.store.moment new.store.entries
+history_fed start started old new entries has is =
+    let before = record (unnamed start started old.store.moment old.store.entries) { reads = old.store.reads } in
+    let after = record (unnamed start started new.store.moment new.store.entries) { reads = new.store.reads } in
+    let from = stands_named (unnamed start started old.store.moment old.store.entries) [] old.store.reads has.0 has.1 in
+    (has.0 ++ Feed entries ∷ [], stands_named after [] 0 (has.0 ++ Feed entries ∷ []) (stands_fed before after entries has.0 from refl refl (ap (λ (f : Feeding). f.store) is)))
+
+pub history_some : (start started : ℕ) (old new : Feeding) (entries : List Entry) → HasHistory start started old.store.moment old.store.entries → ReachesSome (record old { fed = nothing_told }) new entries → HasHistory start started new.store.moment new.store.entries
+history_some start started old new entries has some = history_fed start started old new some.1.taken has some.1.stands
+
+pub history_known : (known : Known) → HasHistory known.start known.started known.moment known.held → (h : History) × StandsFor known h
+history_known known has = (has.0, stands_named (unnamed known.start known.started known.moment known.held) known.name known.reads has.0 has.1)

@@ -1,26 +1,13 @@
 -- Inner words: cited by private functions alone.
 -- What answers are made of.
-use Rattle.std.specs.Prelude.{ℕ, List, map, filter, Option}
-use Rattle.std.specs.declared.alloc.Global.{Global}
+use Rattle.std.specs.Prelude.{◌≡◌, ℕ, List, map, filter, count_by, nat_lt, Option}
 use Rattle.std.specs.declared.cmp.Ordering.{Ordering}
-use Rattle.std.specs.declared.rc.Rc.{Rc}
 use Rattle.std.specs.List.{enumerate_from}
-use Rattle.std.specs.List.Sorted.{IsStrictlySortedBy}
-use Rattle.std.specs.Map.{keys_of, values_of}
+use Rattle.std.specs.Map.{values_of}
 use Rattle.std.specs.Option.{option_cmp}
-use Rattle.std.specs.Ordering.{nat_cmp, on, then_cmp, is_le}
+use Rattle.std.specs.Ordering.{nat_cmp, on, then_cmp, is_lt, is_le}
 use Rattle.siri_records.specs.declared.item.Item.{Item}
 use Rattle.siri_records.specs.Ends.{entry_of}
-use Rattle.siri_records.specs.Order.{key_cmp}
-use Rattle.siri_model.specs.History.{Items}
-
--- in order of key, each key once
-abbrev pub InOrder : Items → Type 0
-InOrder items = IsStrictlySortedBy key_cmp (keys_of items)
-
--- the items, however they are shared
-abbrev pub unshared : List (Rc Item Global) → List Item
-unshared items = map (λ item. item.value) items
 
 -- ---- by call moment and then by place
 
@@ -36,6 +23,14 @@ rank_of placed = (entry_of placed.1, placed.0)
 
 abbrev pub ranks_of : List Item → List Rank
 ranks_of items = map rank_of (enumerate_from 0 items)
+
+-- how many of some ranks come before one
+abbrev pub before : List Rank → Rank → ℕ
+before ranks rank = count_by (λ other. is_lt (rank_cmp other rank)) ranks
+
+-- the last of the first so many: up to it are exactly those before which fewer stand
+abbrev pub IsLastOf : ℕ → List Rank → Rank → Type 0
+IsLastOf most ranks last = (rank : Rank) → nat_lt (before ranks rank) most ≡ is_le (rank_cmp rank last)
 
 -- the items up to a rank, where the first has this place
 abbrev pub up_to_from : ℕ → Rank → List Item → List Item

@@ -4,7 +4,7 @@ use Rattle.std.specs.Prelude.{◌≡◌, ℕ, ◌+◌, List, ◌++◌, fold, if�
 use Rattle.siri_model.specs.History.{Entry, Observed, Withdrawn}
 use Rattle.siri_store.specs.Calls.{refuses, observed, without}
 use Rattle.siri_producer.specs.declared.feeding.Feeding.{Feeding}
-use Rattle.siri_producer.specs.Told.{at_most_greatest}
+use Rattle.siri_producer.specs.FedCounts.{at_most_greatest}
 
 -- one more
 abbrev pub more : ℕ → ℕ

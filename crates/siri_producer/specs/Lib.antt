@@ -1,5 +1,5 @@
-pub mod Answering
-pub mod Feeding
 pub mod Known
-pub mod Living
-pub mod Told
+pub mod FedCounts
+pub mod Standing
+pub mod Feeding
+pub mod Answering

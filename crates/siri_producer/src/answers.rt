@@ -1,17 +1,14 @@
 // Answers to requests.
 ghost use Rattle.std.specs.Prelude.{◌≡◌, ◌+◌, ◌*◌, ◌≤◌, IfOk, length, map};
 ghost use Rattle.siri_model.specs.Direct as direct;
-ghost use Rattle.siri_store.specs.Walk.{shown_of};
-ghost use Rattle.siri_producer.specs.Answering.{InOrder, unshared};
 
 use crate::soonest::{copies, soonest};
 use siri_base::{List, OutOfMemory};
 use siri_messages::FunctionalDelivery;
 use siri_records::Item;
-use siri_store::{Selected, Store};
+use siri_store::Store;
 use siri_topic::Topic;
 use std::alloc::Global;
-use std::rc::Rc;
 
 // One functional delivery for each topic, in their order. Nothing but the counter changes.
 pub(crate) fn answer_all(
@@ -19,7 +16,6 @@ pub(crate) fn answer_all(
     store: &mut Store,
     topics: &List<Topic>,
 ) -> Result<List<FunctionalDelivery>, OutOfMemory>
-    requires { InOrder store.old.entries }
     ensures ok { IfOk result (λ answers. answers ≡ map (direct.answer store.old.moment store.old.entries) topics.now) }
     ensures rest { store.new ≡ record store.old { reads = store.new.reads } }
     ensures risen { store.old.reads ≤ store.new.reads }
@@ -40,7 +36,6 @@ fn answer(
     store: &mut Store,
     topic: &Topic,
 ) -> Result<FunctionalDelivery, OutOfMemory>
-    requires { InOrder store.old.entries }
     ensures ok { IfOk result (λ answer. answer ≡ direct.answer store.old.moment store.old.entries topic.now) }
     ensures rest { store.new ≡ record store.old { reads = store.new.reads } }
     ensures risen { store.old.reads ≤ store.new.reads }
@@ -63,45 +58,16 @@ fn answer(
 
 // Copies of the items that answer a topic, in order of key.
 fn answering(alloc: Global, store: &mut Store, topic: &Topic) -> Result<List<Item>, OutOfMemory>
-    requires { InOrder store.old.entries }
     ensures ok { IfOk result (λ items. items ≡ direct.answering store.old.moment store.old.entries topic.now) }
     ensures rest { store.new ≡ record store.old { reads = store.new.reads } }
     ensures risen { store.old.reads ≤ store.new.reads }
     ensures reads { store.new.reads ≤ store.old.reads + length store.old.entries }
 {
-    let shown = shown_items(alloc, store, topic)?;
+    let shown = store.shown(alloc, topic)?;
     match most_of(topic) {
         Some(most) => soonest(alloc, &shown, most),
         None => copies(alloc, &shown),
     }
-}
-
-// The held items that are shown to a topic, shared with the store.
-fn shown_items(
-    alloc: Global,
-    store: &mut Store,
-    topic: &Topic,
-) -> Result<Vec<Rc<Item>>, OutOfMemory>
-    ensures ok { IfOk result (λ items. unshared items.items ≡ shown_of topic.now store.old.moment store.old.entries) }
-    ensures rest { store.new ≡ record store.old { reads = store.new.reads } }
-    ensures risen { store.old.reads ≤ store.new.reads }
-    ensures reads { store.new.reads ≤ store.old.reads + length store.old.entries }
-{
-    let mut items = Vec::new(alloc);
-    let Selected {
-        counter,
-        topic,
-        moment,
-        entries,
-        place: _,
-    } = store.select(topic);
-    // the counter is lent again, so that its last value is known once the walk is over
-    for item in Selected::over(&mut *counter, topic, moment, entries) {
-        let shared = item.clone()?;
-        items.push(shared)?;
-    }
-    let _steps = counter.steps();
-    Ok(items)
 }
 
 // MaximumStopVisits, where the topic has it.

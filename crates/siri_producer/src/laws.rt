@@ -1,9 +1,9 @@
 // What follows of every history from the definitions of what is current.
 ghost use Rattle.std.specs.Prelude.{◌≡◌, ◌≤◌, ◌∷◌, ◌++◌, [], length};
 ghost use Rattle.siri_records.specs.declared.key.Key.{Key};
-ghost use Rattle.siri_model.specs.History.{Entry, Feed, History, IsKeyed, current, current_at, live, now_of};
+ghost use Rattle.siri_records.specs.Keyed.{living, InOrder};
+ghost use Rattle.siri_model.specs.History.{Entry, Feed, History, IsKeyed, current, current_at, now_of};
 ghost use Rattle.siri_model.specs.Last.{after_one, last_of, left_by_last, taken_in};
-ghost use Rattle.siri_producer.specs.Answering.{InOrder};
 
 /// A law, which does nothing when it is called: the current items are in order of key, each key once.
 pub fn current_items_are_in_order()
@@ -17,7 +17,7 @@ pub fn current_items_stand_under_their_keys()
 
 /// A law: at most 20,000 keys are live.
 pub fn few_keys_are_live()
-    ensures { (h : History) → length (live (now_of h) (current h)) ≤ 20000 }
+    ensures { (h : History) → length (living (now_of h) (current h)) ≤ 20000 }
 {}
 
 /// A law: after an entry that has a key, the current item of that key is the entry's where it is taken, and none where

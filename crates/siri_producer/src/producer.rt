@@ -1,11 +1,9 @@
 // The producer.
 ghost use Rattle.std.specs.Prelude.{◌≡◌, ◌+◌, ◌*◌, ◌≤◌, [], ◌∷◌, ◌++◌, length, IfOk, OnOk, OnErr};
+ghost use Rattle.siri_records.specs.Keyed.{InOrder};
 ghost use Rattle.siri_model.specs.Direct.{response};
-ghost use Rattle.siri_model.specs.Fed.{counts_of};
-ghost use Rattle.siri_model.specs.History.{History, Start, Clock, Feed, after_step, entries_of, now_of, current, nothing};
-ghost use Rattle.siri_producer.specs.Known.{StandsFor, GoesOn, TookSome, topics_in};
-ghost use Rattle.siri_producer.specs.Living.{as_state, live_of};
-ghost use Rattle.siri_producer.specs.Told.{told};
+ghost use Rattle.siri_model.specs.History.{History, Start, Clock, Feed, IsKeyed, entries_of};
+ghost use Rattle.siri_producer.specs.Known.{StandsFor, GoesOn, TookSome, CountsFor, ResponseFor, topics_in};
 
 use crate::answers::answer_all;
 use crate::feeding::{Fed, Feeding};
@@ -27,15 +25,15 @@ pub struct Producer {
 }
 
 impl Model for Producer {
-    ghost use Rattle.siri_producer.specs.Answering.{InOrder};
     ghost use Rattle.siri_producer.specs.Known.{Known};
+    ghost use Rattle.siri_producer.specs.Standing.{HasHistory};
     ghost use Rattle.siri_store.specs.Calls.{NoneDead};
 
     ghost Value = { Known };
 
     ghost view = { λ p. record { name = p.name; start = p.start; started = p.started; moment = p.feeding.store.moment; held = p.feeding.store.entries; reads = p.feeding.store.reads } };
 
-    ghost invariant = { λ p. record { alive : NoneDead p.feeding.store; in_order : InOrder p.feeding.store.entries } };
+    ghost invariant = { λ p. record { alive : NoneDead p.feeding.store; stands : HasHistory p.start p.started p.feeding.store.moment p.feeding.store.entries } };
 }
 
 impl Producer {
@@ -46,14 +44,13 @@ impl Producer {
         ensures stands { IfOk result (λ producer. StandsFor producer (Start start now ∷ [])) }
         ensures name { IfOk result (λ producer. producer.name ≡ name) }
         ensures reads { IfOk result (λ producer. producer.reads ≡ 0) }
-        ensures state { IfOk result (λ producer. as_state producer ≡ live_of (after_step nothing (Start start now))) }
     {
         Ok(Producer {
             alloc,
             name,
             start,
             started: now,
-            feeding: Feeding::new(Store::new(alloc, now)),
+            feeding: Feeding::new(Store::new(alloc, now)?),
         })
     }
 
@@ -62,7 +59,6 @@ impl Producer {
         ensures stands { GoesOn self.old self.new (Clock now) }
         ensures name { self.new.name ≡ self.old.name }
         ensures reads { self.new.reads ≡ self.old.reads }
-        ensures state { as_state self.new ≡ live_of (after_step (as_state self.old) (Clock now)) }
     {
         self.feeding.store.advance(now);
         let _ = self.feeding.store.expire();
@@ -73,7 +69,7 @@ impl Producer {
     /// comes. After want of memory the entries before the refused one stand.
     pub fn feed(&mut self, delivery: &ServiceDelivery) -> Result<Fed, OutOfMemory>
         ensures ok { OnOk result (GoesOn self.old self.new (Feed (entries_of delivery.now))) }
-        ensures told { IfOk result (λ fed. (h : History) → StandsFor self.old h → fed ≡ told (counts_of (now_of h) (current h) (entries_of delivery.now))) }
+        ensures counts { IfOk result (CountsFor self.old (entries_of delivery.now)) }
         ensures err { OnErr result (TookSome self.old self.new (entries_of delivery.now)) }
         ensures name { self.new.name ≡ self.old.name }
         ensures reads { self.new.reads ≡ self.old.reads }
@@ -86,12 +82,10 @@ impl Producer {
     /// As `feed`, of a delivery that is handed over: its items are kept and none is copied.
     pub fn feed_owned(&mut self, delivery: ServiceDelivery) -> Result<Fed, OutOfMemory>
         ensures ok { OnOk result (GoesOn self.old self.new (Feed (entries_of delivery))) }
-        ensures told { IfOk result (λ fed. (h : History) → StandsFor self.old h → fed ≡ told (counts_of (now_of h) (current h) (entries_of delivery))) }
+        ensures counts { IfOk result (CountsFor self.old (entries_of delivery)) }
         ensures err { OnErr result (TookSome self.old self.new (entries_of delivery)) }
         ensures name { self.new.name ≡ self.old.name }
         ensures reads { self.new.reads ≡ self.old.reads }
-        ensures state { OnOk result (as_state self.new ≡ live_of (after_step (as_state self.old) (Feed (entries_of delivery)))) }
-        ensures counts { IfOk result (λ fed. fed ≡ told (counts_of self.old.moment self.old.held (entries_of delivery))) }
     {
         self.feeding.begin();
         self.feeding.feed_owned(self.alloc, delivery)?;
@@ -103,7 +97,7 @@ impl Producer {
     /// and that rises by at most as many steps as items are held, for each topic.
     #[tactic(auto, unfolding(siri_model::specs::Direct::response))]
     pub fn direct(&mut self, request: &ServiceRequest) -> Result<ServiceDelivery, OutOfMemory>
-        ensures ok { IfOk result (λ delivery. (h : History) → StandsFor self.old h → delivery ≡ response self.old.name (now_of h) (current h) request.now) }
+        ensures ok { IfOk result (ResponseFor self.old request.now) }
         ensures held { IfOk result (λ delivery. delivery ≡ response self.old.name self.old.moment self.old.held request.now) }
         ensures rest { self.new ≡ record self.old { reads = self.new.reads } }
         ensures risen { self.old.reads ≤ self.new.reads }
@@ -169,9 +163,14 @@ impl Producer {
         self.feeding.store.now()
     }
 
-    /// How many items it holds.
+    /// How many items it holds, in order of key, each once and under its own key, at most 20,000. There is a history that
+    /// the producer stands for.
     pub fn held(&self) -> usize
-        ensures { result ≡ length self.now.held }
+        ensures number { result ≡ length self.now.held }
+        ensures stands { (h : History) × StandsFor self.now h }
+        ensures in_order { InOrder self.now.held }
+        ensures keyed { IsKeyed self.now.held }
+        ensures few { length self.now.held ≤ 20000 }
     {
         self.feeding.store.held()
     }

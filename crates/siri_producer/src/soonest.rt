@@ -2,8 +2,8 @@
 ghost use Rattle.std.specs.Prelude.{◌≡◌, ◌+◌, ◌<◌, IfOk, length, nat_lt, count_by};
 ghost use Rattle.std.specs.Map.{values_of};
 ghost use Rattle.std.specs.Ordering.{is_lt, is_le};
+ghost use Rattle.siri_records.specs.Keyed.{InOrder, Items, unshared};
 ghost use Rattle.siri_model.specs.Direct.{soonest};
-ghost use Rattle.siri_model.specs.History.{Items};
 ghost use Rattle.siri_producer.specs.Answering as answering;
 
 use siri_base::{Copies, List, OutOfMemory};
@@ -19,7 +19,7 @@ pub(crate) fn soonest(
     items: &[Rc<Item>],
     most: u64,
 ) -> Result<List<Item>, OutOfMemory>
-    ensures { IfOk result (λ kept. (entries : Items) → answering.InOrder entries → values_of entries ≡ answering.unshared items.now → kept ≡ values_of (soonest most entries)) }
+    ensures { IfOk result (λ kept. (entries : Items) → InOrder entries → values_of entries ≡ unshared items.now → kept ≡ values_of (soonest most entries)) }
 {
     if items.len() as u64 <= most {
         return copies(alloc, items);
@@ -33,7 +33,7 @@ pub(crate) fn soonest(
 
 // Copies of all of them.
 pub(crate) fn copies(alloc: Global, items: &[Rc<Item>]) -> Result<List<Item>, OutOfMemory>
-    ensures { IfOk result (λ copies. copies ≡ answering.unshared items.now) }
+    ensures { IfOk result (λ copies. copies ≡ unshared items.now) }
 {
     let mut copies = List::new(alloc);
     for item in items {
@@ -53,14 +53,14 @@ fn rank(item: &Item, place: usize) -> (Option<u64>, usize)
     }
 }
 
-// The rank before which so many others stand.
+// The last of the first so many and one by rank.
 fn last_rank(
     alloc: Global,
     items: &[Rc<Item>],
     before: usize,
 ) -> Result<(Option<u64>, usize), OutOfMemory>
     requires { before < length items.now }
-    ensures { IfOk result (λ last. (rank : answering.Rank) → nat_lt (count_by (λ other. is_lt (answering.rank_cmp other rank)) (answering.ranks_of (answering.unshared items.now))) (before + 1) ≡ is_le (answering.rank_cmp rank last)) }
+    ensures { IfOk result (answering.IsLastOf (before + 1) (answering.ranks_of (unshared items.now))) }
 {
     let mut ranks = ranks(alloc, items)?;
     ranks.sort_unstable();
@@ -68,7 +68,7 @@ fn last_rank(
 }
 
 fn ranks(alloc: Global, items: &[Rc<Item>]) -> Result<Vec<(Option<u64>, usize)>, OutOfMemory>
-    ensures { IfOk result (λ ranks. ranks.items ≡ answering.ranks_of (answering.unshared items.now)) }
+    ensures { IfOk result (λ ranks. ranks.items ≡ answering.ranks_of (unshared items.now)) }
 {
     let mut ranks = Vec::new(alloc);
     for place in 0..items.len() {
@@ -83,7 +83,7 @@ fn up_to(
     items: &[Rc<Item>],
     last: &(Option<u64>, usize),
 ) -> Result<List<Item>, OutOfMemory>
-    ensures { IfOk result (λ kept. kept ≡ answering.up_to last.now (answering.unshared items.now)) }
+    ensures { IfOk result (λ kept. kept ≡ answering.up_to last.now (unshared items.now)) }
 {
     let mut kept = List::new(alloc);
     for place in 0..items.len() {

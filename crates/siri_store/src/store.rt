@@ -60,16 +60,16 @@ impl Model for Store {
 }
 
 impl Store {
-    /// The store that holds nothing, at a moment. It takes no memory.
-    pub fn new(alloc: Global, now: Moment) -> Store
-        ensures value { result ≡ record { entries = []; moment = now; reads = 0 } }
-        ensures alive { NoneDead result }
+    /// The store that holds nothing, at a moment.
+    pub fn new(alloc: Global, now: Moment) -> Result<Store, OutOfMemory>
+        ensures value { IfOk result (λ store. store ≡ record { entries = []; moment = now; reads = 0 }) }
+        ensures alive { IfOk result (λ store. NoneDead store) }
     {
-        Store {
+        Ok(Store {
             entries: KeyedItems::new(alloc),
             moment: now,
             counter: Counter::new(),
-        }
+        })
     }
 
     /// The store's moment becomes the later one.

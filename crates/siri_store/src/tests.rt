@@ -107,7 +107,7 @@ fn is_held(store: &mut Store, alloc: Global, number: &str) -> Result<bool, Fail>
 fn three(alloc: Global) -> Result<Store, Fail>
     ensures { IfOk result (λ store. NoneDead store) }
 {
-    let mut store = Store::new(alloc, moment(100)?);
+    let mut store = Store::new(alloc, moment(100)?)?;
     observe(&mut store, alloc, "c", 200, "L1")?;
     observe(&mut store, alloc, "a", 300, "L1")?;
     observe(&mut store, alloc, "b", 200, "L2")?;
@@ -118,7 +118,7 @@ fn three(alloc: Global) -> Result<Store, Fail>
 fn full(alloc: Global) -> Result<Store, Fail>
     ensures { IfOk result (λ store. NoneDead store) }
 {
-    let mut store = Store::new(alloc, moment(100)?);
+    let mut store = Store::new(alloc, moment(100)?)?;
     for number in 0..HELD_LIMIT {
         let name = format!(in alloc; "{number}")?;
         observe(&mut store, alloc, &name, 200, "L1")?;

@@ -1,9 +1,8 @@
 use Rattle.std.proofs.Common.{◌≡◌, ◌∙◌, sym, ap}
 use Rattle.std.specs.Map.{values_of}
 use Rattle.std.proofs.lemmas.Result.{IfOk-weaker}
+use Rattle.siri_records.specs.Keyed.{Items, InOrder, unshared}
 use Rattle.siri_model.specs.Direct.{shown, soonest}
-use Rattle.siri_model.specs.History.{Items}
-use Rattle.siri_producer.specs.Answering.{InOrder, unshared}
 use Rattle.siri_producer.proofs.Shown.{answering_most, answering_all, shown_in_order}
 use Rattle.siri_producer.proofs.answers.answering.Goals as goal
 
@@ -14,7 +13,7 @@ returns-in-Some-clause-ok c =
     let held = c.args.store.now.entries in
     let same = sym (ap unshared c.deref.ensures.value ∙ c.in_ok-shown.ensures.ok) in
     IfOk-weaker c.soonest.result (λ kept. (entries : Items) → InOrder entries → values_of entries ≡ unshared c.deref.result.now → kept ≡ values_of (soonest c.in-Some.most entries)) _
-    (λ kept is. is (shown now held topic) (shown_in_order now held topic c.requires) same ∙ answering_most now held topic c.in-Some.most c.in-Some.ensures) c.soonest.ensures
+    (λ kept is. is (shown now held topic) (shown_in_order now held topic c.shown.ensures.ordered) same ∙ answering_most now held topic c.in-Some.most c.in-Some.ensures) c.soonest.ensures
 
 pub returns-clause-ok : goal.returns-clause-ok
 returns-clause-ok c =

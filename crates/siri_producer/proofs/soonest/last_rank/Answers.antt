@@ -1,6 +1,7 @@
 use Rattle.std.proofs.Common.{◌<◌, ap, arith, length}
-use Rattle.siri_store.proofs.Placed.{length_mapped}
-use Rattle.siri_producer.specs.Answering.{unshared, ranks_of}
+use Rattle.siri_records.specs.Keyed.{unshared}
+use Rattle.siri_producer.specs.Answering.{ranks_of}
+use Rattle.siri_records.proofs.Placed.{length_mapped}
 use Rattle.siri_producer.proofs.Ranks.{rank_total, sorted_place, length_ranks}
 use Rattle.siri_producer.proofs.soonest.last_rank.Goals as goal
 

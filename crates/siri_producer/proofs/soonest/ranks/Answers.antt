@@ -1,4 +1,4 @@
-use Rattle.siri_store.proofs.Placed.{placed_at}
+use Rattle.siri_records.proofs.Placed.{placed_at}
 use Rattle.siri_producer.proofs.Ranks.{pushed}
 use Rattle.siri_producer.proofs.soonest.ranks.Goals as goal
 

@@ -1,7 +1,8 @@
 use Rattle.std.proofs.Common.{◌-◌, ◌+◌, ◌≤◌, ◌≡◌, ◌∙◌, arith, length}
 use Rattle.std.proofs.lemmas.Result.{IfOk-weaker}
-use Rattle.siri_store.proofs.Placed.{length_mapped}
-use Rattle.siri_producer.specs.Answering.{unshared, up_to}
+use Rattle.siri_records.specs.Keyed.{unshared}
+use Rattle.siri_producer.specs.Answering.{up_to}
+use Rattle.siri_records.proofs.Placed.{length_mapped}
 use Rattle.siri_producer.proofs.Ranks.{cut_none, cut_all, cut_some}
 use Rattle.siri_producer.proofs.soonest.soonest.Goals as goal
 

@@ -1,6 +1,6 @@
 use Rattle.std.proofs.Common.{◌∙◌, ◌++◌, ◌∷◌, [], ap, sym, is_le}
-use Rattle.siri_store.proofs.Placed.{placed_at}
 use Rattle.siri_producer.specs.Answering.{rank_cmp, rank_of}
+use Rattle.siri_records.proofs.Placed.{placed_at}
 use Rattle.siri_producer.proofs.Ranks.{kept_yes, kept_no}
 use Rattle.siri_producer.proofs.soonest.up_to.Goals.{then-is_up_to+in_ok-copy+in_ok-push, else-is_up_to}
 use Rattle.siri_producer.proofs.soonest.up_to.Goals as goal

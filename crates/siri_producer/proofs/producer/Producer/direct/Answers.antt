@@ -27,3 +27,21 @@ returns-clause-held c =
 
 pub returns-clause-ok : goal.returns-clause-ok
 returns-clause-ok c = λ h s. returns-clause-held c ∙ response_of c.args.self.now h c.args.request.now s
+
+pub invariant_of-self-in_err-answer_all-3 : goal.invariant_of-self-in_err-answer_all-3
+invariant_of-self-in_err-answer_all-3 c =
+    let moment = ap (λ (t : Held). t.moment) c.in_err-answer_all-3.ensures.rest ∙ ap (λ (t : Held). t.moment) c.in_ok-answer_all-2.ensures.rest ∙ ap (λ (t : Held). t.moment) c.in_ok-answer_all.ensures.rest in
+    let entries = ap (λ (t : Held). t.entries) c.in_err-answer_all-3.ensures.rest ∙ ap (λ (t : Held). t.entries) c.in_ok-answer_all-2.ensures.rest ∙ ap (λ (t : Held). t.entries) c.in_ok-answer_all.ensures.rest in
+    record { alive = rw (moment, entries) c.self.invariant.alive; stands = rw (moment, entries) c.self.invariant.stands }
+
+pub invariant_of-self-in_err-answer_all-4 : goal.invariant_of-self-in_err-answer_all-4
+invariant_of-self-in_err-answer_all-4 c =
+    let moment = ap (λ (t : Held). t.moment) c.in_err-answer_all-4.ensures.rest ∙ ap (λ (t : Held). t.moment) c.in_ok-answer_all-3.ensures.rest ∙ ap (λ (t : Held). t.moment) c.in_ok-answer_all-2.ensures.rest ∙ ap (λ (t : Held). t.moment) c.in_ok-answer_all.ensures.rest in
+    let entries = ap (λ (t : Held). t.entries) c.in_err-answer_all-4.ensures.rest ∙ ap (λ (t : Held). t.entries) c.in_ok-answer_all-3.ensures.rest ∙ ap (λ (t : Held). t.entries) c.in_ok-answer_all-2.ensures.rest ∙ ap (λ (t : Held). t.entries) c.in_ok-answer_all.ensures.rest in
+    record { alive = rw (moment, entries) c.self.invariant.alive; stands = rw (moment, entries) c.self.invariant.stands }
+
+pub invariant_of-self-2 : goal.invariant_of-self-2
+invariant_of-self-2 c =
+    let moment = ap (λ (t : Held). t.moment) c.in_ok-answer_all-4.ensures.rest ∙ ap (λ (t : Held). t.moment) c.in_ok-answer_all-3.ensures.rest ∙ ap (λ (t : Held). t.moment) c.in_ok-answer_all-2.ensures.rest ∙ ap (λ (t : Held). t.moment) c.in_ok-answer_all.ensures.rest in
+    let entries = ap (λ (t : Held). t.entries) c.in_ok-answer_all-4.ensures.rest ∙ ap (λ (t : Held). t.entries) c.in_ok-answer_all-3.ensures.rest ∙ ap (λ (t : Held). t.entries) c.in_ok-answer_all-2.ensures.rest ∙ ap (λ (t : Held). t.entries) c.in_ok-answer_all.ensures.rest in
+    record { alive = rw (moment, entries) c.self.invariant.alive; stands = rw (moment, entries) c.self.invariant.stands }

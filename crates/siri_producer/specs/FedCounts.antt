@@ -7,8 +7,8 @@ use Rattle.siri_producer.specs.declared.feeding.Fed.{Fed}
 abbrev pub at_most_greatest : ℕ → ℕ
 at_most_greatest count = min count (2 ^ 64 - 1)
 
-abbrev pub told : Counts → Fed
-told counts = record {
+abbrev pub fed_counts : Counts → Fed
+fed_counts counts = record {
   observed = at_most_greatest counts.observed;
   withdrawn = at_most_greatest counts.withdrawn;
   full = at_most_greatest counts.full;
