@@ -1,7 +1,8 @@
+pub mod Written
+pub mod ReportLines
 pub mod LineBreaks
 pub mod Steps
 pub mod Whole
-pub mod Written
-pub mod Same
+pub mod Worlds
 pub mod OneDocument
 pub mod Texts

@@ -7,9 +7,8 @@ use Rattle.std.proofs.lemmas.Bool.{lt-ltb}
 use Rattle.std.proofs.lemmas.Bool.Decides.{eqb_tells}
 use Rattle.std.proofs.lemmas.List.{length-take-le}
 use Rattle.siri_base.specs.declared.status.Status.TheVariants as status
-use Rattle.siri_cli.specs.Told.{Events, ends_with, report_from}
-use Rattle.siri_cli.specs.Ends.{AreWholeLines}
-use Rattle.siri_cli.specs.Reading.{HasNoBreak}
+use Rattle.siri_cli.specs.RunResult.{Events, ends_with, report_from, verdict}
+use Rattle.siri_cli.specs.Ends.{AreWholeLines, HasNoBreak}
 
 abbrev is_break : ℕ → Bool
 is_break b = eqb b 10
@@ -88,15 +87,15 @@ length-strip l = elim (eqb (slice_index l (length l - 1)) 13) as (λ t. length l
   | false ↦ omega arith
 ]
 
-first_too_long : {W : Type 0} (event : Events W) (n : ℕ) (w : W) (line : List ℕ) (more : List (List ℕ)) → 1048576 < length line → report_from event n w (line ∷ more) ≡ ends_with (status.Limit n)
-first_too_long event n w line more h = rw (lt-ltb 1048576 (length line) h) refl
+first_too_long : {W : Type 0} (most : ℕ) (event : Events W) (n : ℕ) (w : W) (line : List ℕ) (more : List (List ℕ)) → 1048576 < length line → report_from (verdict most event) n w (line ∷ more) ≡ ends_with (status.Limit n)
+first_too_long most event n w line more h = rw (lt-ltb 1048576 (length line) h) refl
 
-parts_too_long : {W : Type 0} (event : Events W) (n : ℕ) (w : W) (line : List ℕ) (more : List (List ℕ)) → 1048577 < length line → report_from event n w (lines_of_parts (line ∷ more)) ≡ ends_with (status.Limit n)
-parts_too_long event n w line [] h = let e : eqb (length line) 0 ≡ false = grind (arith, eqb_tells) in rw e (first_too_long event n w line [] (omega arith))
-parts_too_long event n w line (z ∷ more) h = first_too_long event n w (strip_carriage_return line) (lines_of_parts (z ∷ more)) (omega (arith, length-strip line))
+parts_too_long : {W : Type 0} (most : ℕ) (event : Events W) (n : ℕ) (w : W) (line : List ℕ) (more : List (List ℕ)) → 1048577 < length line → report_from (verdict most event) n w (lines_of_parts (line ∷ more)) ≡ ends_with (status.Limit n)
+parts_too_long most event n w line [] h = let e : eqb (length line) 0 ≡ false = grind (arith, eqb_tells) in rw e (first_too_long most event n w line [] (omega arith))
+parts_too_long most event n w line (z ∷ more) h = first_too_long most event n w (strip_carriage_return line) (lines_of_parts (z ∷ more)) (omega (arith, length-strip line))
 
 -- a line that has become too long ends the run, whatever follows
-pub too_long : {W : Type 0} (event : Events W) (n : ℕ) (w : W) (line rest : List ℕ) → HasNoBreak line → 1048577 < length line → report_from event n w (lines (line ++ rest)) ≡ ends_with (status.Limit n)
-too_long event n w line rest h long =
+pub too_long : {W : Type 0} (most : ℕ) (event : Events W) (n : ℕ) (w : W) (line rest : List ℕ) → HasNoBreak line → 1048577 < length line → report_from (verdict most event) n w (lines (line ++ rest)) ≡ ends_with (status.Limit n)
+too_long most event n w line rest h long =
     let (y, more, e) = some_part rest in
-    rw (begun line rest y more h e) (parts_too_long event n w (line ++ y) more (omega (arith, length-append line y)))
+    rw (begun line rest y more h e) (parts_too_long most event n w (line ++ y) more (omega (arith, length-append line y)))

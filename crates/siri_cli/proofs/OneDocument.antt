@@ -3,6 +3,7 @@ use Rattle.std.proofs.Common.{◌≡◌, ◌⊎◌, ◌+◌, ◌≤◌, ◌<◌,
 use Rattle.std.specs.Prelude.{MatchBool}
 use Rattle.std.specs.Io.KnownBytes.{Consumes, IsAtEnd}
 use Rattle.std.proofs.KnownBytes.{Consumes-trans}
+use Rattle.std.proofs.lemmas.List.{drop_all}
 use Rattle.std.proofs.Math.Nat.{eq-or-lt_of_le}
 use Rattle.std.proofs.Math.Seq.{take-add, take-append_seam, drop-append_seam}
 use Rattle.siri_base.specs.declared.reason.Reason.TheVariants as reason
@@ -11,13 +12,12 @@ use Rattle.siri_base.specs.declared.status.Status.TheVariants as status
 use Rattle.siri_messages.specs.declared.message.Message.{Message}
 use Rattle.siri_wire.specs.Documents.{message_of}
 use Rattle.siri_wire.proofs.Documents.{document_too_long}
-use Rattle.siri_cli.specs.Told.{Told}
-use Rattle.siri_cli.specs.Ends.{Bytes, Ends, AppendsFront, ReadsAll}
-use Rattle.siri_cli.specs.Reading.{is_cut}
-use Rattle.siri_cli.specs.DocumentParts.{IsDocument, Tells}
-use Rattle.siri_cli.specs.OneDocument.{Answered, Answers, IsDocumentRead, check_text, convert_text, ok_text, told_of}
+use Rattle.siri_cli.specs.RunResult.{RunResult}
+use Rattle.siri_cli.specs.Ends.{Bytes, Ends, AppendsFront, ReadsAll, is_cut}
+use Rattle.siri_cli.specs.inner.DocumentParts.{IsDocument, Tells}
+use Rattle.siri_cli.specs.OneDocument.{Answered, Answers, check_text, convert_text, ok_text, told_of}
 use Rattle.siri_wire.specs.Canonical.{canonical}
-use Rattle.siri_cli.proofs.Steps.{front_none}
+use Rattle.siri_cli.proofs.Written.{front_none}
 
 -- a buffer after its whole was lent and came back
 pub lent_whole : (n : ℕ) (lent items : List ℕ) → length lent ≡ length items → n ≡ length items → take n (lent ++ drop (length lent) items) ≡ lent
@@ -39,27 +39,26 @@ message_same input later document e bound whole = choose (eq-or-lt_of_le bound)
         ∙ sym (document_too_long input (omega (arith, n, ap length e, length-append document later)))
     choose (inr n) = ap message_of (sym (append-nil document) ∙ ap (λ l. document ++ l) (sym (whole n)) ∙ sym e)
 
--- the input was read to its end, or it is too long
-input_read : (text : Message → List ℕ) (input later document : List ℕ) → input ≡ document ++ later → length document ≤ 8388609 → (length document < 8388609 → later ≡ []) → IsDocumentRead input (Some later) (told_of text (message_of input)).text
-input_read text input later document e bound whole = choose (eq-or-lt_of_le bound)
+-- what the input has left where it is read to its end, but no further than so many bytes
+input_read : (most : ℕ) (input later document : List ℕ) → input ≡ document ++ later → length document ≤ most → (length document < most → later ≡ []) → later ≡ drop most input
+input_read most input later document e bound whole = choose (eq-or-lt_of_le bound)
   where
-    choose : (length document ≡ 8388609) ⊎ (length document < 8388609) → IsDocumentRead input (Some later) (told_of text (message_of input)).text
-    choose (inl n) = inr (
-      ap (λ said. (told_of text said).text) (document_too_long input (omega (arith, n, ap length e, length-append document later))),
-      ap Some (sym (drop-append_seam document later) ∙ ap (λ k. drop k (document ++ later)) n ∙ ap (drop 8388609) (sym e)),
-    )
-    choose (inr n) = inl (ap Some (whole n))
+    choose : (length document ≡ most) ⊎ (length document < most) → later ≡ drop most input
+    choose (inl n) = sym (drop-append_seam document later) ∙ ap (λ k. drop k (document ++ later)) n ∙ ap (drop most) (sym e)
+    choose (inr n) =
+        let all : input ≡ document = e ∙ ap (λ l. document ++ l) (whole n) ∙ append-nil document in
+        whole n ∙ sym (ap (drop most) all ∙ drop_all most document bound)
 
 -- what is told of a document, by its message or its refusal
-abbrev IsTold : (Message → List ℕ) → (List ℕ → Told) → Type 0
+abbrev IsTold : (Message → List ℕ) → (List ℕ → RunResult) → Type 0
 IsTold text tell = (document : List ℕ) → tell document ≡ told_of text (message_of document)
 
-answers : (text : Message → List ℕ) (tell : List ℕ → Told) → IsTold text tell → (input left old new : Bytes) (document : List ℕ) (told : Told) (end : Status) → IsDocument input left document → told ≡ tell document → Tells old told new end → Answers tell input left old new end
+answers : (text : Message → List ℕ) (tell : List ℕ → RunResult) → IsTold text tell → (input left old new : Bytes) (document : List ℕ) (told : RunResult) (end : Status) → IsDocument input left document → told ≡ tell document → Tells old told new end → Answers tell input left old new end
 answers text tell is None left old new document told end d e w = tt
 answers text tell is (Some input) None old new document told end d e w = absurd d.taken
 answers text tell is (Some input) (Some later) old new document told end d e w =
     let same : told ≡ tell input = e ∙ is document ∙ ap (told_of text) (message_same input later document d.taken d.bound d.whole) ∙ sym (is input) in
-    let read = subst (λ (t : Told). IsDocumentRead input (Some later) t.text) (sym (is input)) (input_read text input later document d.taken d.bound d.whole) in
+    let read : Some later ≡ Some (drop 8388609 input) = ap Some (input_read 8388609 input later document d.taken d.bound d.whole) in
     let choose : (cut : Bool) → MatchBool cut (AppendsFront old new (tell input).text) (Ends old (tell input) new end) → MatchBool cut (AppendsFront old new (tell input).text) (Answered (tell input) input (Some later) old new end) =
     λ cut. elim cut as (λ cut. MatchBool cut (AppendsFront old new (tell input).text) (Ends old (tell input) new end) → MatchBool cut (AppendsFront old new (tell input).text) (Answered (tell input) input (Some later) old new end)) [
       | true ↦ λ front. front
@@ -68,18 +67,18 @@ answers text tell is (Some input) (Some later) old new document told end d e w =
     choose (is_cut end) (subst (λ t. Tells old t new end) same w)
 
 -- nothing was written
-unanswered : (tell : List ℕ → Told) (input left held : Bytes) (end : Status) → is_cut end ≡ true → Answers tell input left held held end
+unanswered : (tell : List ℕ → RunResult) (input left held : Bytes) (end : Status) → is_cut end ≡ true → Answers tell input left held held end
 unanswered tell None left held end cut = tt
 unanswered tell (Some input) left held end cut = rw cut (front_none held (tell input).text)
 
 -- a document of which its message is told was read to its end
-at_end : (text : Message → List ℕ) (tell : List ℕ → Told) → IsTold text tell → (input left old new : Bytes) (document : List ℕ) (told : Told) → IsDocument input left document → told ≡ tell document → Tells old told new status.Done → IsAtEnd left
+at_end : (text : Message → List ℕ) (tell : List ℕ → RunResult) → IsTold text tell → (input left old new : Bytes) (document : List ℕ) (told : RunResult) → IsDocument input left document → told ≡ tell document → Tells old told new status.Done → IsAtEnd left
 at_end text tell is input left old new document told d e w = choose (eq-or-lt_of_le d.bound)
   where
     choose : (length document ≡ 8388609) ⊎ (length document < 8388609) → IsAtEnd left
     choose (inl n) =
         let refused : told ≡ told_of text (Err (record { path = []; reason = reason.TooLong })) = e ∙ is document ∙ ap (told_of text) (document_too_long document (omega (arith, n))) in
-        absurd (cc (w.status_is, ap (λ (t : Told). t.status) refused))
+        absurd (cc (w.status_is, ap (λ (t : RunResult). t.status) refused))
     choose (inr n) = d.whole n
 
 reads_all : (left : Bytes) (end : Status) → (end ≡ status.Done → IsAtEnd left) → ReadsAll left end
@@ -96,7 +95,7 @@ reads_all (Some left) status.WriteFault h = tt
 reads_all (Some left) status.ClockFault h = tt
 reads_all (Some left) status.KeeperFault h = tt
 
-all : (text : Message → List ℕ) (tell : List ℕ → Told) → IsTold text tell → (input left old new : Bytes) (document : List ℕ) (told : Told) (end : Status) → IsDocument input left document → told ≡ tell document → Tells old told new end → ReadsAll left end
+all : (text : Message → List ℕ) (tell : List ℕ → RunResult) → IsTold text tell → (input left old new : Bytes) (document : List ℕ) (told : RunResult) (end : Status) → IsDocument input left document → told ≡ tell document → Tells old told new end → ReadsAll left end
 all text tell is input left old new document told end d e w = reads_all left end (λ h. at_end text tell is input left old new document told d e (subst (Tells old told new) h w))
 
 check_is : IsTold ok_text check_text
@@ -107,14 +106,14 @@ convert_is : IsTold canonical convert_text
 unfolding convert_text
 convert_is document = refl
 
-pub check_answers : (input left old new : Bytes) (document : List ℕ) (told : Told) (end : Status) → IsDocument input left document → told ≡ check_text document → Tells old told new end → Answers check_text input left old new end
+pub check_answers : (input left old new : Bytes) (document : List ℕ) (told : RunResult) (end : Status) → IsDocument input left document → told ≡ check_text document → Tells old told new end → Answers check_text input left old new end
 check_answers = answers ok_text check_text check_is
 
-pub convert_answers : (input left old new : Bytes) (document : List ℕ) (told : Told) (end : Status) → IsDocument input left document → told ≡ convert_text document → Tells old told new end → Answers convert_text input left old new end
+pub convert_answers : (input left old new : Bytes) (document : List ℕ) (told : RunResult) (end : Status) → IsDocument input left document → told ≡ convert_text document → Tells old told new end → Answers convert_text input left old new end
 convert_answers = answers canonical convert_text convert_is
 
-pub check_all : (input left old new : Bytes) (document : List ℕ) (told : Told) (end : Status) → IsDocument input left document → told ≡ check_text document → Tells old told new end → ReadsAll left end
+pub check_all : (input left old new : Bytes) (document : List ℕ) (told : RunResult) (end : Status) → IsDocument input left document → told ≡ check_text document → Tells old told new end → ReadsAll left end
 check_all = all ok_text check_text check_is
 
-pub convert_all : (input left old new : Bytes) (document : List ℕ) (told : Told) (end : Status) → IsDocument input left document → told ≡ convert_text document → Tells old told new end → ReadsAll left end
+pub convert_all : (input left old new : Bytes) (document : List ℕ) (told : RunResult) (end : Status) → IsDocument input left document → told ≡ convert_text document → Tells old told new end → ReadsAll left end
 convert_all = all canonical convert_text convert_is

@@ -1,23 +1,24 @@
 -- How a script is read, byte by byte and piece by piece.
 use Rattle.std.proofs.Common.{◌≡◌, ℕ, ◌+◌, ◌<◌, List, [], ◌∷◌, ◌++◌, eqb, false, true, Bool, refl, sym, ap, ◌∙◌, subst, append_assoc, append-nil, length, arith, length-append, inl, inr, Ok, Err, Result, OnOk, take, drop, get_or, take-append-drop, add-one}
 use Rattle.std.proofs.Math.Seq.{take-suc, take-length}
-use Rattle.std.specs.Prelude.{MatchBool}
+use Rattle.std.specs.Prelude.{MatchBool, IsErrOf}
 use Rattle.std.specs.Io.KnownBytes.{Appends}
 use Rattle.std.proofs.KnownBytes.{Appends-nil, Appends-trans}
 use Rattle.std.specs.Str.Lines.{lines, strip_carriage_return}
 use Rattle.siri_base.specs.declared.status.Status.{Status}
 use Rattle.siri_base.specs.declared.status.Status.TheVariants as status
-use Rattle.siri_cli.specs.declared.stop.Stop.{Stop}
-use Rattle.siri_cli.specs.declared.stop.Stop.TheVariants as stop
+use Rattle.siri_cli.specs.declared.script_end.ScriptEnd.{ScriptEnd}
+use Rattle.siri_cli.specs.declared.script_end.ScriptEnd.TheVariants as script_end
 use Rattle.siri_base.specs.declared.errors.OutsideError.{OutsideError}
 use Rattle.siri_base.specs.declared.errors.OutsideError.TheVariants as outside
-use Rattle.siri_cli.specs.Stops.{stop_of, status_of}
-use Rattle.siri_cli.specs.Told.{Told, Events, Goes, verdict}
-use Rattle.siri_cli.specs.Ends.{Bytes, Ends, AppendsFront, AreWholeLines}
-use Rattle.siri_cli.specs.Reading.{Progress, to_come, Continues, HasNoBreak, Advances, CutsOff, EndsWithin, Breaks, LineBreaks, Brings, Finishes, is_cut}
+use Rattle.siri_cli.specs.inner.ScriptEnds.{sink_end, status_of}
+use Rattle.siri_cli.specs.RunResult.{RunResult, Events, Goes, RunEnds, verdict}
+use Rattle.siri_cli.specs.Ends.{Bytes, Ends, AppendsFront, AreWholeLines, HasNoBreak, is_cut}
+use Rattle.siri_cli.specs.inner.Reading.{Progress, to_come, Continues, Advances, CutsOff, EndsWithin, Breaks, LineBreaks, Finishes}
+use Rattle.siri_cli.proofs.Written.{front_none, front_longer}
 use Rattle.siri_cli.proofs.LineBreaks.{lines_whole, whole_append, no_break_more, line_ended, last_line, too_long}
 
-continues_trans : (a b c : Bytes) (s t u : Told) → Continues a s b t → Continues b t c u → Continues a s c u
+continues_trans : (a b c : Bytes) (s t u : RunResult) → Continues a s b t → Continues b t c u → Continues a s c u
 continues_trans a b c s t u p q = record {
   text = p.text ++ q.text;
   written = Appends-trans a b c p.text q.text p.written q.written;
@@ -25,7 +26,7 @@ continues_trans a b c s t u p q = record {
   status_is = p.status_is ∙ q.status_is;
 }
 
-front_after : (a b c : Bytes) (s t : Told) → Continues a s b t → AppendsFront b c t.text → AppendsFront a c s.text
+front_after : (a b c : Bytes) (s t : RunResult) → Continues a s b t → AppendsFront b c t.text → AppendsFront a c s.text
 front_after a b c s t p w = record {
   front = p.text ++ w.front;
   rest = w.rest;
@@ -33,30 +34,17 @@ front_after a b c s t p w = record {
   written = Appends-trans a b c p.text w.front p.written w.written;
 }
 
-ends_after : (a b c : Bytes) (s t : Told) (end : Status) → Continues a s b t → Ends b t c end → Ends a s c end
+ends_after : (a b c : Bytes) (s t : RunResult) (end : Status) → Continues a s b t → Ends b t c end → Ends a s c end
 ends_after a b c s t end p q = record {
   status_is = p.status_is ∙ q.status_is;
   written = subst (λ l. Appends a c l) (sym p.parts) (Appends-trans a b c p.text t.text p.written q.written);
 }
 
--- nothing was written yet
-pub front_none : (a : Bytes) (text : List ℕ) → AppendsFront a a text
-front_none a text = record { front = []; rest = text; parts = refl; written = Appends-nil a }
-
--- a front of a text is a front of what begins with it
-pub front_longer : (a b : Bytes) (text later : List ℕ) → AppendsFront a b text → AppendsFront a b (text ++ later)
-front_longer a b text later w = record {
-  front = w.front;
-  rest = w.rest ++ later;
-  parts = ap (λ l. l ++ later) w.parts ∙ append_assoc w.front w.rest later;
-  written = w.written;
-}
-
--- what was written so far is what the lines that ended bring
-pub front_so_far : {W : Type 0} (event : Events W) (a b : Bytes) (s : Progress W) (bytes : List ℕ) (t : Progress W) (p : Advances event a s bytes b t) → AppendsFront a b (to_come event s (lines p.ended)).text
-front_so_far event a b s bytes t p =
+-- what was written so far is what the lines that ended bring, and none of them ended the run
+pub whole_so_far : {W : Type 0} (event : Events W) (a b : Bytes) (s : Progress W) (bytes : List ℕ) (t : Progress W) (p : Advances event a s bytes b t) → Ends a (to_come event s (lines p.ended)) b status.Done
+whole_so_far event a b s bytes t p =
     let here = p.continues [] in
-    subst (λ ls. AppendsFront a b (to_come event s ls).text) (append-nil (lines p.ended)) (record { front = here.text; rest = []; parts = here.parts; written = here.written })
+    subst (λ ls. Ends a (to_come event s ls) b status.Done) (append-nil (lines p.ended)) (record { status_is = here.status_is; written = subst (Appends a b) (sym (here.parts ∙ append-nil here.text)) here.written })
 
 -- nothing was read yet
 pub advances_none : {W : Type 0} (event : Events W) (a : Bytes) (s : Progress W) → HasNoBreak s.line → Advances event a s [] a s
@@ -100,11 +88,11 @@ cuts_off_more event a b c s p t q x y = record {
   front = subst (λ ls. AppendsFront a c (to_come event s ls).text) (sym (lines_whole x.ended y.ended x.whole)) (front_after a b c _ _ (x.continues (lines y.ended)) y.front);
 }
 
-pub breaks_more : {W : Type 0} (event : Events W) (a b c : Bytes) (s : Progress W) (p : List ℕ) (t : Progress W) (q : List ℕ) (end : Stop) → Advances event a s p b t → Breaks event b t q c end → Breaks event a s (p ++ q) c end
-breaks_more event a b c s p t q (stop.Script n r) x y = ends_within_more event a b c s p t q (status.Script n r) x y
-breaks_more event a b c s p t q (stop.Limit n) x y = ends_within_more event a b c s p t q (status.Limit n) x y
-breaks_more event a b c s p t q stop.OutOfMemory x y = cuts_off_more event a b c s p t q x y
-breaks_more event a b c s p t q stop.WriteFault x y = cuts_off_more event a b c s p t q x y
+pub breaks_more : {W : Type 0} (event : Events W) (a b c : Bytes) (s : Progress W) (p : List ℕ) (t : Progress W) (q : List ℕ) (end : ScriptEnd) → Advances event a s p b t → Breaks event b t q c end → Breaks event a s (p ++ q) c end
+breaks_more event a b c s p t q (script_end.Script n r) x y = ends_within_more event a b c s p t q (status.Script n r) x y
+breaks_more event a b c s p t q (script_end.Limit n) x y = ends_within_more event a b c s p t q (status.Limit n) x y
+breaks_more event a b c s p t q script_end.OutOfMemory x y = cuts_off_more event a b c s p t q x y
+breaks_more event a b c s p t q script_end.WriteFault x y = cuts_off_more event a b c s p t q x y
 
 ends_within_longer : {W : Type 0} (event : Events W) (a b : Bytes) (s : Progress W) (p q : List ℕ) (end : Status) → EndsWithin event a s p b end → EndsWithin event a s (p ++ q) b end
 ends_within_longer event a b s p q end y = λ rest.
@@ -120,11 +108,11 @@ cuts_off_longer event a b s p q y = record {
   front = y.front;
 }
 
-pub breaks_longer : {W : Type 0} (event : Events W) (a b : Bytes) (s : Progress W) (p q : List ℕ) (end : Stop) → Breaks event a s p b end → Breaks event a s (p ++ q) b end
-breaks_longer event a b s p q (stop.Script n r) y = ends_within_longer event a b s p q (status.Script n r) y
-breaks_longer event a b s p q (stop.Limit n) y = ends_within_longer event a b s p q (status.Limit n) y
-breaks_longer event a b s p q stop.OutOfMemory y = cuts_off_longer event a b s p q y
-breaks_longer event a b s p q stop.WriteFault y = cuts_off_longer event a b s p q y
+pub breaks_longer : {W : Type 0} (event : Events W) (a b : Bytes) (s : Progress W) (p q : List ℕ) (end : ScriptEnd) → Breaks event a s p b end → Breaks event a s (p ++ q) b end
+breaks_longer event a b s p q (script_end.Script n r) y = ends_within_longer event a b s p q (status.Script n r) y
+breaks_longer event a b s p q (script_end.Limit n) y = ends_within_longer event a b s p q (status.Limit n) y
+breaks_longer event a b s p q script_end.OutOfMemory y = cuts_off_longer event a b s p q y
+breaks_longer event a b s p q script_end.WriteFault y = cuts_off_longer event a b s p q y
 
 -- a line feed came
 pub line_advances : {W : Type 0} (event : Events W) (a b : Bytes) (s t : Progress W) → HasNoBreak s.line → t.line ≡ [] → ((more : List (List ℕ)) → Continues a (to_come event s (strip_carriage_return s.line ∷ more)) b (to_come event t more)) → Advances event a s (10 ∷ []) b t
@@ -150,11 +138,11 @@ line_cuts event a b s h w = record {
   front = subst (λ ls. AppendsFront a b (to_come event s ls).text) (sym (line_ended s.line h)) w;
 }
 
-pub line_breaks : {W : Type 0} (event : Events W) (a b : Bytes) (s : Progress W) (end : Stop) → HasNoBreak s.line → LineBreaks event a s (strip_carriage_return s.line) b end → Breaks event a s (10 ∷ []) b end
-line_breaks event a b s (stop.Script n r) h y = line_ends event a b s (status.Script n r) h y
-line_breaks event a b s (stop.Limit n) h y = line_ends event a b s (status.Limit n) h y
-line_breaks event a b s stop.OutOfMemory h y = line_cuts event a b s h y
-line_breaks event a b s stop.WriteFault h y = line_cuts event a b s h y
+pub line_breaks : {W : Type 0} (event : Events W) (a b : Bytes) (s : Progress W) (end : ScriptEnd) → HasNoBreak s.line → LineBreaks event a s (strip_carriage_return s.line) b end → Breaks event a s (10 ∷ []) b end
+line_breaks event a b s (script_end.Script n r) h y = line_ends event a b s (status.Script n r) h y
+line_breaks event a b s (script_end.Limit n) h y = line_ends event a b s (status.Limit n) h y
+line_breaks event a b s script_end.OutOfMemory h y = line_cuts event a b s h y
+line_breaks event a b s script_end.WriteFault h y = line_cuts event a b s h y
 
 -- a byte came that ends no line
 pub byte_advances : {W : Type 0} (event : Events W) (a : Bytes) (s : Progress W) (b : ℕ) → HasNoBreak s.line → eqb b 10 ≡ false → Advances event a s (b ∷ []) a (record { lines = s.lines; world = s.world; line = s.line ++ b ∷ [] })
@@ -166,12 +154,12 @@ byte_advances event a s b h e = record {
   continues = λ more. record { text = []; written = Appends-nil a; parts = refl; status_is = refl };
 }
 
-pub byte_too_long : {W : Type 0} (event : Events W) (a : Bytes) (s : Progress W) (b : ℕ) → HasNoBreak s.line → eqb b 10 ≡ false → 1048576 < length s.line → Breaks event a s (b ∷ []) a (stop.Limit (s.lines + 1))
-byte_too_long event a s b h e long = λ rest.
-    let t = too_long event (s.lines + 1) s.world (s.line ++ b ∷ []) rest (no_break_more s.line b h e) (omega (arith, length-append s.line (b ∷ []))) in
-    record { status_is = ap (λ (t : Told). t.status) t; written = subst (λ (t : Told). Appends a a t.text) (sym t) (Appends-nil a) }
+pub byte_too_long : {W : Type 0} (most : ℕ) (event : Events W) (a : Bytes) (s : Progress W) (b : ℕ) → HasNoBreak s.line → eqb b 10 ≡ false → 1048576 < length s.line → Breaks (verdict most event) a s (b ∷ []) a (script_end.Limit (s.lines + 1))
+byte_too_long most event a s b h e long = λ rest.
+    let t = too_long most event (s.lines + 1) s.world (s.line ++ b ∷ []) rest (no_break_more s.line b h e) (omega (arith, length-append s.line (b ∷ []))) in
+    record { status_is = ap (λ (t : RunResult). t.status) t; written = subst (λ (t : RunResult). Appends a a t.text) (sym t) (Appends-nil a) }
 
-pub byte_no_memory : {W : Type 0} (event : Events W) (a : Bytes) (s : Progress W) (b : ℕ) → Breaks event a s (b ∷ []) a stop.OutOfMemory
+pub byte_no_memory : {W : Type 0} (event : Events W) (a : Bytes) (s : Progress W) (b : ℕ) → Breaks event a s (b ∷ []) a script_end.OutOfMemory
 byte_no_memory event a s b = record { ended = []; rest = s.line ++ b ∷ []; parts = refl; whole = inl refl; front = front_none a _ }
 
 -- the input has ended
@@ -186,16 +174,25 @@ finishes_after event a b c s bytes t end none x y =
     choose (is_cut end) y
 
 -- the event of a line ended the run
-pub line_stopped : {W : Type 0} (event : Events W) (a : Bytes) (s : Progress W) (line : List ℕ) (w : W) (end : Stop) → Brings (Err end) w (verdict event (s.lines + 1) s.world line) → LineBreaks event a s line a end
-line_stopped event a s line w (stop.Script n r) e = λ more. rw e (record { status_is = refl; written = Appends-nil a })
-line_stopped event a s line w (stop.Limit n) e = λ more. rw e (record { status_is = refl; written = Appends-nil a })
-line_stopped event a s line w stop.OutOfMemory e = front_none a _
-line_stopped event a s line w stop.WriteFault e = absurd e
+pub line_ended_run : {W : Type 0} (event : Events W) (a : Bytes) (s : Progress W) (line : List ℕ) (end : Status) → event (s.lines + 1) s.world line ≡ RunEnds end → (more : List (List ℕ)) → Ends a (to_come event s (line ∷ more)) a end
+line_ended_run event a s line end e = λ more. rw e (record { status_is = refl; written = Appends-nil a })
+
+-- a line was taken, and its report was written
+pub line_goes : {W : Type 0} (event : Events W) (a b : Bytes) (s t : Progress W) (line text : List ℕ) → event (s.lines + 1) s.world line ≡ Goes text t.world → t.lines ≡ s.lines + 1 → Appends a b text → (more : List (List ℕ)) → Continues a (to_come event s (line ∷ more)) b (to_come event t more)
+line_goes event a b s t line text e n w = λ more. rw (e, n) (record { text = text; written = w; parts = refl; status_is = refl })
 
 -- the report of a line wasn't written whole
-pub line_cut : {W : Type 0} (event : Events W) (a b : Bytes) (s : Progress W) (line text : List ℕ) (w : W) (error : OutsideError) → verdict event (s.lines + 1) s.world line ≡ Goes text w → AppendsFront a b text → LineBreaks event a s line b (stop_of error)
+pub line_cut : {W : Type 0} (event : Events W) (a b : Bytes) (s : Progress W) (line text : List ℕ) (w : W) (error : OutsideError) → event (s.lines + 1) s.world line ≡ Goes text w → AppendsFront a b text → LineBreaks event a s line b (sink_end error)
 line_cut event a b s line text w outside.Failed e front = rw e (front_longer a b text _ front)
 line_cut event a b s line text w outside.OutOfMemory e front = rw e (front_longer a b text _ front)
+
+-- an error of one call, which another gives
+abbrev as_error : {S T : Type 0} → Result S ScriptEnd → Result T ScriptEnd
+as_error (Ok x) = Err script_end.WriteFault
+as_error (Err e) = Err e
+
+pub same_error : {S T : Type 0} (x y : ScriptEnd) (r : Result S ScriptEnd) → r ≡ Err x → r ≡ Err y → IsErrOf {T = T} (Err x) y
+same_error {S} {T} x y r e f = ap (as_error {S = S} {T = T}) (sym e ∙ f)
 
 -- what stands after an Ok, where two facts stand after it
 pub on_ok_with : {T E P Q R : Type 0} (r : Result T E) → (P → Q → R) → OnOk r P → OnOk r Q → OnOk r R
@@ -211,7 +208,7 @@ pub next_byte : (xs : List ℕ) (i : ℕ) → i < length xs → take (i + 1) xs 
 next_byte xs i h = rw add-one (take-suc xs i 0 h)
 
 -- a whole text and a piece of it
-pub breaks_whole : {W : Type 0} (event : Events W) (a b c : Bytes) (s t : Progress W) (xs : List ℕ) (i : ℕ) (end : Stop) → i < length xs → Advances event a s (take i xs) b t → Breaks event b t (get_or xs i 0 ∷ []) c end → Breaks event a s xs c end
+pub breaks_whole : {W : Type 0} (event : Events W) (a b c : Bytes) (s t : Progress W) (xs : List ℕ) (i : ℕ) (end : ScriptEnd) → i < length xs → Advances event a s (take i xs) b t → Breaks event b t (get_or xs i 0 ∷ []) c end → Breaks event a s xs c end
 breaks_whole event a b c s t xs i end h x y =
     let here : take i xs ++ get_or xs i 0 ∷ [] ≡ take (i + 1) xs = sym (next_byte xs i h) in
     let so_far = subst (λ l. Breaks event a s l c end) here (breaks_more event a b c s (take i xs) t (get_or xs i 0 ∷ []) end x y) in
@@ -228,13 +225,13 @@ finished_whole event a b s t n e h some step =
     subst (λ ls. Ends a (to_come event s ls) b status.Done) whole (record { status_is = here.status_is; written = subst (Appends a b) (sym (here.parts ∙ append-nil here.text)) here.written })
 
 -- the last line ended the run, or it was cut off
-pub finished_early : {W : Type 0} (event : Events W) (a b : Bytes) (s : Progress W) (n : ℕ) → n ≡ length s.line → HasNoBreak s.line → eqb (length s.line) 0 ≡ false → (end : Stop) → LineBreaks event a s (take n s.line) b end → Finishes event a s b (status_of end)
+pub finished_early : {W : Type 0} (event : Events W) (a b : Bytes) (s : Progress W) (n : ℕ) → n ≡ length s.line → HasNoBreak s.line → eqb (length s.line) 0 ≡ false → (end : ScriptEnd) → LineBreaks event a s (take n s.line) b end → Finishes event a s b (status_of end)
 finished_early event a b s n e h some end y =
     let whole : take n s.line ∷ [] ≡ lines s.line = ap (λ l. l ∷ []) (ap (λ k. take k s.line) e ∙ take-length s.line) ∙ sym (last_line s.line h some) in
     at_last whole end y
   where
-    at_last : take n s.line ∷ [] ≡ lines s.line → (end : Stop) → LineBreaks event a s (take n s.line) b end → Finishes event a s b (status_of end)
-    at_last whole (stop.Script n r) y = subst (λ ls. Ends a (to_come event s ls) b (status.Script n r)) whole (y [])
-    at_last whole (stop.Limit n) y = subst (λ ls. Ends a (to_come event s ls) b (status.Limit n)) whole (y [])
-    at_last whole stop.OutOfMemory y = subst (λ ls. AppendsFront a b (to_come event s ls).text) whole y
-    at_last whole stop.WriteFault y = subst (λ ls. AppendsFront a b (to_come event s ls).text) whole y
+    at_last : take n s.line ∷ [] ≡ lines s.line → (end : ScriptEnd) → LineBreaks event a s (take n s.line) b end → Finishes event a s b (status_of end)
+    at_last whole (script_end.Script n r) y = subst (λ ls. Ends a (to_come event s ls) b (status.Script n r)) whole (y [])
+    at_last whole (script_end.Limit n) y = subst (λ ls. Ends a (to_come event s ls) b (status.Limit n)) whole (y [])
+    at_last whole script_end.OutOfMemory y = subst (λ ls. AppendsFront a b (to_come event s ls).text) whole y
+    at_last whole script_end.WriteFault y = subst (λ ls. AppendsFront a b (to_come event s ls).text) whole y

@@ -1,17 +1,18 @@
 -- A run over a source that told its bytes, or did not.
-use Rattle.std.proofs.Common.{◌≡◌, ℕ, List, [], ◌++◌, None, Some, Bool, true, false, refl, sym, ap, ◌∙◌, subst, append-nil, append_assoc, inl, inr}
-use Rattle.std.specs.Prelude.{◌≢◌, MatchBool}
+use Rattle.std.proofs.Common.{◌≡◌, ℕ, List, [], ◌++◌, None, Some, refl, sym, ap, ◌∙◌, subst, append-nil, append_assoc, inl, inr}
 use Rattle.std.specs.Io.KnownBytes.{Consumes, Keeps, IsAtEnd}
 use Rattle.siri_base.specs.declared.status.Status.{Status}
 use Rattle.siri_base.specs.declared.status.Status.TheVariants as status
-use Rattle.siri_cli.specs.declared.stop.Stop.{Stop}
-use Rattle.siri_cli.specs.declared.stop.Stop.TheVariants as stop
-use Rattle.siri_cli.specs.Told.{Events}
+use Rattle.siri_cli.specs.declared.script_end.ScriptEnd.{ScriptEnd}
+use Rattle.siri_cli.specs.declared.script_end.ScriptEnd.TheVariants as script_end
+use Rattle.siri_cli.specs.RunResult.{Events}
 use Rattle.siri_cli.specs.Ends.{Bytes, Ends, AppendsFront}
-use Rattle.siri_cli.specs.Reading.{Progress, beginning, Advances, CutsOff, EndsWithin, Breaks, Finishes, Stands, Follows, is_cut}
-use Rattle.siri_cli.specs.Stops.{status_of}
-use Rattle.siri_cli.specs.Reports.{Reports, WritesFront, report_of}
-use Rattle.siri_cli.proofs.Steps.{advances_none, advances_more, breaks_more, finishes_after, front_so_far, front_none}
+use Rattle.siri_cli.specs.Run.{EndsScript}
+use Rattle.siri_cli.specs.inner.Reading.{Progress, beginning, Advances, CutsOff, EndsWithin, Breaks, Finishes, HasRead, Follows}
+use Rattle.siri_cli.specs.inner.ScriptEnds.{status_of}
+use Rattle.siri_cli.specs.Reports.{Reports, Writes, WritesFront, WritesWhole, report_of}
+use Rattle.siri_cli.proofs.Written.{front_none}
+use Rattle.siri_cli.proofs.Steps.{advances_none, advances_more, breaks_more, finishes_after, whole_so_far}
 
 -- nothing was read yet
 pub follows_start : {W : Type 0} (event : Events W) (fresh : W) (input held : Bytes) → Follows event fresh input input held (beginning fresh) held
@@ -32,8 +33,8 @@ follows_more event fresh (Some input) held (Some left) (Some later) mid now s t 
 reports_end : {W : Type 0} (event : Events W) (fresh : W) (input later taken : List ℕ) (held now : Bytes) (end : Status) → input ≡ taken ++ later → EndsWithin event held (beginning fresh) taken now end → Ends held (report_of event fresh input) now end
 reports_end event fresh input later taken held now end e y = subst (λ l. Ends held (report_of event fresh l) now end) (sym e) (y later)
 
-reports_cut : {W : Type 0} (event : Events W) (fresh : W) (input later taken : List ℕ) (held now : Bytes) (end : Status) → input ≡ taken ++ later → CutsOff event held (beginning fresh) taken now → WritesFront (report_of event fresh) input (Some later) held now end
-reports_cut event fresh input later taken held now end e y = record {
+reports_cut : {W : Type 0} (event : Events W) (fresh : W) (input later taken : List ℕ) (held now : Bytes) → input ≡ taken ++ later → CutsOff event held (beginning fresh) taken now → WritesFront (report_of event fresh) input (Some later) held now
+reports_cut event fresh input later taken held now e y = record {
   whole = y.ended;
   begun = y.rest;
   read = e ∙ ap (λ l. l ++ later) y.parts;
@@ -41,14 +42,14 @@ reports_cut event fresh input later taken held now end e y = record {
   front = y.front;
 }
 
-reports_break : {W : Type 0} (event : Events W) (fresh : W) (input later taken : List ℕ) (held now : Bytes) (end : Stop) → input ≡ taken ++ later → Breaks event held (beginning fresh) taken now end → Reports (report_of event fresh) (Some input) (Some later) held now (status_of end)
-reports_break event fresh input later taken held now (stop.Script n r) e y = reports_end event fresh input later taken held now (status.Script n r) e y
-reports_break event fresh input later taken held now (stop.Limit n) e y = reports_end event fresh input later taken held now (status.Limit n) e y
-reports_break event fresh input later taken held now stop.OutOfMemory e y = reports_cut event fresh input later taken held now status.OutOfMemory e y
-reports_break event fresh input later taken held now stop.WriteFault e y = reports_cut event fresh input later taken held now status.WriteFault e y
+reports_break : {W : Type 0} (event : Events W) (fresh : W) (input later taken : List ℕ) (held now : Bytes) (end : ScriptEnd) → input ≡ taken ++ later → Breaks event held (beginning fresh) taken now end → Reports (report_of event fresh) (Some input) (Some later) held now (status_of end)
+reports_break event fresh input later taken held now (script_end.Script n r) e y = reports_end event fresh input later taken held now (status.Script n r) e y
+reports_break event fresh input later taken held now (script_end.Limit n) e y = reports_end event fresh input later taken held now (status.Limit n) e y
+reports_break event fresh input later taken held now script_end.OutOfMemory e y = reports_cut event fresh input later taken held now e y
+reports_break event fresh input later taken held now script_end.WriteFault e y = reports_cut event fresh input later taken held now e y
 
 -- a piece was read, and ended the run
-pub follows_break : {W : Type 0} (event : Events W) (fresh : W) (input held left later mid now : Bytes) (s : Progress W) (piece : List ℕ) (end : Stop) → Follows event fresh input left held s mid → Consumes left later piece → Breaks event mid s piece now end → Reports (report_of event fresh) input later held now (status_of end)
+pub follows_break : {W : Type 0} (event : Events W) (fresh : W) (input held left later mid now : Bytes) (s : Progress W) (piece : List ℕ) (end : ScriptEnd) → Follows event fresh input left held s mid → Consumes left later piece → Breaks event mid s piece now end → Reports (report_of event fresh) input later held now (status_of end)
 follows_break event fresh None held left later mid now s piece end f e x = tt
 follows_break event fresh (Some input) held None later mid now s piece end f e x = absurd f
 follows_break event fresh (Some input) held (Some left) None mid now s piece end f e x = absurd e
@@ -57,24 +58,33 @@ follows_break event fresh (Some input) held (Some left) (Some later) mid now s p
     (f.read ∙ ap (λ l. f.taken ++ l) e ∙ sym (append_assoc f.taken piece later))
     (breaks_more event held mid now (beginning fresh) f.taken s piece end f.advances x)
 
-at_end : {W : Type 0} (event : Events W) (fresh : W) (input : List ℕ) (held mid now : Bytes) (s : Progress W) (end : Status) → end ≢ status.ReadFault → Stands event fresh input [] held s mid → Finishes event mid s now end → Reports (report_of event fresh) (Some input) (Some []) held now end
-at_end event fresh input held mid now s end other f x =
-    let is_input : f.taken ≡ input = sym (f.read ∙ append-nil f.taken) in
-    let told = finishes_after event held mid now (beginning fresh) f.taken s end refl f.advances x in
-    let choose : (cut : Bool) → MatchBool cut (AppendsFront held now (report_of event fresh f.taken).text) (Ends held (report_of event fresh f.taken) now end) → MatchBool cut (WritesFront (report_of event fresh) input (Some []) held now end) (Ends held (report_of event fresh input) now end) =
-    λ cut. elim cut as (λ cut. MatchBool cut (AppendsFront held now (report_of event fresh f.taken).text) (Ends held (report_of event fresh f.taken) now end) → MatchBool cut (WritesFront (report_of event fresh) input (Some []) held now end) (Ends held (report_of event fresh input) now end)) [
-      | true ↦ λ w. record { whole = f.taken; begun = []; read = f.read ∙ ap (λ l. l ++ []) (sym (append-nil f.taken)); lines = inr (refl, refl, other); front = w }
-      | false ↦ λ w. subst (λ l. Ends held (report_of event fresh l) now end) is_input w
-    ] in
-    choose (is_cut end) told
+end_cut : {W : Type 0} (event : Events W) (fresh : W) (input : List ℕ) (held mid now : Bytes) (s : Progress W) (f : HasRead event fresh input [] held s mid) → AppendsFront held now (report_of event fresh f.taken).text → WritesFront (report_of event fresh) input (Some []) held now
+end_cut event fresh input held mid now s f w = record {
+  whole = f.taken;
+  begun = [];
+  read = f.read ∙ ap (λ l. l ++ []) (sym (append-nil f.taken));
+  lines = inr (refl, refl);
+  front = w;
+}
+
+end_whole : {W : Type 0} (event : Events W) (fresh : W) (input : List ℕ) (held mid now : Bytes) (s : Progress W) (end : Status) (f : HasRead event fresh input [] held s mid) → Ends held (report_of event fresh f.taken) now end → Ends held (report_of event fresh input) now end
+end_whole event fresh input held mid now s end f w = subst (λ l. Ends held (report_of event fresh l) now end) (sym (f.read ∙ append-nil f.taken)) w
+
+at_end : {W : Type 0} (event : Events W) (fresh : W) (input : List ℕ) (held mid now : Bytes) (s : Progress W) (end : Status) → EndsScript end → HasRead event fresh input [] held s mid → Finishes event mid s now end → Writes (report_of event fresh) input (Some []) held now end
+at_end event fresh input held mid now s status.Done known f x = end_whole event fresh input held mid now s status.Done f (finishes_after event held mid now (beginning fresh) f.taken s status.Done refl f.advances x)
+at_end event fresh input held mid now s (status.Script n r) known f x = end_whole event fresh input held mid now s (status.Script n r) f (finishes_after event held mid now (beginning fresh) f.taken s (status.Script n r) refl f.advances x)
+at_end event fresh input held mid now s (status.Limit n) known f x = end_whole event fresh input held mid now s (status.Limit n) f (finishes_after event held mid now (beginning fresh) f.taken s (status.Limit n) refl f.advances x)
+at_end event fresh input held mid now s status.OutOfMemory known f x = end_cut event fresh input held mid now s f (finishes_after event held mid now (beginning fresh) f.taken s status.OutOfMemory refl f.advances x)
+at_end event fresh input held mid now s status.WriteFault known f x = end_cut event fresh input held mid now s f (finishes_after event held mid now (beginning fresh) f.taken s status.WriteFault refl f.advances x)
+at_end event fresh input held mid now s end known f x = absurd known
 
 -- the input has ended
-pub follows_end : {W : Type 0} (event : Events W) (fresh : W) (input held left later mid now : Bytes) (s : Progress W) (end : Status) → end ≢ status.ReadFault → Follows event fresh input left held s mid → Consumes left later [] → IsAtEnd later → Finishes event mid s now end → Reports (report_of event fresh) input later held now end
-follows_end event fresh None held left later mid now s end other f e none x = tt
-follows_end event fresh (Some input) held None later mid now s end other f e none x = absurd f
-follows_end event fresh (Some input) held (Some left) None mid now s end other f e none x = absurd e
-follows_end event fresh (Some input) held (Some left) (Some later) mid now s end other f e none x =
-    subst (λ l. Reports (report_of event fresh) (Some input) (Some l) held now end) (sym none) (at_end event fresh input held mid now s end other (subst (λ l. Stands event fresh input l held s mid) (e ∙ none) f) x)
+pub follows_end : {W : Type 0} (event : Events W) (fresh : W) (input held left later mid now : Bytes) (s : Progress W) (end : Status) → EndsScript end → Follows event fresh input left held s mid → Consumes left later [] → IsAtEnd later → Finishes event mid s now end → Reports (report_of event fresh) input later held now end
+follows_end event fresh None held left later mid now s end known f e none x = tt
+follows_end event fresh (Some input) held None later mid now s end known f e none x = absurd f
+follows_end event fresh (Some input) held (Some left) None mid now s end known f e none x = absurd e
+follows_end event fresh (Some input) held (Some left) (Some later) mid now s end known f e none x =
+    subst (λ l. Reports (report_of event fresh) (Some input) (Some l) held now end) (sym none) (at_end event fresh input held mid now s end known (subst (λ l. HasRead event fresh input l held s mid) (e ∙ none) f) x)
 
 -- the source failed
 pub follows_fault : {W : Type 0} (event : Events W) (fresh : W) (input held left later mid : Bytes) (s : Progress W) → Follows event fresh input left held s mid → Keeps left later → Reports (report_of event fresh) input later held mid status.ReadFault
@@ -85,8 +95,9 @@ follows_fault event fresh (Some input) held (Some left) (Some later) mid s f k =
   whole = f.advances.ended;
   begun = s.line;
   read = f.read ∙ ap (λ l. l ++ left) f.advances.parts ∙ ap (λ l. (f.advances.ended ++ s.line) ++ l) (sym k);
-  lines = inl f.advances.whole;
-  front = front_so_far event held mid (beginning fresh) f.taken s f.advances;
+  lines = f.advances.whole;
+  last = f.advances.begun;
+  ends = whole_so_far event held mid (beginning fresh) f.taken s f.advances;
 }
 
 -- nothing was read, for want of memory

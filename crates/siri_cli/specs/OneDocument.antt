@@ -1,5 +1,5 @@
 -- The commands over one document: what they tell of it, and how a run of one ends.
-use Rattle.std.specs.Prelude.{◌≡◌, ◌⊎◌, ℕ, List, [], ◌++◌, drop, codes, None, Some, Result, Ok, Err, MatchBool}
+use Rattle.std.specs.Prelude.{◌≡◌, ℕ, List, ◌++◌, drop, codes, None, Some, Result, Ok, Err, MatchBool}
 use Rattle.siri_base.specs.declared.status.Status.{Status}
 use Rattle.siri_base.specs.declared.status.Status.TheVariants as status
 use Rattle.siri_base.specs.Words.{reason_name}
@@ -9,21 +9,20 @@ use Rattle.siri_messages.specs.declared.message.Message.{Message}
 use Rattle.siri_messages.specs.Kinds.{kind_of}
 use Rattle.siri_wire.specs.Documents.{message_of}
 use Rattle.siri_wire.specs.Canonical.{canonical}
-use Rattle.siri_cli.specs.Answers.{line_feed}
-use Rattle.siri_cli.specs.Ends.{Bytes, Ends, AppendsFront}
-use Rattle.siri_cli.specs.Reading.{is_cut}
-use Rattle.siri_cli.specs.Told.{Told}
+use Rattle.siri_cli.specs.ReportLines.{line_feed}
+use Rattle.siri_cli.specs.Ends.{Bytes, Ends, AppendsFront, is_cut}
+use Rattle.siri_cli.specs.RunResult.{RunResult}
 
 -- `PATH: REASON`
 abbrev pub refusal_text : Refusal → List ℕ
 refusal_text refusal = path_text refusal.path ++ (codes ": " ++ reason_name refusal.reason)
 
 -- the refusal is told, and the run ends with status 1
-abbrev pub refused_told : Refusal → Told
+abbrev pub refused_told : Refusal → RunResult
 refused_told refusal = record { text = refusal_text refusal ++ line_feed; status = status.Refused }
 
 -- this text is told of the document's message, or the refusal
-abbrev pub told_of : (Message → List ℕ) → Result Message Refusal → Told
+abbrev pub told_of : (Message → List ℕ) → Result Message Refusal → RunResult
 told_of text (Ok message) = record { text = text message ++ line_feed; status = status.Done }
 told_of text (Err refusal) = refused_told refusal
 
@@ -32,29 +31,21 @@ abbrev pub ok_text : Message → List ℕ
 ok_text message = codes "ok " ++ kind_of message
 
 -- what `check` tells of a document: the name of its message, or the refusal
-unfoldable pub check_text : List ℕ → Told
+unfoldable pub check_text : List ℕ → RunResult
 check_text document = told_of ok_text (message_of document)
 
 -- what `convert` tells of a document: its message's canonical text, or the refusal
-unfoldable pub convert_text : List ℕ → Told
+unfoldable pub convert_text : List ℕ → RunResult
 convert_text document = told_of canonical (message_of document)
 
--- the line that tells that a document is too long
-abbrev pub too_long_line : List ℕ
-too_long_line = codes ".: TooLong\n"
-
--- The input was read to its end, or, where it is told that it is too long, to byte 8,388,609.
-abbrev pub IsDocumentRead : List ℕ → Bytes → List ℕ → Type 0
-IsDocumentRead input left text = (left ≡ Some []) ⊎ ((text ≡ too_long_line) × (left ≡ Some (drop 8388609 input)))
-
--- the whole text was written, the status is its own, and the document was read
-pub record Answered (told : Told) (input : List ℕ) (left old new : Bytes) (end : Status) : Type 0 where
+-- the whole text was written, the status is its own, and the input was read to its end, but no further than its byte 8,388,609
+pub record Answered (told : RunResult) (input : List ℕ) (left old new : Bytes) (end : Status) : Type 0 where
   pub ends : Ends old told new end
-  pub read : IsDocumentRead input left told.text
+  pub read : left ≡ Some (drop 8388609 input)
 
 -- Where the source tells its bytes: what is told of them was written, and the run ended as it says; or the run was cut
 -- off, and a front of that text was written.
-abbrev pub Answers : (List ℕ → Told) → Bytes → Bytes → Bytes → Bytes → Status → Type 0
+abbrev pub Answers : (List ℕ → RunResult) → Bytes → Bytes → Bytes → Bytes → Status → Type 0
 Answers told None left old new end = Unit {0}
 Answers told (Some input) left old new end = MatchBool (is_cut end)
     (AppendsFront old new (told input).text)

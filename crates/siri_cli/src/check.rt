@@ -1,7 +1,7 @@
 // The command `check`.
 ghost use Rattle.std.specs.Prelude.{◌≡◌, ◌++◌, IfOk, codes};
 ghost use Rattle.siri_base.specs.Causes.{Rose};
-ghost use Rattle.siri_cli.specs.Answers.{line_feed};
+ghost use Rattle.siri_cli.specs.ReportLines.{line_feed};
 ghost use Rattle.siri_cli.specs.Ends.{ReadsAll};
 ghost use Rattle.siri_cli.specs.OneDocument.{Answers, check_text};
 ghost use Rattle.siri_cli.specs.Run.{EndsDocument};

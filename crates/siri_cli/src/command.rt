@@ -4,7 +4,7 @@ ghost use Rattle.siri_base.specs.Causes.{Rose};
 ghost use Rattle.siri_cli.specs.Ends.{ReadsAll};
 ghost use Rattle.siri_cli.specs.OneDocument.{Answers, check_text, convert_text};
 ghost use Rattle.siri_cli.specs.Reports.{Reports};
-ghost use Rattle.siri_cli.specs.Run.{EndsDocument, IsBuilt, TakesDocument};
+ghost use Rattle.siri_cli.specs.Run.{EndsDocument, EndsReplay, TakesDocument, UsesNone};
 ghost use Rattle.siri_cli.specs.Report.{report};
 ghost use Rattle.siri_cli.specs.Words.{command_of};
 
@@ -40,8 +40,9 @@ pub fn run<S: Source, K: Sink, W: Wire, C: Clock, E: Keeper>(
     ensures refused { result ≡ Status.Refused → TakesDocument (command_of (map string_bytes words.now)) }
     ensures document { TakesDocument (command_of (map string_bytes words.now)) → EndsDocument result }
     ensures unread { TakesDocument (command_of (map string_bytes words.now)) → result ≡ Status.ReadFault → sink.new ≡ sink.old }
-    ensures unused { (wire.new ≡ wire.old) × (clock.new ≡ clock.old) × (keeper.new ≡ keeper.old) }
-    ensures built { IsBuilt result }
+    ensures script { command_of (map string_bytes words.now) ≡ Some Command.Replay → EndsReplay result }
+    ensures unused { UsesNone (command_of (map string_bytes words.now))
+        → (wire.new ≡ wire.old) × (clock.new ≡ clock.old) × (keeper.new ≡ keeper.old) }
 {
     match Command::read(words) {
         None => Status::Usage,

@@ -3,7 +3,7 @@ ghost use Rattle.std.specs.Prelude.{◌≡◌, ◌≢◌, ◌≤◌, ◌<◌, �
 ghost use Rattle.std.specs.Io.KnownBytes.{Consumes, IsAtEnd};
 ghost use Rattle.siri_base.specs.Causes.{Rose, HasOutsideCause};
 ghost use Rattle.siri_wire.specs.Documents.{Decodes, message_of};
-ghost use Rattle.siri_cli.specs.DocumentParts.{IsDocument, Tells};
+ghost use Rattle.siri_cli.specs.inner.DocumentParts.{IsDocument, Tells};
 ghost use Rattle.siri_cli.specs.OneDocument.{refused_told};
 ghost use Rattle.siri_cli.specs.Run.{EndsDocument};
 
@@ -29,10 +29,10 @@ pub struct Answer {
 }
 
 impl Model for Answer {
-    ghost use Rattle.siri_cli.specs.Told.{Told};
-    ghost use Rattle.siri_cli.specs.DocumentParts.{status_where};
+    ghost use Rattle.siri_cli.specs.RunResult.{RunResult};
+    ghost use Rattle.siri_cli.specs.inner.DocumentParts.{status_where};
 
-    ghost Value = { Told };
+    ghost Value = { RunResult };
 
     ghost view = { λ a. record { text = a.text.items; status = status_where a.refused } };
 }

@@ -1,36 +1,15 @@
-// What a line of a script says.
-ghost use Rattle.std.specs.Prelude.{◌≡◌, ◌≤◌, IfOk, length, option_map};
-ghost use Rattle.std.specs.List.{list_any};
+// What a line of a script is.
+ghost use Rattle.std.specs.Prelude.{◌≡◌, ◌≤◌, length, map, option_map, nat_eq};
+ghost use Rattle.std.specs.Cmp.Lexicographic.{pointwise};
+ghost use Rattle.std.specs.Map.{lookup};
 ghost use Rattle.std.specs.Str.{is_utf8};
-ghost use Rattle.siri_wire.specs.Documents.{message_of};
-ghost use Rattle.siri_cli.specs.Lines.{argument_of, ask_line, bad_document, clock_line, feed_line, first_word, has_round, in_a_round, is_passed, line_of, moment_in, start_line, word_end, word_line, word_named};
+ghost use Rattle.siri_cli.specs.Lines.{argument_of, first_word, is_skipped, word_end, word_named, word_of};
 
-use siri_base::{Moment, OutOfMemory, ScriptReason};
-use siri_messages::{FunctionalDelivery, Message, ServiceDelivery, ServiceRequest};
-use siri_time::read_moment;
-use siri_wire::{DecodeError, Refusal, decode};
-use std::alloc::Global;
-
-/// What a line of a script says.
-#[derive(Drop)]
-pub enum Line {
-    /// Nothing: it is empty, or begins with `#`.
-    Passed,
-    /// A producer starts at a moment.
-    Start(Moment),
-    /// Its clock goes on to a moment.
-    Clock(Moment),
-    /// It is fed the entries of a delivery.
-    Feed(ServiceDelivery),
-    /// It is asked for the direct response to a request.
-    Ask(ServiceRequest),
-    /// Nothing that is read, for this reason.
-    Refused(ScriptReason),
-}
+use siri_base::ScriptReason;
 
 /// The words that a line may begin with.
-#[derive(Clone, Copy)]
-pub enum Word {
+#[derive(Clone, Copy, Debug)]
+pub enum ScriptWord {
     Start,
     Clock,
     Feed,
@@ -42,60 +21,62 @@ pub enum Word {
     View,
 }
 
-impl Word {
+/// The words by their texts.
+const WORDS: [(&[u8], ScriptWord); 9] = [
+    (b"start", ScriptWord::Start),
+    (b"clock", ScriptWord::Clock),
+    (b"feed", ScriptWord::Feed),
+    (b"ask", ScriptWord::Ask),
+    (b"subscribe", ScriptWord::Subscribe),
+    (b"terminate", ScriptWord::Terminate),
+    (b"status", ScriptWord::Status),
+    (b"deliver", ScriptWord::Deliver),
+    (b"view", ScriptWord::View),
+];
+
+impl ScriptWord {
     /// The word that is spelled so.
     #[tactic(auto, unfolding(crate::specs::Lines::word_named))]
-    fn named(name: &[u8]) -> Option<Word>
+    fn named(name: &[u8]) -> Option<ScriptWord>
         ensures { result ≡ word_named name.now }
     {
-        if name == b"start".as_slice() {
-            Some(Word::Start)
-        } else if name == b"clock".as_slice() {
-            Some(Word::Clock)
-        } else if name == b"feed".as_slice() {
-            Some(Word::Feed)
-        } else if name == b"ask".as_slice() {
-            Some(Word::Ask)
-        } else if name == b"subscribe".as_slice() {
-            Some(Word::Subscribe)
-        } else if name == b"terminate".as_slice() {
-            Some(Word::Terminate)
-        } else if name == b"status".as_slice() {
-            Some(Word::Status)
-        } else if name == b"deliver".as_slice() {
-            Some(Word::Deliver)
-        } else if name == b"view".as_slice() {
-            Some(Word::View)
-        } else {
-            None
-        }
+        lookup(&WORDS, name)
     }
 }
 
-/// What a line says, where a `start` came before it or not.
-#[tactic(auto, unfolding(crate::specs::Lines::line_of))]
-pub fn read_line(alloc: Global, started: bool, line: &[u8]) -> Result<Line, OutOfMemory>
-    ensures { IfOk result (λ said. said ≡ line_of started line.now) }
+/// The word beside this text in a table.
+fn lookup(mut table: &[(&[u8], ScriptWord)], name: &[u8]) -> Option<ScriptWord>
+    ensures { result ≡ lookup (pointwise nat_eq name.now) (map (λ row. (row.0.now, row.1)) table.entry.now) }
 {
-    if is_passed(line) {
-        return Ok(Line::Passed);
+    while let [row, rest @ ..] = table {
+        if name == row.0 {
+            return Some(row.1);
+        }
+        table = rest;
     }
-    if !is_text(line) {
-        return Ok(Line::Refused(ScriptReason::NotText));
-    }
-    match Word::named(first_word(line)) {
-        Some(word) => word_line(alloc, started, word, argument(line)),
-        None => Ok(Line::Refused(ScriptReason::BadWord)),
-    }
+    None
 }
 
-/// Whether a line is passed over.
-fn is_passed(line: &[u8]) -> bool
-    ensures { result ≡ is_passed line.now }
+/// Whether a line is skipped: it is empty, or begins with `#`.
+pub fn is_skipped(line: &[u8]) -> bool
+    ensures { result ≡ is_skipped line.now }
 {
     match line.first() {
         Some(first) => *first == b'#',
         None => true,
+    }
+}
+
+/// The word that a line begins with. It is refused where it isn't UTF-8, or its first word is none of the nine.
+pub fn word_of(line: &[u8]) -> Result<ScriptWord, ScriptReason>
+    ensures { result ≡ word_of line.now }
+{
+    if !is_text(line) {
+        return Err(ScriptReason::NotText);
+    }
+    match ScriptWord::named(first_word(line)) {
+        Some(word) => Ok(word),
+        None => Err(ScriptReason::BadWord),
     }
 }
 
@@ -122,7 +103,7 @@ fn first_word(line: &[u8]) -> &[u8]
 }
 
 /// What follows the first space.
-fn argument(line: &[u8]) -> Option<&[u8]>
+pub fn argument(line: &[u8]) -> Option<&[u8]>
     ensures { option_map (λ text. text.now) result ≡ argument_of line.now }
 {
     let end = word_end(line);
@@ -131,108 +112,4 @@ fn argument(line: &[u8]) -> Option<&[u8]>
     } else {
         None
     }
-}
-
-/// What a word says with its argument. Whether it may stand where it does is tested first.
-fn word_line(
-    alloc: Global,
-    started: bool,
-    word: Word,
-    argument: Option<&[u8]>,
-) -> Result<Line, OutOfMemory>
-    ensures { IfOk result (λ said. said ≡ word_line started word (option_map (λ text. text.now) argument.entry)) }
-{
-    match (started, word) {
-        (false, Word::Start) => Ok(start_line(argument)),
-        (false, _) => Ok(Line::Refused(ScriptReason::NotStarted)),
-        (true, Word::Clock) => Ok(clock_line(argument)),
-        (true, Word::Feed) => feed_line(alloc, argument),
-        (true, Word::Ask) => ask_line(alloc, argument),
-        (true, _) => Ok(Line::Refused(ScriptReason::NotYet)),
-    }
-}
-
-fn start_line(argument: Option<&[u8]>) -> Line
-    ensures { result ≡ start_line (option_map (λ text. text.now) argument.entry) }
-{
-    match moment_in(argument) {
-        Some(moment) => Line::Start(moment),
-        None => Line::Refused(ScriptReason::BadArgument),
-    }
-}
-
-fn clock_line(argument: Option<&[u8]>) -> Line
-    ensures { result ≡ clock_line (option_map (λ text. text.now) argument.entry) }
-{
-    match moment_in(argument) {
-        Some(moment) => Line::Clock(moment),
-        None => Line::Refused(ScriptReason::BadArgument),
-    }
-}
-
-fn moment_in(argument: Option<&[u8]>) -> Option<Moment>
-    ensures { result ≡ moment_in (option_map (λ text. text.now) argument.entry) }
-{
-    read_moment(argument?).ok()
-}
-
-fn feed_line(alloc: Global, argument: Option<&[u8]>) -> Result<Line, OutOfMemory>
-    ensures { IfOk result (λ said. said ≡ feed_line (option_map (λ text. text.now) argument.entry)) }
-{
-    let Some(text) = argument else {
-        return Ok(Line::Refused(ScriptReason::BadArgument));
-    };
-    match decode(alloc, text) {
-        Ok(Message::ServiceDelivery(delivery)) => {
-            if has_round(&delivery) {
-                Ok(Line::Refused(ScriptReason::WrongMessage))
-            } else {
-                Ok(Line::Feed(delivery))
-            }
-        }
-        Ok(_) => Ok(Line::Refused(ScriptReason::WrongMessage)),
-        Err(DecodeError::Refused(refusal)) => bad_document(&refusal),
-        Err(DecodeError::OutOfMemory) => Err(OutOfMemory),
-    }
-}
-
-fn ask_line(alloc: Global, argument: Option<&[u8]>) -> Result<Line, OutOfMemory>
-    ensures { IfOk result (λ said. said ≡ ask_line (option_map (λ text. text.now) argument.entry)) }
-{
-    let Some(text) = argument else {
-        return Ok(Line::Refused(ScriptReason::BadArgument));
-    };
-    match decode(alloc, text) {
-        Ok(Message::ServiceRequest(request)) => Ok(Line::Ask(request)),
-        Ok(_) => Ok(Line::Refused(ScriptReason::WrongMessage)),
-        Err(DecodeError::Refused(refusal)) => bad_document(&refusal),
-        Err(DecodeError::OutOfMemory) => Err(OutOfMemory),
-    }
-}
-
-/// The document of a line is refused.
-fn bad_document(refusal: &Refusal) -> Result<Line, OutOfMemory>
-    ensures { IfOk result (λ said. said ≡ bad_document (record { path = refusal.now.path; reason = refusal.now.reason })) }
-{
-    Ok(Line::Refused(ScriptReason::BadDocument {
-        path: refusal.path.text()?,
-        reason: refusal.reason,
-    }))
-}
-
-/// Whether some functional delivery belongs to a round.
-fn has_round(delivery: &ServiceDelivery) -> bool
-    ensures { result ≡ has_round delivery.now }
-{
-    in_a_round(delivery.stop_monitoring_delivery.slice())
-        || in_a_round(delivery.estimated_timetable_delivery.slice())
-        || in_a_round(delivery.vehicle_monitoring_delivery.slice())
-        || in_a_round(delivery.situation_exchange_delivery.slice())
-}
-
-/// Whether one of these belongs to a round.
-fn in_a_round(deliveries: &[FunctionalDelivery]) -> bool
-    ensures { result ≡ list_any in_a_round deliveries.now }
-{
-    deliveries.iter().any(|delivery| delivery.round.is_some())
 }

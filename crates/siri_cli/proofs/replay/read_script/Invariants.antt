@@ -1,11 +1,11 @@
 use Rattle.std.proofs.Common.{◌≤◌, ◌<◌, length}
-use Rattle.siri_cli.specs.Reading.{Follows}
-use Rattle.siri_cli.specs.Script.{IsWithin, progress, room, event, fresh}
+use Rattle.siri_cli.specs.inner.Standing.{IsWithin, room}
+use Rattle.siri_cli.proofs.Worlds.{ReadsOn}
 use Rattle.siri_cli.proofs.replay.read_script.Given as goal
 
 abbrev pub invariant-loop-script : goal.invariant-loop-script
 invariant-loop-script g l = record {
-  follows : Follows event fresh (g.S.Source.left l.fn.source) (g.S.Source.left l.source) (g.K.Sink.held l.fn.sink) (progress l.script) (g.K.Sink.held l.sink);
+  reads : ReadsOn (g.S.Source.left l.fn.source) (g.S.Source.left l.source) (g.K.Sink.held l.fn.sink) l.script (g.K.Sink.held l.sink);
   within : IsWithin l.script;
   space : 0 < length l.buffer;
   read_later : g.S.Source.faults l.fn.source ≤ g.S.Source.faults l.source;

@@ -1,15 +1,13 @@
--- How far a script was read.
-use Rattle.std.specs.Prelude.{◌≡◌, ℕ, ◌+◌, List, [], ◌∷◌, ◌++◌, Bool, true, false, ◌==◌, MatchBool, None, Some, Result, Ok, Err}
-use Rattle.std.specs.declared.vec.Vec.{Vec}
-use Rattle.std.specs.declared.alloc.Global.{Global}
+-- Inner words: how far a script was read.
+use Rattle.std.specs.Prelude.{◌≡◌, ℕ, ◌+◌, List, [], ◌∷◌, ◌++◌, MatchBool, None, Some}
 use Rattle.std.specs.Io.KnownBytes.{Appends}
 use Rattle.std.specs.Str.Lines.{lines}
 use Rattle.siri_base.specs.declared.status.Status.{Status}
-use Rattle.siri_cli.specs.Told.{Told, Events, Verdict, Goes, Stops, report_from}
-use Rattle.siri_cli.specs.Ends.{Bytes, Ends, AppendsFront, AreWholeLines}
-use Rattle.siri_cli.specs.declared.stop.Stop.{Stop}
-use Rattle.siri_cli.specs.declared.stop.Stop.TheVariants as stop
 use Rattle.siri_base.specs.declared.status.Status.TheVariants as status
+use Rattle.siri_cli.specs.declared.script_end.ScriptEnd.{ScriptEnd}
+use Rattle.siri_cli.specs.declared.script_end.ScriptEnd.TheVariants as script_end
+use Rattle.siri_cli.specs.RunResult.{RunResult, Events, report_from}
+use Rattle.siri_cli.specs.Ends.{Bytes, Ends, AppendsFront, AreWholeLines, HasNoBreak, is_cut}
 
 -- how far a script was read: the lines that ended, the world that they made, the bytes of the line that has begun
 pub record Progress (W : Type 0) : Type 0 where
@@ -18,20 +16,15 @@ pub record Progress (W : Type 0) : Type 0 where
   pub line : List ℕ
 
 -- what is to come where these lines follow
-abbrev pub to_come : {W : Type 0} → Events W → Progress W → List (List ℕ) → Told
+abbrev pub to_come : {W : Type 0} → Events W → Progress W → List (List ℕ) → RunResult
 to_come event at more = report_from event (at.lines + 1) at.world more
 
 -- some text was written, and what was to come is this text and what is to come
-pub record Continues (old : Bytes) (before : Told) (new : Bytes) (after : Told) : Type 0 where
+pub record Continues (old : Bytes) (before : RunResult) (new : Bytes) (after : RunResult) : Type 0 where
   pub text : List ℕ
   pub written : Appends old new text
   pub parts : before.text ≡ text ++ after.text
   pub status_is : before.status ≡ after.status
-
--- no byte ends a line
-abbrev pub HasNoBreak : List ℕ → Type 0
-HasNoBreak [] = Unit {0}
-HasNoBreak (b ∷ bytes) = ((b == 10) ≡ false) × HasNoBreak bytes
 
 -- the bytes were read: their lines ended and brought what they bring, and the next line has begun
 pub record Advances {W : Type 0} (event : Events W) (old : Bytes) (from : Progress W) (bytes : List ℕ) (new : Bytes) (to : Progress W) : Type 0 where
@@ -54,37 +47,22 @@ abbrev pub EndsWithin : {W : Type 0} → Events W → Bytes → Progress W → L
 EndsWithin event old from bytes new status = (rest : List ℕ) → Ends old (to_come event from (lines ((from.line ++ bytes) ++ rest))) new status
 
 -- the bytes ended the run, or it was cut off in them
-abbrev pub Breaks : {W : Type 0} → Events W → Bytes → Progress W → List ℕ → Bytes → Stop → Type 0
-Breaks event old from bytes new (stop.Script n reason) = EndsWithin event old from bytes new (status.Script n reason)
-Breaks event old from bytes new (stop.Limit n) = EndsWithin event old from bytes new (status.Limit n)
-Breaks event old from bytes new stop.OutOfMemory = CutsOff event old from bytes new
-Breaks event old from bytes new stop.WriteFault = CutsOff event old from bytes new
+abbrev pub Breaks : {W : Type 0} → Events W → Bytes → Progress W → List ℕ → Bytes → ScriptEnd → Type 0
+Breaks event old from bytes new (script_end.Script n reason) = EndsWithin event old from bytes new (status.Script n reason)
+Breaks event old from bytes new (script_end.Limit n) = EndsWithin event old from bytes new (status.Limit n)
+Breaks event old from bytes new script_end.OutOfMemory = CutsOff event old from bytes new
+Breaks event old from bytes new script_end.WriteFault = CutsOff event old from bytes new
 
 -- a line ended the run, whatever follows, or it was cut off at that line
-abbrev pub LineBreaks : {W : Type 0} → Events W → Bytes → Progress W → List ℕ → Bytes → Stop → Type 0
-LineBreaks event old from line new (stop.Script n reason) = (more : List (List ℕ)) → Ends old (to_come event from (line ∷ more)) new (status.Script n reason)
-LineBreaks event old from line new (stop.Limit n) = (more : List (List ℕ)) → Ends old (to_come event from (line ∷ more)) new (status.Limit n)
-LineBreaks event old from line new stop.OutOfMemory = AppendsFront old new (to_come event from (line ∷ [])).text
-LineBreaks event old from line new stop.WriteFault = AppendsFront old new (to_come event from (line ∷ [])).text
-
--- what an event brought is its verdict, memory left free
-abbrev pub Brings : {W : Type 0} → Result (Vec ℕ Global) Stop → W → Verdict W → Type 0
-Brings (Ok text) world v = v ≡ Goes text.items world
-Brings (Err (stop.Script n reason)) world v = v ≡ Stops (status.Script n reason)
-Brings (Err (stop.Limit n)) world v = v ≡ Stops (status.Limit n)
-Brings (Err stop.OutOfMemory) world v = Unit {0}
-Brings (Err stop.WriteFault) world v = ⊥
+abbrev pub LineBreaks : {W : Type 0} → Events W → Bytes → Progress W → List ℕ → Bytes → ScriptEnd → Type 0
+LineBreaks event old from line new (script_end.Script n reason) = (more : List (List ℕ)) → Ends old (to_come event from (line ∷ more)) new (status.Script n reason)
+LineBreaks event old from line new (script_end.Limit n) = (more : List (List ℕ)) → Ends old (to_come event from (line ∷ more)) new (status.Limit n)
+LineBreaks event old from line new script_end.OutOfMemory = AppendsFront old new (to_come event from (line ∷ [])).text
+LineBreaks event old from line new script_end.WriteFault = AppendsFront old new (to_come event from (line ∷ [])).text
 
 -- where a script begins
 abbrev pub beginning : {W : Type 0} → W → Progress W
 beginning fresh = record { lines = 0; world = fresh; line = [] }
-
--- the run was cut off by want of memory or by the outside
-abbrev pub is_cut : Status → Bool
-is_cut status.ReadFault = true
-is_cut status.OutOfMemory = true
-is_cut status.WriteFault = true
-is_cut other = false
 
 -- the input has ended: the line that has begun is the last one
 abbrev pub Finishes : {W : Type 0} → Events W → Bytes → Progress W → Bytes → Status → Type 0
@@ -93,7 +71,7 @@ Finishes event old from new status = MatchBool (is_cut status)
     (Ends old (to_come event from (lines from.line)) new status)
 
 -- what was read of the input, and what it brought
-pub record Stands {W : Type 0} (event : Events W) (fresh : W) (input left : List ℕ) (old : Bytes) (to : Progress W) (now : Bytes) : Type 0 where
+pub record HasRead {W : Type 0} (event : Events W) (fresh : W) (input left : List ℕ) (old : Bytes) (to : Progress W) (now : Bytes) : Type 0 where
   pub taken : List ℕ
   pub read : input ≡ taken ++ left
   pub advances : Advances event old (beginning fresh) taken now to
@@ -102,4 +80,4 @@ pub record Stands {W : Type 0} (event : Events W) (fresh : W) (input left : List
 abbrev pub Follows : {W : Type 0} → Events W → W → Bytes → Bytes → Bytes → Progress W → Bytes → Type 0
 Follows event fresh None left old to now = Unit {0}
 Follows event fresh (Some input) None old to now = ⊥
-Follows event fresh (Some input) (Some left) old to now = Stands event fresh input left old to now
+Follows event fresh (Some input) (Some left) old to now = HasRead event fresh input left old to now
