@@ -1,6 +1,7 @@
 -- What is read is spelled and the other way round: rows inside objects, errors, removals, and the journeys of frames.
-use Rattle.std.proofs.Common.{◌≡◌, ℕ, ◌+◌, ◌≤◌, Bool, true, false, not, nat_le, List, [], ◌∷◌, length, filter, map, Option, Some, None, Result, Ok, Err, refl, sym, ap, ap₂, ◌∙◌, subst, arith, if◌then◌else◌}
+use Rattle.std.proofs.Common.{◌≡◌, ℕ, suc, ◌+◌, ◌≤◌, Bool, true, false, not, nat_le, List, [], ◌∷◌, length, filter, map, Option, Some, None, Result, Ok, Err, refl, sym, ap, ap₂, ◌∙◌, subst, arith, if◌then◌else◌}
 use Rattle.std.proofs.lemmas.Bool.{le-leb, leb-true}
+use Rattle.std.proofs.lemmas.List.Sums.{length-filter}
 use Rattle.serde_json.specs.Data.{Data}
 use Rattle.siri_base.specs.declared.reason.Reason.TheVariants.{TooMany}
 use Rattle.siri_json.specs.Values.{Found, found, absent, wrong, object_in, member_of, entries_of}
@@ -14,7 +15,7 @@ use Rattle.siri_records.specs.declared.key.Key.TheVariants as key
 use Rattle.siri_items.specs.declared.names.TheConstants.{DATA_FRAME_REF, DATED_VEHICLE_JOURNEY_REF, DIRECTION_REF, LINE_REF, MONITORING_REF, PARTICIPANT_REF, SITUATION_NUMBER}
 use Rattle.siri_items.specs.Journeys.{journey}
 use Rattle.siri_items.specs.Refusals.{Refusal, ◌>>=◌, refused, below}
-use Rattle.siri_items.specs.Rules.{name, text, table, maybe, unless_wrong, required, row, required_row, inside, required_value, is_null, entries_from, list_of, or_empty}
+use Rattle.siri_items.specs.Rules.{name, text, table, maybe, unless_wrong, required, row, required_row, inside, required_value, is_null, entry_count, entries_from, at_most, list_of, list, or_empty}
 use Rattle.siri_items.specs.Spelling.{Spells}
 use Rattle.siri_items.proofs.ReadImpliesSpells.{bind_ok, row_spelled, required_row_spelled}
 use Rattle.siri_items.proofs.SpellsImpliesRead.{row_ok, required_row_ok}
@@ -23,7 +24,7 @@ use Rattle.siri_wire.specs.Errors.{other_error}
 use Rattle.siri_wire.specs.Frames.{journeys, frame, concat_frames, few_in_all, frames_of, journeys_of_frames}
 use Rattle.siri_wire.specs.Removals.{visit_cancellation, vehicle_cancellation, removed_journey, removed_situation}
 use Rattle.siri_wire_laws.specs.SpellingDeliveries.{SpellsRemoval, SpellsJourneys, SpellsFrames}
-use Rattle.siri_wire_laws.specs.SpellingValues.{SpellsFound, SpellsInside, SpellsErrorCondition, SpellsEntries}
+use Rattle.siri_wire_laws.specs.SpellingValues.{SpellsFound, SpellsInside, SpellsErrorCondition, SpellsEntries, SpellsList}
 
 abbrev done : {A : Type 0} → A → Result A Refusal
 done x = Ok x
@@ -204,6 +205,45 @@ list_read : {A : Type 0} (rule : Data → Result (Option A) Refusal) (o : Option
 unfolding list_of EachSpells
 list_read rule None xs is = ap (λ (ys : List _). done ys) (sym is)
 list_read rule (Some d) xs is = entries_read rule 0 (entries_of d) xs is
+
+as_many : {X Y : Type 0} (f : X → Y) (xs : List X) → length (map f xs) ≡ length xs
+as_many f [] = refl
+as_many f (x ∷ xs) = ap suc (as_many f xs)
+
+-- as many entries that aren't null as elements
+count_is : {A : Type 0} (rule : Data → Result (Option A) Refusal) (d : Data) (xs : List A) → SpellsEntries rule (Some d) xs → entry_count d ≡ length xs
+count_is rule d xs is =
+    let entries = filter (λ e. not (is_null e)) (entries_of d) in
+    sym (length-filter (λ e. not (is_null e)) (entries_of d)) ∙ (sym (as_many rule entries) ∙ (ap length is ∙ as_many (λ x. done (Some x)) xs))
+
+few_spelled : {A : Type 0} (rule : Data → Result (Option A) Refusal) (most : ℕ) (d : Data) (xs : List A) (few : Bool) → nat_le (entry_count d) most ≡ few → (if few then list_of rule d else refused TooMany) ≡ Ok xs
+    → SpellsEntries rule (Some d) xs × (length xs ≤ most)
+few_spelled rule most d xs true at e =
+    let is = list_spelled rule (Some d) xs e in
+    (is, subst (λ (n : ℕ). n ≤ most) (count_is rule d xs is) (leb-true (entry_count d) most at))
+few_spelled rule most d xs false at e = absurd cc
+
+bounded_spelled : {A : Type 0} (rule : Data → Result (Option A) Refusal) (most : ℕ) (o : Option Data) (xs : List A) → or_empty (at_most most (list_of rule)) o ≡ Ok xs → SpellsEntries rule o xs × (length xs ≤ most)
+bounded_spelled rule most None xs e =
+    let none = ok_is [] xs e in
+    (sym none, subst (λ (x : List _). length x ≤ most) none (omega arith))
+bounded_spelled rule most (Some d) xs e = few_spelled rule most d xs (nat_le (entry_count d) most) refl e
+
+bounded_read : {A : Type 0} (rule : Data → Result (Option A) Refusal) (most : ℕ) (o : Option Data) (xs : List A) → SpellsEntries rule o xs → length xs ≤ most → or_empty (at_most most (list_of rule)) o ≡ Ok xs
+bounded_read rule most None xs is few = ap (λ (ys : List _). done ys) (sym is)
+bounded_read rule most (Some d) xs is few =
+    let le : entry_count d ≤ most = subst (λ (n : ℕ). n ≤ most) (sym (count_is rule d xs is)) few in
+    rw (le-leb (entry_count d) most le) (list_read rule (Some d) xs is)
+
+pub bounded_list_spelled : {A : Type 0} (rule : Data → Result (Option A) Refusal) (most : ℕ) (key : List ℕ) (d : Data) (xs : List A) → list rule most key d ≡ Ok xs → SpellsList rule most key d xs
+unfolding list
+bounded_list_spelled rule most key d xs e =
+    let r = bounded_spelled rule most (member_of key d) xs (below_ok (Member key) _ xs e) in
+    record { entries = r.0; few = r.1 }
+
+pub bounded_list_read : {A : Type 0} (rule : Data → Result (Option A) Refusal) (most : ℕ) (key : List ℕ) (d : Data) (xs : List A) → SpellsList rule most key d xs → list rule most key d ≡ Ok xs
+unfolding list
+bounded_list_read rule most key d xs s_ = rw (bounded_read rule most (member_of key d) xs s_.entries s_.few) refl
 
 -- ---- the journeys of frames
 

@@ -1,8 +1,8 @@
 -- The relation of trees and messages, for rows that items have none of: a row with a default, a row inside an object of its
 -- own, errors, and lists place by place.
-use Rattle.std.specs.Prelude.{◌≡◌, ℕ, List, [], filter, map, not, Option, Some, None, unwrap_or, Result, Ok}
+use Rattle.std.specs.Prelude.{◌≡◌, ℕ, ◌≤◌, List, [], length, filter, map, not, Option, Some, None, unwrap_or, Result, Ok}
 use Rattle.serde_json.specs.Data.{Data}
-use Rattle.siri_json.specs.Values.{Found, found, absent, wrong, object_in, entries_of}
+use Rattle.siri_json.specs.Values.{Found, found, absent, wrong, member_of, object_in, entries_of}
 use Rattle.siri_items.specs.Refusals.{Refusal}
 use Rattle.siri_items.specs.Rules.{text, inside, is_null}
 use Rattle.siri_items.specs.Spelling.{Spells}
@@ -42,3 +42,8 @@ SpellsErrorCondition d error = SpellsInside (inside text ERROR_TEXT.now) OTHER_E
 abbrev pub SpellsEntries : {A : Type 0} → (Data → Result (Option A) Refusal) → Option Data → List A → Type 0
 SpellsEntries rule None xs = xs ≡ []
 SpellsEntries rule (Some d) xs = map rule (filter (λ e. not (is_null e)) (entries_of d)) ≡ map (λ x. Ok (Some x)) xs
+
+-- a list: its entries at a name, at most so many
+pub record SpellsList {A : Type 0} (rule : Data → Result (Option A) Refusal) (most : ℕ) (key : List ℕ) (d : Data) (xs : List A) : Type 0 where
+  pub entries : SpellsEntries rule (member_of key d) xs
+  pub few : length xs ≤ most

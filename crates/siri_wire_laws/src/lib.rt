@@ -24,4 +24,4 @@ pub use laws::{
     document_is_spelled, read_is_proper, written_is_canonical,
 };
 pub use request_laws::{statuses_are_spelled, subscriptions_are_spelled, topics_are_spelled};
-pub use value_laws::{errors_are_spelled, inner_rows_are_spelled};
+pub use value_laws::{errors_are_spelled, inner_rows_are_spelled, lists_are_spelled};

@@ -1,13 +1,13 @@
-//! What holds of rows inside an object of their own, and of errors: each function has laws for its clauses, and does
+//! What holds of rows inside an object of their own, of errors and of lists: each function has laws for its clauses, and does
 //! nothing when it is called.
 
 ghost use Rattle.std.specs.Prelude.{◌≡◌, ◌↔◌, ℕ, ℤ, List, Option, Result, Ok};
 ghost use Rattle.serde_json.specs.Data.{Data};
 ghost use Rattle.siri_items.specs.Refusals.{Refusal};
-ghost use Rattle.siri_items.specs.Rules.{text, inside};
+ghost use Rattle.siri_items.specs.Rules.{text, inside, list};
 ghost use Rattle.siri_wire.specs.declared.names.TheConstants.{ERROR_TEXT};
 ghost use Rattle.siri_wire.specs.Errors.{other_error};
-ghost use Rattle.siri_wire_laws.specs.SpellingValues.{SpellsInside, SpellsErrorCondition, SpellsOtherError};
+ghost use Rattle.siri_wire_laws.specs.SpellingValues.{SpellsInside, SpellsErrorCondition, SpellsOtherError, SpellsList};
 
 /// A text or a span that is the only row of an object is read from a value exactly where that object spells it, or where
 /// the value counts as absent and nothing is read.
@@ -21,4 +21,10 @@ pub fn inner_rows_are_spelled()
 pub fn errors_are_spelled()
     ensures of_error_condition { (d : Data) (error : Option (List ℕ)) → (other_error d ≡ Ok error) ↔ SpellsErrorCondition d error }
     ensures of_other_error { (d : Data) (error : Option (List ℕ)) → (inside text ERROR_TEXT.now d ≡ Ok error) ↔ SpellsOtherError d error }
+{}
+
+/// A list of elements of any type is read from a member exactly where each entry that isn't null spells the element at its
+/// place, and there are at most so many.
+pub fn lists_are_spelled<A>()
+    ensures { (rule : Data → Result (Option A) Refusal) (most : ℕ) (key : List ℕ) (d : Data) (xs : List A) → (list rule most key d ≡ Ok xs) ↔ SpellsList rule most key d xs }
 {}
