@@ -1,7 +1,8 @@
-// The forms in memory of a clock, a keeper and a wire, and copies of values.
+// The outside in memory, and copies of values.
 use siri_base::{
-    Clock, Copies, Failed, InMemoryClock, InMemoryKeeper, InMemoryWire, Keeper, List, Moment, Name,
-    OutsideError, Text, TextError, Wire,
+    Clock, Copies, Failed, FailingClock, FailingKeeper, FailingSink, FailingSource, InMemoryClock,
+    InMemoryKeeper, InMemoryWire, Keeper, List, Moment, Name, OutsideError, Sink, Source, Text,
+    TextError, Wire,
 };
 use std::test::Fail;
 
@@ -39,6 +40,80 @@ fn a_keeper_counts_from_one_to_its_last_number(rt: HostRuntime) {
 }
 
 #[test]
+fn a_clock_fails_where_it_is_told(rt: HostRuntime) -> Result<(), Fail> {
+    let early = Moment::new(0).ok_or("a moment")?;
+    let late = Moment::new(1_714_550_400_000).ok_or("a moment")?;
+    let moments = [early, late];
+    let lists: [&[usize]; 3] = [&[], &[1, 0], &[0, 1]];
+    let answers = [
+        [Ok(early), Ok(late), Err(Failed), Err(Failed)],
+        [Ok(early), Err(Failed), Err(Failed), Ok(late)],
+        [Err(Failed), Ok(early), Err(Failed), Ok(late)],
+    ];
+    for (failures, wanted) in lists.iter().zip(&answers) {
+        let mut clock = FailingClock::new(&moments, failures);
+        for answer in wanted {
+            assert_eq!(rt; clock.now(), *answer, "{failures:?}");
+        }
+    }
+    Ok(())
+}
+
+#[test]
+fn a_keeper_fails_where_it_is_told(rt: HostRuntime) {
+    let lists: [&[usize]; 3] = [&[], &[1], &[0, 0]];
+    let failed = Err(OutsideError::Failed);
+    let answers = [
+        [Ok(6), Ok(7), Ok(8)],
+        [Ok(6), failed, Ok(7)],
+        [failed, failed, Ok(6)],
+    ];
+    for (failures, wanted) in lists.iter().zip(&answers) {
+        let mut keeper = FailingKeeper::new(5, failures);
+        for answer in wanted {
+            assert_eq!(rt; keeper.raise(), *answer, "{failures:?}");
+        }
+    }
+}
+
+#[test]
+fn a_source_goes_no_further_than_its_next_failure(rt: HostRuntime) {
+    let lists: [&[usize]; 3] = [&[], &[3, 0, 1], &[5]];
+    let answers = [
+        [Ok(2), Ok(2), Ok(1), Ok(0), Ok(0), Ok(0)],
+        [Ok(2), Ok(1), Err(Failed), Err(Failed), Ok(1), Err(Failed)],
+        [Ok(2), Ok(2), Ok(1), Err(Failed), Ok(0), Ok(0)],
+    ];
+    for (failures, wanted) in lists.iter().zip(&answers) {
+        let mut source = FailingSource::new(b"abcde", failures);
+        let mut room = [0; 2];
+        for answer in wanted {
+            assert_eq!(rt; source.read(&mut []), Ok(0), "{failures:?}");
+            assert_eq!(rt; source.read(&mut room), *answer, "{failures:?}");
+        }
+    }
+}
+
+#[test]
+fn a_sink_goes_no_further_than_its_next_failure(rt: HostRuntime) {
+    let lists: [&[usize]; 3] = [&[], &[3, 0], &[0]];
+    let failed = Err(OutsideError::Failed);
+    let cases: [([Result<usize, OutsideError>; 4], &[u8]); 3] = [
+        ([Ok(2), Ok(2), Ok(2), Ok(2)], b"abababab"),
+        ([Ok(2), Ok(1), failed, failed], b"aba"),
+        ([failed, Ok(2), Ok(2), Ok(2)], b"ababab"),
+    ];
+    for (failures, (wanted, text)) in lists.iter().zip(&cases) {
+        let mut sink = FailingSink::new(rt.alloc(), failures);
+        for answer in wanted {
+            assert_eq!(rt; sink.write(b""), Ok(0), "{failures:?}");
+            assert_eq!(rt; sink.write(b"ab"), *answer, "{failures:?}");
+        }
+        assert!(rt; sink.bytes() == *text, "{failures:?}");
+    }
+}
+
+#[test]
 fn a_wire_takes_its_connections_in_turn(rt: HostRuntime) -> Result<(), Fail> {
     let here = Name::new(rt.alloc(), "0.0.0.0:8080")?;
     let there = Name::new(rt.alloc(), "peer:80")?;
@@ -54,9 +129,11 @@ fn a_wire_takes_its_connections_in_turn(rt: HostRuntime) -> Result<(), Fail> {
     assert_eq!(rt; room[0], b'e');
     assert_eq!(rt; wire.read(&mut room)?, 0);
     assert_eq!(rt; wire.write(b"yes")?, 3);
-    assert!(rt; wire.written() == b"yes".as_slice());
+    assert!(rt; wire.written(0).ok_or("a text")? == b"yes".as_slice());
     wire.accept()?;
-    assert!(rt; wire.written().is_empty());
+    assert!(rt; wire.written(0).ok_or("a text")? == b"yes".as_slice());
+    assert!(rt; wire.written(1).ok_or("a text")?.is_empty());
+    assert!(rt; wire.written(2).is_none());
     wire.dial(&there)?;
     assert_eq!(rt; wire.read(&mut room)?, 2);
     assert!(rt; room == *b"th");
