@@ -9,7 +9,8 @@ use Rattle.siri_cli.proofs.event.ask.Goals as goal
 
 pub returns : goal.returns
 returns c = λ h s.
-    let request = c.in_ok-request.request in
-    (Some h,
-     done _ request (asked h) c.in_ok-one.field-0.items c.in_ok-request.ensures (c.in_ok-one.ensures ∙ ap (λ delivery. line.Answer (message.ServiceDelivery delivery) ∷ []) (c.in_ok-delivery.ensures.ok h s.1 ∙ ap (λ name. response name (now_of h) (current h) request) s.0)),
-     same_but_reads c.args.producer.now c.direct.new.self h c.direct.ensures.rest s)
+    let request = c.in_ok-request.request in (
+      Some h,
+      done _ request (asked h) c.in_ok-one.field-0.items c.in_ok-request.ensures (c.in_ok-one.ensures ∙ ap (λ delivery. line.Answer (message.ServiceDelivery delivery) ∷ []) (c.in_ok-delivery.ensures.ok h s.1 ∙ ap (λ name. response name (now_of h) (current h) request) s.0)),
+      same_but_reads c.args.producer.now c.direct.new.self h c.direct.ensures.rest s,
+    )

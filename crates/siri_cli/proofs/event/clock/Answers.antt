@@ -6,7 +6,8 @@ use Rattle.siri_cli.proofs.event.clock.Goals as goal
 
 pub returns : goal.returns
 returns c = λ h s.
-    let moment = c.in_ok-moment.moment in
-    (Some (h ++ Clock moment ∷ Settle ∷ []),
-     done _ moment (clocked h) c.new.result.items c.in_ok-moment.ensures c.new.ensures.items,
-     (c.clock.ensures.name ∙ s.0, stands_settled c.clock.new.self h (Clock moment) (c.clock.ensures.stands h s.1)))
+    let moment = c.in_ok-moment.moment in (
+      Some (h ++ Clock moment ∷ Settle ∷ []),
+      done _ moment (clocked h) c.new.result.items c.in_ok-moment.ensures c.new.ensures.items,
+      (c.clock.ensures.name ∙ s.0, stands_settled c.clock.new.self h (Clock moment) (c.clock.ensures.stands h s.1)),
+    )

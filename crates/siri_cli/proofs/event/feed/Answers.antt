@@ -7,7 +7,8 @@ use Rattle.siri_cli.proofs.event.feed.Goals as goal
 
 pub returns : goal.returns
 returns c = λ h s.
-    let delivery = c.in_ok-delivery.delivery in
-    (Some (h ++ Feed (entries_of delivery) ∷ Settle ∷ []),
-     done _ delivery (fed h) c.in_ok-one.field-0.items c.in_ok-delivery.ensures (c.in_ok-one.ensures ∙ ap (λ counts. line.Fed counts ∷ []) (c.in_ok-fed.ensures.counts h s.1)),
-     (c.feed_owned.ensures.name ∙ s.0, stands_settled c.feed_owned.new.self h (Feed (entries_of delivery)) (c.in_ok-fed.ensures.ok h s.1)))
+    let delivery = c.in_ok-delivery.delivery in (
+      Some (h ++ Feed (entries_of delivery) ∷ Settle ∷ []),
+      done _ delivery (fed h) c.in_ok-one.field-0.items c.in_ok-delivery.ensures (c.in_ok-one.ensures ∙ ap (λ counts. line.Fed counts ∷ []) (c.in_ok-fed.ensures.counts h s.1)),
+      (c.feed_owned.ensures.name ∙ s.0, stands_settled c.feed_owned.new.self h (Feed (entries_of delivery)) (c.in_ok-fed.ensures.ok h s.1)),
+    )
