@@ -10,7 +10,7 @@ use Rattle.siri_cli.specs.Ends.{Bytes, Ends, AppendsFront}
 use Rattle.siri_cli.specs.Run.{EndsScript}
 use Rattle.siri_cli.specs.inner.Reading.{Progress, beginning, Advances, CutsOff, EndsWithin, Breaks, Finishes, HasRead, Follows}
 use Rattle.siri_cli.specs.inner.ScriptEnds.{status_of}
-use Rattle.siri_cli.specs.Reports.{Reports, Writes, WritesFront, WritesWhole, report_of}
+use Rattle.siri_cli.specs.Reports.{Reports, Writes, WritesFront, report_of}
 use Rattle.siri_cli.proofs.Written.{front_none}
 use Rattle.siri_cli.proofs.Steps.{advances_none, advances_more, breaks_more, finishes_after, whole_so_far}
 

@@ -1,5 +1,5 @@
 -- A script is read in each world that it stands for.
-use Rattle.std.proofs.Common.{◌≡◌, ℕ, ◌+◌, ◌<◌, List, [], ◌∷◌, ◌++◌, eqb, false, None, Some, Ok, Err, Result, refl, sym, ap, ◌∙◌, subst, length, take, get_or}
+use Rattle.std.proofs.Common.{◌≡◌, ℕ, ◌+◌, ◌<◌, List, [], ◌∷◌, ◌++◌, eqb, false, None, Ok, Err, Result, refl, sym, ap, ◌∙◌, subst, length, take, get_or}
 use Rattle.std.proofs.lemmas.List.Sums.{fold-append}
 use Rattle.std.proofs.Math.Seq.{take-length}
 use Rattle.std.specs.Prelude.{filter, not}
@@ -25,7 +25,7 @@ use Rattle.siri_cli.specs.ReportLines.{lines_text}
 use Rattle.siri_cli.specs.Reports.{Reports, report_of}
 use Rattle.siri_cli.specs.Run.{EndsScript}
 use Rattle.siri_cli.specs.RunResult.{verdict}
-use Rattle.siri_cli.specs.inner.Reading.{Progress, Advances, Breaks, Continues, Finishes, Follows, LineBreaks, beginning, to_come}
+use Rattle.siri_cli.specs.inner.Reading.{Advances, Breaks, Continues, Finishes, Follows, LineBreaks, beginning, to_come}
 use Rattle.siri_cli.specs.inner.ScriptEnds.{sink_end, status_of}
 use Rattle.siri_cli.specs.inner.Standing.{Brings, InEachWorld, IsProducerOf, Leads, StandsForWorld, events, progress}
 use Rattle.siri_cli.proofs.Written.{front_none}

@@ -1,5 +1,4 @@
-use Rattle.std.proofs.Common.{◌<◌, length, arith, rules, subst}
-use Rattle.siri_cli.specs.Run.{EndsScript}
+use Rattle.std.proofs.Common.{◌<◌, length, arith, rules}
 use Rattle.siri_cli.proofs.Worlds.{reads_start, reads_more, reads_break, reads_end, reads_fault}
 use Rattle.siri_cli.proofs.replay.read_script.Goals as goal
 

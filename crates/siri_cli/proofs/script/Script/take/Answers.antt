@@ -1,6 +1,6 @@
 use Rattle.std.proofs.Common.{◌∙◌, arith}
 use Rattle.std.proofs.lemmas.Result.{err_from_is_err_and}
-use Rattle.siri_cli.proofs.Worlds.{none_leads, next_leads, next_ends_each, whole_leads}
+use Rattle.siri_cli.proofs.Worlds.{next_leads, next_ends_each}
 use Rattle.siri_cli.proofs.script.Script.take.Goals as goal
 
 pub returns-in_err-push-clause-err : goal.returns-in_err-push-clause-err
