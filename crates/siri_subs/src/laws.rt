@@ -6,7 +6,8 @@ ghost use Rattle.siri_subs.specs.Mapped.{mapped_row, with_mapped_slots};
 ghost use Rattle.siri_subs.specs.Table as definition;
 
 /// A law, which does nothing when it is called: where a table holds no subscription twice, a write of the slot at a
-/// subscription's place is a write of this subscription's slot, and where it isn't held there is nothing to write.
+/// subscription's place is a write of this subscription's slot, and where it isn't held there is nothing to write. After a
+/// write it holds none twice.
 pub fn slots_are_written_by_name<E>()
     ensures held { (subscriber identifier : List ℕ) (slot : E) (table : List (Row E)) (place : ℕ) → definition.EachOnce table
         → definition.place_of subscriber identifier table ≡ Some place
@@ -14,6 +15,7 @@ pub fn slots_are_written_by_name<E>()
     ensures not_held { (subscriber identifier : List ℕ) (slot : E) (table : List (Row E))
         → definition.place_of subscriber identifier table ≡ None
         → definition.with_slot_of subscriber identifier slot table ≡ table }
+    ensures once { (place : ℕ) (slot : E) (table : List (Row E)) → definition.EachOnce table → definition.EachOnce (with_slot table place slot) }
 {}
 
 /// A law: the table never looks into a slot. So a table whose slots are mapped answers as the table itself, and is after
