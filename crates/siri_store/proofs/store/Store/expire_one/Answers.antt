@@ -1,4 +1,4 @@
-use Rattle.std.proofs.Common.{refl, sym, ap, ◌∙◌, subst}
+use Rattle.std.proofs.Common.{refl, subst}
 use Rattle.std.specs.Prelude.{slice_get}
 use Rattle.siri_records.specs.Keyed.{Items}
 use Rattle.siri_store.specs.Leaving.{IsFirst}
