@@ -2,7 +2,8 @@
 """Makes an input of the benchmark: `make.py lines N` is a script of N lines that are passed over, `make.py visits N`
 one with N visits fed in four lines and asked for once, `make.py delivery N` a ServiceDelivery of N visits with the rows
 that feeds have, about 600 bytes each, and `make.py stops N A` a script that feeds N such visits, 200 to a stop and 100 to a
-line, and asks A times for those of a stop. It goes to standard output."""
+line, and asks A times for those of a stop; `make.py sorted N A` the same with visits that come in order of their keys. It
+goes to standard output."""
 import json
 import sys
 
@@ -82,14 +83,25 @@ def delivery(count):
     print(json.dumps({"Siri": {"ServiceDelivery": document}}, separators=(",", ":"), ensure_ascii=False))
 
 
-def stops(count, asks):
+def by_key(visit):
+    return visit["MonitoringRef"]["value"], visit["ItemIdentifier"]
+
+
+def stops(count, asks, in_order=False):
     print("start 2024-05-01T04:00:00Z")
     number_of_stops = count // 200
+    visits = [realistic_visit(number, number_of_stops) for number in range(count)]
+    if in_order:
+        visits.sort(key=by_key)
     for first in range(0, count, 100):
-        entries = [realistic_visit(number, number_of_stops) for number in range(first, first + 100)]
+        entries = visits[first : first + 100]
         put("feed", {"ServiceDelivery": {"StopMonitoringDelivery": [{"MonitoredStopVisit": entries}]}})
     for ask in range(asks):
         put("ask", {"ServiceRequest": {"StopMonitoringRequest": [{"MonitoringRef": stop_name(ask % number_of_stops)}]}})
 
 
-{"lines": lines, "visits": visits, "delivery": delivery, "stops": stops}[sys.argv[1]](*map(int, sys.argv[2:]))
+def in_order(count, asks):
+    stops(count, asks, in_order=True)
+
+
+{"lines": lines, "visits": visits, "delivery": delivery, "stops": stops, "sorted": in_order}[sys.argv[1]](*map(int, sys.argv[2:]))

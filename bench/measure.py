@@ -90,31 +90,38 @@ def documents(program, yardstick, folder):
         print(row % ((name, "%.1f" % megabytes) + figures + ("%.2f" % (seconds / least),)))
 
 
-STOPS = [(10_000, 0), (20_000, 0), (20_000, 100)]
+SIZES = [("stops", 10_000, 0), ("stops", 20_000, 0), ("stops", 20_000, 100), ("sorted", 10_000, 0), ("sorted", 20_000, 0)]
 
 
 def producer(program, yardstick, folder):
     """What a fed visit and an ask take, as differences of runs: of 20,000 live visits the second 10,000, and 100 asks of
     which each shows 200 of them. The bytes of a visit are those of its canonical text, as the answers have it."""
     def path(size):
-        return os.path.join(folder, "stops.%d.%d" % size)
+        return os.path.join(folder, "%s.%d.%d" % size)
     programs = [("siri", [program, "replay"]), ("yardstick", [yardstick, "replay"])]
-    runs = [[[run_once(command, path(size)) for size in STOPS] for _, command in programs] for _ in range(RUNS)]
-    run_once(programs[0][1], path(STOPS[2]))
-    with open(path(STOPS[2]) + ".output") as report:
+    runs = [[[run_once(command, path(size)) for size in SIZES] for _, command in programs] for _ in range(RUNS)]
+    run_once(programs[0][1], path(SIZES[2]))
+    with open(path(SIZES[2]) + ".output") as report:
         answers = [line for line in report if line.startswith("answer ")]
     canonical = sum(map(len, answers)) / sum(line.count('"ItemIdentifier"') for line in answers)
-    row = "%-10s %14s %12s %14s %15s %15s"
-    print("canonical text of a visit: %.0f bytes; %d asks" % (canonical, len(answers)))
-    print(row % ("program", "us a fed visit", "us an ask", "us an item", "bytes a visit", "bytes/canonical"))
-    for place, (name, _) in enumerate(programs):
-        half, whole, asked = [min(run[place][size][0] for run in runs) for size in range(3)]
+    print("canonical text of a visit: %.0f bytes; %d asks, 200 items each" % (canonical, len(answers)))
+    figures = []
+    for place, _ in enumerate(programs):
+        half, whole, asked, half_sorted, whole_sorted = [min(run[place][size][0] for run in runs) for size in range(len(SIZES))]
         half_peak, peak = [max(run[place][size][1] for run in runs) for size in range(2)]
-        fed = (whole - half) / (STOPS[1][0] - STOPS[0][0]) * 1e6
-        ask = (asked - whole) / len(answers) * 1e6
-        each = (peak - half_peak) * 1e6 / (STOPS[1][0] - STOPS[0][0])
-        figures = ("%.1f" % fed, "%.0f" % ask, "%.2f" % (ask / 200), "%.0f" % each, "%.2f" % (each / canonical))
-        print(row % ((name,) + figures))
+        more = SIZES[1][1] - SIZES[0][1]
+        figures.append((
+            (whole - half) / more * 1e6,
+            (whole_sorted - half_sorted) / more * 1e6,
+            (asked - whole) / len(answers) * 1e6,
+            (peak - half_peak) * 1e6 / more,
+        ))
+    names = ["us a fed visit, in no order", "us a fed visit, in order of key", "us an ask", "bytes a held visit"]
+    row = "%-32s %10s %10s %7s"
+    print(row % ("of 20,000 visits", "siri", "yardstick", "ratio"))
+    for place, name in enumerate(names):
+        ours, theirs = figures[0][place], figures[1][place]
+        print(row % (name, "%.1f" % ours, "%.1f" % theirs, "%.2f" % (ours / theirs)))
 
 
 def main(crates, yardstick, folder):

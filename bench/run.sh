@@ -1,6 +1,6 @@
 #!/usr/bin/env bash
 # Measures four things, each beside a yardstick in the same run, and prints processor seconds (user and system, the least
-# of several runs), megabytes of input a second, and the peak memory:
+# of 5 runs, of 15 for phases and documents), megabytes of input a second, and the peak memory:
 #
 # - `siri replay` on two kinds of script, at half the size and at the whole one, beside `grep -c '^#'` over the script of
 #   passed-over lines, and for the visits python's json, which reads the same four documents and writes them;
@@ -11,7 +11,7 @@
 #   visits as trees: time and memory of a fed visit and time of an ask, as differences of runs.
 set -eu
 here=$(dirname -- "$(readlink -f -- "${BASH_SOURCE[0]}")")
-"$here/../siri" replay </dev/null # builds it, where it isn't there
+"$here/../siri" build
 (cd "$here/../crates/siri_speed" && rt run >/dev/null)
 (cd "$here/yardstick" && cargo build --release --offline --quiet)
 
@@ -22,6 +22,7 @@ for size in 10000 20000; do python3 "$here/make.py" visits "$size" >"$inputs/vis
 python3 "$here/make.py" delivery 8000 >"$inputs/delivery.8000"
 python3 "$here/make.py" stops 10000 0 >"$inputs/stops.10000.0"
 for asks in 0 100; do python3 "$here/make.py" stops 20000 "$asks" >"$inputs/stops.20000.$asks"; done
+for size in 10000 20000; do python3 "$here/make.py" sorted "$size" 0 >"$inputs/sorted.$size.0"; done
 
-echo "$(nproc) cores; $(rt version)"
+echo "commit $(git -C "$here" rev-parse --short HEAD); $(nproc) cores, load $(cut -d' ' -f1 /proc/loadavg); $(rt version)"
 python3 "$here/measure.py" "$here/../crates" "$here/yardstick/target/release/yardstick" "$inputs"
