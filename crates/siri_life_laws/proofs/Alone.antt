@@ -1,0 +1,205 @@
+-- What names only other subscriptions changes nothing of this one.
+use Rattle.std.proofs.Common.{◌≡◌, ℕ, ◌+◌, ◌≤◌, Bool, true, false, cond, List, [], ◌∷◌, length, Option, Some, None, refl, sym, ap, ◌∙◌, subst, arith}
+use Rattle.std.proofs.lemmas.Bool.{lt-leb}
+use Rattle.siri_life.specs.Meaning.{Meaning}
+use Rattle.siri_life.specs.Life.{is_before, resend_interval, Outstanding, Life, Packet, Subscribe, Terminate, Supply, Acknowledge, Notify, Delivery, is_due, with_round, new_round, wants_round, opened_if, sent_at, settled, settle_sends, after_send, sent_if, due_messages, message_if, sends_heartbeat, heartbeat_if}
+use Rattle.siri_life.specs.Link
+use Rattle.siri_life.specs.Link.{Link, with_life, sends, settle}
+use Rattle.siri_life.specs.Network
+use Rattle.siri_life.specs.Named.{same_subscription, Name, those, find}
+use Rattle.siri_life.specs.Serving
+use Rattle.siri_life.specs.Serving.{ToConsumer, Act, Clocked, Fed, Heard, Settled}
+use Rattle.siri_life.specs.Network.{Network, settles, seen_by, takes, act, acts, is_own, own, HasRoom, HaveRoom, opening}
+use Rattle.siri_life_laws.proofs.Names.{same_parts, same_refl}
+use Rattle.siri_life_laws.proofs.Sees
+
+module _ {V P W H E : Type 0} (f : Meaning V P W H E) where
+  -- ---- a settle right after a settle does nothing
+  abbrev Still : V → ℕ → Life V P W → Type 0
+  Still d now l = (settled f l d now ≡ l) × (settle_sends f l d now ≡ [])
+
+  abbrev with_at : Life V P W → Option (Outstanding V P) → ℕ → Life V P W
+  with_at l o b = record { start = l.start; number = l.number; wanted = l.wanted; acknowledged = l.acknowledged; rounds = l.rounds; outstanding = o; last_heartbeat = b }
+
+  still_none : (l : Life V P W) (d : V) (now b : ℕ) → wants_round f (with_at l None b) d ≡ false → f.is_heartbeat_due l.wanted b now ≡ false → Still d now (with_at l None b)
+  still_none l d now b e q =
+      subst (λ c. let v = opened_if f c (with_at l None b) d now in let u = after_send f v v.outstanding now in (heartbeat_if f (sends_heartbeat f u now) u now ≡ with_at l None b) × (due_messages f v v.outstanding now ≡ [])) (sym e)
+      (subst (λ c. (heartbeat_if f c (with_at l None b) now ≡ with_at l None b) × (◌≡◌ {A = List (Packet P W)} [] [])) (sym q) (refl, refl))
+
+  still_some : (l : Life V P W) (o : Outstanding V P) (d : V) (now b : ℕ) → is_due o.last_sent now ≡ false → f.is_heartbeat_due l.wanted b now ≡ false → Still d now (with_at l (Some o) b)
+  still_some l o d now b e q =
+      subst (λ c. let u = sent_if f c (with_at l (Some o) b) o now in (heartbeat_if f (sends_heartbeat f u now) u now ≡ with_at l (Some o) b) × (message_if f c (with_at l (Some o) b) o ≡ [])) (sym e)
+      (subst (λ c. (heartbeat_if f c (with_at l (Some o) b) now ≡ with_at l (Some o) b) × (◌≡◌ {A = List (Packet P W)} [] [])) (sym q) (refl, refl))
+
+  not_due : (now : ℕ) → is_due (Some now) now ≡ false
+  not_due now = lt-leb (now + resend_interval) now (omega arith)
+
+  -- after a settle a life is still, and wants what it wanted
+  abbrev After : V → ℕ → Life V P W → Life V P W → Type 0
+  After d now l u = Still d now u × (u.wanted ≡ l.wanted)
+
+  -- right after a heartbeat none is due
+  abbrev pub Rests : Type 0
+  Rests = (w : W) (now : ℕ) → f.is_heartbeat_due w now now ≡ false
+
+  settled_still : Rests → (l : Life V P W) (d : V) (now : ℕ) → After d now l (settled f l d now)
+  settled_still rests l d now = by l.outstanding
+    where
+      -- with a heartbeat or without one
+      heartbeat : (v : Life V P W) (o : Option (Outstanding V P)) → ((b : ℕ) → f.is_heartbeat_due v.wanted b now ≡ false → Still d now (with_at v o b)) → v.wanted ≡ l.wanted → After d now l (heartbeat_if f (f.is_heartbeat_due v.wanted v.last_heartbeat now) (with_at v o v.last_heartbeat) now)
+      heartbeat v o still same = case (f.is_heartbeat_due v.wanted v.last_heartbeat now) refl
+        where
+          case : (c : Bool) → f.is_heartbeat_due v.wanted v.last_heartbeat now ≡ c → After d now l (heartbeat_if f c (with_at v o v.last_heartbeat) now)
+          case false q = (still v.last_heartbeat q, same)
+          case true q = (still now (rests v.wanted now), same)
+
+      none : (b : Bool) → wants_round f (with_at l None l.last_heartbeat) d ≡ b → After d now l (let v = opened_if f b (with_at l None l.last_heartbeat) d now in let u = after_send f v v.outstanding now in heartbeat_if f (sends_heartbeat f u now) u now)
+      none false e = heartbeat l None (λ b q. still_none l d now b e q) refl
+      none true e =
+          let x = new_round f (with_at l None l.last_heartbeat) d now in
+          let o : Outstanding V P = record { round = x; acknowledged_parts = 0; last_sent = Some now } in
+          let v = with_round f (with_at l None l.last_heartbeat) x in
+          heartbeat v (Some o) (λ b q. still_some v o d now b (not_due now) q) refl
+
+      some : (b : Bool) (o : Outstanding V P) → is_due o.last_sent now ≡ b → After d now l (let u = sent_if f b (with_at l (Some o) l.last_heartbeat) o now in heartbeat_if f (sends_heartbeat f u now) u now)
+      some false o e = heartbeat l (Some o) (λ b q. still_some l o d now b e q) refl
+      some true o e = heartbeat l (Some (sent_at o (Some now))) (λ b q. still_some l (sent_at o (Some now)) d now b (not_due now) q) refl
+
+      by : (o : Option (Outstanding V P)) → After d now l (settled f (with_at l o l.last_heartbeat) d now)
+      by None = none (wants_round f (with_at l None l.last_heartbeat) d) refl
+      by (Some o) = some (is_due o.last_sent now) o refl
+
+  settle_twice_at : Rests → (w : Link V P W H) (e : Option (Life V P W)) → settle f (settle f (with_life f w e)) ≡ settle f (with_life f w e)
+  settle_twice_at rests w None = refl
+  settle_twice_at rests w (Some l) =
+      let d = f.direct w.known l.wanted in
+      let u = settled f l d w.now in
+      let v = sends f (with_life f w (Some u)) (settle_sends f l d w.now) in
+      let a = settled_still rests l d w.now in
+      let once : settle f (with_life f w (Some l)) ≡ v = Sees.settle_same f w l in
+      let twice : settle f v ≡ sends f (with_life f v (Some (settled f u (f.direct w.known u.wanted) w.now))) (settle_sends f u (f.direct w.known u.wanted) w.now) = Sees.settle_same f v u in
+      let b : Still (f.direct w.known u.wanted) w.now u = subst (λ x. Still (f.direct w.known x) w.now u) (sym a.1) a.0 in
+      ap (λ z. settle f z) once ∙ twice
+      ∙ ap (λ (z : Life V P W × List (Packet P W)). sends f (with_life f v (Some z.0)) z.1) (λ i. (b.0 i, b.1 i))
+      ∙ Sees.sends_none f v ∙ sym once
+
+  pub settle_twice : Rests → (w : Link V P W H) → settle f (settle f w) ≡ settle f w
+  settle_twice rests w = settle_twice_at rests w w.life
+
+  -- ---- one subscription
+  module _ (c s : Name) where
+    abbrev One : Network V P W H → Type 0
+    One n = length (those c s n.serving.table) ≤ 1
+
+    -- what a packet of this subscription makes of its link, with room in the table
+    heard : Link V P W H → Packet P W → Link V P W H
+    heard w (Subscribe number x) = Link.accepts f false w number x
+    heard w (Terminate number) = Link.ends f w number
+    heard w (Supply m) = Link.supplies f w m w.life
+    heard w (Acknowledge m) = Link.acknowledges f w m w.life
+    heard w (Notify m moment) = w
+    heard w (Delivery m moment more x) = w
+
+    mine_one : (n : Network V P W H) (p : Packet P W) → One n → One (Network.hears f n c s p)
+    mine_one n (Subscribe number x) one = Sees.accepts_one f c s n (Serving.accepts f n.serving c s number x) number x one
+    mine_one n (Terminate number) one = Sees.ends_one f c s n (is_before f (find c s n.serving.table) number) one
+    mine_one n (Supply m) one = Sees.supplies_one f c s n m (find c s n.serving.table) one
+    mine_one n (Acknowledge m) one = Sees.acknowledges_one f c s n m (find c s n.serving.table) one
+    mine_one n (Notify m moment) one = one
+    mine_one n (Delivery m moment more x) one = one
+
+    mine_sees : (n : Network V P W H) (p : Packet P W) → HasRoom f c s n (Heard c s p) → same_subscription c s c s ≡ true → seen_by f c s (Network.hears f n c s p) ≡ heard (seen_by f c s n) p
+    unfolding heard
+    mine_sees n (Subscribe number x) r q =
+        let b = Serving.accepts f n.serving c s number x in
+        Sees.tells_sees f c s (Network.accepted_if f b n c s number x) c ToConsumer refl ∙ Sees.accepts_sees f c s n b number x ∙ ap (λ z. Link.accept_if f z (seen_by f c s n) number x) (r q)
+    mine_sees n (Terminate number) r q =
+        let b = is_before f (find c s n.serving.table) number in
+        Sees.tells_sees f c s (Network.ended_if f b n c s) c ToConsumer refl ∙ Sees.ends_sees f c s n b
+    mine_sees n (Supply m) r q = Sees.supplies_sees f c s n m (find c s n.serving.table) refl
+    mine_sees n (Acknowledge m) r q = Sees.acknowledges_sees f c s n m (find c s n.serving.table) refl
+    mine_sees n (Notify m moment) r q = refl
+    mine_sees n (Delivery m moment more x) r q = refl
+
+    other_one : (n : Network V P W H) (d t : Name) → same_subscription c s d t ≡ false → (p : Packet P W) → One n → One (Network.hears f n d t p)
+    other_one n d t apart (Subscribe number x) one = Sees.accepts_other_one f c s d t apart n (Serving.accepts f n.serving d t number x) number x one
+    other_one n d t apart (Terminate number) one = Sees.ends_other_one f c s d t apart n (is_before f (find d t n.serving.table) number) one
+    other_one n d t apart (Supply m) one = Sees.supplies_other_one f c s d t apart n m (find d t n.serving.table) one
+    other_one n d t apart (Acknowledge m) one = Sees.acknowledges_other_one f c s d t apart n m (find d t n.serving.table) one
+    other_one n d t apart (Notify m moment) one = one
+    other_one n d t apart (Delivery m moment more x) one = one
+
+    other_sees : (n : Network V P W H) (d t : Name) → same_subscription c s d t ≡ false → (p : Packet P W) → seen_by f c s (Network.hears f n d t p) ≡ seen_by f c s n
+    other_sees n d t apart (Subscribe number x) =
+        let b = Serving.accepts f n.serving d t number x in
+        Sees.tells_sees f c s (Network.accepted_if f b n d t number x) d ToConsumer refl ∙ Sees.accepts_other f c s d t apart n b number x
+    other_sees n d t apart (Terminate number) =
+        let b = is_before f (find d t n.serving.table) number in
+        Sees.tells_sees f c s (Network.ended_if f b n d t) d ToConsumer refl ∙ Sees.ends_other f c s d t apart n b
+    other_sees n d t apart (Supply m) = Sees.supplies_other f c s d t apart n m (find d t n.serving.table)
+    other_sees n d t apart (Acknowledge m) = Sees.acknowledges_other f c s d t apart n m (find d t n.serving.table)
+    other_sees n d t apart (Notify m moment) = refl
+    other_sees n d t apart (Delivery m moment more x) = refl
+
+    -- two networks that this subscription sees alike
+    record Alike (n m : Network V P W H) : Type 0 where
+      one : One n
+      other : One m
+      sees : seen_by f c s n ≡ seen_by f c s m
+
+    alike : (rest : List (Act P W E)) (n m : Network V P W H) → Alike n m → HaveRoom f c s rest n → HaveRoom f c s (own f c s rest) m → seen_by f c s (acts f rest n) ≡ seen_by f c s (acts f (own f c s rest) m)
+    alike [] n m a r q = a.sees
+    alike (Clocked t ∷ rest) n m a r q =
+        alike rest (act f n (Clocked t)) (act f m (Clocked t))
+        (record {
+          one = Sees.expires_one f c s (Network.at_moment f n t) a.one;
+          other = Sees.expires_one f c s (Network.at_moment f m t) a.other;
+          sees = Sees.expires_sees f c s (Network.at_moment f n t) a.one ∙ ap (λ z. Link.expire f (Link.at_moment f z t)) a.sees ∙ sym (Sees.expires_sees f c s (Network.at_moment f m t) a.other);
+        }) r.1 q.1
+    alike (Fed es ∷ rest) n m a r q = alike rest (act f n (Fed es)) (act f m (Fed es)) (record { one = a.one; other = a.other; sees = ap (λ z. Link.fed f z es) a.sees }) r.1 q.1
+    alike (Settled ∷ rest) n m a r q =
+        alike rest (settles f n) (settles f m)
+        (record {
+          one = Sees.settles_one f c s n a.one;
+          other = Sees.settles_one f c s m a.other;
+          sees = Sees.settles_sees f c s n a.one ∙ ap (λ z. settle f z) a.sees ∙ sym (Sees.settles_sees f c s m a.other);
+        }) r.1 q.1
+    alike (Heard d t p ∷ rest) n m a r q = by (same_subscription c s d t) refl (λ k l. alike rest k l) r.0 r.1 q
+      where
+        mine : (d t : Name) → (c ≡ d) × (s ≡ t) → HasRoom f c s n (Heard d t p) → HasRoom f c s m (Heard d t p) → Alike (act f n (Heard d t p)) (act f m (Heard d t p))
+        mine d t e =
+            subst (λ (z : Name × Name). HasRoom f c s n (Heard z.0 z.1 p) → HasRoom f c s m (Heard z.0 z.1 p) → Alike (act f n (Heard z.0 z.1 p)) (act f m (Heard z.0 z.1 p))) (λ i. (e.0 i, e.1 i))
+            (λ r q. record {
+              one = mine_one n p a.one;
+              other = mine_one m p a.other;
+              sees = mine_sees n p r (same_refl c s) ∙ ap (λ z. heard z p) a.sees ∙ sym (mine_sees m p q (same_refl c s));
+            })
+
+        by : (b : Bool) → same_subscription c s d t ≡ b
+            → ((k l : Network V P W H) → Alike k l → HaveRoom f c s rest k → HaveRoom f c s (own f c s rest) l → seen_by f c s (acts f rest k) ≡ seen_by f c s (acts f (own f c s rest) l))
+            → HasRoom f c s n (Heard d t p) → HaveRoom f c s rest (act f n (Heard d t p)) → HaveRoom f c s (cond b (Heard d t p ∷ own f c s rest) (own f c s rest)) m
+            → seen_by f c s (acts f rest (act f n (Heard d t p))) ≡ seen_by f c s (acts f (cond b (Heard d t p ∷ own f c s rest) (own f c s rest)) m)
+        by true e go r rs q = go (act f n (Heard d t p)) (act f m (Heard d t p)) (mine d t (same_parts c s d t e) r q.0) rs q.1
+        by false e go r rs q = go (act f n (Heard d t p)) m (record { one = other_one n d t e p a.one; other = a.other; sees = other_sees n d t e p ∙ a.sees }) rs q
+
+    pub apart : (k t : ℕ) (all : List (Act P W E)) → HaveRoom f c s all (opening f k t) → HaveRoom f c s (own f c s all) (opening f k t) → seen_by f c s (acts f all (opening f k t)) ≡ seen_by f c s (acts f (own f c s all) (opening f k t))
+    apart k t all r q = alike all (opening f k t) (opening f k t) (record { one = omega arith; other = omega arith; sees = refl }) r q
+
+    -- after any history a second settle changes nothing of this subscription
+    acts_one : (all : List (Act P W E)) (n : Network V P W H) → One n → One (acts f all n)
+    acts_one [] n one = one
+    acts_one (Clocked t ∷ all) n one = acts_one all (act f n (Clocked t)) (Sees.expires_one f c s (Network.at_moment f n t) one)
+    acts_one (Fed es ∷ all) n one = acts_one all (act f n (Fed es)) one
+    acts_one (Settled ∷ all) n one = acts_one all (settles f n) (Sees.settles_one f c s n one)
+    acts_one (Heard d t p ∷ all) n one = acts_one all (act f n (Heard d t p)) (by (same_subscription c s d t) refl)
+      where
+        by : (b : Bool) → same_subscription c s d t ≡ b → One (Network.hears f n d t p)
+        by true e = let a = same_parts c s d t e in subst (λ (z : Name × Name). One (Network.hears f n z.0 z.1 p)) (λ i. (a.0 i, a.1 i)) (mine_one n p one)
+        by false e = other_one n d t e p one
+
+    pub settles_twice : Rests → (k t : ℕ) (all : List (Act P W E)) → seen_by f c s (settles f (settles f (acts f all (opening f k t)))) ≡ seen_by f c s (settles f (acts f all (opening f k t)))
+    settles_twice rests k t all =
+        let n = acts f all (opening f k t) in
+        let one = acts_one all (opening f k t) (omega arith) in
+        let w = seen_by f c s n in
+        Sees.settles_sees f c s (settles f n) (Sees.settles_one f c s n one) ∙ ap (λ z. settle f z) (Sees.settles_sees f c s n one) ∙ settle_twice rests w ∙ sym (Sees.settles_sees f c s n one)

@@ -1,0 +1,15 @@
+pub mod Lists
+pub mod Book
+pub mod Facts
+pub mod Moves
+pub mod Takes
+pub mod Steps
+pub mod Grows
+pub mod Claims
+pub mod Names
+pub mod Sees
+pub mod Fits
+pub mod Longer
+pub mod Every
+pub mod Alone
+pub mod Serves
