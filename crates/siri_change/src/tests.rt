@@ -49,14 +49,17 @@ fn key(alloc: Global, name: &str) -> Result<Key, Fail> {
 }
 
 fn put(view: &mut View, alloc: Global, name: &str, delay: i64) -> Result<(), Fail> {
-    let key = key(alloc, name)?;
     let item = Some(vehicle(alloc, name, delay)?);
-    Ok(view.put_change(Change { key, item })?)
+    make(view, key(alloc, name)?, item)
 }
 
 fn remove(view: &mut View, alloc: Global, name: &str) -> Result<(), Fail> {
-    let key = key(alloc, name)?;
-    Ok(view.put_change(Change { key, item: None })?)
+    make(view, key(alloc, name)?, None)
+}
+
+// In a function of its own, since a change that is made where its key or its item may still be let go is dear to prove.
+fn make(view: &mut View, key: Key, item: Option<Rc<Item>>) -> Result<(), Fail> {
+    Ok(view.put_change(Change { key, item })?)
 }
 
 // The delay of a vehicle in milliseconds, or -1 where it isn't held.
