@@ -1,5 +1,5 @@
--- A producer with its table of subscriptions: what it serves after each step of its history, and what it sends (EN
--- 15531-2, subscriptions and deliveries).
+-- A producer with its table of subscriptions: what it serves after each step of its history, and what it sends
+-- (EN 15531-2, subscriptions and deliveries).
 use Rattle.std.specs.Prelude.{ℕ, suc, nat_le, max, Bool, true, false, not, List, [], ◌∷◌, ◌++◌, length, Option, Some, None}
 use Rattle.siri_life.specs.Meaning.{Meaning}
 use Rattle.siri_life.specs.Life.{Life, Mark, Packet, Subscribe, Terminate, Supply, Acknowledge, Notify, Delivery, new_life, can_accept, is_before, sends_heartbeat, settled, settle_sends, after_acknowledgement, after_supply, supply_sends}
