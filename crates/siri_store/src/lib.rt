@@ -23,8 +23,6 @@ mod counter;
 mod leaving;
 mod selected;
 mod store;
-#[cfg(test)]
-mod tests;
 mod walk;
 
 pub use selected::Selected;

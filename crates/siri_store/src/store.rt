@@ -18,16 +18,19 @@ use siri_topic::Topic;
 use std::alloc::Global;
 use std::marker::Model;
 use std::rc::Rc;
+use thiserror::Error;
 
 /// The most keys that a store holds.
 pub const HELD_LIMIT: usize = 20_000;
 
 /// Why an item wasn't observed.
-#[derive(Clone, Copy, Debug, PartialEq, Eq)]
+#[derive(Clone, Copy, Debug, PartialEq, Eq, Error)]
 pub enum ObserveError {
     /// The item isn't dead, its key isn't held, and 20,000 keys are held.
+    #[error("the store holds as many items as it can")]
     StoreFull,
     /// There was no memory.
+    #[error("out of memory")]
     OutOfMemory,
 }
 
