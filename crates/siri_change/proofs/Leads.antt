@@ -38,10 +38,6 @@ one_key q k e = key_cmp_exact q k (equal_from (key_cmp q k) e)
 tied_itself : (k : Key) → tied k k ≡ true
 tied_itself k = ap is_eq (key_cmp_same k)
 
--- a key is that of the first entry, or is looked up in the rest
-item_at : (e : Key × Item) (view : Items) (q : Key) → item_of (e ∷ view) q ≡ cond (tied q e.0) (Some e.1) (item_of view q)
-item_at e view q = refl
-
 some_here : (e : Key × Item) (view : Items) → item_of (e ∷ view) e.0 ≡ Some e.1
 some_here e view = item_here e.0 e.1 view
 

@@ -33,6 +33,3 @@ pub use laws::{
 pub use sameness::same;
 pub use siri_records::Change;
 pub use view::{View, patch};
-
-#[cfg(test)]
-mod tests;

@@ -36,6 +36,13 @@ impl View {
         }
     }
 
+    /// The view of items with their keys, which it keeps. It takes no memory.
+    pub fn of(items: KeyedItems) -> View
+        ensures { result ≡ items }
+    {
+        View { items }
+    }
+
     /// How many keys it holds.
     pub fn len(&self) -> usize
         ensures number { result ≡ length self.now }

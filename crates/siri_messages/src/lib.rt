@@ -33,6 +33,3 @@ pub use supplies::{
 pub use terminations::{
     TerminateSubscriptionRequest, TerminateSubscriptionResponse, TerminationResponseStatus,
 };
-
-#[cfg(test)]
-mod tests;

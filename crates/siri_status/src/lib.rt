@@ -10,7 +10,5 @@
 #![tactic(auto)]
 
 mod beats;
-#[cfg(test)]
-mod tests;
 
 pub use beats::Beats;

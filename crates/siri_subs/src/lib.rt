@@ -23,8 +23,6 @@ mod entry;
 mod errors;
 mod laws;
 mod table;
-#[cfg(test)]
-mod tests;
 
 pub use entry::{Entry, Row};
 pub use errors::{AcceptError, Accepted, EndError};

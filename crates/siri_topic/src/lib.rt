@@ -23,6 +23,3 @@ pub use shown_items::{dead_items_are_never_shown, shown, window};
 pub use subscription::Subscription;
 pub use topics::{LineDirection, SituationTopic, StopTopic, TimetableTopic, Topic, VehicleTopic};
 pub use windows::Window;
-
-#[cfg(test)]
-mod tests;
