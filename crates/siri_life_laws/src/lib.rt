@@ -15,7 +15,7 @@
 //! Stands on `siri_life`. How the laws are proved: `proofs/Facts.antt` has what holds at every moment between the two ends of
 //! one subscription, `Moves` that the producer's steps keep it, `Takes` that the consumer's do, `Steps` that each event does;
 //! `Claims` what follows. `Sees` and `Fits` show that a network, as one subscription of it sees it, is such a link.
-//! No law says that a packet comes: all of them hold where each one is lost. Small schedules that run are in `siri_life_rows`.
+//! No law says that a packet comes: all of them hold where each one is lost. Small schedules that run are in `siri_life_examples`.
 #![tactic(auto)]
 
 mod link_laws;

@@ -14,7 +14,7 @@
 
 ghost use Rattle.std.specs.Prelude.{◌≡◌, ℕ, List, [], ◌∷◌, ◌++◌};
 ghost use Rattle.siri_life.specs.Network.{Happening, Starts, Clocks, Feeds, Asks, Stops, Requests, Delivers};
-ghost use Rattle.siri_life_rows.specs.Rows.{line, first_round, fetched_round, c1, s1};
+ghost use Rattle.siri_life_examples.specs.Schedules.{line, first_round, fetched_round, c1, s1};
 
 /// Direct delivery: after the first round the consumer holds number 1, start 1, round 1, no part, one item, and the producer is
 /// quiet, after six letters. A feed opens a round; the same part again is acknowledged again; a part that isn't acknowledged is
