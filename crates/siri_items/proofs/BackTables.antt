@@ -21,8 +21,8 @@ use Rattle.siri_records.specs.declared.item.Item.TheVariants as item
 use Rattle.siri_items.specs.declared.names.TheConstants.{ACTUAL_ARRIVAL_TIME, ACTUAL_DEPARTURE_TIME, AFFECTED_LINE, AFFECTED_NETWORK, AFFECTED_OPERATOR, AFFECTED_STOP_POINT, AFFECTS, AIMED_ARRIVAL_TIME, AIMED_DEPARTURE_TIME, ARRIVAL_PLATFORM_NAME, ARRIVAL_STATUS, CANCELLATION, CREATION_TIME, DATA_FRAME_REF, DATED_VEHICLE_JOURNEY_REF, DELAY, DEPARTURE_PLATFORM_NAME, DEPARTURE_STATUS, DESCRIPTION, DESTINATION_NAME, DESTINATION_REF, DIRECTION_REF, END_TIME, ESTIMATED_CALL, ESTIMATED_CALLS, EXPECTED_ARRIVAL_TIME, EXPECTED_DEPARTURE_TIME, FRAMED_VEHICLE_JOURNEY_REF, ITEM_IDENTIFIER, LATITUDE, LINE_REF, LONGITUDE, MONITORED, MONITORED_CALL, MONITORED_VEHICLE_JOURNEY, MONITORING_REF, NETWORKS, OCCUPANCY, OPERATORS, OPERATOR_REF, ORDER, PARTICIPANT_REF, PROGRESS, PUBLISHED_LINE_NAME, RECORDED_AT_TIME, RECORDED_CALL, RECORDED_CALLS, SEVERITY, SITUATION_NUMBER, START_TIME, STOP_POINTS, STOP_POINT_NAME, STOP_POINT_REF, SUMMARY, VALIDITY_PERIOD, VALID_UNTIL_TIME, VEHICLE_AT_STOP, VEHICLE_LOCATION, VEHICLE_REF, VERSION, VERSIONED_AT_TIME}
 use Rattle.siri_items.specs.declared.read_situation.Affected.{Affected}
 use Rattle.siri_items.specs.declared.read_situation.Network.{Network}
-use Rattle.siri_items.specs.Refusals.{Refusal}
-use Rattle.siri_items.specs.Rules.{name, text, moment, span, number, decimal, flag, table, row, required_row, inside, list, names, names_of, list_of, list_inside, entry_count, entries_from, required_value}
+use Rattle.siri_tables.specs.Refusals.{Refusal}
+use Rattle.siri_tables.specs.Rules.{name, text, moment, span, number, decimal, flag, table, row, required_row, inside, list, names, names_of, list_of, list_inside, entry_count, entries_from, required_value}
 use Rattle.siri_items.specs.Calls.{stop_call, call_is_blank, location, location_is_blank, optional_location, optional_call, framed_ref, read_framed_ref_rows, journey_ref, plain_journey_ref, required_journey_ref, plain_required_journey_ref}
 use Rattle.siri_items.specs.Visits.{visit, visit_journey}
 use Rattle.siri_items.specs.Vehicles.{vehicle, vehicle_journey}
@@ -30,13 +30,15 @@ use Rattle.siri_items.specs.Journeys.{journey}
 use Rattle.siri_items.specs.Situations.{situation, period, network, lines_at, all_lines, lines_of, network_lines, affected}
 use Rattle.siri_items.specs.Items.{item_of}
 use Rattle.siri_items.specs.Spelling.{SpellsCall, SpellsLocation, SpellsVisitJourney, SpellsVisit, SpellsVehicleJourney, SpellsVehicle, SpellsJourneyRows, SpellsPeriod, SpellsAffects, SpellsSituation}
-use Rattle.siri_items.specs.Writing.{with_rows, row_object, object_unless_empty, array_unless_empty, written_list, written_text}
-use Rattle.siri_items.specs.Written.{rows_of_call, written_call, call_writing, rows_of_location, written_location, rows_of_framed_ref, written_framed_ref, written_dated, rows_of_visit_journey, written_visit_journey, rows_of_visit, written_visit, rows_of_vehicle_journey, written_vehicle_journey, rows_of_vehicle, written_vehicle, written_calls, rows_of_journey, written_journey, rows_of_period, written_period, written_name, written_names, written_network, written_networks, rows_of_affects, written_affects, rows_of_situation, written_situation, written_item}
-use Rattle.siri_items.specs.Proper.{IsName, IsListWithin, IsProperCall, IsProperOptionalCall, IsProperLocation, IsProperVisitJourney, IsProperVisit, IsProperVehicleJourney, IsProperVehicle, IsProperJourney, IsProperPeriod, IsProperSituation, IsProper, service_of, as_written}
-use Rattle.siri_items.proofs.Back.{found_again, GivesBack, member_again, row_again}
-use Rattle.siri_items.proofs.BackValues.{name_back, some_name_back, some_text_back, some_flag_back, some_number_back, moment_back, some_moment_back, some_span_back, some_decimal_back, table_back, table_unless_blank_back}
-use Rattle.siri_items.proofs.BackLists.{same_as_empty, object_unless_empty_back, object_back_or_empty, EntryBack, table_entry, list_again, entry_count_back, names_of_back, names_of_none, nonempty_list_back, only_member, list_members, list_inside_back, names_inside_back, name_entries}
-use Rattle.siri_items.proofs.SpellsImpliesRead.{row_ok, call_reads, location_reads, visit_journey_reads, visit_reads, vehicle_journey_reads, vehicle_reads, journey_reads, period_reads, situation_reads}
+use Rattle.siri_tables.specs.Writing.{with_rows, row_object, object_unless_empty, array_unless_empty, written_list, written_text, written_name}
+use Rattle.siri_items.specs.Written.{rows_of_call, written_call, call_writing, rows_of_location, written_location, rows_of_framed_ref, written_framed_ref, written_dated, rows_of_visit_journey, written_visit_journey, rows_of_visit, written_visit, rows_of_vehicle_journey, written_vehicle_journey, rows_of_vehicle, written_vehicle, written_calls, rows_of_journey, written_journey, rows_of_period, written_period, written_names, written_network, written_networks, rows_of_affects, written_affects, rows_of_situation, written_situation, written_item}
+use Rattle.siri_tables.specs.Proper.{IsName, IsListWithin}
+use Rattle.siri_items.specs.Proper.{IsProperCall, IsProperOptionalCall, IsProperLocation, IsProperVisitJourney, IsProperVisit, IsProperVehicleJourney, IsProperVehicle, IsProperJourney, IsProperPeriod, IsProperSituation, IsProper, service_of, as_written}
+use Rattle.siri_tables.proofs.Back.{found_again, GivesBack, member_again, row_again}
+use Rattle.siri_tables.proofs.BackValues.{name_back, some_name_back, some_text_back, some_flag_back, some_number_back, moment_back, some_moment_back, some_span_back, some_decimal_back, table_back, table_unless_blank_back}
+use Rattle.siri_tables.proofs.BackLists.{same_as_empty, object_unless_empty_back, object_back_or_empty, EntryBack, table_entry, list_again, entry_count_back, names_of_back, names_of_none, nonempty_list_back, only_member, list_members, list_inside_back, names_inside_back, name_entries}
+use Rattle.siri_tables.proofs.RowSpells.{row_ok}
+use Rattle.siri_items.proofs.SpellsImpliesRead.{call_reads, location_reads, visit_journey_reads, visit_reads, vehicle_journey_reads, vehicle_reads, journey_reads, period_reads, situation_reads}
 
 -- ---- calls
 

@@ -19,10 +19,11 @@ use Rattle.siri_records.specs.declared.situation.Period.{Period}
 use Rattle.siri_records.specs.declared.item.Item.{Item}
 use Rattle.siri_records.specs.declared.item.Item.TheVariants as item
 use Rattle.siri_items.specs.declared.names.TheConstants.{ACTUAL_ARRIVAL_TIME, ACTUAL_DEPARTURE_TIME, AFFECTED_LINE, AFFECTED_NETWORK, AFFECTED_OPERATOR, AFFECTED_STOP_POINT, AFFECTS, AIMED_ARRIVAL_TIME, AIMED_DEPARTURE_TIME, ARRIVAL_PLATFORM_NAME, ARRIVAL_STATUS, CANCELLATION, CREATION_TIME, DATA_FRAME_REF, DATED_VEHICLE_JOURNEY_REF, DELAY, DEPARTURE_PLATFORM_NAME, DEPARTURE_STATUS, DESCRIPTION, DESTINATION_NAME, DESTINATION_REF, DIRECTION_REF, END_TIME, ESTIMATED_CALL, ESTIMATED_CALLS, EXPECTED_ARRIVAL_TIME, EXPECTED_DEPARTURE_TIME, FRAMED_VEHICLE_JOURNEY_REF, ITEM_IDENTIFIER, LATITUDE, LINE_REF, LONGITUDE, MONITORED, MONITORED_CALL, MONITORED_VEHICLE_JOURNEY, MONITORING_REF, NETWORKS, OCCUPANCY, OPERATORS, OPERATOR_REF, ORDER, PARTICIPANT_REF, PROGRESS, PUBLISHED_LINE_NAME, RECORDED_AT_TIME, RECORDED_CALL, RECORDED_CALLS, SEVERITY, SITUATION_NUMBER, START_TIME, STOP_POINTS, STOP_POINT_NAME, STOP_POINT_REF, SUMMARY, VALIDITY_PERIOD, VALID_UNTIL_TIME, VEHICLE_AT_STOP, VEHICLE_LOCATION, VEHICLE_REF, VERSION, VERSIONED_AT_TIME}
-use Rattle.siri_items.specs.Writing.{row_object, array_unless_empty, written_list, written_text}
-use Rattle.siri_items.specs.Written.{rows_of_call, written_call, call_writing, rows_of_location, written_location, rows_of_framed_ref, written_framed_ref, written_dated, rows_of_visit_journey, written_visit_journey, rows_of_visit, written_visit, rows_of_vehicle_journey, written_vehicle_journey, rows_of_vehicle, written_vehicle, written_calls, rows_of_journey, written_journey, rows_of_period, written_period, written_name, written_names, written_network, written_networks, rows_of_affects, written_affects, rows_of_situation, written_situation, written_item}
-use Rattle.siri_items.specs.Proper.{IsName, IsListWithin, IsProperCall, IsProperOptionalCall, IsProperLocation, IsProperVisitJourney, IsProperVisit, IsProperVehicleJourney, IsProperVehicle, IsProperJourney, IsProperPeriod, IsProperSituation, IsProper}
-use Rattle.siri_items.proofs.CanonicalParts.{are_ascii, IsCanonicalWithin, MayBeWithin, deeper, text_within, some_text_within, some_flag_within, some_number_within, moment_within, some_moment_within, some_span_within, some_decimal_within, row_within, ◌then◌, object_within, object_unless_empty_within, array_unless_empty_within, list_within}
+use Rattle.siri_tables.specs.Writing.{row_object, array_unless_empty, written_list, written_text, written_name}
+use Rattle.siri_items.specs.Written.{rows_of_call, written_call, call_writing, rows_of_location, written_location, rows_of_framed_ref, written_framed_ref, written_dated, rows_of_visit_journey, written_visit_journey, rows_of_visit, written_visit, rows_of_vehicle_journey, written_vehicle_journey, rows_of_vehicle, written_vehicle, written_calls, rows_of_journey, written_journey, rows_of_period, written_period, written_names, written_network, written_networks, rows_of_affects, written_affects, rows_of_situation, written_situation, written_item}
+use Rattle.siri_tables.specs.Proper.{IsName, IsListWithin}
+use Rattle.siri_items.specs.Proper.{IsProperCall, IsProperOptionalCall, IsProperLocation, IsProperVisitJourney, IsProperVisit, IsProperVehicleJourney, IsProperVehicle, IsProperJourney, IsProperPeriod, IsProperSituation, IsProper}
+use Rattle.siri_tables.proofs.CanonicalParts.{are_ascii, IsCanonicalWithin, MayBeWithin, deeper, text_within, some_text_within, some_flag_within, some_number_within, moment_within, some_moment_within, some_span_within, some_decimal_within, row_within, ◌then◌, object_within, object_unless_empty_within, array_unless_empty_within, list_within}
 
 -- ---- calls
 

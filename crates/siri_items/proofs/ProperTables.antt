@@ -26,19 +26,21 @@ use Rattle.siri_items.specs.declared.read_call.JourneyRef.{JourneyRef}
 use Rattle.siri_items.specs.declared.read_call.RequiredJourneyRef.{RequiredJourneyRef}
 use Rattle.siri_items.specs.declared.read_situation.Affected.{Affected}
 use Rattle.siri_items.specs.declared.read_situation.Network.{Network}
-use Rattle.siri_items.specs.Refusals.{◌>>=◌, refused}
-use Rattle.siri_items.specs.Rules.{name, text, moment, span, number, decimal, table, row, required_row, required, list_of, names_of, names, list_inside}
+use Rattle.siri_tables.specs.Refusals.{◌>>=◌, refused}
+use Rattle.siri_tables.specs.Rules.{name, text, moment, span, number, decimal, table, row, required_row, required, list_of, names_of, names, list_inside}
 use Rattle.siri_items.specs.Calls.{stop_call, call_is_blank, location, location_is_blank, optional_location, optional_call, framed_ref_of, read_framed_ref_rows, framed_ref, plain_journey_ref, journey_ref, plain_required_journey_ref, required_journey_ref}
 use Rattle.siri_items.specs.Visits.{visit_journey}
 use Rattle.siri_items.specs.Vehicles.{vehicle_journey}
 use Rattle.siri_items.specs.Journeys.{has_time}
 use Rattle.siri_items.specs.Situations.{period, network, lines_at, all_lines, lines_of, network_lines, affected, or_nothing}
 use Rattle.siri_items.specs.Items.{item_of}
-use Rattle.siri_items.specs.Spelling.{IfFound, SpellsCall, SpellsVisitJourney, SpellsVisit, SpellsVehicleJourney, SpellsVehicle, SpellsJourneyRows, SpellsJourney, SpellsPeriod, SpellsAffects, SpellsSituation, SpellsItem}
-use Rattle.siri_items.specs.Proper.{IsName, IsText, IsMoment, IsSpan, IsNumber, IsDecimal, IsListWithin, IsProperCall, IsProperOptionalCall, IsProperLocation, IsProperVisitJourney, IsProperVisit, IsProperVehicleJourney, IsProperVehicle, IsProperJourney, IsProperPeriod, IsProperSituation, IsProper}
+use Rattle.siri_tables.specs.Spelling.{IfFound}
+use Rattle.siri_items.specs.Spelling.{SpellsCall, SpellsVisitJourney, SpellsVisit, SpellsVehicleJourney, SpellsVehicle, SpellsJourneyRows, SpellsJourney, SpellsPeriod, SpellsAffects, SpellsSituation, SpellsItem}
+use Rattle.siri_tables.specs.Proper.{IsName, IsText, IsMoment, IsSpan, IsNumber, IsDecimal, IsListWithin}
+use Rattle.siri_items.specs.Proper.{IsProperCall, IsProperOptionalCall, IsProperLocation, IsProperVisitJourney, IsProperVisit, IsProperVehicleJourney, IsProperVehicle, IsProperJourney, IsProperPeriod, IsProperSituation, IsProper}
 use Rattle.siri_json.specs.TextsOfTrees.{TextsAreUtf8}
 use Rattle.siri_items.proofs.ReadImpliesSpells.{call_spelled, location_spelled, visit_journey_spelled, vehicle_journey_spelled, period_spelled, item_spelled}
-use Rattle.siri_items.proofs.ProperParts.{OnRead, OnFound, Yields, reads_to, on_ok, on_map, on_bind, on_below, required_on, member_is, object_is, name_yields, text_yields, moment_yields, span_yields, number_yields, decimal_yields, table_yields, table_unless_blank_yields, row_on, row_is, inside_on, AreRead, list_of_on, names_of_on, at_name, nonempty_list_on, list_inside_on, lists_inside_on, names_inside_on}
+use Rattle.siri_tables.proofs.ProperParts.{OnRead, OnFound, Yields, reads_to, on_ok, on_map, on_bind, on_below, required_on, member_is, object_is, name_yields, text_yields, moment_yields, span_yields, number_yields, decimal_yields, table_yields, table_unless_blank_yields, row_on, row_is, inside_on, AreRead, list_of_on, names_of_on, at_name, nonempty_list_on, list_inside_on, lists_inside_on, names_inside_on}
 
 -- ---- calls
 

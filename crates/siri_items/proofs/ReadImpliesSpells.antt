@@ -1,10 +1,8 @@
 -- What is read is spelled.
-use Rattle.std.proofs.Common.{◌≡◌, ℕ, List, [], ◌∷◌, Bool, true, false, ◌||◌, Option, Some, None, Result, Ok, Err, refl, ap, ◌∙◌, subst, IsSome, if◌then◌else◌}
+use Rattle.std.proofs.Common.{◌≡◌, ℕ, List, Bool, true, false, ◌||◌, Option, Some, None, Ok, refl, ap, ◌∙◌, subst, IsSome, if◌then◌else◌}
 use Rattle.serde_json.specs.Data.{Data}
 use Rattle.siri_base.specs.declared.reason.Reason.TheVariants.{NoMoment}
-use Rattle.siri_json.specs.declared.path.Step.{Step}
-use Rattle.siri_json.specs.declared.path.Step.TheVariants.{Member}
-use Rattle.siri_json.specs.Values.{Found, found, absent, wrong, object_in, member_of}
+use Rattle.siri_json.specs.Values.{object_in}
 use Rattle.siri_records.specs.declared.call.StopCall.{StopCall}
 use Rattle.siri_records.specs.declared.visit.Visit.{Visit}
 use Rattle.siri_records.specs.declared.visit.VisitJourney.{VisitJourney}
@@ -22,49 +20,17 @@ use Rattle.siri_records.specs.Ends.{call_moment}
 use Rattle.siri_items.specs.declared.names.TheConstants.{ACTUAL_ARRIVAL_TIME, ACTUAL_DEPARTURE_TIME, AFFECTED_OPERATOR, AFFECTED_STOP_POINT, AFFECTS, AIMED_ARRIVAL_TIME, AIMED_DEPARTURE_TIME, ARRIVAL_PLATFORM_NAME, ARRIVAL_STATUS, CANCELLATION, CREATION_TIME, DATA_FRAME_REF, DATED_VEHICLE_JOURNEY_REF, DELAY, DEPARTURE_PLATFORM_NAME, DEPARTURE_STATUS, DESCRIPTION, DESTINATION_NAME, DESTINATION_REF, DIRECTION_REF, END_TIME, ESTIMATED_CALL, ESTIMATED_CALLS, EXPECTED_ARRIVAL_TIME, EXPECTED_DEPARTURE_TIME, ITEM_IDENTIFIER, LATITUDE, LINE_REF, LONGITUDE, MONITORED, MONITORED_CALL, MONITORED_VEHICLE_JOURNEY, MONITORING_REF, NETWORKS, OCCUPANCY, OPERATORS, OPERATOR_REF, ORDER, PARTICIPANT_REF, PROGRESS, PUBLISHED_LINE_NAME, RECORDED_AT_TIME, RECORDED_CALL, RECORDED_CALLS, SEVERITY, SITUATION_NUMBER, START_TIME, STOP_POINTS, STOP_POINT_NAME, STOP_POINT_REF, SUMMARY, VALIDITY_PERIOD, VALID_UNTIL_TIME, VEHICLE_AT_STOP, VEHICLE_LOCATION, VEHICLE_REF, VERSION, VERSIONED_AT_TIME}
 use Rattle.siri_items.specs.declared.read_call.RequiredJourneyRef.{RequiredJourneyRef}
 use Rattle.siri_items.specs.declared.read_situation.Affected.{Affected}
-use Rattle.siri_items.specs.Refusals.{Refusal, ◌>>=◌, refused, below, each}
+use Rattle.siri_tables.specs.Refusals.{refused}
 use Rattle.siri_items.specs.Items.{item_of}
-use Rattle.siri_items.specs.Rules.{name, text, moment, span, number, decimal, flag, table, unless_wrong, maybe, required, row, required_row, list, nonempty_list, list_inside, names, required_value}
+use Rattle.siri_tables.specs.Rules.{name, text, moment, span, number, decimal, flag, table, row, required_row, list, nonempty_list, list_inside, names, required_value}
 use Rattle.siri_items.specs.Calls.{stop_call, location, optional_location, optional_call, framed_ref_of, read_framed_ref_rows, journey_ref, required_journey_ref}
 use Rattle.siri_items.specs.Visits.{visit, visit_journey, timed_call, with_moment}
 use Rattle.siri_items.specs.Vehicles.{vehicle, vehicle_journey}
 use Rattle.siri_items.specs.Journeys.{journey, read_journey_rows, has_time}
 use Rattle.siri_items.specs.Situations.{situation, period, network_lines, affected}
-use Rattle.siri_items.specs.Spelling.{Spells, SpellsCall, SpellsLocation, SpellsVisitJourney, SpellsVisit, SpellsVehicleJourney, SpellsVehicle, SpellsJourneyRows, SpellsJourney, SpellsPeriod, SpellsAffected, SpellsFramedRef, SpellsSituation, SpellsItem, IfFound}
-
-pub bind_ok : {A B : Type 0} (r : Result A Refusal) (f : A → Result B Refusal) (y : B) → (r >>= f) ≡ Ok y → (x : A) × (r ≡ Ok x) × (f x ≡ Ok y)
-bind_ok (Ok x) f y e = (x, refl, e)
-bind_ok (Err r) f y e = absurd cc
-
-abbrev some : {A : Type 0} → A → Option A
-some x = Some x
-
-abbrev done : {A : Type 0} → A → Result A Refusal
-done x = Ok x
-
-ok_is : {A : Type 0} (x y : A) → done x ≡ done y → x ≡ y
-ok_is x y e = cc
-
-below_ok : {A : Type 0} (step : Step) (r : Result A Refusal) (x : A) → below step r ≡ Ok x → r ≡ Ok x
-below_ok step (Ok y) x e = e
-below_ok step (Err r) x e = absurd cc
-
-pub row_spelled : {A : Type 0} (rule : Data → Result (Option A) Refusal) (key : List ℕ) (d : Data) (value : Option A) → row rule key d ≡ Ok value → Spells rule key d value
-unfolding row
-row_spelled rule key d value e = below_ok (Member key) (maybe rule (member_of key d)) value e
-
-some_is : {A : Type 0} (x y : A) → some x ≡ some y → x ≡ y
-some_is x y e = cc
-
-required_ok : {A : Type 0} (path : List Step) (o : Option A) (x : A) → required path o ≡ Ok x → o ≡ Some x
-required_ok path None x e = absurd cc
-required_ok path (Some y) x e = ap Some (ok_is y x e)
-
-pub required_row_spelled : {A : Type 0} (rule : Data → Result (Option A) Refusal) (key : List ℕ) (d : Data) (value : A) → required_row rule key d ≡ Ok value → Spells rule key d (Some value)
-unfolding required_row
-required_row_spelled rule key d value e =
-    let r = bind_ok (row rule key d) (required (Member key ∷ [])) value e in
-    row_spelled rule key d (Some value) (r.1 ∙ ap (λ (o : Option _). Ok o) (required_ok (Member key ∷ []) r.0 value r.2))
+use Rattle.siri_tables.specs.Spelling.{Spells, IfFound}
+use Rattle.siri_items.specs.Spelling.{SpellsCall, SpellsLocation, SpellsVisitJourney, SpellsVisit, SpellsVehicleJourney, SpellsVehicle, SpellsJourneyRows, SpellsJourney, SpellsPeriod, SpellsAffected, SpellsFramedRef, SpellsSituation, SpellsItem}
+use Rattle.siri_tables.proofs.RowSpells.{bind_ok, done, ok_is, row_spelled, some_is, required_row_spelled, table_is, found_map}
 
 with_moment_ok : (c x : StopCall) (m : Option ℕ) → with_moment c m ≡ Ok x → IsSome m × (c ≡ x)
 with_moment_ok c x None e = absurd cc
@@ -299,23 +265,6 @@ journey_spelled d j e =
     let r = bind_ok (read_journey_rows d) _ j e in
     let t = with_time_is r.0 j (has_time r.0.recorded_calls || has_time r.0.estimated_calls) refl r.2 in
     subst (λ (x : Journey). SpellsJourney d x) t.1 (record { rows = journey_rows_spelled d r.0 r.1; timed = t.0 })
-
-required_value_is : {A : Type 0} (rows : Data → Result A Refusal) (f : Found Data) (x : A) → ((unless_wrong f >>= each rows) >>= required []) ≡ Ok x → IfFound f (λ o. rows o ≡ Ok x)
-required_value_is rows (found o) x e =
-    let r = bind_ok (rows o >>= λ y. done (Some y)) (required []) x e in
-    let y = bind_ok (rows o) _ r.0 r.1 in
-    y.1 ∙ ap (λ (z : _). Ok z) (some_is _ x (ok_is (Some y.0) r.0 y.2 ∙ required_ok [] r.0 x r.2))
-required_value_is rows absent x e = absurd cc
-required_value_is rows wrong x e = absurd cc
-
-table_is : {A : Type 0} (rows : Data → Result A Refusal) (d : Data) (x : A) → required_value (table rows) d ≡ Ok x → IfFound (object_in d) (λ o. rows o ≡ Ok x)
-unfolding required_value table
-table_is rows d x e = required_value_is rows (object_in d) x e
-
-found_map : (f : Found Data) (P Q : Data → Type 0) → ((o : Data) → P o → Q o) → IfFound f P → IfFound f Q
-found_map (found o) P Q h is = h o is
-found_map absent P Q h is = is
-found_map wrong P Q h is = is
 
 visit_item : (d : Data) (v : Visit) → required_value (table visit) d ≡ Ok v → IfFound (object_in d) (λ o. SpellsVisit o v)
 visit_item d v e = found_map (object_in d) _ _ (λ o is. visit_spelled o v is) (table_is visit d v e)

@@ -1,7 +1,7 @@
 -- What is spelled is read.
-use Rattle.std.proofs.Common.{◌≡◌, ℕ, List, [], true, ◌||◌, Option, Some, None, Result, Ok, refl, IsSome}
+use Rattle.std.proofs.Common.{◌≡◌, ℕ, List, true, ◌||◌, Option, Some, None, Ok, refl, IsSome}
 use Rattle.serde_json.specs.Data.{Data}
-use Rattle.siri_json.specs.Values.{Found, found, absent, wrong, object_in}
+use Rattle.siri_json.specs.Values.{object_in}
 use Rattle.siri_records.specs.declared.call.StopCall.{StopCall}
 use Rattle.siri_records.specs.declared.visit.Visit.{Visit}
 use Rattle.siri_records.specs.declared.visit.VisitJourney.{VisitJourney}
@@ -19,23 +19,16 @@ use Rattle.siri_records.specs.Ends.{call_moment}
 use Rattle.siri_items.specs.declared.names.TheConstants.{ACTUAL_ARRIVAL_TIME, ACTUAL_DEPARTURE_TIME, AFFECTS, AIMED_ARRIVAL_TIME, AIMED_DEPARTURE_TIME, ARRIVAL_PLATFORM_NAME, ARRIVAL_STATUS, CANCELLATION, CREATION_TIME, DATA_FRAME_REF, DATED_VEHICLE_JOURNEY_REF, DELAY, DEPARTURE_PLATFORM_NAME, DEPARTURE_STATUS, DESCRIPTION, DESTINATION_NAME, DESTINATION_REF, DIRECTION_REF, END_TIME, EXPECTED_ARRIVAL_TIME, EXPECTED_DEPARTURE_TIME, ITEM_IDENTIFIER, LATITUDE, LINE_REF, LONGITUDE, MONITORED, MONITORED_CALL, MONITORED_VEHICLE_JOURNEY, MONITORING_REF, OCCUPANCY, OPERATOR_REF, ORDER, PARTICIPANT_REF, PROGRESS, PUBLISHED_LINE_NAME, RECORDED_AT_TIME, SEVERITY, SITUATION_NUMBER, START_TIME, STOP_POINT_NAME, STOP_POINT_REF, SUMMARY, VALID_UNTIL_TIME, VEHICLE_AT_STOP, VEHICLE_LOCATION, VEHICLE_REF, VERSION, VERSIONED_AT_TIME}
 use Rattle.siri_items.specs.declared.read_call.RequiredJourneyRef.{RequiredJourneyRef}
 use Rattle.siri_items.specs.declared.read_situation.Affected.{Affected}
-use Rattle.siri_items.specs.Refusals.{Refusal, ◌>>=◌, each}
 use Rattle.siri_items.specs.Items.{item_of}
-use Rattle.siri_items.specs.Rules.{name, text, moment, span, number, decimal, flag, table, unless_wrong, required, row, required_row, required_value}
+use Rattle.siri_tables.specs.Rules.{name, text, moment, span, number, decimal, flag, table}
 use Rattle.siri_items.specs.Calls.{stop_call, location, optional_location, optional_call, framed_ref_of, read_framed_ref_rows}
 use Rattle.siri_items.specs.Visits.{visit, visit_journey, timed_call, with_moment}
 use Rattle.siri_items.specs.Vehicles.{vehicle, vehicle_journey}
 use Rattle.siri_items.specs.Journeys.{journey, read_journey_rows, has_time, with_time}
 use Rattle.siri_items.specs.Situations.{situation, period, affected}
-use Rattle.siri_items.specs.Spelling.{Spells, SpellsCall, SpellsLocation, SpellsVisitJourney, SpellsVisit, SpellsVehicleJourney, SpellsVehicle, SpellsJourneyRows, SpellsJourney, SpellsPeriod, SpellsAffected, SpellsFramedRef, SpellsSituation, SpellsItem, IfFound}
-
-pub row_ok : {A : Type 0} (rule : Data → Result (Option A) Refusal) (key : List ℕ) (d : Data) (value : Option A) → Spells rule key d value → row rule key d ≡ Ok value
-unfolding row
-row_ok rule key d value spells = rw spells refl
-
-pub required_row_ok : {A : Type 0} (rule : Data → Result (Option A) Refusal) (key : List ℕ) (d : Data) (value : A) → Spells rule key d (Some value) → required_row rule key d ≡ Ok value
-unfolding required_row
-required_row_ok rule key d value spells = rw (row_ok rule key d (Some value) spells) refl
+use Rattle.siri_tables.specs.Spelling.{Spells}
+use Rattle.siri_items.specs.Spelling.{SpellsCall, SpellsLocation, SpellsVisitJourney, SpellsVisit, SpellsVehicleJourney, SpellsVehicle, SpellsJourneyRows, SpellsJourney, SpellsPeriod, SpellsAffected, SpellsFramedRef, SpellsSituation, SpellsItem}
+use Rattle.siri_tables.proofs.RowSpells.{row_ok, required_row_ok, table_ok, found_map}
 
 timed : (c : StopCall) (m : Option ℕ) → IsSome m → with_moment c m ≡ Ok c
 timed c None h = absurd cc
@@ -186,20 +179,6 @@ with_time_ok j h = rw h refl
 pub journey_reads : (d : Data) (j : Journey) → SpellsJourney d j → journey d ≡ Ok j
 unfolding journey
 journey_reads d j s_ = rw (journey_rows_reads d j s_.rows) (with_time_ok j s_.timed)
-
-required_value_ok : {A : Type 0} (rows : Data → Result A Refusal) (f : Found Data) (x : A) → IfFound f (λ o. rows o ≡ Ok x) → ((unless_wrong f >>= each rows) >>= required []) ≡ Ok x
-required_value_ok rows (found o) x is = rw is refl
-required_value_ok rows absent x is = absurd is
-required_value_ok rows wrong x is = absurd is
-
-found_map : (f : Found Data) (P Q : Data → Type 0) → ((o : Data) → P o → Q o) → IfFound f P → IfFound f Q
-found_map (found o) P Q h is = h o is
-found_map absent P Q h is = is
-found_map wrong P Q h is = is
-
-table_ok : {A : Type 0} (rows : Data → Result A Refusal) (d : Data) (x : A) → IfFound (object_in d) (λ o. rows o ≡ Ok x) → required_value (table rows) d ≡ Ok x
-unfolding required_value table
-table_ok rows d x is = required_value_ok rows (object_in d) x is
 
 pub item_reads : (s_ : Service) (d : Data) (i : Item) → SpellsItem s_ d i → item_of s_ d ≡ Ok i
 item_reads service.Stop d (item.Visit v) is = rw (table_ok visit d v (found_map (object_in d) _ _ (λ o s_. visit_reads o v s_) is)) refl

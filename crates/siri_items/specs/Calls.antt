@@ -9,8 +9,8 @@ use Rattle.siri_records.specs.declared.visit.VehicleLocation.{VehicleLocation}
 use Rattle.siri_items.specs.declared.names.TheConstants.{STOP_POINT_REF, ORDER, STOP_POINT_NAME, VEHICLE_AT_STOP, AIMED_ARRIVAL_TIME, EXPECTED_ARRIVAL_TIME, ACTUAL_ARRIVAL_TIME, ARRIVAL_STATUS, ARRIVAL_PLATFORM_NAME, AIMED_DEPARTURE_TIME, EXPECTED_DEPARTURE_TIME, ACTUAL_DEPARTURE_TIME, DEPARTURE_STATUS, DEPARTURE_PLATFORM_NAME, FRAMED_VEHICLE_JOURNEY_REF, DATA_FRAME_REF, DATED_VEHICLE_JOURNEY_REF, LONGITUDE, LATITUDE}
 use Rattle.siri_items.specs.declared.read_call.JourneyRef.{JourneyRef}
 use Rattle.siri_items.specs.declared.read_call.RequiredJourneyRef.{RequiredJourneyRef}
-use Rattle.siri_items.specs.Refusals.{Refusal, ◌>>=◌}
-use Rattle.siri_items.specs.Rules.{name, text, number, decimal, moment, flag, unless_wrong, table_unless_blank, maybe, row, required_row}
+use Rattle.siri_tables.specs.Refusals.{Refusal, ◌>>=◌}
+use Rattle.siri_tables.specs.Rules.{name, text, number, decimal, moment, flag, unless_wrong, table_unless_blank, maybe, row, required_row}
 
 -- StopCall: a call at a stop (EN 15531-3, MonitoredCall, RecordedCall and EstimatedCall)
 unfoldable pub stop_call : Data → Result StopCall Refusal

@@ -5,8 +5,8 @@ use Rattle.siri_records.specs.declared.item.Item.{Item}
 use Rattle.siri_records.specs.declared.item.Item.TheVariants as item
 use Rattle.siri_records.specs.declared.item.Service.{Service}
 use Rattle.siri_records.specs.declared.item.Service.TheVariants as service
-use Rattle.siri_items.specs.Refusals.{Refusal, ◌>>=◌}
-use Rattle.siri_items.specs.Rules.{table, required_value}
+use Rattle.siri_tables.specs.Refusals.{Refusal, ◌>>=◌}
+use Rattle.siri_tables.specs.Rules.{table, required_value}
 use Rattle.siri_items.specs.Visits.{visit}
 use Rattle.siri_items.specs.Journeys.{journey}
 use Rattle.siri_items.specs.Vehicles.{vehicle}

@@ -4,11 +4,11 @@ use Rattle.serde_json.specs.Data.{Data}
 use Rattle.siri_base.specs.declared.reason.Reason.TheVariants.{NoMoment}
 use Rattle.siri_records.specs.declared.call.StopCall.{StopCall}
 use Rattle.siri_records.specs.Ends.{call_moment}
-use Rattle.siri_items.specs.Refusals.{Refusal, ◌>>=◌, refused}
+use Rattle.siri_tables.specs.Refusals.{Refusal, ◌>>=◌, refused}
 use Rattle.std.specs.List.{list_any}
 use Rattle.siri_records.specs.declared.journey.Journey.{Journey}
 use Rattle.siri_items.specs.declared.names.TheConstants.{RECORDED_AT_TIME, LINE_REF, DIRECTION_REF, CANCELLATION, PUBLISHED_LINE_NAME, OPERATOR_REF, DESTINATION_REF, DESTINATION_NAME, VEHICLE_REF, MONITORED, OCCUPANCY, DELAY, RECORDED_CALLS, RECORDED_CALL, ESTIMATED_CALLS, ESTIMATED_CALL}
-use Rattle.siri_items.specs.Rules.{name, text, moment, span, flag, table, row, required_row, list, list_inside}
+use Rattle.siri_tables.specs.Rules.{name, text, moment, span, flag, table, row, required_row, list, list_inside}
 use Rattle.siri_items.specs.Calls.{stop_call, required_journey_ref}
 
 -- EstimatedVehicleJourney: a journey with its calls (EN 15531-3)

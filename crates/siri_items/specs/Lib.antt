@@ -1,14 +1,10 @@
-pub mod Refusals
 pub mod Names
-pub mod Scalars
-pub mod Rules
 pub mod Calls
 pub mod Visits
 pub mod Vehicles
 pub mod Journeys
 pub mod Situations
 pub mod Items
-pub mod Writing
 pub mod Written
 pub mod Spelling
 pub mod Proper

@@ -1,18 +1,16 @@
 -- The table of situations: what an object is read as, row by row.
-use Rattle.std.specs.Prelude.{ℕ, List, [], if◌then◌else◌, Option, Some, None, Result, Ok}
+use Rattle.std.specs.Prelude.{ℕ, List, [], if◌then◌else◌, Option, Some, None, Result, Ok, flat_map, sum_by, nat_le}
 use Rattle.serde_json.specs.Data.{Data}
 use Rattle.siri_base.specs.declared.reason.Reason.TheVariants.{TooMany}
 use Rattle.siri_json.specs.declared.path.Step.TheVariants.{Member}
-use Rattle.siri_items.specs.Refusals.{Refusal, ◌>>=◌, refused}
-use Rattle.std.specs.Prelude.{flat_map, sum_by, nat_le}
+use Rattle.siri_tables.specs.Refusals.{Refusal, ◌>>=◌, refused, below}
 use Rattle.siri_records.specs.declared.situation.Situation.{Situation}
 use Rattle.siri_records.specs.declared.situation.Period.{Period}
 use Rattle.siri_items.specs.declared.read_situation.Affected.{Affected}
 use Rattle.siri_items.specs.declared.read_situation.Network.{Network}
 use Rattle.siri_items.specs.declared.names.TheConstants.{CREATION_TIME, PARTICIPANT_REF, SITUATION_NUMBER, VERSION, VERSIONED_AT_TIME, PROGRESS, SEVERITY, SUMMARY, DESCRIPTION, VALIDITY_PERIOD, START_TIME, END_TIME, AFFECTS, OPERATORS, AFFECTED_OPERATOR, OPERATOR_REF, NETWORKS, AFFECTED_NETWORK, AFFECTED_LINE, LINE_REF, STOP_POINTS, AFFECTED_STOP_POINT, STOP_POINT_REF}
 use Rattle.siri_json.specs.Values.{member_of}
-use Rattle.siri_items.specs.Refusals.{below}
-use Rattle.siri_items.specs.Rules.{name, text, moment, table, row, required_row, nonempty_list, names, names_of, list_of, list_inside, entry_count, or_empty}
+use Rattle.siri_tables.specs.Rules.{name, text, moment, table, row, required_row, nonempty_list, names, names_of, list_of, list_inside, entry_count, or_empty}
 
 -- ValidityPeriod: a time in which a situation holds
 unfoldable pub period : Data → Result Period Refusal

@@ -1,8 +1,8 @@
 -- The relation of trees and items: the member of each row spells the field's value under the row's rule, or is absent
 -- where there is none. Members that no row names are free.
-use Rattle.std.specs.Prelude.{◌≡◌, ℕ, List, true, ◌||◌, Option, Some, IsSome, Result, Ok}
+use Rattle.std.specs.Prelude.{◌≡◌, ℕ, List, true, ◌||◌, Option, Some, IsSome, Ok}
 use Rattle.serde_json.specs.Data.{Data}
-use Rattle.siri_json.specs.Values.{Found, found, absent, wrong, member_of, object_in}
+use Rattle.siri_json.specs.Values.{object_in}
 use Rattle.siri_records.specs.declared.call.StopCall.{StopCall}
 use Rattle.siri_records.specs.declared.visit.Visit.{Visit}
 use Rattle.siri_records.specs.declared.visit.VisitJourney.{VisitJourney}
@@ -20,23 +20,13 @@ use Rattle.siri_records.specs.Ends.{call_moment}
 use Rattle.siri_items.specs.declared.names.TheConstants.{ACTUAL_ARRIVAL_TIME, ACTUAL_DEPARTURE_TIME, AFFECTED_OPERATOR, AFFECTED_STOP_POINT, AFFECTS, AIMED_ARRIVAL_TIME, AIMED_DEPARTURE_TIME, ARRIVAL_PLATFORM_NAME, ARRIVAL_STATUS, CANCELLATION, CREATION_TIME, DATA_FRAME_REF, DATED_VEHICLE_JOURNEY_REF, DELAY, DEPARTURE_PLATFORM_NAME, DEPARTURE_STATUS, DESCRIPTION, DESTINATION_NAME, DESTINATION_REF, DIRECTION_REF, END_TIME, ESTIMATED_CALL, ESTIMATED_CALLS, EXPECTED_ARRIVAL_TIME, EXPECTED_DEPARTURE_TIME, ITEM_IDENTIFIER, LATITUDE, LINE_REF, LONGITUDE, MONITORED, MONITORED_CALL, MONITORED_VEHICLE_JOURNEY, MONITORING_REF, NETWORKS, OCCUPANCY, OPERATORS, OPERATOR_REF, ORDER, PARTICIPANT_REF, PROGRESS, PUBLISHED_LINE_NAME, RECORDED_AT_TIME, RECORDED_CALL, RECORDED_CALLS, SEVERITY, SITUATION_NUMBER, START_TIME, STOP_POINTS, STOP_POINT_NAME, STOP_POINT_REF, SUMMARY, VALIDITY_PERIOD, VALID_UNTIL_TIME, VEHICLE_AT_STOP, VEHICLE_LOCATION, VEHICLE_REF, VERSION, VERSIONED_AT_TIME}
 use Rattle.siri_items.specs.declared.read_call.RequiredJourneyRef.{RequiredJourneyRef}
 use Rattle.siri_items.specs.declared.read_situation.Affected.{Affected}
-use Rattle.siri_items.specs.Refusals.{Refusal}
-use Rattle.siri_items.specs.Rules.{name, text, moment, span, number, decimal, flag, table, maybe, list, nonempty_list, list_inside, names}
+use Rattle.siri_tables.specs.Rules.{name, text, moment, span, number, decimal, flag, table, list, nonempty_list, list_inside, names}
 use Rattle.siri_items.specs.Calls.{stop_call, optional_location, optional_call, journey_ref, required_journey_ref}
 use Rattle.siri_items.specs.Visits.{visit_journey}
 use Rattle.siri_items.specs.Vehicles.{vehicle_journey}
 use Rattle.siri_items.specs.Journeys.{has_time}
 use Rattle.siri_items.specs.Situations.{period, network_lines, affected, or_nothing}
-
--- the member of that name spells the value, or is absent where there is none
-abbrev pub Spells : {A : Type 0} → (Data → Result (Option A) Refusal) → List ℕ → Data → Option A → Type 0
-Spells rule key d value = maybe rule (member_of key d) ≡ Ok value
-
--- what holds of a value that was found, where one was
-abbrev pub IfFound : Found Data → (Data → Type 0) → Type 0
-IfFound (found o) P = P o
-IfFound absent P = ⊥
-IfFound wrong P = ⊥
+use Rattle.siri_tables.specs.Spelling.{Spells, IfFound}
 
 -- a call at a stop
 pub record SpellsCall (d : Data) (c : StopCall) : Type 0 where

@@ -1,11 +1,11 @@
 -- The tables of vehicle activities: what an object is read as, row by row.
 use Rattle.std.specs.Prelude.{Result, Ok}
 use Rattle.serde_json.specs.Data.{Data}
-use Rattle.siri_items.specs.Refusals.{Refusal, ◌>>=◌}
+use Rattle.siri_tables.specs.Refusals.{Refusal, ◌>>=◌}
 use Rattle.siri_records.specs.declared.vehicle.Vehicle.{Vehicle}
 use Rattle.siri_records.specs.declared.vehicle.VehicleJourney.{VehicleJourney}
 use Rattle.siri_items.specs.declared.names.TheConstants.{LINE_REF, DIRECTION_REF, PUBLISHED_LINE_NAME, OPERATOR_REF, DESTINATION_REF, DESTINATION_NAME, VEHICLE_REF, MONITORED, OCCUPANCY, DELAY, VEHICLE_LOCATION, MONITORED_CALL, RECORDED_AT_TIME, ITEM_IDENTIFIER, VALID_UNTIL_TIME, MONITORED_VEHICLE_JOURNEY}
-use Rattle.siri_items.specs.Rules.{name, text, moment, span, flag, table, row, required_row}
+use Rattle.siri_tables.specs.Rules.{name, text, moment, span, flag, table, row, required_row}
 use Rattle.siri_items.specs.Calls.{optional_location, optional_call, journey_ref}
 
 -- MonitoredVehicleJourney: the journey of a vehicle, which names the vehicle (EN 15531-3)

@@ -5,11 +5,11 @@ use Rattle.siri_base.specs.declared.reason.Reason.TheVariants.{NoMoment}
 use Rattle.siri_json.specs.declared.path.Step.TheVariants.{Member}
 use Rattle.siri_records.specs.declared.call.StopCall.{StopCall}
 use Rattle.siri_records.specs.Ends.{call_moment}
-use Rattle.siri_items.specs.Refusals.{Refusal, ◌>>=◌}
+use Rattle.siri_tables.specs.Refusals.{Refusal, ◌>>=◌}
 use Rattle.siri_records.specs.declared.visit.Visit.{Visit}
 use Rattle.siri_records.specs.declared.visit.VisitJourney.{VisitJourney}
 use Rattle.siri_items.specs.declared.names.TheConstants.{LINE_REF, DIRECTION_REF, PUBLISHED_LINE_NAME, OPERATOR_REF, DESTINATION_REF, DESTINATION_NAME, VEHICLE_REF, MONITORED, OCCUPANCY, DELAY, VEHICLE_LOCATION, MONITORED_CALL, RECORDED_AT_TIME, ITEM_IDENTIFIER, MONITORING_REF, MONITORED_VEHICLE_JOURNEY}
-use Rattle.siri_items.specs.Rules.{name, text, moment, span, flag, table, row, required_row}
+use Rattle.siri_tables.specs.Rules.{name, text, moment, span, flag, table, row, required_row}
 use Rattle.siri_items.specs.Calls.{stop_call, optional_location, journey_ref}
 
 -- a call that has a time

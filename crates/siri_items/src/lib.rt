@@ -1,8 +1,27 @@
 //! Visits, journeys, vehicle activities and situations in the trees of documents: read by the tables of the profile, or
 //! refused at the first place in the order of the tables, and written in the one form of the profile.
+//!
+//! ```text
+//!     tree --read_item---> item, or PATH: REASON      a table each, a row an element:
+//!     tree <--write_item-- item
+//!                                                     Visit      MonitoredStopVisit       EN 15531-3
+//!                                                     Journey    EstimatedVehicleJourney  EN 15531-3
+//!                                                     Vehicle    VehicleActivity          EN 15531-3
+//!                                                     Situation  PtSituationElement       CEN/TS 15531-5
+//!     names    each member's name, as documents spell it
+//!     inside   calls at stops, locations, how a journey is named, periods, what a situation affects
+//! ```
+//!
+//! The files `read_*` have the tables as they are read, `write_*` as they are written; the definition of each stands in
+//! `specs/` under the table's name, row beside row. That reading and spelling are one, and that what is written is read
+//! again, are laws, functions that do nothing.
+//!
+//! Stands on `siri_tables`, which has the rules of values and rows and the refusals, on `siri_records` for the items, and
+//! on `siri_base`, `siri_time` and `siri_json`. It reads no bytes and knows no message: where an item stands in a document,
+//! and what is said around it, is of `siri_wire`.
 #![tactic(auto)]
 
-mod journey_rows;
+mod journey_fields;
 mod laws;
 pub mod names;
 mod read;
@@ -11,15 +30,10 @@ mod read_journey;
 mod read_situation;
 mod read_vehicle;
 mod read_visit;
-pub mod refusal;
-pub mod rows;
-pub mod rules;
-mod scalars;
 mod write;
 mod write_call;
 mod write_journey;
 mod write_situation;
-pub mod writing;
 
 pub use laws::{
     members_are_spelled, read_is_proper, read_is_spelled, tables_are_spelled, written_is_canonical,
@@ -31,8 +45,4 @@ pub use read_journey::JourneyTable;
 pub use read_situation::SituationTable;
 pub use read_vehicle::VehicleTable;
 pub use read_visit::VisitTable;
-pub use refusal::ItemError;
 pub use write::write_item;
-
-#[cfg(test)]
-mod tests;

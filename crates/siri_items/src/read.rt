@@ -2,18 +2,18 @@
 
 ghost use Rattle.std.specs.Prelude.{◌≡◌};
 ghost use Rattle.serde_json.specs.View.{view};
-ghost use Rattle.siri_items.specs.Refusals.{Gives, at_path};
+ghost use Rattle.siri_tables.specs.Refusals.{Gives, at_path};
 ghost use Rattle.siri_items.specs.Items.{item_of};
 
 use crate::read_journey::JourneyTable;
 use crate::read_situation::SituationTable;
 use crate::read_vehicle::VehicleTable;
 use crate::read_visit::VisitTable;
-use crate::refusal::{ItemError, from_path};
-use crate::rows::required_value;
 use serde_json::Value;
 use siri_json::Path;
 use siri_records::{Item, Service};
+use siri_tables::refusal::{TableError, from_path};
+use siri_tables::rows::required_value;
 use std::alloc::Global;
 
 /// The item of a service that a tree is read as, or the first refusal in the order of the tables, depth first, with `at`
@@ -23,13 +23,13 @@ pub fn read_item(
     tree: &Value,
     service: Service,
     at: &Path,
-) -> Result<Item, ItemError>
+) -> Result<Item, TableError>
     ensures { Gives result (at_path at.now (item_of service (view tree.now))) }
 {
     from_path(at, item(alloc, tree, service))
 }
 
-fn item(alloc: Global, tree: &Value, service: Service) -> Result<Item, ItemError>
+fn item(alloc: Global, tree: &Value, service: Service) -> Result<Item, TableError>
     ensures { Gives result (item_of service (view tree.now)) }
 {
     match service {

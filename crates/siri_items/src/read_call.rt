@@ -3,23 +3,25 @@
 ghost use Rattle.std.specs.Prelude.{◌≡◌, Option};
 ghost use Rattle.serde_json.specs.Data.{Data};
 ghost use Rattle.serde_json.specs.View.{view};
-ghost use Rattle.siri_items.specs.Refusals.{Gives};
-ghost use Rattle.siri_items.specs.Rules.{table, table_unless_blank};
+ghost use Rattle.siri_tables.specs.Refusals.{Gives};
+ghost use Rattle.siri_tables.specs.Rules.{table, table_unless_blank};
 ghost use Rattle.siri_items.specs.Calls.{stop_call, call_is_blank, framed_ref, read_framed_ref_rows, framed_ref_of, plain_journey_ref, journey_ref, required_journey_ref, location, location_is_blank, optional_location, optional_call};
 
 use crate::names;
-use crate::refusal::{ItemError, refuse, refuse_at};
-use crate::rows::{required_row, row};
-use crate::rules::{
-    DecimalRule, FlagRule, MomentRule, NameRule, NumberRule, Rule, Table, TextRule,
-};
 use serde_json::Value;
 use siri_base::{Name, Reason};
 use siri_json::{ObjectOf, object_of};
 use siri_records::{StopCall, VehicleLocation};
+use siri_tables::refusal::{TableError, refuse, refuse_at};
+use siri_tables::rows::{required_row, row};
+use siri_tables::rules::{
+    DecimalRule, FlagRule, MomentRule, NameRule, NumberRule, Rule, Table, TextRule,
+};
 use std::alloc::Global;
 
-/// A call at a stop.
+/// A call at a stop (EN 15531-3, MonitoredCall; EN 15531-3, RecordedCall and EstimatedCall). No row is required: `{}` is a
+/// call. Its names are refused as `BadName`, its times as `BadTime` or `NoOffset`, Order as `BadNumber`, VehicleAtStop as
+/// `WrongKind`, each at its member; statuses, platforms and the stop's name are texts of at most 16,384 bytes.
 pub struct StopCallTable;
 
 impl Table for StopCallTable {
@@ -28,7 +30,7 @@ impl Table for StopCallTable {
     ghost rows = { stop_call };
 
     #[tactic(auto, unfolding(crate::specs::Calls::stop_call))]
-    fn read_rows(alloc: Global, tree: &Value) -> Result<StopCall, ItemError> {
+    fn read_rows(alloc: Global, tree: &Value) -> Result<StopCall, TableError> {
         Ok(StopCall {
             stop_point_ref: row::<NameRule>(alloc, tree, names::STOP_POINT_REF)?,
             order: row::<NumberRule>(alloc, tree, names::ORDER)?,
@@ -52,7 +54,7 @@ impl Table for StopCallTable {
     }
 }
 
-/// A call that need not be there: it counts as absent where all its rows are.
+/// A call that isn't required: it counts as absent where all its rows are.
 pub struct OptionalCallRule;
 
 impl Rule for OptionalCallRule {
@@ -60,8 +62,8 @@ impl Rule for OptionalCallRule {
 
     ghost rule = { optional_call };
 
-    #[tactic(auto, unfolding(crate::specs::Rules::table_unless_blank))]
-    fn read(alloc: Global, value: &Value) -> Result<Option<StopCall>, ItemError> {
+    #[tactic(auto, unfolding(siri_tables::specs::Rules::table_unless_blank))]
+    fn read(alloc: Global, value: &Value) -> Result<Option<StopCall>, TableError> {
         match StopCallTable::read(alloc, value)? {
             Some(call) if call_is_blank(&call) => Ok(None),
             other => Ok(other),
@@ -89,7 +91,8 @@ fn call_is_blank(call: &StopCall) -> bool
         && call.departure_platform_name.is_none()
 }
 
-/// Where a vehicle is; it counts as absent where both rows are.
+/// Where a vehicle is (EN 15531-3, VehicleLocation): Longitude and Latitude, each in 10^-7 degrees and at most 180 degrees,
+/// otherwise `BadDecimal` at it. It counts as absent where both rows are.
 pub struct LocationRule;
 
 struct LocationTable;
@@ -100,7 +103,7 @@ impl Table for LocationTable {
     ghost rows = { location };
 
     #[tactic(auto, unfolding(crate::specs::Calls::location))]
-    fn read_rows(alloc: Global, tree: &Value) -> Result<VehicleLocation, ItemError> {
+    fn read_rows(alloc: Global, tree: &Value) -> Result<VehicleLocation, TableError> {
         Ok(VehicleLocation {
             longitude: row::<DecimalRule>(alloc, tree, names::LONGITUDE)?,
             latitude: row::<DecimalRule>(alloc, tree, names::LATITUDE)?,
@@ -113,8 +116,8 @@ impl Rule for LocationRule {
 
     ghost rule = { optional_location };
 
-    #[tactic(auto, unfolding(crate::specs::Rules::table_unless_blank, crate::specs::Calls::location_is_blank))]
-    fn read(alloc: Global, value: &Value) -> Result<Option<VehicleLocation>, ItemError> {
+    #[tactic(auto, unfolding(siri_tables::specs::Rules::table_unless_blank, crate::specs::Calls::location_is_blank))]
+    fn read(alloc: Global, value: &Value) -> Result<Option<VehicleLocation>, TableError> {
         match LocationTable::read(alloc, value)? {
             Some(
                 VehicleLocation {
@@ -127,14 +130,14 @@ impl Rule for LocationRule {
     }
 }
 
-/// How a journey is named: with its data frame, or by itself.
+/// How a journey is named: with its data frame, by itself, or not at all.
 #[derive(Drop)]
 pub struct JourneyRef {
     pub data_frame_ref: Option<Name>,
     pub dated_vehicle_journey_ref: Option<Name>,
 }
 
-/// How a journey is named, where it has to be.
+/// How a journey is named that has to be named: with its data frame, or by itself.
 #[derive(Drop)]
 pub struct RequiredJourneyRef {
     pub data_frame_ref: Option<Name>,
@@ -148,7 +151,7 @@ fn framed_ref_of(
     alloc: Global,
     frame: Option<Name>,
     dated: Option<Name>,
-) -> Result<Option<RequiredJourneyRef>, ItemError>
+) -> Result<Option<RequiredJourneyRef>, TableError>
     ensures { Gives result (framed_ref_of frame dated) }
 {
     match (frame, dated) {
@@ -165,7 +168,7 @@ fn framed_ref_of(
 fn read_framed_ref_rows(
     alloc: Global,
     tree: &Value,
-) -> Result<Option<RequiredJourneyRef>, ItemError>
+) -> Result<Option<RequiredJourneyRef>, TableError>
     ensures { Gives result (read_framed_ref_rows (view tree.now)) }
 {
     let frame = row::<NameRule>(alloc, tree, names::DATA_FRAME_REF)?;
@@ -179,7 +182,7 @@ impl Rule for FramedVehicleJourneyRefRule {
     ghost rule = { framed_ref };
 
     #[tactic(auto, unfolding(crate::specs::Calls::framed_ref))]
-    fn read(alloc: Global, value: &Value) -> Result<Option<RequiredJourneyRef>, ItemError> {
+    fn read(alloc: Global, value: &Value) -> Result<Option<RequiredJourneyRef>, TableError> {
         match object_of(value) {
             ObjectOf::Is(tree) => read_framed_ref_rows(alloc, tree),
             ObjectOf::Absent => Ok(None),
@@ -188,9 +191,10 @@ impl Rule for FramedVehicleJourneyRefRule {
     }
 }
 
-/// How the object names its journey, where it need not.
+/// How the object names its journey: by FramedVehicleJourneyRef where a row of it is there, otherwise by
+/// DatedVehicleJourneyRef, where that is. `Missing` at the frame's DatedVehicleJourneyRef where only DataFrameRef is there.
 #[tactic(auto, unfolding(crate::specs::Calls::journey_ref, crate::specs::Calls::plain_journey_ref))]
-pub fn journey_ref(alloc: Global, tree: &Value) -> Result<JourneyRef, ItemError>
+pub fn journey_ref(alloc: Global, tree: &Value) -> Result<JourneyRef, TableError>
     ensures { Gives result (journey_ref (view tree.now)) }
 {
     match row::<FramedVehicleJourneyRefRule>(alloc, tree, names::FRAMED_VEHICLE_JOURNEY_REF)? {
@@ -211,7 +215,7 @@ pub fn journey_ref(alloc: Global, tree: &Value) -> Result<JourneyRef, ItemError>
 
 /// How the object names its journey, which it has to: otherwise `Missing` at DatedVehicleJourneyRef.
 #[tactic(auto, unfolding(crate::specs::Calls::required_journey_ref, crate::specs::Calls::plain_required_journey_ref))]
-pub fn required_journey_ref(alloc: Global, tree: &Value) -> Result<RequiredJourneyRef, ItemError>
+pub fn required_journey_ref(alloc: Global, tree: &Value) -> Result<RequiredJourneyRef, TableError>
     ensures { Gives result (required_journey_ref (view tree.now)) }
 {
     match row::<FramedVehicleJourneyRefRule>(alloc, tree, names::FRAMED_VEHICLE_JOURNEY_REF)? {

@@ -3,20 +3,20 @@
 ghost use Rattle.std.specs.Prelude.{◌≡◌, IsTrue};
 ghost use Rattle.serde_json.specs.Data.{Data};
 ghost use Rattle.serde_json.specs.View.{view};
-ghost use Rattle.siri_items.specs.Refusals.{Gives, is_key};
-ghost use Rattle.siri_items.specs.Rules.{list, list_inside, table};
+ghost use Rattle.siri_tables.specs.Refusals.{Gives, is_key};
+ghost use Rattle.siri_tables.specs.Rules.{list, list_inside, table};
 ghost use Rattle.siri_items.specs.Calls.{stop_call};
 ghost use Rattle.siri_items.specs.Journeys.{read_journey_rows, has_time, with_time, journey};
 
-use crate::journey_rows::JourneyRows;
+use crate::journey_fields::JourneyFields;
 use crate::names;
 use crate::read_call::{StopCallTable, required_journey_ref};
-use crate::refusal::{ItemError, refuse};
-use crate::rows::{list_inside, required_row, row};
-use crate::rules::{FlagRule, MomentRule, NameRule, SpanRule, Table, TextRule};
 use serde_json::Value;
 use siri_base::{List, Reason};
 use siri_records::{Journey, StopCall, moment_of};
+use siri_tables::refusal::{TableError, refuse};
+use siri_tables::rows::{list_inside, required_row, row};
+use siri_tables::rules::{FlagRule, MomentRule, NameRule, SpanRule, Table, TextRule};
 use std::alloc::Global;
 
 const MOST_CALLS: usize = 1000;
@@ -26,7 +26,7 @@ fn calls_inside(
     tree: &Value,
     outer: &str,
     key: &str,
-) -> Result<List<StopCall>, ItemError>
+) -> Result<List<StopCall>, TableError>
     requires outer { IsTrue (is_key outer.now) }
     requires key { IsTrue (is_key key.now) }
     ensures { Gives result (list_inside outer.now (list (table stop_call) 1000 key.now) (view tree.now)) }
@@ -35,26 +35,26 @@ fn calls_inside(
 }
 
 #[tactic(auto, unfolding(crate::specs::Journeys::read_journey_rows))]
-fn read_journey_rows(alloc: Global, tree: &Value) -> Result<Journey, ItemError>
+fn read_journey_rows(alloc: Global, tree: &Value) -> Result<Journey, TableError>
     ensures { Gives result (read_journey_rows (view tree.now)) }
 {
-    let mut rows = JourneyRows::new();
+    let mut fields = JourneyFields::new();
     let recorded_at_time = row::<MomentRule>(alloc, tree, names::RECORDED_AT_TIME)?;
     let line_ref = required_row::<NameRule>(alloc, tree, names::LINE_REF)?;
-    rows.direction_ref = row::<NameRule>(alloc, tree, names::DIRECTION_REF)?;
+    fields.direction_ref = row::<NameRule>(alloc, tree, names::DIRECTION_REF)?;
     let journey_ref = required_journey_ref(alloc, tree)?;
     let cancellation = row::<FlagRule>(alloc, tree, names::CANCELLATION)?;
-    rows.published_line_name = row::<TextRule>(alloc, tree, names::PUBLISHED_LINE_NAME)?;
-    rows.operator_ref = row::<NameRule>(alloc, tree, names::OPERATOR_REF)?;
-    rows.destination_ref = row::<NameRule>(alloc, tree, names::DESTINATION_REF)?;
-    rows.destination_name = row::<TextRule>(alloc, tree, names::DESTINATION_NAME)?;
-    rows.vehicle_ref = row::<NameRule>(alloc, tree, names::VEHICLE_REF)?;
-    rows.monitored = row::<FlagRule>(alloc, tree, names::MONITORED)?;
-    rows.occupancy = row::<TextRule>(alloc, tree, names::OCCUPANCY)?;
-    rows.delay = row::<SpanRule>(alloc, tree, names::DELAY)?;
+    fields.published_line_name = row::<TextRule>(alloc, tree, names::PUBLISHED_LINE_NAME)?;
+    fields.operator_ref = row::<NameRule>(alloc, tree, names::OPERATOR_REF)?;
+    fields.destination_ref = row::<NameRule>(alloc, tree, names::DESTINATION_REF)?;
+    fields.destination_name = row::<TextRule>(alloc, tree, names::DESTINATION_NAME)?;
+    fields.vehicle_ref = row::<NameRule>(alloc, tree, names::VEHICLE_REF)?;
+    fields.monitored = row::<FlagRule>(alloc, tree, names::MONITORED)?;
+    fields.occupancy = row::<TextRule>(alloc, tree, names::OCCUPANCY)?;
+    fields.delay = row::<SpanRule>(alloc, tree, names::DELAY)?;
     let recorded = calls_inside(alloc, tree, names::RECORDED_CALLS, names::RECORDED_CALL)?;
     let estimated = calls_inside(alloc, tree, names::ESTIMATED_CALLS, names::ESTIMATED_CALL)?;
-    Ok(rows.journey(
+    Ok(fields.journey(
         recorded_at_time,
         line_ref,
         journey_ref,
@@ -79,7 +79,7 @@ impl Table for JourneyTable {
     ghost rows = { journey };
 
     #[tactic(auto, unfolding(crate::specs::Journeys::journey))]
-    fn read_rows(alloc: Global, tree: &Value) -> Result<Journey, ItemError> {
+    fn read_rows(alloc: Global, tree: &Value) -> Result<Journey, TableError> {
         let journey = read_journey_rows(alloc, tree)?;
         if has_time(journey.recorded_calls.slice()) || has_time(journey.estimated_calls.slice()) {
             Ok(journey)

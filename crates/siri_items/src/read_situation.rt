@@ -3,19 +3,21 @@
 ghost use Rattle.std.specs.Prelude.{◌≡◌, Some, flat_map, sum_by, nat_le, OnOk, ◌++◌, IfOk};
 ghost use Rattle.serde_json.specs.Data.{Data};
 ghost use Rattle.serde_json.specs.View.{view};
-ghost use Rattle.siri_items.specs.Refusals.{Gives};
-ghost use Rattle.siri_items.specs.Rules.{list_inside};
+ghost use Rattle.siri_tables.specs.Refusals.{Gives};
+ghost use Rattle.siri_tables.specs.Rules.{list_inside};
 ghost use Rattle.siri_items.specs.declared.names.TheConstants.{NETWORKS};
 ghost use Rattle.siri_items.specs.Situations.{period, lines_at, network, all_lines, lines_of, network_lines, affected, or_nothing, situation};
 
 use crate::names;
-use crate::refusal::{ItemError, below, refuse, refuse_at};
-use crate::rows::{entry_count, list_of, names_inside, names_of, nonempty_list, required_row, row};
-use crate::rules::{MomentRule, NameRule, Table, TextRule};
 use serde_json::Value;
 use siri_base::{List, Name, OutOfMemory, Reason};
 use siri_json::{ObjectOf, member, object_of};
 use siri_records::{Period, Situation};
+use siri_tables::refusal::{TableError, below, refuse, refuse_at};
+use siri_tables::rows::{
+    entry_count, list_of, names_inside, names_of, nonempty_list, required_row, row,
+};
+use siri_tables::rules::{MomentRule, NameRule, Table, TextRule};
 use std::alloc::Global;
 
 const MOST_PERIODS: usize = 100;
@@ -30,7 +32,7 @@ impl Table for PeriodTable {
     ghost rows = { period };
 
     #[tactic(auto, unfolding(crate::specs::Situations::period))]
-    fn read_rows(alloc: Global, tree: &Value) -> Result<Period, ItemError> {
+    fn read_rows(alloc: Global, tree: &Value) -> Result<Period, TableError> {
         Ok(Period {
             start_time: required_row::<MomentRule>(alloc, tree, names::START_TIME)?,
             end_time: row::<MomentRule>(alloc, tree, names::END_TIME)?,
@@ -38,7 +40,7 @@ impl Table for PeriodTable {
     }
 }
 
-/// What a situation affects.
+/// The operators, lines and stop points that a situation affects (CEN/TS 15531-5, Affects), at most 2,000 of each.
 #[derive(Drop)]
 pub struct Affected {
     pub operators: List<Name>,
@@ -55,7 +57,7 @@ pub struct Network {
 
 struct NetworkTable;
 
-fn lines_at(alloc: Global, value: &Value) -> Result<Network, ItemError>
+fn lines_at(alloc: Global, value: &Value) -> Result<Network, TableError>
     ensures { Gives result (lines_at (Some (view value.now))) }
 {
     let lines = names_of(alloc, value, names::LINE_REF)?;
@@ -71,7 +73,7 @@ impl Table for NetworkTable {
     ghost rows = { network };
 
     #[tactic(auto, unfolding(crate::specs::Situations::network))]
-    fn read_rows(alloc: Global, tree: &Value) -> Result<Network, ItemError> {
+    fn read_rows(alloc: Global, tree: &Value) -> Result<Network, TableError> {
         match member(tree, names::AFFECTED_LINE) {
             Some(value) => below(alloc, names::AFFECTED_LINE, lines_at(alloc, value)),
             None => Ok(Network {
@@ -106,7 +108,7 @@ fn joined(alloc: Global, networks: List<Network>) -> Result<List<Name>, OutOfMem
 }
 
 #[tactic(auto, unfolding(crate::specs::Situations::lines_of))]
-fn lines_of(alloc: Global, value: &Value) -> Result<List<Name>, ItemError>
+fn lines_of(alloc: Global, value: &Value) -> Result<List<Name>, TableError>
     ensures { Gives result (lines_of (view value.now)) }
 {
     let networks = list_of::<NetworkTable>(alloc, value)?;
@@ -117,7 +119,7 @@ fn lines_of(alloc: Global, value: &Value) -> Result<List<Name>, ItemError>
 }
 
 #[tactic(auto, unfolding(crate::specs::Situations::network_lines))]
-fn network_lines(alloc: Global, tree: &Value) -> Result<List<Name>, ItemError>
+fn network_lines(alloc: Global, tree: &Value) -> Result<List<Name>, TableError>
     ensures { Gives result (network_lines (view tree.now)) }
 {
     match member(tree, names::AFFECTED_NETWORK) {
@@ -126,8 +128,8 @@ fn network_lines(alloc: Global, tree: &Value) -> Result<List<Name>, ItemError>
     }
 }
 
-#[tactic(auto, unfolding(crate::specs::Rules::list_inside))]
-fn all_lines(alloc: Global, tree: &Value) -> Result<List<Name>, ItemError>
+#[tactic(auto, unfolding(siri_tables::specs::Rules::list_inside))]
+fn all_lines(alloc: Global, tree: &Value) -> Result<List<Name>, TableError>
     ensures { Gives result (list_inside NETWORKS.now network_lines (view tree.now)) }
 {
     let Some(value) = member(tree, names::NETWORKS) else {
@@ -148,7 +150,7 @@ impl Table for AffectedTable {
     ghost rows = { affected };
 
     #[tactic(auto, unfolding(crate::specs::Situations::affected))]
-    fn read_rows(alloc: Global, tree: &Value) -> Result<Affected, ItemError> {
+    fn read_rows(alloc: Global, tree: &Value) -> Result<Affected, TableError> {
         Ok(Affected {
             operators: names_inside(
                 alloc,
@@ -193,7 +195,7 @@ impl Table for SituationTable {
     ghost rows = { situation };
 
     #[tactic(auto, unfolding(crate::specs::Situations::situation))]
-    fn read_rows(alloc: Global, tree: &Value) -> Result<Situation, ItemError> {
+    fn read_rows(alloc: Global, tree: &Value) -> Result<Situation, TableError> {
         let creation_time = row::<MomentRule>(alloc, tree, names::CREATION_TIME)?;
         let participant_ref = row::<NameRule>(alloc, tree, names::PARTICIPANT_REF)?;
         let situation_number = required_row::<NameRule>(alloc, tree, names::SITUATION_NUMBER)?;

@@ -3,17 +3,17 @@
 ghost use Rattle.std.specs.Prelude.{◌≡◌};
 ghost use Rattle.serde_json.specs.Data.{Data};
 ghost use Rattle.serde_json.specs.View.{view};
-ghost use Rattle.siri_items.specs.Refusals.{Gives};
+ghost use Rattle.siri_tables.specs.Refusals.{Gives};
 ghost use Rattle.siri_items.specs.Vehicles.{vehicle_journey, vehicle};
 
-use crate::journey_rows::JourneyRows;
+use crate::journey_fields::JourneyFields;
 use crate::names;
 use crate::read_call::{LocationRule, OptionalCallRule, journey_ref};
-use crate::refusal::ItemError;
-use crate::rows::{required_row, row};
-use crate::rules::{FlagRule, MomentRule, NameRule, SpanRule, Table, TextRule};
 use serde_json::Value;
 use siri_records::{Vehicle, VehicleJourney};
+use siri_tables::refusal::TableError;
+use siri_tables::rows::{required_row, row};
+use siri_tables::rules::{FlagRule, MomentRule, NameRule, SpanRule, Table, TextRule};
 use std::alloc::Global;
 
 struct VehicleJourneyTable;
@@ -24,22 +24,22 @@ impl Table for VehicleJourneyTable {
     ghost rows = { vehicle_journey };
 
     #[tactic(auto, unfolding(crate::specs::Vehicles::vehicle_journey))]
-    fn read_rows(alloc: Global, tree: &Value) -> Result<VehicleJourney, ItemError> {
-        let mut rows = JourneyRows::new();
-        rows.line_ref = row::<NameRule>(alloc, tree, names::LINE_REF)?;
-        rows.direction_ref = row::<NameRule>(alloc, tree, names::DIRECTION_REF)?;
-        rows.journey_ref = journey_ref(alloc, tree)?;
-        rows.published_line_name = row::<TextRule>(alloc, tree, names::PUBLISHED_LINE_NAME)?;
-        rows.operator_ref = row::<NameRule>(alloc, tree, names::OPERATOR_REF)?;
-        rows.destination_ref = row::<NameRule>(alloc, tree, names::DESTINATION_REF)?;
-        rows.destination_name = row::<TextRule>(alloc, tree, names::DESTINATION_NAME)?;
+    fn read_rows(alloc: Global, tree: &Value) -> Result<VehicleJourney, TableError> {
+        let mut fields = JourneyFields::new();
+        fields.line_ref = row::<NameRule>(alloc, tree, names::LINE_REF)?;
+        fields.direction_ref = row::<NameRule>(alloc, tree, names::DIRECTION_REF)?;
+        fields.journey_ref = journey_ref(alloc, tree)?;
+        fields.published_line_name = row::<TextRule>(alloc, tree, names::PUBLISHED_LINE_NAME)?;
+        fields.operator_ref = row::<NameRule>(alloc, tree, names::OPERATOR_REF)?;
+        fields.destination_ref = row::<NameRule>(alloc, tree, names::DESTINATION_REF)?;
+        fields.destination_name = row::<TextRule>(alloc, tree, names::DESTINATION_NAME)?;
         let vehicle_ref = required_row::<NameRule>(alloc, tree, names::VEHICLE_REF)?;
-        rows.monitored = row::<FlagRule>(alloc, tree, names::MONITORED)?;
-        rows.occupancy = row::<TextRule>(alloc, tree, names::OCCUPANCY)?;
-        rows.delay = row::<SpanRule>(alloc, tree, names::DELAY)?;
+        fields.monitored = row::<FlagRule>(alloc, tree, names::MONITORED)?;
+        fields.occupancy = row::<TextRule>(alloc, tree, names::OCCUPANCY)?;
+        fields.delay = row::<SpanRule>(alloc, tree, names::DELAY)?;
         let location = row::<LocationRule>(alloc, tree, names::VEHICLE_LOCATION)?;
         let call = row::<OptionalCallRule>(alloc, tree, names::MONITORED_CALL)?;
-        Ok(rows.vehicle_journey(vehicle_ref, location, call))
+        Ok(fields.vehicle_journey(vehicle_ref, location, call))
     }
 }
 
@@ -52,7 +52,7 @@ impl Table for VehicleTable {
     ghost rows = { vehicle };
 
     #[tactic(auto, unfolding(crate::specs::Vehicles::vehicle))]
-    fn read_rows(alloc: Global, tree: &Value) -> Result<Vehicle, ItemError> {
+    fn read_rows(alloc: Global, tree: &Value) -> Result<Vehicle, TableError> {
         Ok(Vehicle {
             recorded_at_time: row::<MomentRule>(alloc, tree, names::RECORDED_AT_TIME)?,
             item_identifier: row::<NameRule>(alloc, tree, names::ITEM_IDENTIFIER)?,

@@ -3,23 +3,23 @@
 ghost use Rattle.std.specs.Prelude.{◌≡◌};
 ghost use Rattle.serde_json.specs.Data.{Data};
 ghost use Rattle.serde_json.specs.View.{view};
-ghost use Rattle.siri_items.specs.Refusals.{Gives};
+ghost use Rattle.siri_tables.specs.Refusals.{Gives};
 ghost use Rattle.siri_items.specs.Visits.{timed_call, visit_journey, visit};
 
-use crate::journey_rows::JourneyRows;
+use crate::journey_fields::JourneyFields;
 use crate::names;
 use crate::read_call::{LocationRule, StopCallTable, journey_ref};
-use crate::refusal::{ItemError, refuse_at};
-use crate::rows::{required_row, row};
-use crate::rules::{FlagRule, MomentRule, NameRule, SpanRule, Table, TextRule};
 use serde_json::Value;
 use siri_base::Reason;
 use siri_records::{StopCall, Visit, VisitJourney, moment_of};
+use siri_tables::refusal::{TableError, refuse_at};
+use siri_tables::rows::{required_row, row};
+use siri_tables::rules::{FlagRule, MomentRule, NameRule, SpanRule, Table, TextRule};
 use std::alloc::Global;
 
 /// The call at the monitored stop, which has to be there and to have a time: otherwise `NoMoment` at it.
 #[tactic(auto, unfolding(crate::specs::Visits::timed_call))]
-fn timed_call(alloc: Global, tree: &Value) -> Result<StopCall, ItemError>
+fn timed_call(alloc: Global, tree: &Value) -> Result<StopCall, TableError>
     ensures { Gives result (timed_call (view tree.now)) }
 {
     let call = required_row::<StopCallTable>(alloc, tree, names::MONITORED_CALL)?;
@@ -37,22 +37,22 @@ impl Table for VisitJourneyTable {
     ghost rows = { visit_journey };
 
     #[tactic(auto, unfolding(crate::specs::Visits::visit_journey))]
-    fn read_rows(alloc: Global, tree: &Value) -> Result<VisitJourney, ItemError> {
-        let mut rows = JourneyRows::new();
-        rows.line_ref = row::<NameRule>(alloc, tree, names::LINE_REF)?;
-        rows.direction_ref = row::<NameRule>(alloc, tree, names::DIRECTION_REF)?;
-        rows.journey_ref = journey_ref(alloc, tree)?;
-        rows.published_line_name = row::<TextRule>(alloc, tree, names::PUBLISHED_LINE_NAME)?;
-        rows.operator_ref = row::<NameRule>(alloc, tree, names::OPERATOR_REF)?;
-        rows.destination_ref = row::<NameRule>(alloc, tree, names::DESTINATION_REF)?;
-        rows.destination_name = row::<TextRule>(alloc, tree, names::DESTINATION_NAME)?;
-        rows.vehicle_ref = row::<NameRule>(alloc, tree, names::VEHICLE_REF)?;
-        rows.monitored = row::<FlagRule>(alloc, tree, names::MONITORED)?;
-        rows.occupancy = row::<TextRule>(alloc, tree, names::OCCUPANCY)?;
-        rows.delay = row::<SpanRule>(alloc, tree, names::DELAY)?;
+    fn read_rows(alloc: Global, tree: &Value) -> Result<VisitJourney, TableError> {
+        let mut fields = JourneyFields::new();
+        fields.line_ref = row::<NameRule>(alloc, tree, names::LINE_REF)?;
+        fields.direction_ref = row::<NameRule>(alloc, tree, names::DIRECTION_REF)?;
+        fields.journey_ref = journey_ref(alloc, tree)?;
+        fields.published_line_name = row::<TextRule>(alloc, tree, names::PUBLISHED_LINE_NAME)?;
+        fields.operator_ref = row::<NameRule>(alloc, tree, names::OPERATOR_REF)?;
+        fields.destination_ref = row::<NameRule>(alloc, tree, names::DESTINATION_REF)?;
+        fields.destination_name = row::<TextRule>(alloc, tree, names::DESTINATION_NAME)?;
+        fields.vehicle_ref = row::<NameRule>(alloc, tree, names::VEHICLE_REF)?;
+        fields.monitored = row::<FlagRule>(alloc, tree, names::MONITORED)?;
+        fields.occupancy = row::<TextRule>(alloc, tree, names::OCCUPANCY)?;
+        fields.delay = row::<SpanRule>(alloc, tree, names::DELAY)?;
         let location = row::<LocationRule>(alloc, tree, names::VEHICLE_LOCATION)?;
         let call = timed_call(alloc, tree)?;
-        Ok(rows.visit_journey(location, call))
+        Ok(fields.visit_journey(location, call))
     }
 }
 
@@ -65,7 +65,7 @@ impl Table for VisitTable {
     ghost rows = { visit };
 
     #[tactic(auto, unfolding(crate::specs::Visits::visit))]
-    fn read_rows(alloc: Global, tree: &Value) -> Result<Visit, ItemError> {
+    fn read_rows(alloc: Global, tree: &Value) -> Result<Visit, TableError> {
         Ok(Visit {
             recorded_at_time: row::<MomentRule>(alloc, tree, names::RECORDED_AT_TIME)?,
             item_identifier: required_row::<NameRule>(alloc, tree, names::ITEM_IDENTIFIER)?,

@@ -3,17 +3,17 @@
 ghost use Rattle.std.specs.Prelude.{◌≡◌, Option, Some, None, IfOk, OnOk, option_map, option_and_then};
 ghost use Rattle.serde_json.specs.Data.{Data};
 ghost use Rattle.serde_json.specs.View.{view, members_view};
-ghost use Rattle.siri_items.specs.Writing.{put_row};
+ghost use Rattle.siri_tables.specs.Writing.{put_row};
 ghost use Rattle.siri_items.specs.declared.names.TheConstants.{FRAMED_VEHICLE_JOURNEY_REF, DATED_VEHICLE_JOURNEY_REF};
 ghost use Rattle.siri_items.specs.Written.{written_call, call_writing, written_location, written_framed_ref, written_dated, written_calls};
 
 use crate::names;
 use crate::read_call::{LocationRule, StopCallTable};
-use crate::rules::{DecimalRule, FlagRule, MomentRule, NameRule, NumberRule, TextRule};
-use crate::writing::{Members, Written};
 use serde_json::Value;
 use siri_base::{List, Name, OutOfMemory};
 use siri_records::{StopCall, VehicleLocation};
+use siri_tables::rules::{DecimalRule, FlagRule, MomentRule, NameRule, NumberRule, TextRule};
+use siri_tables::writing::{Members, Written};
 use std::alloc::Global;
 
 #[tactic(auto, unfolding(crate::specs::Written::written_call))]

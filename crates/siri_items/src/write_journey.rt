@@ -7,12 +7,12 @@ ghost use Rattle.siri_items.specs.Written.{written_visit_journey, written_visit,
 
 use crate::names;
 use crate::read_call::{LocationRule, StopCallTable};
-use crate::rules::{FlagRule, MomentRule, NameRule, SpanRule, TextRule};
 use crate::write_call::{calls_value, put_journey_ref};
-use crate::writing::{Members, Written, write_some};
 use serde_json::Value;
 use siri_base::OutOfMemory;
 use siri_records::{Journey, Vehicle, VehicleJourney, Visit, VisitJourney};
+use siri_tables::rules::{FlagRule, MomentRule, NameRule, SpanRule, TextRule};
+use siri_tables::writing::{Members, Written, write_some};
 use std::alloc::Global;
 
 #[tactic(auto, unfolding(crate::specs::Written::written_visit_journey))]

@@ -5,15 +5,16 @@ ghost use Rattle.serde_json.specs.Data.{Data};
 ghost use Rattle.serde_json.specs.View.{view};
 ghost use Rattle.std.specs.Prelude.{map, drop, ◌++◌};
 ghost use Rattle.std.specs.List.{filter_map};
-ghost use Rattle.siri_items.specs.Writing.{array_unless_empty, written_list};
-ghost use Rattle.siri_items.specs.Written.{written_period, written_name, written_names, written_network, written_networks, written_affects, written_situation};
+ghost use Rattle.siri_tables.specs.Writing.{array_unless_empty, written_list};
+ghost use Rattle.siri_tables.specs.Writing.{written_name};
+ghost use Rattle.siri_items.specs.Written.{written_period, written_names, written_network, written_networks, written_affects, written_situation};
 
 use crate::names;
-use crate::rules::{MomentRule, NameRule, TextRule};
-use crate::writing::{Members, Written, array_unless_empty};
 use serde_json::Value;
 use siri_base::{List, Name, OutOfMemory};
 use siri_records::{Period, Situation};
+use siri_tables::rules::{MomentRule, NameRule, TextRule};
+use siri_tables::writing::{Members, Written, array_unless_empty};
 use std::alloc::Global;
 
 struct PeriodRule;
@@ -32,7 +33,7 @@ impl Written for PeriodRule {
     }
 }
 
-#[tactic(auto, unfolding(crate::specs::Written::written_name))]
+#[tactic(auto, unfolding(siri_tables::specs::Writing::written_name))]
 fn name_value(alloc: Global, inner: &str, name: &Name) -> Result<Value, OutOfMemory>
     ensures { IfOk result (λ value. Some (view value) ≡ written_name inner.now name.now) }
 {
@@ -52,7 +53,7 @@ fn name_list(alloc: Global, inner: &str, names: &[Name]) -> Result<Vec<Value>, O
 }
 
 /// Names in a list inside an object, which is left out where there are none.
-#[tactic(auto, unfolding(crate::specs::Written::written_names, crate::specs::Writing::written_list))]
+#[tactic(auto, unfolding(crate::specs::Written::written_names, siri_tables::specs::Writing::written_list))]
 fn names_value(
     alloc: Global,
     key: &str,

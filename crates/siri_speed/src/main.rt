@@ -15,9 +15,10 @@
 #![tactic(auto)]
 
 use siri_base::OutOfMemory;
-use siri_items::{ItemError, read_item, write_item};
+use siri_items::{read_item, write_item};
 use siri_json::{Path, TreeError, Value, entry_at, entry_list, member, read_tree, write_tree};
 use siri_records::{Item, Service};
+use siri_tables::TableError;
 use std::alloc::{AllocError, AllocFailed, Global};
 use std::env;
 use std::io::Read;
@@ -57,8 +58,8 @@ impl From<TreeError> for Stopped {
     }
 }
 
-impl From<ItemError> for Stopped {
-    fn from(_: ItemError) -> Self {
+impl From<TableError> for Stopped {
+    fn from(_: TableError) -> Self {
         Stopped
     }
 }

@@ -7,7 +7,7 @@ use Rattle.std.specs.List.{filter_map, cons_option}
 use Rattle.serde_json.specs.Data.{Data, Members, no_members, member, put}
 use Rattle.serde_json.specs.View.{items_of}
 use Rattle.serde_json.specs.Written.{has_float, items_have_float, members_have_float}
-use Rattle.siri_items.specs.Writing.{Row, put_row, with_rows, row_object, object_unless_empty, array_unless_empty, written_list, written_text, written_flag, written_number, written_moment, written_span, written_decimal}
+use Rattle.siri_tables.specs.Writing.{Row, put_row, with_rows, row_object, object_unless_empty, array_unless_empty, written_list, written_text, written_flag, written_number, written_moment, written_span, written_decimal}
 
 -- what is written, where it isn't left out, holds no float
 abbrev pub HasNoFloat : Option Data → Type 0

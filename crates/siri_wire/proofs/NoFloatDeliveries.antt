@@ -7,7 +7,7 @@ use Rattle.siri_records.specs.declared.key.Key.{Key}
 use Rattle.siri_records.specs.declared.key.Key.TheVariants as keys
 use Rattle.siri_messages.specs.declared.deliveries.FunctionalDelivery.{FunctionalDelivery}
 use Rattle.siri_messages.specs.declared.deliveries.ServiceDelivery.{ServiceDelivery}
-use Rattle.siri_items.specs.Writing.{Row, written_list}
+use Rattle.siri_tables.specs.Writing.{Row, written_list}
 use Rattle.siri_wire.proofs.NoFloat.{HasNoFloat, ◌⊗◌, HaveNoFloat, object_no_float, object_unless_empty_no_float, some_no_float, some_text, some_number, some_moment, list_no_float, single_no_float}
 use Rattle.siri_items.specs.Written.{written_item}
 use Rattle.siri_wire.specs.WrittenValues.{written_error}

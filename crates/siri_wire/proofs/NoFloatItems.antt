@@ -14,8 +14,8 @@ use Rattle.siri_records.specs.declared.situation.Period.{Period}
 use Rattle.siri_records.specs.declared.item.Item.{Item}
 use Rattle.siri_records.specs.declared.item.Item.TheVariants as items
 use Rattle.siri_items.specs.declared.names.TheConstants.{ESTIMATED_CALL, RECORDED_CALL, AFFECTED_LINE, AFFECTED_NETWORK, AFFECTED_OPERATOR, AFFECTED_STOP_POINT, LINE_REF, NETWORKS, OPERATORS, OPERATOR_REF, START_TIME, END_TIME, STOP_POINTS, STOP_POINT_REF}
-use Rattle.siri_items.specs.Writing.{Row, written_list, written_text, written_moment, array_unless_empty}
-use Rattle.siri_items.specs.Written.{rows_of_call, written_call, call_writing, rows_of_location, written_location, rows_of_framed_ref, written_framed_ref, written_dated, rows_of_visit_journey, written_visit_journey, rows_of_visit, written_visit, rows_of_vehicle_journey, written_vehicle_journey, rows_of_vehicle, written_vehicle, written_calls, rows_of_journey, written_journey, written_period, written_name, written_names, written_network, written_networks, written_affects, rows_of_situation, written_situation, written_item}
+use Rattle.siri_tables.specs.Writing.{Row, written_list, written_text, written_moment, array_unless_empty, written_name}
+use Rattle.siri_items.specs.Written.{rows_of_call, written_call, call_writing, rows_of_location, written_location, rows_of_framed_ref, written_framed_ref, written_dated, rows_of_visit_journey, written_visit_journey, rows_of_visit, written_visit, rows_of_vehicle_journey, written_vehicle_journey, rows_of_vehicle, written_vehicle, written_calls, rows_of_journey, written_journey, written_period, written_names, written_network, written_networks, written_affects, rows_of_situation, written_situation, written_item}
 use Rattle.siri_wire.proofs.NoFloat.{HasNoFloat, ◌⊗◌, object_no_float, object_unless_empty_no_float, some_no_float, some_text, some_flag, some_number, some_moment, some_span, some_decimal, list_no_float, single_no_float}
 
 call_no_float : (c : StopCall) → has_float (written_call c) ≡ false

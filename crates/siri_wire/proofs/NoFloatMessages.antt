@@ -4,7 +4,7 @@ use Rattle.serde_json.specs.Written.{has_float}
 use Rattle.siri_messages.specs.declared.message.Message.{Message}
 use Rattle.siri_messages.specs.declared.message.Message.TheVariants as messages
 use Rattle.siri_messages.specs.Kinds.{kind_of}
-use Rattle.siri_items.specs.Writing.{Row, row_object}
+use Rattle.siri_tables.specs.Writing.{Row, row_object}
 use Rattle.siri_wire.specs.declared.names.TheConstants.{SIRI}
 use Rattle.siri_wire.specs.Canonical.{written_body, written_message}
 use Rattle.siri_wire.proofs.NoFloat.{◌⊗◌, object_no_float}

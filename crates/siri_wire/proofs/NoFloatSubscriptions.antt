@@ -10,7 +10,7 @@ use Rattle.siri_messages.specs.declared.subscriptions.ResponseStatus.{ResponseSt
 use Rattle.siri_messages.specs.declared.terminations.TerminateSubscriptionRequest.{TerminateSubscriptionRequest}
 use Rattle.siri_messages.specs.declared.terminations.TerminateSubscriptionResponse.{TerminateSubscriptionResponse}
 use Rattle.siri_messages.specs.declared.terminations.TerminationResponseStatus.{TerminationResponseStatus}
-use Rattle.siri_items.specs.Writing.{Row, written_text, written_span}
+use Rattle.siri_tables.specs.Writing.{Row, written_text, written_span}
 use Rattle.siri_wire.proofs.NoFloat.{HasNoFloat, ◌⊗◌, object_no_float, object_unless_empty_no_float, some_no_float, some_text, some_moment, some_span, list_no_float}
 use Rattle.siri_wire.specs.WrittenValues.{written_error}
 use Rattle.siri_wire.specs.WrittenSubscriptions.{written_method, rows_of_subscription, written_subscription, written_stop_subscription, written_timetable_subscription, written_vehicle_subscription, written_situation_subscription, written_context, rows_of_subscription_request, written_subscription_request, rows_of_response_status, written_response_status, rows_of_subscription_response, written_subscription_response, rows_of_termination, written_termination, rows_of_termination_status, written_termination_status, rows_of_termination_response, written_termination_response}

@@ -8,7 +8,7 @@ use Rattle.siri_topic.specs.declared.topics.LineDirection.{LineDirection}
 use Rattle.siri_topic.specs.declared.topics.VehicleTopic.{VehicleTopic}
 use Rattle.siri_topic.specs.declared.topics.SituationTopic.{SituationTopic}
 use Rattle.siri_topic.specs.declared.topics.Topic.TheVariants as topics
-use Rattle.siri_items.specs.Writing.{Row, written_list}
+use Rattle.siri_tables.specs.Writing.{Row, written_list}
 use Rattle.siri_wire.proofs.NoFloat.{HasNoFloat, ◌⊗◌, object_no_float, object_unless_empty_no_float, some_text, some_number, some_moment, some_span, list_no_float}
 use Rattle.siri_wire.specs.WrittenTopics.{rows_of_stop_topic, written_stop_topic, rows_of_line_direction, written_line_direction, written_lines, rows_of_timetable_topic, written_timetable_topic, rows_of_vehicle_topic, written_vehicle_topic, rows_of_situation_topic, written_situation_topic, written_topic, topic_writing}
 use Rattle.siri_wire.specs.declared.names.TheConstants.{LINE_DIRECTION}

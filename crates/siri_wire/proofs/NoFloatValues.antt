@@ -1,7 +1,7 @@
 -- What several messages write holds no float.
 use Rattle.std.proofs.Common.{ℕ, List, [], ◌∷◌, Bool, true, false, Some, refl}
 use Rattle.siri_messages.specs.declared.supplies.Mark.{Mark}
-use Rattle.siri_items.specs.Writing.{Row, written_text, row_object}
+use Rattle.siri_tables.specs.Writing.{Row, written_text, row_object}
 use Rattle.siri_wire.proofs.NoFloat.{HasNoFloat, ◌⊗◌, object_no_float}
 use Rattle.siri_wire.specs.WrittenValues.{written_where_true, written_error, rows_of_mark, written_mark}
 use Rattle.siri_wire.specs.declared.names.TheConstants.{ERROR_TEXT, OTHER_ERROR}

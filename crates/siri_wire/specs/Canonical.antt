@@ -5,7 +5,7 @@ use Rattle.serde_json.specs.Written.{compact_text}
 use Rattle.siri_messages.specs.declared.message.Message.{Message}
 use Rattle.siri_messages.specs.declared.message.Message.TheVariants as message
 use Rattle.siri_messages.specs.Kinds.{kind_of}
-use Rattle.siri_items.specs.Writing.{row_object}
+use Rattle.siri_tables.specs.Writing.{row_object}
 use Rattle.siri_wire.specs.declared.names.TheConstants.{SIRI}
 use Rattle.siri_wire.specs.WrittenRequests.{written_service_request, written_data_ready, written_ready_acknowledgement, written_supply, written_received, written_check_status, written_status_response, written_heartbeat}
 use Rattle.siri_wire.specs.WrittenDeliveries.{written_service_delivery}

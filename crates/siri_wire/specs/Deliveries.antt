@@ -5,8 +5,8 @@ use Rattle.siri_records.specs.declared.item.Item.{Item}
 use Rattle.siri_records.specs.declared.item.Item.TheVariants as item
 use Rattle.siri_messages.specs.declared.deliveries.FunctionalDelivery.{FunctionalDelivery}
 use Rattle.siri_messages.specs.declared.deliveries.ServiceDelivery.{ServiceDelivery}
-use Rattle.siri_items.specs.Refusals.{Refusal, ◌>>=◌}
-use Rattle.siri_items.specs.Rules.{name, moment, flag, table, row, list, list_inside}
+use Rattle.siri_tables.specs.Refusals.{Refusal, ◌>>=◌}
+use Rattle.siri_tables.specs.Rules.{name, moment, flag, table, row, list, list_inside}
 use Rattle.siri_items.specs.Visits.{visit}
 use Rattle.siri_items.specs.Vehicles.{vehicle}
 use Rattle.siri_items.specs.Situations.{situation}

@@ -7,10 +7,10 @@ use Rattle.siri_json.specs.Tree.{tree_of}
 use Rattle.siri_json.specs.Values.{Found, found, absent, wrong, member_of, object_in}
 use Rattle.siri_messages.specs.declared.message.Message.{Message}
 use Rattle.siri_messages.specs.declared.message.Message.TheVariants as message
-use Rattle.siri_items.specs.Refusals.{Refusal, ◌>>=◌, refused}
-use Rattle.siri_items.specs.Rules.{table, required_row}
-use Rattle.siri_items.specs.declared.refusal.ItemError.{ItemError}
-use Rattle.siri_items.specs.declared.refusal.ItemError.TheVariants as items
+use Rattle.siri_tables.specs.Refusals.{Refusal, ◌>>=◌, refused}
+use Rattle.siri_tables.specs.Rules.{table, required_row}
+use Rattle.siri_tables.specs.declared.refusal.TableError.{TableError}
+use Rattle.siri_tables.specs.declared.refusal.TableError.TheVariants as items
 use Rattle.siri_wire.specs.Requests.{service_request}
 use Rattle.siri_wire.specs.Deliveries.{service_delivery}
 use Rattle.siri_wire.specs.Subscriptions.{subscription_request, subscription_response}
@@ -126,7 +126,7 @@ message_of document = if nat_lt 8388608 (length document) then refused TooLong e
 -- ---- what a call gives
 
 -- the same refusal, or no memory
-abbrev pub decode_error : ItemError → DecodeError
+abbrev pub decode_error : TableError → DecodeError
 decode_error items.OutOfMemory = errors.OutOfMemory
 decode_error (items.Refused path reason) = errors.Refused (record { path = path; reason = reason })
 

@@ -2,8 +2,8 @@
 -- Other content counts as absent.
 use Rattle.std.specs.Prelude.{ℕ, List, Option, Result}
 use Rattle.serde_json.specs.Data.{Data}
-use Rattle.siri_items.specs.Refusals.{Refusal}
-use Rattle.siri_items.specs.Rules.{text, row, inside}
+use Rattle.siri_tables.specs.Refusals.{Refusal}
+use Rattle.siri_tables.specs.Rules.{text, row, inside}
 use Rattle.siri_wire.specs.declared.names.TheConstants.{ERROR_CONDITION, OTHER_ERROR, ERROR_TEXT}
 
 unfoldable pub other_error : Data → Result (Option (List ℕ)) Refusal

@@ -7,8 +7,8 @@ use Rattle.siri_json.specs.declared.path.Step.TheVariants.{Member}
 use Rattle.siri_records.specs.declared.item.Item.{Item}
 use Rattle.siri_records.specs.declared.item.Item.TheVariants as item
 use Rattle.siri_records.specs.declared.journey.Journey.{Journey}
-use Rattle.siri_items.specs.Refusals.{Refusal, ◌>>=◌, refused, below}
-use Rattle.siri_items.specs.Rules.{moment, table, row, list_of, or_empty}
+use Rattle.siri_tables.specs.Refusals.{Refusal, ◌>>=◌, refused, below}
+use Rattle.siri_tables.specs.Rules.{moment, table, row, list_of, or_empty}
 use Rattle.siri_items.specs.Journeys.{journey}
 use Rattle.siri_items.specs.declared.names.TheConstants.{RECORDED_AT_TIME}
 use Rattle.siri_wire.specs.declared.names.TheConstants.{ESTIMATED_VEHICLE_JOURNEY, ESTIMATED_JOURNEY_VERSION_FRAME}

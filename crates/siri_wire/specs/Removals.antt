@@ -3,8 +3,8 @@ use Rattle.std.specs.Prelude.{Result, Ok}
 use Rattle.serde_json.specs.Data.{Data}
 use Rattle.siri_records.specs.declared.key.Key.{Key}
 use Rattle.siri_records.specs.declared.key.Key.TheVariants as key
-use Rattle.siri_items.specs.Refusals.{Refusal, ◌>>=◌}
-use Rattle.siri_items.specs.Rules.{name, row, required_row}
+use Rattle.siri_tables.specs.Refusals.{Refusal, ◌>>=◌}
+use Rattle.siri_tables.specs.Rules.{name, row, required_row}
 use Rattle.siri_items.specs.declared.names.TheConstants.{MONITORING_REF, LINE_REF, DIRECTION_REF, DATA_FRAME_REF, DATED_VEHICLE_JOURNEY_REF, PARTICIPANT_REF, SITUATION_NUMBER}
 use Rattle.siri_wire.specs.declared.names.TheConstants.{ITEM_REF}
 

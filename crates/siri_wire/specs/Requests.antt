@@ -3,8 +3,8 @@ use Rattle.std.specs.Prelude.{length, ◌==◌, ◌&&◌, Bool, if◌then◌else
 use Rattle.serde_json.specs.Data.{Data}
 use Rattle.siri_base.specs.declared.reason.Reason.TheVariants.{NotCarried}
 use Rattle.siri_messages.specs.declared.requests.ServiceRequest.{ServiceRequest}
-use Rattle.siri_items.specs.Refusals.{Refusal, ◌>>=◌, refused}
-use Rattle.siri_items.specs.Rules.{name, moment, table, row, list}
+use Rattle.siri_tables.specs.Refusals.{Refusal, ◌>>=◌, refused}
+use Rattle.siri_tables.specs.Rules.{name, moment, table, row, list}
 use Rattle.siri_wire.specs.declared.names.TheConstants.{REQUEST_TIMESTAMP, REQUESTOR_REF, MESSAGE_IDENTIFIER, STOP_MONITORING_REQUEST, ESTIMATED_TIMETABLE_REQUEST, VEHICLE_MONITORING_REQUEST, SITUATION_EXCHANGE_REQUEST}
 use Rattle.siri_wire.specs.Topics.{stop_topic, timetable_topic, vehicle_topic, situation_topic}
 

@@ -4,8 +4,8 @@ use Rattle.serde_json.specs.Data.{Data}
 use Rattle.siri_messages.specs.declared.statuses.CheckStatusRequest.{CheckStatusRequest}
 use Rattle.siri_messages.specs.declared.statuses.CheckStatusResponse.{CheckStatusResponse}
 use Rattle.siri_messages.specs.declared.statuses.HeartbeatNotification.{HeartbeatNotification}
-use Rattle.siri_items.specs.Refusals.{Refusal, ◌>>=◌}
-use Rattle.siri_items.specs.Rules.{name, moment, flag, row}
+use Rattle.siri_tables.specs.Refusals.{Refusal, ◌>>=◌}
+use Rattle.siri_tables.specs.Rules.{name, moment, flag, row}
 use Rattle.siri_wire.specs.declared.names.TheConstants.{REQUEST_TIMESTAMP, RESPONSE_TIMESTAMP, REQUESTOR_REF, MESSAGE_IDENTIFIER, PRODUCER_REF, REQUEST_MESSAGE_REF, STATUS, SERVICE_STARTED_TIME}
 
 -- CheckStatusRequest: a question whether the producer is there

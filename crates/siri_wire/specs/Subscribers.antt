@@ -2,8 +2,8 @@
 use Rattle.std.specs.Prelude.{ℕ, List, [], ◌∷◌, Option, Some, None, Result, Ok}
 use Rattle.serde_json.specs.Data.{Data}
 use Rattle.siri_json.specs.declared.path.Step.TheVariants.{Member}
-use Rattle.siri_items.specs.Refusals.{Refusal, ◌>>=◌}
-use Rattle.siri_items.specs.Rules.{name, required, row}
+use Rattle.siri_tables.specs.Refusals.{Refusal, ◌>>=◌}
+use Rattle.siri_tables.specs.Rules.{name, required, row}
 use Rattle.siri_wire.specs.declared.names.TheConstants.{SUBSCRIBER_REF}
 
 -- the one that is named, otherwise the requestor, which has to be there then

@@ -9,8 +9,8 @@ use Rattle.siri_topic.specs.declared.topics.Topic.{Topic}
 use Rattle.siri_messages.specs.declared.subscriptions.ResponseStatus.{ResponseStatus}
 use Rattle.siri_messages.specs.declared.subscriptions.SubscriptionRequest.{SubscriptionRequest}
 use Rattle.siri_messages.specs.declared.subscriptions.SubscriptionResponse.{SubscriptionResponse}
-use Rattle.siri_items.specs.Refusals.{Refusal, ◌>>=◌, refused}
-use Rattle.siri_items.specs.Rules.{name, text, moment, non_negative_span, number, flag, table, row, required_row, inside, list}
+use Rattle.siri_tables.specs.Refusals.{Refusal, ◌>>=◌, refused}
+use Rattle.siri_tables.specs.Rules.{name, text, moment, non_negative_span, number, flag, table, row, required_row, inside, list}
 use Rattle.siri_wire.specs.declared.names.TheConstants.{REQUEST_TIMESTAMP, REQUESTOR_REF, MESSAGE_IDENTIFIER, CONSUMER_ADDRESS, SUBSCRIPTION_CONTEXT, HEARTBEAT_INTERVAL, STOP_MONITORING_SUBSCRIPTION_REQUEST, ESTIMATED_TIMETABLE_SUBSCRIPTION_REQUEST, VEHICLE_MONITORING_SUBSCRIPTION_REQUEST, SITUATION_EXCHANGE_SUBSCRIPTION_REQUEST, SUBSCRIPTION_IDENTIFIER, INITIAL_TERMINATION_TIME, STOP_MONITORING_REQUEST, ESTIMATED_TIMETABLE_REQUEST, VEHICLE_MONITORING_REQUEST, SITUATION_EXCHANGE_REQUEST, INCREMENTAL_UPDATES, CHANGE_BEFORE_UPDATES, EXTENSIONS, DELIVERY_METHOD, RESPONSE_TIMESTAMP, REQUEST_MESSAGE_REF, RESPONSE_STATUS, SUBSCRIBER_REF, SUBSCRIPTION_REF, STATUS, VALID_UNTIL}
 use Rattle.siri_wire.specs.declared.read_subscriptions.RequestedSubscriptions.{RequestedSubscriptions}
 use Rattle.siri_wire.specs.Errors.{error_condition}

@@ -10,8 +10,8 @@ use Rattle.siri_messages.specs.declared.supplies.DataReadyNotification.{DataRead
 use Rattle.siri_messages.specs.declared.supplies.DataReadyAcknowledgement.{DataReadyAcknowledgement}
 use Rattle.siri_messages.specs.declared.supplies.DataSupplyRequest.{DataSupplyRequest}
 use Rattle.siri_messages.specs.declared.supplies.DataReceivedAcknowledgement.{DataReceivedAcknowledgement}
-use Rattle.siri_items.specs.Refusals.{Refusal, ◌>>=◌}
-use Rattle.siri_items.specs.Rules.{name, moment, number, flag, table, unless_wrong, maybe, row, required_row}
+use Rattle.siri_tables.specs.Refusals.{Refusal, ◌>>=◌}
+use Rattle.siri_tables.specs.Rules.{name, moment, number, flag, table, unless_wrong, maybe, row, required_row}
 use Rattle.siri_wire.specs.Errors.{error_condition}
 use Rattle.siri_wire.specs.declared.names.TheConstants.{SUBSCRIPTION_REF, NUMBER, START, ROUND, PART, REQUEST_TIMESTAMP, RESPONSE_TIMESTAMP, PRODUCER_REF, CONSUMER_REF, REQUEST_MESSAGE_REF, STATUS, ALL_DATA, EXTENSIONS}
 

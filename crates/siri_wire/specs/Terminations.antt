@@ -4,8 +4,8 @@ use Rattle.serde_json.specs.Data.{Data}
 use Rattle.siri_messages.specs.declared.terminations.TerminateSubscriptionRequest.{TerminateSubscriptionRequest}
 use Rattle.siri_messages.specs.declared.terminations.TerminateSubscriptionResponse.{TerminateSubscriptionResponse}
 use Rattle.siri_messages.specs.declared.terminations.TerminationResponseStatus.{TerminationResponseStatus}
-use Rattle.siri_items.specs.Refusals.{Refusal, ◌>>=◌}
-use Rattle.siri_items.specs.Rules.{name, moment, number, flag, table, row, required_row, list, nonempty_list}
+use Rattle.siri_tables.specs.Refusals.{Refusal, ◌>>=◌}
+use Rattle.siri_tables.specs.Rules.{name, moment, number, flag, table, row, required_row, list, nonempty_list}
 use Rattle.siri_wire.specs.declared.names.TheConstants.{REQUEST_TIMESTAMP, REQUESTOR_REF, MESSAGE_IDENTIFIER, SUBSCRIPTION_REF, RESPONSE_TIMESTAMP, REQUEST_MESSAGE_REF, TERMINATION_RESPONSE_STATUS, SUBSCRIBER_REF, STATUS}
 use Rattle.siri_wire.specs.Errors.{error_condition}
 use Rattle.siri_wire.specs.Subscribers.{subscriber_or}

@@ -8,8 +8,8 @@ use Rattle.siri_topic.specs.declared.topics.StopTopic.{StopTopic}
 use Rattle.siri_topic.specs.declared.topics.Topic.{Topic}
 use Rattle.siri_topic.specs.declared.topics.Topic.TheVariants as topics
 use Rattle.siri_items.specs.declared.names.TheConstants.{MONITORING_REF, LINE_REF, DIRECTION_REF, OPERATOR_REF, DESTINATION_REF, START_TIME, VEHICLE_REF, STOP_POINT_REF}
-use Rattle.siri_items.specs.Refusals.{Refusal, ◌>>=◌}
-use Rattle.siri_items.specs.Rules.{name, moment, non_negative_span, number, table, row, required_row, list, list_inside}
+use Rattle.siri_tables.specs.Refusals.{Refusal, ◌>>=◌}
+use Rattle.siri_tables.specs.Rules.{name, moment, non_negative_span, number, table, row, required_row, list, list_inside}
 use Rattle.siri_wire.specs.declared.names.TheConstants.{PREVIEW_INTERVAL, MAXIMUM_STOP_VISITS, LINES, LINE_DIRECTION}
 
 -- StopMonitoringRequest: the visits at a monitoring point (EN 15531-3)

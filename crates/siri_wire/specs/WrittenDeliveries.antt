@@ -9,7 +9,7 @@ use Rattle.siri_records.specs.declared.key.Key.TheVariants as key
 use Rattle.siri_messages.specs.declared.deliveries.FunctionalDelivery.{FunctionalDelivery}
 use Rattle.siri_messages.specs.declared.deliveries.ServiceDelivery.{ServiceDelivery}
 use Rattle.siri_items.specs.declared.names.TheConstants.{DATA_FRAME_REF, DATED_VEHICLE_JOURNEY_REF, DIRECTION_REF, LINE_REF, MONITORING_REF, PARTICIPANT_REF, RECORDED_AT_TIME, SITUATION_NUMBER}
-use Rattle.siri_items.specs.Writing.{Row, row_object, with_rows, object_unless_empty, array_unless_empty, written_list, written_text, written_flag, written_number, written_moment}
+use Rattle.siri_tables.specs.Writing.{Row, row_object, with_rows, object_unless_empty, array_unless_empty, written_list, written_text, written_flag, written_number, written_moment}
 use Rattle.siri_items.specs.Written.{written_item}
 use Rattle.siri_wire.specs.declared.names.TheConstants.{ERROR_CONDITION, ESTIMATED_JOURNEY_VERSION_FRAME, ESTIMATED_TIMETABLE_DELIVERY, ESTIMATED_VEHICLE_JOURNEY, EXTENSIONS, ITEM_REF, MONITORED_STOP_VISIT, MONITORED_STOP_VISIT_CANCELLATION, MORE_DATA, PART, PRODUCER_REF, PT_SITUATION_ELEMENT, REMOVED, REQUEST_MESSAGE_REF, RESPONSE_MESSAGE_IDENTIFIER, RESPONSE_TIMESTAMP, ROUND, SITUATIONS, SITUATION_EXCHANGE_DELIVERY, START, STATUS, STOP_MONITORING_DELIVERY, SUBSCRIBER_REF, SUBSCRIPTION_REF, VEHICLE_ACTIVITY, VEHICLE_ACTIVITY_CANCELLATION, VEHICLE_MONITORING_DELIVERY}
 use Rattle.siri_wire.specs.WrittenValues.{written_error, written_where_true}

@@ -10,7 +10,7 @@ use Rattle.siri_messages.specs.declared.supplies.DataReceivedAcknowledgement.{Da
 use Rattle.siri_messages.specs.declared.statuses.CheckStatusRequest.{CheckStatusRequest}
 use Rattle.siri_messages.specs.declared.statuses.CheckStatusResponse.{CheckStatusResponse}
 use Rattle.siri_messages.specs.declared.statuses.HeartbeatNotification.{HeartbeatNotification}
-use Rattle.siri_items.specs.Writing.{Row, row_object, written_list, written_text, written_flag, written_moment}
+use Rattle.siri_tables.specs.Writing.{Row, row_object, written_list, written_text, written_flag, written_moment}
 use Rattle.siri_wire.specs.declared.names.TheConstants.{ALL_DATA, CONSUMER_REF, ERROR_CONDITION, ESTIMATED_TIMETABLE_REQUEST, EXTENSIONS, MESSAGE_IDENTIFIER, PRODUCER_REF, REQUESTOR_REF, REQUEST_MESSAGE_REF, REQUEST_TIMESTAMP, RESPONSE_TIMESTAMP, SERVICE_STARTED_TIME, SITUATION_EXCHANGE_REQUEST, STATUS, STOP_MONITORING_REQUEST, VEHICLE_MONITORING_REQUEST}
 use Rattle.siri_wire.specs.WrittenValues.{written_error, written_mark, written_where_true}
 use Rattle.siri_wire.specs.WrittenTopics.{topic_writing}

@@ -9,7 +9,7 @@ use Rattle.siri_topic.specs.declared.topics.LineDirection.{LineDirection}
 use Rattle.siri_topic.specs.declared.topics.VehicleTopic.{VehicleTopic}
 use Rattle.siri_topic.specs.declared.topics.SituationTopic.{SituationTopic}
 use Rattle.siri_items.specs.declared.names.TheConstants.{DESTINATION_REF, DIRECTION_REF, LINE_REF, MONITORING_REF, OPERATOR_REF, START_TIME, STOP_POINT_REF, VEHICLE_REF}
-use Rattle.siri_items.specs.Writing.{Row, row_object, with_rows, object_unless_empty, written_list, written_text, written_number, written_moment, written_span}
+use Rattle.siri_tables.specs.Writing.{Row, row_object, with_rows, object_unless_empty, written_list, written_text, written_number, written_moment, written_span}
 use Rattle.siri_wire.specs.declared.names.TheConstants.{LINES, LINE_DIRECTION, MAXIMUM_STOP_VISITS, PREVIEW_INTERVAL}
 
 -- StopMonitoringRequest

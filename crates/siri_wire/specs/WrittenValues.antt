@@ -3,7 +3,7 @@ use Rattle.std.specs.Prelude.{ℕ, List, [], ◌∷◌, Bool, true, false, Optio
 use Rattle.std.specs.Fmt.{decimal}
 use Rattle.serde_json.specs.Data.{Data, string}
 use Rattle.siri_messages.specs.declared.supplies.Mark.{Mark}
-use Rattle.siri_items.specs.Writing.{Row, row_object, written_text, written_flag, written_number}
+use Rattle.siri_tables.specs.Writing.{Row, row_object, written_text, written_flag, written_number}
 use Rattle.siri_wire.specs.declared.names.TheConstants.{ERROR_TEXT, NUMBER, OTHER_ERROR, PART, ROUND, START, SUBSCRIPTION_REF}
 
 -- a MessageIdentifier that is a number: a string of its digits

@@ -1,8 +1,9 @@
-// Documents, from their bytes on.
+//! Documents, from their bytes on.
+
 ghost use Rattle.std.specs.Prelude.{◌≡◌};
 ghost use Rattle.serde_json.specs.Data.{Data};
 ghost use Rattle.serde_json.specs.View.{view};
-ghost use Rattle.siri_items.specs.Refusals.{Gives};
+ghost use Rattle.siri_tables.specs.Refusals.{Gives};
 ghost use Rattle.siri_wire.specs.Documents.{message_at, siri, root, message_of, Decodes, decode_error};
 
 use crate::kinds::{Kind, only_held};
@@ -22,13 +23,14 @@ use crate::read_terminations::{
 };
 use serde_json::Value;
 use siri_base::Reason;
-use siri_items::ItemError;
-use siri_items::refusal::refuse;
-use siri_items::rows::required_row;
-use siri_items::rules::Table;
 use siri_json::{Path, TreeError, read_tree};
 use siri_messages::Message;
+use siri_tables::TableError;
+use siri_tables::refusal::refuse;
+use siri_tables::rows::required_row;
+use siri_tables::rules::Table;
 use std::alloc::Global;
+use thiserror::Error;
 
 /// Where a document is refused, and why.
 #[derive(Debug, Drop)]
@@ -39,26 +41,28 @@ pub struct Refusal {
 }
 
 /// Why a document gave no message.
-#[derive(Debug, Drop)]
+#[derive(Debug, Drop, Error)]
 pub enum DecodeError {
     /// The document is refused: the first refusal in the order of the tables, depth first.
+    #[error("the document is refused")]
     Refused(Refusal),
     /// There was no memory.
+    #[error("out of memory")]
     OutOfMemory,
 }
 
-impl From<ItemError> for DecodeError {
+impl From<TableError> for DecodeError {
     ghost from_gives = { λ error given. given ≡ decode_error error };
 
-    fn from(error: ItemError) -> Self {
+    fn from(error: TableError) -> Self {
         match error {
-            ItemError::Refused { path, reason } => DecodeError::Refused(Refusal { path, reason }),
-            ItemError::OutOfMemory => DecodeError::OutOfMemory,
+            TableError::Refused { path, reason } => DecodeError::Refused(Refusal { path, reason }),
+            TableError::OutOfMemory => DecodeError::OutOfMemory,
         }
     }
 }
 
-fn message_at(alloc: Global, tree: &Value, kind: Kind) -> Result<Message, ItemError>
+fn message_at(alloc: Global, tree: &Value, kind: Kind) -> Result<Message, TableError>
     ensures { Gives result (message_at kind (view tree.now)) }
 {
     let name = kind.name();
@@ -132,7 +136,7 @@ impl Table for SiriTable {
     ghost rows = { siri };
 
     #[tactic(auto, unfolding(crate::specs::Documents::siri))]
-    fn read_rows(alloc: Global, tree: &Value) -> Result<Message, ItemError> {
+    fn read_rows(alloc: Global, tree: &Value) -> Result<Message, TableError> {
         match only_held(tree) {
             Some(kind) => message_at(alloc, tree, kind),
             None => refuse(alloc, Reason::UnknownMessage),
@@ -141,7 +145,7 @@ impl Table for SiriTable {
 }
 
 #[tactic(auto, unfolding(crate::specs::Documents::root))]
-fn root(alloc: Global, tree: &Value) -> Result<Message, ItemError>
+fn root(alloc: Global, tree: &Value) -> Result<Message, TableError>
     ensures { Gives result (root (view tree.now)) }
 {
     match tree {
@@ -151,14 +155,14 @@ fn root(alloc: Global, tree: &Value) -> Result<Message, ItemError>
 }
 
 #[tactic(auto, unfolding(crate::specs::Documents::message_of))]
-fn message_of(alloc: Global, document: &[u8]) -> Result<Message, ItemError>
+fn message_of(alloc: Global, document: &[u8]) -> Result<Message, TableError>
     ensures { Gives result (message_of document.now) }
 {
     match read_tree(alloc, document) {
         Ok(tree) => root(alloc, &tree),
         Err(TreeError::TooLong) => refuse(alloc, Reason::TooLong),
         Err(TreeError::NotJson) => refuse(alloc, Reason::NotJson),
-        Err(TreeError::OutOfMemory) => Err(ItemError::OutOfMemory),
+        Err(TreeError::OutOfMemory) => Err(TableError::OutOfMemory),
     }
 }
 

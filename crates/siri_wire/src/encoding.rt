@@ -17,9 +17,9 @@ use crate::write_subscriptions::{
 };
 use serde_json::Value;
 use siri_base::OutOfMemory;
-use siri_items::writing::Members;
 use siri_json::write_tree;
 use siri_messages::Message;
+use siri_tables::writing::Members;
 use std::alloc::Global;
 
 #[tactic(auto, unfolding(crate::specs::Canonical::written_body))]

@@ -1,4 +1,5 @@
-// The kinds of messages, and which of them an object holds.
+//! The kinds of messages, and which of them an object holds.
+
 ghost use Rattle.std.specs.Prelude.{◌≡◌};
 ghost use Rattle.serde_json.specs.View.{view};
 ghost use Rattle.siri_wire.specs.Documents.{kinds, name_of, holds, only, held, only_held};

@@ -5,8 +5,15 @@
 //!   bytes <-siri_json::write_tree-- tree <-written--- Message      encode
 //! ```
 //!
-//! Each message is a table of rows (EN 15531-2); topics, functional deliveries, subscriptions and marks are tables
-//! inside them. The rules of rows and the tables of items are those of `siri_items`.
+//! Each message is a table (EN 15531-2); topics, functional deliveries, subscriptions and marks are tables inside them. The
+//! files `read_*` have the tables as they are read, `write_*` as they are written; the definition of each stands in `specs/`,
+//! row beside row. A document is refused at the first place in the order of the tables, depth first; what no table names
+//! is passed over.
+//!
+//! Stands on `siri_tables`, which has the rules of values and rows and the refusals, on `siri_items` for the tables of items,
+//! on `siri_messages`, `siri_topic` and `siri_records` for what is read and written, and on `siri_base`, `siri_time` and
+//! `siri_json`. It keeps no state, knows no clock and no connection, and reads and writes whole documents alone. What
+//! holds of documents stands in `siri_wire_laws`.
 #![tactic(auto)]
 
 mod document;

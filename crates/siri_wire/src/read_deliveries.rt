@@ -1,8 +1,9 @@
-// Reading deliveries of items.
+//! Reading deliveries of items.
+
 ghost use Rattle.std.specs.Prelude.{◌≡◌};
 ghost use Rattle.serde_json.specs.Data.{Data};
 ghost use Rattle.serde_json.specs.View.{view};
-ghost use Rattle.siri_items.specs.Refusals.{Gives};
+ghost use Rattle.siri_tables.specs.Refusals.{Gives};
 ghost use Rattle.siri_wire.specs.Deliveries.{visit_item, vehicle_item, situation_item, stop_monitoring_delivery, estimated_timetable_delivery, vehicle_monitoring_delivery, situation_exchange_delivery, service_delivery};
 
 use crate::names;
@@ -14,11 +15,12 @@ use crate::read_parts::{
 };
 use crate::read_removals::{VehicleCancellationTable, VisitCancellationTable};
 use serde_json::Value;
-use siri_items::rows::{list, list_inside, row};
-use siri_items::rules::{FlagRule, MomentRule, NameRule, Table};
-use siri_items::{ItemError, SituationTable, VehicleTable, VisitTable};
+use siri_items::{SituationTable, VehicleTable, VisitTable};
 use siri_messages::{FunctionalDelivery, ServiceDelivery};
 use siri_records::Item;
+use siri_tables::TableError;
+use siri_tables::rows::{list, list_inside, row};
+use siri_tables::rules::{FlagRule, MomentRule, NameRule, Table};
 use std::alloc::Global;
 
 const MOST_DELIVERIES: usize = 100;
@@ -31,7 +33,7 @@ impl Table for VisitItemTable {
     ghost rows = { visit_item };
 
     #[tactic(auto, unfolding(crate::specs::Deliveries::visit_item))]
-    fn read_rows(alloc: Global, tree: &Value) -> Result<Item, ItemError> {
+    fn read_rows(alloc: Global, tree: &Value) -> Result<Item, TableError> {
         Ok(Item::Visit(VisitTable::read_rows(alloc, tree)?))
     }
 }
@@ -44,7 +46,7 @@ impl Table for VehicleItemTable {
     ghost rows = { vehicle_item };
 
     #[tactic(auto, unfolding(crate::specs::Deliveries::vehicle_item))]
-    fn read_rows(alloc: Global, tree: &Value) -> Result<Item, ItemError> {
+    fn read_rows(alloc: Global, tree: &Value) -> Result<Item, TableError> {
         Ok(Item::Vehicle(VehicleTable::read_rows(alloc, tree)?))
     }
 }
@@ -57,7 +59,7 @@ impl Table for SituationItemTable {
     ghost rows = { situation_item };
 
     #[tactic(auto, unfolding(crate::specs::Deliveries::situation_item))]
-    fn read_rows(alloc: Global, tree: &Value) -> Result<Item, ItemError> {
+    fn read_rows(alloc: Global, tree: &Value) -> Result<Item, TableError> {
         Ok(Item::Situation(SituationTable::read_rows(alloc, tree)?))
     }
 }
@@ -71,7 +73,7 @@ impl Table for StopMonitoringDeliveryTable {
     ghost rows = { stop_monitoring_delivery };
 
     #[tactic(auto, unfolding(crate::specs::Deliveries::stop_monitoring_delivery))]
-    fn read_rows(alloc: Global, tree: &Value) -> Result<FunctionalDelivery, ItemError> {
+    fn read_rows(alloc: Global, tree: &Value) -> Result<FunctionalDelivery, TableError> {
         let heading = read_heading(alloc, tree)?;
         let extensions = row::<RoundPositionTable>(alloc, tree, names::EXTENSIONS)?;
         let items = list::<VisitItemTable>(alloc, tree, names::MONITORED_STOP_VISIT, MOST_ENTRIES)?;
@@ -96,7 +98,7 @@ impl Table for EstimatedTimetableDeliveryTable {
     ghost rows = { estimated_timetable_delivery };
 
     #[tactic(auto, unfolding(crate::specs::Deliveries::estimated_timetable_delivery))]
-    fn read_rows(alloc: Global, tree: &Value) -> Result<FunctionalDelivery, ItemError> {
+    fn read_rows(alloc: Global, tree: &Value) -> Result<FunctionalDelivery, TableError> {
         let heading = read_heading(alloc, tree)?;
         let extensions = row::<JourneyExtensionsTable>(alloc, tree, names::EXTENSIONS)?;
         let items = journeys_of_frames(alloc, tree)?;
@@ -118,7 +120,7 @@ impl Table for VehicleMonitoringDeliveryTable {
     ghost rows = { vehicle_monitoring_delivery };
 
     #[tactic(auto, unfolding(crate::specs::Deliveries::vehicle_monitoring_delivery))]
-    fn read_rows(alloc: Global, tree: &Value) -> Result<FunctionalDelivery, ItemError> {
+    fn read_rows(alloc: Global, tree: &Value) -> Result<FunctionalDelivery, TableError> {
         let heading = read_heading(alloc, tree)?;
         let extensions = row::<RoundPositionTable>(alloc, tree, names::EXTENSIONS)?;
         let items = list::<VehicleItemTable>(alloc, tree, names::VEHICLE_ACTIVITY, MOST_ENTRIES)?;
@@ -143,7 +145,7 @@ impl Table for SituationExchangeDeliveryTable {
     ghost rows = { situation_exchange_delivery };
 
     #[tactic(auto, unfolding(crate::specs::Deliveries::situation_exchange_delivery))]
-    fn read_rows(alloc: Global, tree: &Value) -> Result<FunctionalDelivery, ItemError> {
+    fn read_rows(alloc: Global, tree: &Value) -> Result<FunctionalDelivery, TableError> {
         let heading = read_heading(alloc, tree)?;
         let extensions = row::<SituationExtensionsTable>(alloc, tree, names::EXTENSIONS)?;
         let items = list_inside::<SituationItemTable>(
@@ -172,7 +174,7 @@ impl Table for ServiceDeliveryTable {
     ghost rows = { service_delivery };
 
     #[tactic(auto, unfolding(crate::specs::Deliveries::service_delivery))]
-    fn read_rows(alloc: Global, tree: &Value) -> Result<ServiceDelivery, ItemError> {
+    fn read_rows(alloc: Global, tree: &Value) -> Result<ServiceDelivery, TableError> {
         Ok(ServiceDelivery {
             response_timestamp: row::<MomentRule>(alloc, tree, names::RESPONSE_TIMESTAMP)?,
             producer_ref: row::<NameRule>(alloc, tree, names::PRODUCER_REF)?,

@@ -1,22 +1,23 @@
-// Reading the texts of errors.
+//! Reading the texts of errors.
+
 ghost use Rattle.std.specs.Prelude.{◌≡◌, Result, Option};
 ghost use Rattle.serde_json.specs.View.{view};
-ghost use Rattle.siri_items.specs.Refusals.{Gives};
+ghost use Rattle.siri_tables.specs.Refusals.{Gives};
 ghost use Rattle.siri_wire.specs.Errors.{other_error, error_condition};
 
 use crate::names;
 use serde_json::Value;
 use siri_base::{Reason, Text};
-use siri_items::ItemError;
-use siri_items::refusal::{below, refuse};
-use siri_items::rows::inside;
-use siri_items::rules::TextRule;
 use siri_json::{ObjectOf, member, object_of};
+use siri_tables::TableError;
+use siri_tables::refusal::{below, refuse};
+use siri_tables::rows::inside;
+use siri_tables::rules::TextRule;
 use std::alloc::Global;
 
 /// The text of an error of a kind of its own.
-#[tactic(auto, unfolding(crate::specs::Errors::other_error, siri_items::specs::Rules::inside, siri_items::specs::Rules::row))]
-fn other_error(alloc: Global, value: &Value) -> Result<Option<Text>, ItemError>
+#[tactic(auto, unfolding(crate::specs::Errors::other_error, siri_tables::specs::Rules::inside, siri_tables::specs::Rules::row))]
+fn other_error(alloc: Global, value: &Value) -> Result<Option<Text>, TableError>
     ensures { Gives result (other_error (view value.now)) }
 {
     let tree = match object_of(value) {
@@ -35,8 +36,8 @@ fn other_error(alloc: Global, value: &Value) -> Result<Option<Text>, ItemError>
 }
 
 /// The text of an object's ErrorCondition.
-#[tactic(auto, unfolding(crate::specs::Errors::error_condition, siri_items::specs::Rules::row))]
-pub fn error_condition(alloc: Global, tree: &Value) -> Result<Option<Text>, ItemError>
+#[tactic(auto, unfolding(crate::specs::Errors::error_condition, siri_tables::specs::Rules::row))]
+pub fn error_condition(alloc: Global, tree: &Value) -> Result<Option<Text>, TableError>
     ensures { Gives result (error_condition (view tree.now)) }
 {
     match member(tree, names::ERROR_CONDITION) {

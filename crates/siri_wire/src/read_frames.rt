@@ -1,20 +1,22 @@
-// Reading the journeys of all frames as one list.
+//! Reading the journeys of all frames as one list.
+
 ghost use Rattle.std.specs.Prelude.{◌≡◌, map, IfOk};
 ghost use Rattle.serde_json.specs.Data.{Data};
 ghost use Rattle.serde_json.specs.View.{view};
-ghost use Rattle.siri_items.specs.Refusals.{Gives};
+ghost use Rattle.siri_tables.specs.Refusals.{Gives};
 ghost use Rattle.siri_wire.specs.Frames.{journey_of_frame, journeys, frame, concat_frames, frames_of, journeys_of_frames};
 
 use crate::names;
 use crate::read_parts::MOST_ENTRIES;
 use serde_json::Value;
 use siri_base::{List, Moment, OutOfMemory, Reason};
-use siri_items::refusal::{below, refuse};
-use siri_items::rows::{list_of, row};
-use siri_items::rules::{MomentRule, Table};
-use siri_items::{ItemError, JourneyTable, names as item_names};
+use siri_items::{JourneyTable, names as item_names};
 use siri_json::member;
 use siri_records::{Item, Journey};
+use siri_tables::TableError;
+use siri_tables::refusal::{below, refuse};
+use siri_tables::rows::{list_of, row};
+use siri_tables::rules::{MomentRule, Table};
 use std::alloc::Global;
 
 /// A frame's journeys (EN 15531-3, EstimatedJourneyVersionFrame), each with its own RecordedAtTime or the frame's.
@@ -42,7 +44,7 @@ fn journeys_of_frame(
 }
 
 #[tactic(auto, unfolding(crate::specs::Frames::journeys))]
-fn journeys(alloc: Global, tree: &Value) -> Result<List<Journey>, ItemError>
+fn journeys(alloc: Global, tree: &Value) -> Result<List<Journey>, TableError>
     ensures { Gives result (journeys (view tree.now)) }
 {
     match member(tree, names::ESTIMATED_VEHICLE_JOURNEY) {
@@ -61,7 +63,7 @@ impl Table for FrameTable {
     ghost rows = { frame };
 
     #[tactic(auto, unfolding(crate::specs::Frames::frame))]
-    fn read_rows(alloc: Global, tree: &Value) -> Result<List<Item>, ItemError> {
+    fn read_rows(alloc: Global, tree: &Value) -> Result<List<Item>, TableError> {
         let recorded_at_time = row::<MomentRule>(alloc, tree, item_names::RECORDED_AT_TIME)?;
         let journeys = journeys(alloc, tree)?;
         Ok(journeys_of_frame(alloc, &recorded_at_time, journeys)?)
@@ -79,7 +81,7 @@ fn concat_frames(alloc: Global, frames: List<List<Item>>) -> Result<List<Item>, 
 }
 
 #[tactic(auto, unfolding(crate::specs::Frames::frames_of))]
-fn frames_of(alloc: Global, value: &Value) -> Result<List<Item>, ItemError>
+fn frames_of(alloc: Global, value: &Value) -> Result<List<Item>, TableError>
     ensures { Gives result (frames_of (view value.now)) }
 {
     let frames = list_of::<FrameTable>(alloc, value)?;
@@ -93,7 +95,7 @@ fn frames_of(alloc: Global, value: &Value) -> Result<List<Item>, ItemError>
 /// The journeys of all frames of a delivery, at most 20,000: otherwise `TooMany` at EstimatedJourneyVersionFrame, after
 /// what its entries are refused for.
 #[tactic(auto, unfolding(crate::specs::Frames::journeys_of_frames))]
-pub fn journeys_of_frames(alloc: Global, tree: &Value) -> Result<List<Item>, ItemError>
+pub fn journeys_of_frames(alloc: Global, tree: &Value) -> Result<List<Item>, TableError>
     ensures { Gives result (journeys_of_frames (view tree.now)) }
 {
     match member(tree, names::ESTIMATED_JOURNEY_VERSION_FRAME) {

@@ -1,8 +1,9 @@
-// Reading what the functional deliveries of all services have.
+//! Reading what the functional deliveries of all services have.
+
 ghost use Rattle.std.specs.Prelude.{◌≡◌};
 ghost use Rattle.serde_json.specs.Data.{Data};
 ghost use Rattle.serde_json.specs.View.{view};
-ghost use Rattle.siri_items.specs.Refusals.{Gives};
+ghost use Rattle.siri_tables.specs.Refusals.{Gives};
 ghost use Rattle.siri_wire.specs.Parts.{heading, no_round, within_round, round_position, delivery_extensions, extensions_or_empty, delivery_of};
 ghost use Rattle.siri_wire.specs.Removals.{removed_journey, removed_situation};
 
@@ -12,11 +13,11 @@ use crate::read_removals::{RemovedJourneyTable, RemovedSituationTable};
 use crate::read_supplies::lacks;
 use serde_json::Value;
 use siri_base::{List, Moment, Name, Text};
-use siri_items::ItemError;
-use siri_items::rows::{list, required_row, row};
-use siri_items::rules::{FlagRule, MomentRule, NameRule, NumberRule, Table};
 use siri_messages::FunctionalDelivery;
 use siri_records::{Item, Key};
+use siri_tables::TableError;
+use siri_tables::rows::{list, required_row, row};
+use siri_tables::rules::{FlagRule, MomentRule, NameRule, NumberRule, Table};
 use std::alloc::Global;
 
 /// The most entries of a list of items or removals.
@@ -47,9 +48,11 @@ pub struct DeliveryExtensions {
     pub removals: List<Key>,
 }
 
-/// The rows before Extensions. Status is true where it is absent.
+/// What a functional delivery says before its Extensions (EN 15531-2): ResponseTimestamp, SubscriberRef, SubscriptionRef,
+/// Status, which is true where it is absent, and ErrorCondition. No row is required; each is refused at its member, the
+/// first in this order.
 #[tactic(auto, unfolding(crate::specs::Parts::heading))]
-pub fn read_heading(alloc: Global, tree: &Value) -> Result<Heading, ItemError>
+pub fn read_heading(alloc: Global, tree: &Value) -> Result<Heading, TableError>
     ensures { Gives result (heading (view tree.now)) }
 {
     Ok(Heading {
@@ -100,7 +103,7 @@ impl RoundPosition {
 }
 
 #[tactic(auto, unfolding(crate::specs::Parts::within_round))]
-fn within_round(alloc: Global, tree: &Value) -> Result<RoundPosition, ItemError>
+fn within_round(alloc: Global, tree: &Value) -> Result<RoundPosition, TableError>
     ensures { Gives result (within_round (view tree.now)) }
 {
     Ok(RoundPosition {
@@ -120,7 +123,7 @@ impl Table for RoundPositionTable {
     ghost rows = { round_position };
 
     #[tactic(auto, unfolding(crate::specs::Parts::round_position))]
-    fn read_rows(alloc: Global, tree: &Value) -> Result<RoundPosition, ItemError> {
+    fn read_rows(alloc: Global, tree: &Value) -> Result<RoundPosition, TableError> {
         if lacks(tree, names::ROUND) {
             return Ok(RoundPosition::no_round());
         }
@@ -137,7 +140,7 @@ impl Table for JourneyExtensionsTable {
     ghost rows = { delivery_extensions removed_journey };
 
     #[tactic(auto, unfolding(crate::specs::Parts::delivery_extensions))]
-    fn read_rows(alloc: Global, tree: &Value) -> Result<DeliveryExtensions, ItemError> {
+    fn read_rows(alloc: Global, tree: &Value) -> Result<DeliveryExtensions, TableError> {
         Ok(DeliveryExtensions {
             round_position: RoundPositionTable::read_rows(alloc, tree)?,
             removals: list::<RemovedJourneyTable>(alloc, tree, names::REMOVED, MOST_ENTRIES)?,
@@ -154,7 +157,7 @@ impl Table for SituationExtensionsTable {
     ghost rows = { delivery_extensions removed_situation };
 
     #[tactic(auto, unfolding(crate::specs::Parts::delivery_extensions))]
-    fn read_rows(alloc: Global, tree: &Value) -> Result<DeliveryExtensions, ItemError> {
+    fn read_rows(alloc: Global, tree: &Value) -> Result<DeliveryExtensions, TableError> {
         Ok(DeliveryExtensions {
             round_position: RoundPositionTable::read_rows(alloc, tree)?,
             removals: list::<RemovedSituationTable>(alloc, tree, names::REMOVED, MOST_ENTRIES)?,
@@ -162,7 +165,7 @@ impl Table for SituationExtensionsTable {
     }
 }
 
-/// Extensions that are absent tell of no round, and of nothing removed.
+/// What the Extensions of a delivery tell: where they are absent, that it stands in no round and that nothing is removed.
 pub fn extensions_or_empty(
     alloc: Global,
     extensions: Option<DeliveryExtensions>,

@@ -3,7 +3,7 @@
 ghost use Rattle.std.specs.Prelude.{◌≡◌};
 ghost use Rattle.serde_json.specs.Data.{Data};
 ghost use Rattle.serde_json.specs.View.{view};
-ghost use Rattle.siri_items.specs.Refusals.{Gives};
+ghost use Rattle.siri_tables.specs.Refusals.{Gives};
 ghost use Rattle.siri_wire.specs.Requests.{read_service_request_rows, asks_nothing, service_request};
 
 use crate::names;
@@ -12,17 +12,17 @@ use crate::read_topics::{
 };
 use serde_json::Value;
 use siri_base::Reason;
-use siri_items::ItemError;
-use siri_items::refusal::refuse;
-use siri_items::rows::{list, row};
-use siri_items::rules::{MomentRule, NameRule, Table};
 use siri_messages::ServiceRequest;
+use siri_tables::TableError;
+use siri_tables::refusal::refuse;
+use siri_tables::rows::{list, row};
+use siri_tables::rules::{MomentRule, NameRule, Table};
 use std::alloc::Global;
 
 const MOST_TOPICS: usize = 100;
 
 #[tactic(auto, unfolding(crate::specs::Requests::read_service_request_rows))]
-fn read_service_request_rows(alloc: Global, tree: &Value) -> Result<ServiceRequest, ItemError>
+fn read_service_request_rows(alloc: Global, tree: &Value) -> Result<ServiceRequest, TableError>
     ensures { Gives result (read_service_request_rows (view tree.now)) }
 {
     Ok(ServiceRequest {
@@ -75,7 +75,7 @@ impl Table for ServiceRequestTable {
     ghost rows = { service_request };
 
     #[tactic(auto, unfolding(crate::specs::Requests::service_request))]
-    fn read_rows(alloc: Global, tree: &Value) -> Result<ServiceRequest, ItemError> {
+    fn read_rows(alloc: Global, tree: &Value) -> Result<ServiceRequest, TableError> {
         let request = read_service_request_rows(alloc, tree)?;
         if asks_nothing(&request) {
             return refuse(alloc, Reason::NotCarried);

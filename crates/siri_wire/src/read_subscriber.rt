@@ -2,16 +2,16 @@
 
 ghost use Rattle.std.specs.Prelude.{◌≡◌};
 ghost use Rattle.serde_json.specs.View.{view};
-ghost use Rattle.siri_items.specs.Refusals.{Gives};
+ghost use Rattle.siri_tables.specs.Refusals.{Gives};
 ghost use Rattle.siri_wire.specs.Subscribers.{subscriber_or};
 
 use crate::names;
 use serde_json::Value;
 use siri_base::{Copies, Name, Reason};
-use siri_items::ItemError;
-use siri_items::refusal::refuse_at;
-use siri_items::rows::row;
-use siri_items::rules::NameRule;
+use siri_tables::TableError;
+use siri_tables::refusal::refuse_at;
+use siri_tables::rows::row;
+use siri_tables::rules::NameRule;
 use std::alloc::Global;
 
 /// The subscriber that an object names, or the requestor where it names none: `Missing` at SubscriberRef where both are
@@ -21,7 +21,7 @@ pub fn subscriber_or(
     alloc: Global,
     tree: &Value,
     requestor: &Option<Name>,
-) -> Result<Name, ItemError>
+) -> Result<Name, TableError>
     ensures { Gives result (subscriber_or requestor.now (view tree.now)) }
 {
     if let Some(named) = row::<NameRule>(alloc, tree, names::SUBSCRIBER_REF)? {

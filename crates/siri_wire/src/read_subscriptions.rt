@@ -1,10 +1,10 @@
 //! Reading requests for subscriptions, and their answers.
 
-ghost use Rattle.std.specs.Prelude.{◌≡◌, ◌+◌, pos, map, IsTrue, Option, unwrap_or};
+ghost use Rattle.std.specs.Prelude.{◌≡◌, pos, IsTrue, Option, unwrap_or};
 ghost use Rattle.serde_json.specs.Data.{Data};
 ghost use Rattle.serde_json.specs.View.{view};
-ghost use Rattle.siri_items.specs.Refusals.{Gives, is_key};
-ghost use Rattle.siri_items.specs.Rules.{at_most, row, inside, required_value, entries_from, list_of, list, table};
+ghost use Rattle.siri_tables.specs.Refusals.{Gives, is_key};
+ghost use Rattle.siri_tables.specs.Rules.{list, table};
 ghost use Rattle.siri_wire.specs.Subscriptions.{topic_of, slack_of, is_fetched, subscription, heartbeat_interval, read_requested_rows, requests_nothing, requested, subscription_request, response_status, subscription_response};
 ghost use Rattle.siri_records.specs.declared.item.Service.TheVariants as service;
 
@@ -16,15 +16,15 @@ use crate::read_topics::{
 };
 use serde_json::Value;
 use siri_base::{List, Name, Reason, Span, Text};
-use siri_items::ItemError;
-use siri_items::refusal::{below, below_place, refuse};
-use siri_items::rows::{entry_count, inside, list, required_row, row};
-use siri_items::rules::{
-    FlagRule, MomentRule, NameRule, NonNegativeSpanRule, NumberRule, Rule, Table, TextRule,
-};
-use siri_json::{ObjectOf, entry_list, member, object_of};
+use siri_json::{ObjectOf, object_of};
 use siri_messages::{ResponseStatus, SubscriptionRequest, SubscriptionResponse};
 use siri_records::Service;
+use siri_tables::TableError;
+use siri_tables::refusal::refuse;
+use siri_tables::rows::{list, list_in, required_row, row, row_inside};
+use siri_tables::rules::{
+    FlagRule, MomentRule, NameRule, NonNegativeSpanRule, NumberRule, RuleIn, Table, TextRule,
+};
 use siri_topic::{Subscription, Topic};
 use std::alloc::Global;
 
@@ -32,26 +32,8 @@ const MOST_SUBSCRIPTIONS: usize = 200;
 
 const MOST_STATUSES: usize = 800;
 
-// A row of an object that is a row itself.
-#[tactic(auto, unfolding(siri_items::specs::Rules::row))]
-fn row_inside<R: Rule>(
-    alloc: Global,
-    tree: &Value,
-    outer: &str,
-    key: &str,
-) -> Result<Option<R::Out>, ItemError>
-    requires outer { IsTrue (is_key outer.now) }
-    requires key { IsTrue (is_key key.now) }
-    ensures { Gives result (row (inside R.rule key.now) outer.now (view tree.now)) }
-{
-    match member(tree, outer) {
-        Some(value) => below(alloc, outer, inside::<R>(alloc, value, key)),
-        None => Ok(None),
-    }
-}
-
 #[tactic(auto, unfolding(crate::specs::Subscriptions::topic_of))]
-fn topic_of(alloc: Global, tree: &Value, service: Service) -> Result<Topic, ItemError>
+fn topic_of(alloc: Global, tree: &Value, service: Service) -> Result<Topic, TableError>
     ensures { Gives result (topic_of service (view tree.now)) }
 {
     match service {
@@ -71,7 +53,7 @@ fn topic_of(alloc: Global, tree: &Value, service: Service) -> Result<Topic, Item
 }
 
 #[tactic(auto, unfolding(crate::specs::Subscriptions::slack_of))]
-fn slack_of(alloc: Global, tree: &Value, service: Service) -> Result<Option<Span>, ItemError>
+fn slack_of(alloc: Global, tree: &Value, service: Service) -> Result<Option<Span>, TableError>
     ensures { Gives result (slack_of service (view tree.now)) }
 {
     match service {
@@ -106,7 +88,7 @@ fn subscription(
     tree: &Value,
     service: Service,
     requestor: &Option<Name>,
-) -> Result<Subscription, ItemError>
+) -> Result<Subscription, TableError>
     ensures { Gives result (subscription service requestor.now (view tree.now)) }
 {
     let subscriber = subscriber_or(alloc, tree, requestor)?;
@@ -127,70 +109,49 @@ fn subscription(
     })
 }
 
-#[tactic(auto, unfolding(siri_items::specs::Rules::required_value, siri_items::specs::Rules::table))]
-fn element(
-    alloc: Global,
-    value: &Value,
+// How the elements of a service are read in a message of this requestor.
+#[derive(Drop)]
+struct SubscriptionRule<'a> {
     service: Service,
-    requestor: &Option<Name>,
-) -> Result<Subscription, ItemError>
-    ensures { Gives result (required_value (table (subscription service requestor.now)) (view value.now)) }
-{
-    match object_of(value) {
-        ObjectOf::Is(tree) => subscription(alloc, tree, service, requestor),
-        ObjectOf::Absent => refuse(alloc, Reason::Missing),
-        ObjectOf::Wrong => refuse(alloc, Reason::WrongKind),
-    }
+    requestor: &'a Option<Name>,
 }
 
-fn elements_from(
-    alloc: Global,
-    values: &[Value],
-    service: Service,
-    requestor: &Option<Name>,
-) -> Result<List<Subscription>, ItemError>
-    ensures { Gives result (entries_from (table (subscription service requestor.now)) 0 (map view values.now)) }
-{
-    let mut found = Vec::new(alloc);
-    for (place, value) in values.iter().enumerate() {
-        if !value.is_null() {
-            found.push(below_place(place, element(alloc, value, service, requestor))?)?;
+impl<'a> RuleIn for SubscriptionRule<'a> {
+    type With = SubscriptionRule<'a>;
+
+    type Out = Subscription;
+
+    ghost rule_in = { λ with. table (subscription with.service with.requestor.now) };
+
+    #[tactic(auto, unfolding(siri_tables::specs::Rules::table))]
+    fn read_in(
+        alloc: Global,
+        with: &SubscriptionRule<'a>,
+        value: &Value,
+    ) -> Result<Option<Subscription>, TableError> {
+        match object_of(value) {
+            ObjectOf::Is(tree) => {
+                Ok(Some(subscription(alloc, tree, with.service, with.requestor)?))
+            }
+            ObjectOf::Absent => Ok(None),
+            ObjectOf::Wrong => refuse(alloc, Reason::WrongKind),
         }
     }
-    Ok(List::of(found))
-}
-
-#[tactic(auto, unfolding(siri_items::specs::Rules::list_of))]
-fn few_elements(
-    alloc: Global,
-    value: &Value,
-    service: Service,
-    requestor: &Option<Name>,
-) -> Result<List<Subscription>, ItemError>
-    ensures { Gives result (at_most 200 (list_of (table (subscription service requestor.now))) (view value.now)) }
-{
-    if entry_count(value) > MOST_SUBSCRIPTIONS {
-        return refuse(alloc, Reason::TooMany);
-    }
-    elements_from(alloc, entry_list(value), service, requestor)
 }
 
 /// The subscriptions to a service at a name, at most 200, in a message of this requestor.
-#[tactic(auto, unfolding(siri_items::specs::Rules::list))]
 fn subscriptions(
     alloc: Global,
     tree: &Value,
     key: &str,
     service: Service,
     requestor: &Option<Name>,
-) -> Result<List<Subscription>, ItemError>
+) -> Result<List<Subscription>, TableError>
     requires { IsTrue (is_key key.now) }
     ensures { Gives result (list (table (subscription service requestor.now)) 200 key.now (view tree.now)) }
 {
-    match member(tree, key) {
-        Some(value) => below(alloc, key, few_elements(alloc, value, service, requestor)),
-        None => Ok(List::new(alloc)),
-    }
+    let rule = SubscriptionRule { service, requestor };
+    list_in::<SubscriptionRule>(alloc, tree, key, MOST_SUBSCRIPTIONS, &rule)
 }
 
 /// What a request for subscriptions asks for.
@@ -205,7 +166,7 @@ pub struct RequestedSubscriptions {
 }
 
 #[tactic(auto, unfolding(crate::specs::Subscriptions::heartbeat_interval))]
-fn heartbeat_interval(alloc: Global, tree: &Value) -> Result<Option<Span>, ItemError>
+fn heartbeat_interval(alloc: Global, tree: &Value) -> Result<Option<Span>, TableError>
     ensures { Gives result (heartbeat_interval (view tree.now)) }
 {
     row_inside::<NonNegativeSpanRule>(
@@ -221,7 +182,7 @@ fn read_requested_rows(
     alloc: Global,
     tree: &Value,
     requestor: &Option<Name>,
-) -> Result<RequestedSubscriptions, ItemError>
+) -> Result<RequestedSubscriptions, TableError>
     ensures { Gives result (read_requested_rows requestor.now (view tree.now)) }
 {
     Ok(RequestedSubscriptions {
@@ -273,7 +234,7 @@ pub fn read_requested(
     alloc: Global,
     tree: &Value,
     requestor: &Option<Name>,
-) -> Result<RequestedSubscriptions, ItemError>
+) -> Result<RequestedSubscriptions, TableError>
     ensures { Gives result (requested requestor.now (view tree.now)) }
 {
     let found = read_requested_rows(alloc, tree, requestor)?;
@@ -293,7 +254,7 @@ impl Table for SubscriptionRequestTable {
     ghost rows = { subscription_request };
 
     #[tactic(auto, unfolding(crate::specs::Subscriptions::subscription_request))]
-    fn read_rows(alloc: Global, tree: &Value) -> Result<SubscriptionRequest, ItemError> {
+    fn read_rows(alloc: Global, tree: &Value) -> Result<SubscriptionRequest, TableError> {
         let request_timestamp = row::<MomentRule>(alloc, tree, names::REQUEST_TIMESTAMP)?;
         let requestor_ref = row::<NameRule>(alloc, tree, names::REQUESTOR_REF)?;
         let message_identifier = required_row::<NumberRule>(
@@ -326,7 +287,7 @@ impl Table for ResponseStatusTable {
     ghost rows = { response_status };
 
     #[tactic(auto, unfolding(crate::specs::Subscriptions::response_status))]
-    fn read_rows(alloc: Global, tree: &Value) -> Result<ResponseStatus, ItemError> {
+    fn read_rows(alloc: Global, tree: &Value) -> Result<ResponseStatus, TableError> {
         Ok(ResponseStatus {
             subscriber_ref: row::<NameRule>(alloc, tree, names::SUBSCRIBER_REF)?,
             subscription_ref: row::<NameRule>(alloc, tree, names::SUBSCRIPTION_REF)?,
@@ -346,7 +307,7 @@ impl Table for SubscriptionResponseTable {
     ghost rows = { subscription_response };
 
     #[tactic(auto, unfolding(crate::specs::Subscriptions::subscription_response))]
-    fn read_rows(alloc: Global, tree: &Value) -> Result<SubscriptionResponse, ItemError> {
+    fn read_rows(alloc: Global, tree: &Value) -> Result<SubscriptionResponse, TableError> {
         Ok(SubscriptionResponse {
             response_timestamp: row::<MomentRule>(alloc, tree, names::RESPONSE_TIMESTAMP)?,
             request_message_ref: row::<NameRule>(alloc, tree, names::REQUEST_MESSAGE_REF)?,

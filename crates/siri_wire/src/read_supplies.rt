@@ -1,23 +1,24 @@
-// Reading the messages by which rounds are announced, fetched and acknowledged.
+//! Reading the messages by which rounds are announced, fetched and acknowledged.
+
 ghost use Rattle.std.specs.Prelude.{◌≡◌, Result, Option};
 ghost use Rattle.serde_json.specs.Data.{Data};
 ghost use Rattle.serde_json.specs.View.{view};
-ghost use Rattle.siri_items.specs.Refusals.{Gives};
+ghost use Rattle.siri_tables.specs.Refusals.{Gives};
 ghost use Rattle.siri_wire.specs.Supplies.{mark, lacks, lacks_mark, mark_if_any, optional_mark, data_ready_notification, data_ready_acknowledgement, read_supply_rows, data_supply_request, data_received_acknowledgement};
 
 use crate::names;
 use crate::read_error::error_condition;
 use serde_json::Value;
 use siri_base::Reason;
-use siri_items::ItemError;
-use siri_items::refusal::{refuse, refuse_at};
-use siri_items::rows::{required_row, row};
-use siri_items::rules::{FlagRule, MomentRule, NameRule, NumberRule, Rule, Table};
 use siri_json::{ObjectOf, TextOf, member, object_of, text_of};
 use siri_messages::{
     DataReadyAcknowledgement, DataReadyNotification, DataReceivedAcknowledgement,
     DataSupplyRequest, Mark,
 };
+use siri_tables::TableError;
+use siri_tables::refusal::{refuse, refuse_at};
+use siri_tables::rows::{required_row, row};
+use siri_tables::rules::{FlagRule, MomentRule, NameRule, NumberRule, Rule, Table};
 use std::alloc::Global;
 
 /// Which part of which round of a subscription is meant (this profile's own): all five rows have to be there.
@@ -29,7 +30,7 @@ impl Table for MarkTable {
     ghost rows = { mark };
 
     #[tactic(auto, unfolding(crate::specs::Supplies::mark))]
-    fn read_rows(alloc: Global, tree: &Value) -> Result<Mark, ItemError> {
+    fn read_rows(alloc: Global, tree: &Value) -> Result<Mark, TableError> {
         let subscription = required_row::<NameRule>(alloc, tree, names::SUBSCRIPTION_REF)?;
         Ok(Mark {
             number: required_row::<NumberRule>(alloc, tree, names::NUMBER)?,
@@ -67,7 +68,7 @@ fn lacks_mark(tree: &Value) -> bool
 }
 
 #[tactic(auto, unfolding(crate::specs::Supplies::mark_if_any))]
-fn mark_if_any(alloc: Global, tree: &Value) -> Result<Option<Mark>, ItemError>
+fn mark_if_any(alloc: Global, tree: &Value) -> Result<Option<Mark>, TableError>
     ensures { Gives result (mark_if_any (view tree.now)) }
 {
     if lacks_mark(tree) {
@@ -85,7 +86,7 @@ impl Rule for OptionalMarkRule {
     ghost rule = { optional_mark };
 
     #[tactic(auto, unfolding(crate::specs::Supplies::optional_mark))]
-    fn read(alloc: Global, value: &Value) -> Result<Option<Mark>, ItemError> {
+    fn read(alloc: Global, value: &Value) -> Result<Option<Mark>, TableError> {
         match object_of(value) {
             ObjectOf::Is(tree) => mark_if_any(alloc, tree),
             ObjectOf::Absent => Ok(None),
@@ -103,7 +104,7 @@ impl Table for DataReadyNotificationTable {
     ghost rows = { data_ready_notification };
 
     #[tactic(auto, unfolding(crate::specs::Supplies::data_ready_notification))]
-    fn read_rows(alloc: Global, tree: &Value) -> Result<DataReadyNotification, ItemError> {
+    fn read_rows(alloc: Global, tree: &Value) -> Result<DataReadyNotification, TableError> {
         Ok(DataReadyNotification {
             request_timestamp: row::<MomentRule>(alloc, tree, names::REQUEST_TIMESTAMP)?,
             producer_ref: row::<NameRule>(alloc, tree, names::PRODUCER_REF)?,
@@ -121,7 +122,7 @@ impl Table for DataReadyAcknowledgementTable {
     ghost rows = { data_ready_acknowledgement };
 
     #[tactic(auto, unfolding(crate::specs::Supplies::data_ready_acknowledgement))]
-    fn read_rows(alloc: Global, tree: &Value) -> Result<DataReadyAcknowledgement, ItemError> {
+    fn read_rows(alloc: Global, tree: &Value) -> Result<DataReadyAcknowledgement, TableError> {
         Ok(DataReadyAcknowledgement {
             response_timestamp: row::<MomentRule>(alloc, tree, names::RESPONSE_TIMESTAMP)?,
             consumer_ref: row::<NameRule>(alloc, tree, names::CONSUMER_REF)?,
@@ -131,7 +132,7 @@ impl Table for DataReadyAcknowledgementTable {
 }
 
 #[tactic(auto, unfolding(crate::specs::Supplies::read_supply_rows))]
-fn read_supply_rows(alloc: Global, tree: &Value) -> Result<DataSupplyRequest, ItemError>
+fn read_supply_rows(alloc: Global, tree: &Value) -> Result<DataSupplyRequest, TableError>
     ensures { Gives result (read_supply_rows (view tree.now)) }
 {
     Ok(DataSupplyRequest {
@@ -152,7 +153,7 @@ impl Table for DataSupplyRequestTable {
     ghost rows = { data_supply_request };
 
     #[tactic(auto, unfolding(crate::specs::Supplies::data_supply_request))]
-    fn read_rows(alloc: Global, tree: &Value) -> Result<DataSupplyRequest, ItemError> {
+    fn read_rows(alloc: Global, tree: &Value) -> Result<DataSupplyRequest, TableError> {
         let request = read_supply_rows(alloc, tree)?;
         if request.all_data {
             return refuse_at(alloc, names::ALL_DATA, Reason::NotCarried);
@@ -171,7 +172,7 @@ impl Table for DataReceivedAcknowledgementTable {
     ghost rows = { data_received_acknowledgement };
 
     #[tactic(auto, unfolding(crate::specs::Supplies::data_received_acknowledgement))]
-    fn read_rows(alloc: Global, tree: &Value) -> Result<DataReceivedAcknowledgement, ItemError> {
+    fn read_rows(alloc: Global, tree: &Value) -> Result<DataReceivedAcknowledgement, TableError> {
         Ok(DataReceivedAcknowledgement {
             response_timestamp: row::<MomentRule>(alloc, tree, names::RESPONSE_TIMESTAMP)?,
             consumer_ref: row::<NameRule>(alloc, tree, names::CONSUMER_REF)?,

@@ -3,19 +3,19 @@
 ghost use Rattle.std.specs.Prelude.{◌≡◌};
 ghost use Rattle.serde_json.specs.Data.{Data};
 ghost use Rattle.serde_json.specs.View.{view};
-ghost use Rattle.siri_items.specs.Refusals.{Gives};
+ghost use Rattle.siri_tables.specs.Refusals.{Gives};
 ghost use Rattle.siri_wire.specs.Terminations.{termination_request, termination_status, termination_response};
 
 use crate::names;
 use crate::read_error::error_condition;
 use crate::read_subscriber::subscriber_or;
 use serde_json::Value;
-use siri_items::ItemError;
-use siri_items::rows::{list, nonempty_list, required_row, row};
-use siri_items::rules::{FlagRule, MomentRule, NameRule, NumberRule, Table};
 use siri_messages::{
     TerminateSubscriptionRequest, TerminateSubscriptionResponse, TerminationResponseStatus,
 };
+use siri_tables::TableError;
+use siri_tables::rows::{list, nonempty_list, required_row, row};
+use siri_tables::rules::{FlagRule, MomentRule, NameRule, NumberRule, Table};
 use std::alloc::Global;
 
 const MOST_SUBSCRIPTIONS: usize = 200;
@@ -30,7 +30,7 @@ impl Table for TerminateSubscriptionRequestTable {
     ghost rows = { termination_request };
 
     #[tactic(auto, unfolding(crate::specs::Terminations::termination_request))]
-    fn read_rows(alloc: Global, tree: &Value) -> Result<TerminateSubscriptionRequest, ItemError> {
+    fn read_rows(alloc: Global, tree: &Value) -> Result<TerminateSubscriptionRequest, TableError> {
         let request_timestamp = row::<MomentRule>(alloc, tree, names::REQUEST_TIMESTAMP)?;
         let requestor_ref = row::<NameRule>(alloc, tree, names::REQUESTOR_REF)?;
         let message_identifier = required_row::<NumberRule>(
@@ -64,7 +64,7 @@ impl Table for TerminationResponseStatusTable {
     ghost rows = { termination_status };
 
     #[tactic(auto, unfolding(crate::specs::Terminations::termination_status))]
-    fn read_rows(alloc: Global, tree: &Value) -> Result<TerminationResponseStatus, ItemError> {
+    fn read_rows(alloc: Global, tree: &Value) -> Result<TerminationResponseStatus, TableError> {
         Ok(TerminationResponseStatus {
             subscriber_ref: row::<NameRule>(alloc, tree, names::SUBSCRIBER_REF)?,
             subscription_ref: row::<NameRule>(alloc, tree, names::SUBSCRIPTION_REF)?,
@@ -83,7 +83,7 @@ impl Table for TerminateSubscriptionResponseTable {
     ghost rows = { termination_response };
 
     #[tactic(auto, unfolding(crate::specs::Terminations::termination_response))]
-    fn read_rows(alloc: Global, tree: &Value) -> Result<TerminateSubscriptionResponse, ItemError> {
+    fn read_rows(alloc: Global, tree: &Value) -> Result<TerminateSubscriptionResponse, TableError> {
         Ok(TerminateSubscriptionResponse {
             response_timestamp: row::<MomentRule>(alloc, tree, names::RESPONSE_TIMESTAMP)?,
             request_message_ref: row::<NameRule>(alloc, tree, names::REQUEST_MESSAGE_REF)?,

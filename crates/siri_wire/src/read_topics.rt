@@ -3,33 +3,34 @@
 ghost use Rattle.std.specs.Prelude.{◌≡◌};
 ghost use Rattle.serde_json.specs.Data.{Data};
 ghost use Rattle.serde_json.specs.View.{view};
-ghost use Rattle.siri_items.specs.Refusals.{Gives};
+ghost use Rattle.siri_tables.specs.Refusals.{Gives};
 ghost use Rattle.siri_wire.specs.Topics.{read_stop_topic_rows, stop_topic, subscribed_stop_topic, line_direction, timetable_topic, vehicle_topic, situation_topic};
 
 use crate::names;
 use serde_json::Value;
 use siri_base::Reason;
-use siri_items::refusal::refuse_at;
-use siri_items::rows::{list_inside, required_row, row};
-use siri_items::rules::{MomentRule, NameRule, NonNegativeSpanRule, NumberRule, Table};
-use siri_items::{ItemError, names as items};
+use siri_items::names as item_names;
+use siri_tables::TableError;
+use siri_tables::refusal::refuse_at;
+use siri_tables::rows::{list_inside, required_row, row};
+use siri_tables::rules::{MomentRule, NameRule, NonNegativeSpanRule, NumberRule, Table};
 use siri_topic::{LineDirection, SituationTopic, StopTopic, TimetableTopic, Topic, VehicleTopic};
 use std::alloc::Global;
 
 const MOST_LINES: usize = 100;
 
 #[tactic(auto, unfolding(crate::specs::Topics::read_stop_topic_rows))]
-fn read_stop_topic_rows(alloc: Global, tree: &Value) -> Result<StopTopic, ItemError>
+fn read_stop_topic_rows(alloc: Global, tree: &Value) -> Result<StopTopic, TableError>
     ensures { Gives result (read_stop_topic_rows (view tree.now)) }
 {
     Ok(StopTopic {
-        monitoring_ref: required_row::<NameRule>(alloc, tree, items::MONITORING_REF)?,
-        line_ref: row::<NameRule>(alloc, tree, items::LINE_REF)?,
-        direction_ref: row::<NameRule>(alloc, tree, items::DIRECTION_REF)?,
-        operator_ref: row::<NameRule>(alloc, tree, items::OPERATOR_REF)?,
-        destination_ref: row::<NameRule>(alloc, tree, items::DESTINATION_REF)?,
+        monitoring_ref: required_row::<NameRule>(alloc, tree, item_names::MONITORING_REF)?,
+        line_ref: row::<NameRule>(alloc, tree, item_names::LINE_REF)?,
+        direction_ref: row::<NameRule>(alloc, tree, item_names::DIRECTION_REF)?,
+        operator_ref: row::<NameRule>(alloc, tree, item_names::OPERATOR_REF)?,
+        destination_ref: row::<NameRule>(alloc, tree, item_names::DESTINATION_REF)?,
         preview_interval: row::<NonNegativeSpanRule>(alloc, tree, names::PREVIEW_INTERVAL)?,
-        start_time: row::<MomentRule>(alloc, tree, items::START_TIME)?,
+        start_time: row::<MomentRule>(alloc, tree, item_names::START_TIME)?,
         maximum_stop_visits: row::<NumberRule>(alloc, tree, names::MAXIMUM_STOP_VISITS)?,
     })
 }
@@ -43,7 +44,7 @@ impl Table for StopTopicTable {
     ghost rows = { stop_topic };
 
     #[tactic(auto, unfolding(crate::specs::Topics::stop_topic))]
-    fn read_rows(alloc: Global, tree: &Value) -> Result<Topic, ItemError> {
+    fn read_rows(alloc: Global, tree: &Value) -> Result<Topic, TableError> {
         Ok(Topic::Stop(read_stop_topic_rows(alloc, tree)?))
     }
 }
@@ -58,7 +59,7 @@ impl Table for SubscribedStopTable {
     ghost rows = { subscribed_stop_topic };
 
     #[tactic(auto, unfolding(crate::specs::Topics::subscribed_stop_topic))]
-    fn read_rows(alloc: Global, tree: &Value) -> Result<Topic, ItemError> {
+    fn read_rows(alloc: Global, tree: &Value) -> Result<Topic, TableError> {
         let topic = read_stop_topic_rows(alloc, tree)?;
         match topic.maximum_stop_visits {
             None => Ok(Topic::Stop(topic)),
@@ -76,10 +77,10 @@ impl Table for LineDirectionTable {
     ghost rows = { line_direction };
 
     #[tactic(auto, unfolding(crate::specs::Topics::line_direction))]
-    fn read_rows(alloc: Global, tree: &Value) -> Result<LineDirection, ItemError> {
+    fn read_rows(alloc: Global, tree: &Value) -> Result<LineDirection, TableError> {
         Ok(LineDirection {
-            line_ref: required_row::<NameRule>(alloc, tree, items::LINE_REF)?,
-            direction_ref: row::<NameRule>(alloc, tree, items::DIRECTION_REF)?,
+            line_ref: required_row::<NameRule>(alloc, tree, item_names::LINE_REF)?,
+            direction_ref: row::<NameRule>(alloc, tree, item_names::DIRECTION_REF)?,
         })
     }
 }
@@ -93,10 +94,10 @@ impl Table for TimetableTopicTable {
     ghost rows = { timetable_topic };
 
     #[tactic(auto, unfolding(crate::specs::Topics::timetable_topic))]
-    fn read_rows(alloc: Global, tree: &Value) -> Result<Topic, ItemError> {
+    fn read_rows(alloc: Global, tree: &Value) -> Result<Topic, TableError> {
         Ok(Topic::Timetable(TimetableTopic {
             preview_interval: row::<NonNegativeSpanRule>(alloc, tree, names::PREVIEW_INTERVAL)?,
-            operator_ref: row::<NameRule>(alloc, tree, items::OPERATOR_REF)?,
+            operator_ref: row::<NameRule>(alloc, tree, item_names::OPERATOR_REF)?,
             lines: list_inside::<LineDirectionTable>(
                 alloc,
                 tree,
@@ -117,11 +118,11 @@ impl Table for VehicleTopicTable {
     ghost rows = { vehicle_topic };
 
     #[tactic(auto, unfolding(crate::specs::Topics::vehicle_topic))]
-    fn read_rows(alloc: Global, tree: &Value) -> Result<Topic, ItemError> {
+    fn read_rows(alloc: Global, tree: &Value) -> Result<Topic, TableError> {
         Ok(Topic::Vehicle(VehicleTopic {
-            vehicle_ref: row::<NameRule>(alloc, tree, items::VEHICLE_REF)?,
-            line_ref: row::<NameRule>(alloc, tree, items::LINE_REF)?,
-            direction_ref: row::<NameRule>(alloc, tree, items::DIRECTION_REF)?,
+            vehicle_ref: row::<NameRule>(alloc, tree, item_names::VEHICLE_REF)?,
+            line_ref: row::<NameRule>(alloc, tree, item_names::LINE_REF)?,
+            direction_ref: row::<NameRule>(alloc, tree, item_names::DIRECTION_REF)?,
         }))
     }
 }
@@ -135,13 +136,13 @@ impl Table for SituationTopicTable {
     ghost rows = { situation_topic };
 
     #[tactic(auto, unfolding(crate::specs::Topics::situation_topic))]
-    fn read_rows(alloc: Global, tree: &Value) -> Result<Topic, ItemError> {
+    fn read_rows(alloc: Global, tree: &Value) -> Result<Topic, TableError> {
         Ok(Topic::Situation(SituationTopic {
-            line_ref: row::<NameRule>(alloc, tree, items::LINE_REF)?,
-            stop_point_ref: row::<NameRule>(alloc, tree, items::STOP_POINT_REF)?,
-            operator_ref: row::<NameRule>(alloc, tree, items::OPERATOR_REF)?,
+            line_ref: row::<NameRule>(alloc, tree, item_names::LINE_REF)?,
+            stop_point_ref: row::<NameRule>(alloc, tree, item_names::STOP_POINT_REF)?,
+            operator_ref: row::<NameRule>(alloc, tree, item_names::OPERATOR_REF)?,
             preview_interval: row::<NonNegativeSpanRule>(alloc, tree, names::PREVIEW_INTERVAL)?,
-            start_time: row::<MomentRule>(alloc, tree, items::START_TIME)?,
+            start_time: row::<MomentRule>(alloc, tree, item_names::START_TIME)?,
         }))
     }
 }

@@ -3,7 +3,7 @@
 ghost use Rattle.std.specs.Prelude.{◌≡◌, [], Option, IfOk, OnOk, option_map, option_and_then};
 ghost use Rattle.serde_json.specs.Data.{Data, no_members};
 ghost use Rattle.serde_json.specs.View.{view, members_view};
-ghost use Rattle.siri_items.specs.Writing.{with_rows};
+ghost use Rattle.siri_tables.specs.Writing.{with_rows};
 ghost use Rattle.siri_wire.specs.WrittenDeliveries.{written_situations, rows_of_place, written_place, written_removed, rows_of_delivery, written_stop_delivery, written_timetable_delivery, written_vehicle_delivery, written_situation_delivery, written_service_delivery};
 
 use crate::names;
@@ -11,10 +11,10 @@ use crate::write_entries::{FrameWriting, ItemWriting, RemovalWriting};
 use crate::write_values::{ErrorWriting, where_true};
 use serde_json::Value;
 use siri_base::{List, OutOfMemory};
-use siri_items::rules::{FlagRule, MomentRule, NameRule, NumberRule};
-use siri_items::writing::{Members, Written};
 use siri_messages::{FunctionalDelivery, ServiceDelivery};
 use siri_records::Item;
+use siri_tables::rules::{FlagRule, MomentRule, NameRule, NumberRule};
+use siri_tables::writing::{Members, Written};
 use std::alloc::Global;
 
 fn place_members(alloc: Global, delivery: &FunctionalDelivery) -> Result<Members, OutOfMemory>

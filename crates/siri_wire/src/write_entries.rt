@@ -8,10 +8,10 @@ ghost use Rattle.siri_wire.specs.WrittenDeliveries.{item_writing, frame_time, wr
 use crate::names;
 use serde_json::Value;
 use siri_base::{Moment, Name, OutOfMemory};
-use siri_items::rules::{MomentRule, NameRule};
-use siri_items::writing::{Members, Written};
 use siri_items::{names as item_names, write_item};
 use siri_records::{Item, Key};
+use siri_tables::rules::{MomentRule, NameRule};
+use siri_tables::writing::{Members, Written};
 use std::alloc::Global;
 
 /// An item in a list of items, by the table of its service.

@@ -10,12 +10,12 @@ use crate::write_topics::TopicWriting;
 use crate::write_values::{ErrorWriting, MarkWriting, where_true};
 use serde_json::Value;
 use siri_base::OutOfMemory;
-use siri_items::rules::{FlagRule, MomentRule, NameRule};
-use siri_items::writing::Members;
 use siri_messages::{
     DataReadyAcknowledgement, DataReadyNotification, DataReceivedAcknowledgement,
     DataSupplyRequest, ServiceRequest,
 };
+use siri_tables::rules::{FlagRule, MomentRule, NameRule};
+use siri_tables::writing::Members;
 use std::alloc::Global;
 
 /// The object of a ServiceRequest.

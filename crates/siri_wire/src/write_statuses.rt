@@ -7,9 +7,9 @@ ghost use Rattle.siri_wire.specs.WrittenRequests.{written_check_status, written_
 use crate::names;
 use serde_json::Value;
 use siri_base::OutOfMemory;
-use siri_items::rules::{FlagRule, MomentRule, NameRule};
-use siri_items::writing::Members;
 use siri_messages::{CheckStatusRequest, CheckStatusResponse, HeartbeatNotification};
+use siri_tables::rules::{FlagRule, MomentRule, NameRule};
+use siri_tables::writing::Members;
 use std::alloc::Global;
 
 /// The object of a CheckStatusRequest.

@@ -10,12 +10,12 @@ use crate::write_topics::TopicWriting;
 use crate::write_values::{ErrorWriting, IdentifierWriting};
 use serde_json::Value;
 use siri_base::{OutOfMemory, Span};
-use siri_items::rules::{FlagRule, MomentRule, NameRule, SpanRule};
-use siri_items::writing::{Members, Written};
 use siri_messages::{
     ResponseStatus, SubscriptionRequest, SubscriptionResponse, TerminateSubscriptionRequest,
     TerminateSubscriptionResponse, TerminationResponseStatus,
 };
+use siri_tables::rules::{FlagRule, MomentRule, NameRule, SpanRule};
+use siri_tables::writing::{Members, Written};
 use siri_topic::Subscription;
 use std::alloc::Global;
 

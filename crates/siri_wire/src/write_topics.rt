@@ -9,8 +9,8 @@ use crate::names;
 use serde_json::Value;
 use siri_base::{List, OutOfMemory};
 use siri_items::names as item_names;
-use siri_items::rules::{MomentRule, NameRule, NumberRule, SpanRule};
-use siri_items::writing::{Members, Written};
+use siri_tables::rules::{MomentRule, NameRule, NumberRule, SpanRule};
+use siri_tables::writing::{Members, Written};
 use siri_topic::{LineDirection, SituationTopic, StopTopic, TimetableTopic, Topic, VehicleTopic};
 use std::alloc::Global;
 

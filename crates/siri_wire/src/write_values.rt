@@ -8,9 +8,9 @@ ghost use Rattle.siri_wire.specs.WrittenValues.{written_identifier, written_wher
 use crate::names;
 use serde_json::Value;
 use siri_base::{OutOfMemory, Text};
-use siri_items::rules::{NameRule, NumberRule, TextRule};
-use siri_items::writing::{Members, Written};
 use siri_messages::Mark;
+use siri_tables::rules::{NameRule, NumberRule, TextRule};
+use siri_tables::writing::{Members, Written};
 use std::alloc::Global;
 
 /// A MessageIdentifier that is a number, as a string.

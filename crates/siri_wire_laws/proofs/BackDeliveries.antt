@@ -16,21 +16,21 @@ use Rattle.siri_records.specs.declared.key.Key.TheVariants as key
 use Rattle.siri_messages.specs.declared.deliveries.FunctionalDelivery.{FunctionalDelivery}
 use Rattle.siri_messages.specs.declared.deliveries.ServiceDelivery.{ServiceDelivery}
 use Rattle.siri_items.specs.declared.names.TheConstants.{DATA_FRAME_REF, DATED_VEHICLE_JOURNEY_REF, DIRECTION_REF, LINE_REF, MONITORING_REF, PARTICIPANT_REF, RECORDED_AT_TIME, SITUATION_NUMBER}
-use Rattle.siri_items.specs.Refusals.{Refusal}
-use Rattle.siri_items.specs.Rules.{name, moment, number, table, required_value, entries_from, list_of, list, list_inside, or_empty}
+use Rattle.siri_tables.specs.Refusals.{Refusal}
+use Rattle.siri_tables.specs.Rules.{name, moment, number, table, required_value, entries_from, list_of, list, list_inside, or_empty}
 use Rattle.siri_items.specs.Journeys.{journey}
 use Rattle.siri_items.specs.Vehicles.{vehicle}
 use Rattle.siri_items.specs.Situations.{situation}
 use Rattle.siri_items.specs.Visits.{visit}
-use Rattle.siri_items.specs.Proper.{IsName, IsNumber, IsProperJourney}
-use Rattle.siri_items.specs.Writing.{Row, with_rows, row_object, array_unless_empty, written_list, written_text, written_moment, written_number, written_flag}
+use Rattle.siri_tables.specs.Proper.{IsName, IsNumber}
+use Rattle.siri_items.specs.Proper.{IsProperJourney}
+use Rattle.siri_tables.specs.Writing.{Row, with_rows, row_object, array_unless_empty, written_list, written_text, written_moment, written_number, written_flag}
 use Rattle.siri_items.specs.Written.{rows_of_visit, written_visit, rows_of_vehicle, written_vehicle, rows_of_journey, written_journey, rows_of_situation, written_situation}
-use Rattle.siri_items.proofs.Back.{found_again, GivesBack, in_rows, member_again, row_again}
-use Rattle.siri_items.proofs.BackValues.{name_back, some_name_back, number_back, some_moment_back}
-use Rattle.siri_items.proofs.BackLists.{object_back_or_empty, same_as_empty, EntryBack, table_entry, read_again, list_again, list_back, list_inside_back}
+use Rattle.siri_tables.proofs.Back.{found_again, GivesBack, in_rows, member_again, row_again}
+use Rattle.siri_tables.proofs.BackValues.{name_back, some_name_back, number_back, some_moment_back}
+use Rattle.siri_tables.proofs.BackLists.{object_back_or_empty, same_as_empty, EntryBack, table_entry, read_again, list_again, list_back, list_inside_back}
 use Rattle.siri_items.proofs.BackTables.{visit_back, vehicle_back, situation_back, journey_back, without_time}
-use Rattle.siri_items.proofs.SpellsImpliesRead.{row_ok, required_row_ok}
-use Rattle.siri_items.proofs.ReadImpliesSpells.{bind_ok}
+use Rattle.siri_tables.proofs.RowSpells.{row_ok, required_row_ok, bind_ok}
 use Rattle.siri_wire.specs.declared.names.TheConstants.{ERROR_CONDITION, ESTIMATED_JOURNEY_VERSION_FRAME, ESTIMATED_TIMETABLE_DELIVERY, ESTIMATED_VEHICLE_JOURNEY, EXTENSIONS, ITEM_REF, MONITORED_STOP_VISIT, MONITORED_STOP_VISIT_CANCELLATION, MORE_DATA, PART, PRODUCER_REF, PT_SITUATION_ELEMENT, REMOVED, REQUEST_MESSAGE_REF, RESPONSE_MESSAGE_IDENTIFIER, RESPONSE_TIMESTAMP, ROUND, SITUATIONS, SITUATION_EXCHANGE_DELIVERY, START, STATUS, STOP_MONITORING_DELIVERY, SUBSCRIBER_REF, SUBSCRIPTION_REF, VEHICLE_ACTIVITY, VEHICLE_ACTIVITY_CANCELLATION, VEHICLE_MONITORING_DELIVERY}
 use Rattle.siri_wire.specs.declared.read_parts.DeliveryExtensions.{DeliveryExtensions}
 use Rattle.siri_wire.specs.declared.read_parts.RoundPosition.{RoundPosition}

@@ -10,14 +10,14 @@ use Rattle.siri_json.proofs.Read.{tree_of-compact_text}
 use Rattle.siri_messages.specs.declared.message.Message.{Message}
 use Rattle.siri_messages.specs.declared.message.Message.TheVariants as message
 use Rattle.siri_messages.specs.Kinds.{kind_of}
-use Rattle.siri_items.specs.Refusals.{Refusal}
-use Rattle.siri_items.specs.Rules.{table, required_row}
-use Rattle.siri_items.specs.Writing.{Row, with_rows, row_object}
-use Rattle.siri_items.proofs.Back.{found_again, member_again, row_again}
-use Rattle.siri_items.proofs.BackValues.{table_back}
-use Rattle.siri_items.proofs.BackLists.{only_row}
-use Rattle.siri_items.proofs.CanonicalParts.{are_ascii, IsCanonicalWithin, row_within, ◌then◌, object_within}
-use Rattle.siri_items.proofs.SpellsImpliesRead.{required_row_ok}
+use Rattle.siri_tables.specs.Refusals.{Refusal}
+use Rattle.siri_tables.specs.Rules.{table, required_row}
+use Rattle.siri_tables.specs.Writing.{Row, with_rows, row_object}
+use Rattle.siri_tables.proofs.Back.{found_again, member_again, row_again}
+use Rattle.siri_tables.proofs.BackValues.{table_back}
+use Rattle.siri_tables.proofs.BackLists.{only_row}
+use Rattle.siri_tables.proofs.CanonicalParts.{are_ascii, IsCanonicalWithin, row_within, ◌then◌, object_within}
+use Rattle.siri_tables.proofs.RowSpells.{required_row_ok}
 use Rattle.siri_wire.specs.declared.kinds.Kind.{Kind}
 use Rattle.siri_wire.specs.declared.names.TheConstants.{SIRI, CHECK_STATUS_REQUEST, CHECK_STATUS_RESPONSE, DATA_READY_ACKNOWLEDGEMENT, DATA_READY_NOTIFICATION, DATA_RECEIVED_ACKNOWLEDGEMENT, DATA_SUPPLY_REQUEST, HEARTBEAT_NOTIFICATION, SERVICE_DELIVERY, SERVICE_REQUEST, SUBSCRIPTION_REQUEST, SUBSCRIPTION_RESPONSE, TERMINATE_SUBSCRIPTION_REQUEST, TERMINATE_SUBSCRIPTION_RESPONSE}
 use Rattle.siri_wire.specs.Canonical.{written_body, written_message, canonical}

@@ -22,13 +22,13 @@ use Rattle.siri_messages.specs.declared.terminations.TerminateSubscriptionReques
 use Rattle.siri_messages.specs.declared.terminations.TerminateSubscriptionResponse.{TerminateSubscriptionResponse}
 use Rattle.siri_messages.specs.declared.terminations.TerminationResponseStatus.{TerminationResponseStatus}
 use Rattle.siri_items.specs.declared.names.TheConstants.{MONITORING_REF, LINE_REF, DIRECTION_REF, OPERATOR_REF, DESTINATION_REF, START_TIME, VEHICLE_REF, STOP_POINT_REF}
-use Rattle.siri_items.specs.Refusals.{Refusal}
-use Rattle.siri_items.specs.Rules.{name, text, moment, non_negative_span, number, read_from_text, table, inside, list, list_inside}
-use Rattle.siri_items.specs.Writing.{Row, with_rows, row_object, written_list, written_text, written_flag, written_moment, written_span}
-use Rattle.siri_items.specs.Proper.{IsName, IsListWithin, IsNonNegativeSpan}
-use Rattle.siri_items.proofs.Back.{found_again, GivesBack, in_rows, member_again, row_again}
-use Rattle.siri_items.proofs.BackValues.{name_back, some_name_back, moment_back, some_moment_back, some_number_back, table_back}
-use Rattle.siri_items.proofs.BackLists.{EntryBack, table_entry, list_back, nonempty_list_back, list_inside_back}
+use Rattle.siri_tables.specs.Refusals.{Refusal}
+use Rattle.siri_tables.specs.Rules.{name, text, moment, non_negative_span, number, read_from_text, table, inside, list, list_inside}
+use Rattle.siri_tables.specs.Writing.{Row, with_rows, row_object, written_list, written_text, written_flag, written_moment, written_span}
+use Rattle.siri_tables.specs.Proper.{IsName, IsListWithin, IsNonNegativeSpan}
+use Rattle.siri_tables.proofs.Back.{found_again, GivesBack, in_rows, member_again, row_again}
+use Rattle.siri_tables.proofs.BackValues.{name_back, some_name_back, moment_back, some_moment_back, some_number_back, table_back}
+use Rattle.siri_tables.proofs.BackLists.{EntryBack, table_entry, list_back, nonempty_list_back, list_inside_back}
 use Rattle.siri_wire.specs.declared.names.TheConstants.{CHANGE_BEFORE_UPDATES, CONSUMER_ADDRESS, DELIVERY_METHOD, ERROR_CONDITION, ESTIMATED_TIMETABLE_REQUEST, ESTIMATED_TIMETABLE_SUBSCRIPTION_REQUEST, EXTENSIONS, HEARTBEAT_INTERVAL, INCREMENTAL_UPDATES, INITIAL_TERMINATION_TIME, LINES, LINE_DIRECTION, MAXIMUM_STOP_VISITS, MESSAGE_IDENTIFIER, PREVIEW_INTERVAL, REQUESTOR_REF, REQUEST_MESSAGE_REF, REQUEST_TIMESTAMP, RESPONSE_STATUS, RESPONSE_TIMESTAMP, SITUATION_EXCHANGE_REQUEST, SITUATION_EXCHANGE_SUBSCRIPTION_REQUEST, STATUS, STOP_MONITORING_REQUEST, STOP_MONITORING_SUBSCRIPTION_REQUEST, SUBSCRIBER_REF, SUBSCRIPTION_CONTEXT, SUBSCRIPTION_IDENTIFIER, SUBSCRIPTION_REF, TERMINATION_RESPONSE_STATUS, VALID_UNTIL, VEHICLE_MONITORING_REQUEST, VEHICLE_MONITORING_SUBSCRIPTION_REQUEST}
 use Rattle.siri_wire.specs.Errors.{other_error}
 use Rattle.siri_wire.specs.Topics.{stop_topic, subscribed_stop_topic, line_direction, timetable_topic, vehicle_topic, situation_topic}

@@ -13,10 +13,10 @@ use Rattle.siri_messages.specs.declared.supplies.DataReadyNotification.{DataRead
 use Rattle.siri_messages.specs.declared.supplies.DataReceivedAcknowledgement.{DataReceivedAcknowledgement}
 use Rattle.siri_messages.specs.declared.supplies.DataSupplyRequest.{DataSupplyRequest}
 use Rattle.siri_messages.specs.declared.supplies.Mark.{Mark}
-use Rattle.siri_items.specs.Rules.{name, moment, number, flag, table}
-use Rattle.siri_items.specs.Writing.{Row, with_rows, row_object}
-use Rattle.siri_items.proofs.Back.{GivesBack, in_rows, row_again}
-use Rattle.siri_items.proofs.BackValues.{name_back, some_name_back, flag_back, number_back, some_moment_back, table_back}
+use Rattle.siri_tables.specs.Rules.{name, moment, number, flag, table}
+use Rattle.siri_tables.specs.Writing.{Row, with_rows, row_object}
+use Rattle.siri_tables.proofs.Back.{GivesBack, in_rows, row_again}
+use Rattle.siri_tables.proofs.BackValues.{name_back, some_name_back, flag_back, number_back, some_moment_back, table_back}
 use Rattle.siri_wire.specs.declared.names.TheConstants.{ALL_DATA, CONSUMER_REF, ERROR_CONDITION, EXTENSIONS, MESSAGE_IDENTIFIER, NUMBER, PART, PRODUCER_REF, REQUESTOR_REF, REQUEST_MESSAGE_REF, REQUEST_TIMESTAMP, RESPONSE_TIMESTAMP, ROUND, SERVICE_STARTED_TIME, START, STATUS, SUBSCRIPTION_REF}
 use Rattle.siri_wire.specs.Errors.{other_error}
 use Rattle.siri_wire_laws.specs.ProperDeliveries.{IsProperMark, IsProperReady, IsProperReadyAcknowledgement, IsProperSupply, IsProperReceived, IsProperCheck, IsProperCheckResponse, IsProperHeartbeat}

@@ -12,10 +12,11 @@ use Rattle.siri_records.specs.declared.key.Key.TheVariants as key
 use Rattle.siri_messages.specs.declared.deliveries.FunctionalDelivery.{FunctionalDelivery}
 use Rattle.siri_messages.specs.declared.deliveries.ServiceDelivery.{ServiceDelivery}
 use Rattle.siri_items.specs.declared.names.TheConstants.{DATA_FRAME_REF, DATED_VEHICLE_JOURNEY_REF, DIRECTION_REF, LINE_REF, MONITORING_REF, PARTICIPANT_REF, RECORDED_AT_TIME, SITUATION_NUMBER}
-use Rattle.siri_items.specs.Proper.{IsMoment, IsListWithin, IsProper}
-use Rattle.siri_items.specs.Writing.{Row, row_object, written_list}
+use Rattle.siri_tables.specs.Proper.{IsMoment, IsListWithin}
+use Rattle.siri_items.specs.Proper.{IsProper}
+use Rattle.siri_tables.specs.Writing.{Row, row_object, written_list}
 use Rattle.siri_items.specs.Written.{written_item}
-use Rattle.siri_items.proofs.CanonicalParts.{IsCanonicalWithin, MayBeWithin, IsRowWithin, deeper, text_within, some_text_within, some_flag_within, some_number_within, some_moment_within, row_within, ◌then◌, object_within, object_unless_empty_within, array_unless_empty_within, list_within}
+use Rattle.siri_tables.proofs.CanonicalParts.{IsCanonicalWithin, MayBeWithin, IsRowWithin, deeper, text_within, some_text_within, some_flag_within, some_number_within, some_moment_within, row_within, ◌then◌, object_within, object_unless_empty_within, array_unless_empty_within, list_within}
 use Rattle.siri_items.proofs.CanonicalTables.{item_within}
 use Rattle.siri_wire.specs.declared.names.TheConstants.{ERROR_CONDITION, ESTIMATED_JOURNEY_VERSION_FRAME, ESTIMATED_TIMETABLE_DELIVERY, ESTIMATED_VEHICLE_JOURNEY, EXTENSIONS, ITEM_REF, MONITORED_STOP_VISIT, MONITORED_STOP_VISIT_CANCELLATION, MORE_DATA, PART, PRODUCER_REF, PT_SITUATION_ELEMENT, REMOVED, REQUEST_MESSAGE_REF, RESPONSE_MESSAGE_IDENTIFIER, RESPONSE_TIMESTAMP, ROUND, SITUATIONS, SITUATION_EXCHANGE_DELIVERY, START, STATUS, STOP_MONITORING_DELIVERY, SUBSCRIBER_REF, SUBSCRIPTION_REF, VEHICLE_ACTIVITY, VEHICLE_ACTIVITY_CANCELLATION, VEHICLE_MONITORING_DELIVERY}
 use Rattle.siri_wire_laws.specs.ProperDeliveries.{IsProperOf, IsProperRemoval, IsProperDelivery, IsProperServiceDelivery}

@@ -21,9 +21,9 @@ use Rattle.siri_messages.specs.declared.terminations.TerminateSubscriptionReques
 use Rattle.siri_messages.specs.declared.terminations.TerminateSubscriptionResponse.{TerminateSubscriptionResponse}
 use Rattle.siri_messages.specs.declared.terminations.TerminationResponseStatus.{TerminationResponseStatus}
 use Rattle.siri_items.specs.declared.names.TheConstants.{MONITORING_REF, LINE_REF, DIRECTION_REF, OPERATOR_REF, DESTINATION_REF, START_TIME, VEHICLE_REF, STOP_POINT_REF}
-use Rattle.siri_items.specs.Writing.{written_list, written_text, written_span}
-use Rattle.siri_items.specs.Proper.{IsName, IsListWithin, IsNonNegativeSpan}
-use Rattle.siri_items.proofs.CanonicalParts.{are_ascii, IsCanonicalWithin, MayBeWithin, deeper, text_within, some_text_within, some_flag_within, some_number_within, moment_within, some_moment_within, row_within, ◌then◌, object_within, object_unless_empty_within, list_within}
+use Rattle.siri_tables.specs.Writing.{written_list, written_text, written_span}
+use Rattle.siri_tables.specs.Proper.{IsName, IsListWithin, IsNonNegativeSpan}
+use Rattle.siri_tables.proofs.CanonicalParts.{are_ascii, IsCanonicalWithin, MayBeWithin, deeper, text_within, some_text_within, some_flag_within, some_number_within, moment_within, some_moment_within, row_within, ◌then◌, object_within, object_unless_empty_within, list_within}
 use Rattle.siri_wire.specs.declared.names.TheConstants.{CHANGE_BEFORE_UPDATES, CONSUMER_ADDRESS, DELIVERY_METHOD, ERROR_CONDITION, ESTIMATED_TIMETABLE_REQUEST, ESTIMATED_TIMETABLE_SUBSCRIPTION_REQUEST, EXTENSIONS, HEARTBEAT_INTERVAL, INCREMENTAL_UPDATES, INITIAL_TERMINATION_TIME, LINES, LINE_DIRECTION, MAXIMUM_STOP_VISITS, MESSAGE_IDENTIFIER, PREVIEW_INTERVAL, REQUESTOR_REF, REQUEST_MESSAGE_REF, REQUEST_TIMESTAMP, RESPONSE_STATUS, RESPONSE_TIMESTAMP, SITUATION_EXCHANGE_REQUEST, SITUATION_EXCHANGE_SUBSCRIPTION_REQUEST, STATUS, STOP_MONITORING_REQUEST, STOP_MONITORING_SUBSCRIPTION_REQUEST, SUBSCRIBER_REF, SUBSCRIPTION_CONTEXT, SUBSCRIPTION_IDENTIFIER, SUBSCRIPTION_REF, TERMINATION_RESPONSE_STATUS, VALID_UNTIL, VEHICLE_MONITORING_REQUEST, VEHICLE_MONITORING_SUBSCRIPTION_REQUEST}
 use Rattle.siri_wire.specs.WrittenTopics.{rows_of_stop_topic, written_stop_topic, rows_of_line_direction, written_line_direction, written_lines, rows_of_timetable_topic, written_timetable_topic, rows_of_vehicle_topic, written_vehicle_topic, rows_of_situation_topic, written_situation_topic, written_topic, topic_writing}
 use Rattle.siri_wire.specs.WrittenRequests.{rows_of_service_request, written_service_request}

@@ -10,7 +10,7 @@ use Rattle.siri_messages.specs.declared.supplies.DataReadyNotification.{DataRead
 use Rattle.siri_messages.specs.declared.supplies.DataReceivedAcknowledgement.{DataReceivedAcknowledgement}
 use Rattle.siri_messages.specs.declared.supplies.DataSupplyRequest.{DataSupplyRequest}
 use Rattle.siri_messages.specs.declared.supplies.Mark.{Mark}
-use Rattle.siri_items.proofs.CanonicalParts.{IsCanonicalWithin, MayBeWithin, deeper, text_within, some_text_within, some_flag_within, number_within, some_moment_within, row_within, ◌then◌, object_within}
+use Rattle.siri_tables.proofs.CanonicalParts.{IsCanonicalWithin, MayBeWithin, deeper, text_within, some_text_within, some_flag_within, number_within, some_moment_within, row_within, ◌then◌, object_within}
 use Rattle.siri_wire.specs.declared.names.TheConstants.{ALL_DATA, CONSUMER_REF, ERROR_CONDITION, EXTENSIONS, MESSAGE_IDENTIFIER, NUMBER, PART, PRODUCER_REF, REQUESTOR_REF, REQUEST_MESSAGE_REF, REQUEST_TIMESTAMP, RESPONSE_TIMESTAMP, ROUND, SERVICE_STARTED_TIME, START, STATUS, SUBSCRIPTION_REF}
 use Rattle.siri_wire_laws.specs.ProperDeliveries.{IsProperMark, IsProperReady, IsProperReadyAcknowledgement, IsProperSupply, IsProperReceived, IsProperCheck, IsProperCheckResponse, IsProperHeartbeat}
 use Rattle.siri_wire.specs.WrittenRequests.{rows_of_data_ready, written_data_ready, rows_of_ready_acknowledgement, written_ready_acknowledgement, rows_of_supply, written_supply, rows_of_received, written_received, rows_of_check_status, written_check_status, rows_of_status_response, written_status_response, rows_of_heartbeat, written_heartbeat}

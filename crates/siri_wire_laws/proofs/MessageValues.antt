@@ -9,16 +9,15 @@ use Rattle.std.proofs.lemmas.Str.{IsUtf8-from_ascii}
 use Rattle.serde_json.specs.Data.{Data}
 use Rattle.siri_json.specs.Canonical.{as_texts}
 use Rattle.siri_json.specs.Values.{object_in}
-use Rattle.siri_items.specs.Refusals.{Refusal}
-use Rattle.siri_items.specs.Rules.{text, flag, number, non_negative_span, inside}
-use Rattle.siri_items.specs.Writing.{Row, row_object, written_text, written_flag, written_span}
-use Rattle.siri_items.specs.Proper.{IsText, IsNumber, IsNonNegativeSpan}
-use Rattle.siri_items.proofs.Back.{GivesBack, in_rows, row_again}
-use Rattle.siri_items.proofs.BackValues.{text_back, flag_back, number_back, non_negative_span_back}
-use Rattle.siri_items.proofs.BackLists.{only_row}
-use Rattle.siri_items.proofs.SpellsImpliesRead.{row_ok}
-use Rattle.siri_items.proofs.ReadImpliesSpells.{row_spelled}
-use Rattle.siri_items.proofs.CanonicalParts.{MayBeWithin, deeper, text_within, some_span_within, row_within, ◌then◌, object_within}
+use Rattle.siri_tables.specs.Refusals.{Refusal}
+use Rattle.siri_tables.specs.Rules.{text, flag, number, non_negative_span, inside}
+use Rattle.siri_tables.specs.Writing.{Row, row_object, written_text, written_flag, written_span}
+use Rattle.siri_tables.specs.Proper.{IsText, IsNumber, IsNonNegativeSpan}
+use Rattle.siri_tables.proofs.Back.{GivesBack, in_rows, row_again}
+use Rattle.siri_tables.proofs.BackValues.{text_back, flag_back, number_back, non_negative_span_back}
+use Rattle.siri_tables.proofs.BackLists.{only_row}
+use Rattle.siri_tables.proofs.RowSpells.{row_ok, row_spelled}
+use Rattle.siri_tables.proofs.CanonicalParts.{MayBeWithin, deeper, text_within, some_span_within, row_within, ◌then◌, object_within}
 use Rattle.siri_wire.specs.declared.names.TheConstants.{ERROR_CONDITION, ERROR_TEXT, OTHER_ERROR}
 use Rattle.siri_wire.specs.Errors.{other_error, error_condition}
 use Rattle.siri_wire.specs.WrittenValues.{written_error, written_identifier}

@@ -22,15 +22,16 @@ use Rattle.siri_messages.specs.declared.supplies.DataReceivedAcknowledgement.{Da
 use Rattle.siri_messages.specs.declared.supplies.DataSupplyRequest.{DataSupplyRequest}
 use Rattle.siri_messages.specs.declared.supplies.Mark.{Mark}
 use Rattle.siri_items.specs.declared.names.TheConstants.{MONITORING_REF, LINE_REF, DIRECTION_REF, DATA_FRAME_REF, DATED_VEHICLE_JOURNEY_REF, PARTICIPANT_REF, SITUATION_NUMBER, RECORDED_AT_TIME}
-use Rattle.siri_items.specs.Refusals.{Refusal, refused}
-use Rattle.siri_items.specs.Rules.{name, moment, number, table, row, required_row, list_of}
+use Rattle.siri_tables.specs.Refusals.{Refusal, refused}
+use Rattle.siri_tables.specs.Rules.{name, moment, number, table, row, required_row, list_of}
 use Rattle.siri_items.specs.Visits.{visit}
 use Rattle.siri_items.specs.Vehicles.{vehicle}
 use Rattle.siri_items.specs.Journeys.{journey}
 use Rattle.siri_items.specs.Situations.{situation}
-use Rattle.siri_items.specs.Proper.{IsName, IsMoment, IsNumber, IsListWithin, IsProperVisit, IsProperVehicle, IsProperJourney, IsProperSituation}
+use Rattle.siri_tables.specs.Proper.{IsName, IsMoment, IsNumber, IsListWithin}
+use Rattle.siri_items.specs.Proper.{IsProperVisit, IsProperVehicle, IsProperJourney, IsProperSituation}
 use Rattle.siri_json.specs.TextsOfTrees.{TextsAreUtf8}
-use Rattle.siri_items.proofs.ProperParts.{OnRead, Yields, reads_to, on_ok, on_map, on_bind, name_yields, moment_yields, number_yields, table_yields, row_on, row_is, inside_on, AreRead, list_of_on, at_name, lists_inside_on}
+use Rattle.siri_tables.proofs.ProperParts.{OnRead, Yields, reads_to, on_ok, on_map, on_bind, name_yields, moment_yields, number_yields, table_yields, row_on, row_is, inside_on, AreRead, list_of_on, at_name, lists_inside_on}
 use Rattle.siri_items.proofs.ProperTables.{visit_proper, vehicle_proper, journey_proper, situation_proper}
 use Rattle.siri_items.proofs.ReadImpliesSpells.{visit_spelled, vehicle_spelled, journey_spelled, situation_spelled}
 use Rattle.siri_wire.specs.declared.names.TheConstants.{CONSUMER_REF, ESTIMATED_JOURNEY_VERSION_FRAME, ESTIMATED_TIMETABLE_DELIVERY, ESTIMATED_VEHICLE_JOURNEY, EXTENSIONS, ITEM_REF, MESSAGE_IDENTIFIER, MONITORED_STOP_VISIT, MONITORED_STOP_VISIT_CANCELLATION, NUMBER, PART, PRODUCER_REF, PT_SITUATION_ELEMENT, REMOVED, REQUESTOR_REF, REQUEST_MESSAGE_REF, REQUEST_TIMESTAMP, RESPONSE_MESSAGE_IDENTIFIER, RESPONSE_TIMESTAMP, ROUND, SERVICE_STARTED_TIME, SITUATIONS, SITUATION_EXCHANGE_DELIVERY, START, STOP_MONITORING_DELIVERY, SUBSCRIBER_REF, SUBSCRIPTION_REF, VEHICLE_ACTIVITY, VEHICLE_ACTIVITY_CANCELLATION, VEHICLE_MONITORING_DELIVERY}

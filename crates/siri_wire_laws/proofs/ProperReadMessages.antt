@@ -8,10 +8,10 @@ use Rattle.siri_json.specs.Values.{Found, found, absent, wrong, member_of, objec
 use Rattle.siri_messages.specs.declared.message.Message.{Message}
 use Rattle.siri_messages.specs.declared.message.Message.TheVariants as message
 use Rattle.siri_messages.specs.Kinds.{kind_of}
-use Rattle.siri_items.specs.Refusals.{refused}
-use Rattle.siri_items.specs.Spelling.{IfFound}
+use Rattle.siri_tables.specs.Refusals.{refused}
+use Rattle.siri_tables.specs.Spelling.{IfFound}
 use Rattle.siri_json.specs.TextsOfTrees.{TextsAreUtf8}
-use Rattle.siri_items.proofs.ProperParts.{OnFound, member_is, object_is}
+use Rattle.siri_tables.proofs.ProperParts.{OnFound, member_is, object_is}
 use Rattle.siri_wire.specs.declared.names.TheConstants.{SIRI}
 use Rattle.siri_wire.specs.Canonical.{canonical}
 use Rattle.siri_wire.specs.Documents.{root, message_in, message_of}

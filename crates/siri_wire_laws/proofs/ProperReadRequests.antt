@@ -16,10 +16,10 @@ use Rattle.siri_messages.specs.declared.terminations.TerminateSubscriptionReques
 use Rattle.siri_messages.specs.declared.terminations.TerminateSubscriptionResponse.{TerminateSubscriptionResponse}
 use Rattle.siri_messages.specs.declared.terminations.TerminationResponseStatus.{TerminationResponseStatus}
 use Rattle.siri_items.specs.declared.names.TheConstants.{MONITORING_REF, LINE_REF, DIRECTION_REF, OPERATOR_REF, DESTINATION_REF, START_TIME, VEHICLE_REF, STOP_POINT_REF}
-use Rattle.siri_items.specs.Rules.{name, moment, number, non_negative_span, table, inside}
-use Rattle.siri_items.specs.Proper.{IsName, IsMoment, IsNumber, IsListWithin, IsNonNegativeSpan}
+use Rattle.siri_tables.specs.Rules.{name, moment, number, non_negative_span, table, inside}
+use Rattle.siri_tables.specs.Proper.{IsName, IsMoment, IsNumber, IsListWithin, IsNonNegativeSpan}
 use Rattle.siri_json.specs.TextsOfTrees.{TextsAreUtf8}
-use Rattle.siri_items.proofs.ProperParts.{Yields, on_ok, name_yields, moment_yields, number_yields, row_is, nonempty_list_on, lists_inside_on}
+use Rattle.siri_tables.proofs.ProperParts.{Yields, on_ok, name_yields, moment_yields, number_yields, row_is, nonempty_list_on, lists_inside_on}
 use Rattle.siri_wire.specs.declared.names.TheConstants.{CHANGE_BEFORE_UPDATES, CONSUMER_ADDRESS, ESTIMATED_TIMETABLE_REQUEST, ESTIMATED_TIMETABLE_SUBSCRIPTION_REQUEST, HEARTBEAT_INTERVAL, INITIAL_TERMINATION_TIME, LINES, LINE_DIRECTION, MAXIMUM_STOP_VISITS, MESSAGE_IDENTIFIER, PREVIEW_INTERVAL, REQUESTOR_REF, REQUEST_MESSAGE_REF, REQUEST_TIMESTAMP, RESPONSE_STATUS, RESPONSE_TIMESTAMP, SITUATION_EXCHANGE_REQUEST, SITUATION_EXCHANGE_SUBSCRIPTION_REQUEST, STOP_MONITORING_REQUEST, STOP_MONITORING_SUBSCRIPTION_REQUEST, SUBSCRIBER_REF, SUBSCRIPTION_CONTEXT, SUBSCRIPTION_IDENTIFIER, SUBSCRIPTION_REF, TERMINATION_RESPONSE_STATUS, VALID_UNTIL, VEHICLE_MONITORING_REQUEST, VEHICLE_MONITORING_SUBSCRIPTION_REQUEST}
 use Rattle.siri_wire_laws.specs.ProperRequests.{IsProperLineDirection, IsProperTopic, IsProperServiceRequest, maximum_of, IsProperSubscription, IsProperSubscriptionRequest, IsProperResponseStatus, IsProperSubscriptionResponse, IsProperTerminationRequest, IsProperTerminationStatus, IsProperTerminationResponse}
 use Rattle.siri_wire_laws.specs.SpellingRequests.{SpellsLineDirection, SpellsTopic, SpellsServiceRequest, SpellsSubscriber, SpellsAsked, SpellsSlack, SpellsSubscription, SpellsSubscriptionRequest, SpellsResponseStatus, SpellsSubscriptionResponse, SpellsTerminationRequest, SpellsTerminationStatus, SpellsTerminationResponse}

@@ -6,11 +6,11 @@ use Rattle.serde_json.specs.Data.{Data}
 use Rattle.siri_json.specs.Values.{Found, found, absent, wrong, text_in}
 use Rattle.siri_json.specs.declared.path.Step.TheVariants.{Member}
 use Rattle.siri_time.specs.Span.{span_of}
-use Rattle.siri_items.specs.Refusals.{Refusal, ◌>>=◌, each}
-use Rattle.siri_items.specs.Rules.{unless_wrong, read_from_text, span_or, unless_negative, non_negative_span, text, table, row, required_row, required, inside, list}
-use Rattle.siri_items.specs.Proper.{IsSpan, IsText, IsListWithin, IsNonNegativeSpan}
+use Rattle.siri_tables.specs.Refusals.{Refusal, ◌>>=◌, each}
+use Rattle.siri_tables.specs.Rules.{unless_wrong, read_from_text, span_or, unless_negative, non_negative_span, text, table, row, required_row, required, inside, list}
+use Rattle.siri_tables.specs.Proper.{IsSpan, IsText, IsListWithin, IsNonNegativeSpan}
 use Rattle.siri_json.specs.TextsOfTrees.{TextsAreUtf8}
-use Rattle.siri_items.proofs.ProperParts.{OnRead, Yields, reads_to, on_ok, on_bind, required_on, text_yields, span_yields, table_yields, row_on, row_is, inside_on, list_on}
+use Rattle.siri_tables.proofs.ProperParts.{OnRead, Yields, reads_to, on_ok, on_bind, required_on, text_yields, span_yields, table_yields, row_on, row_is, inside_on, list_on}
 use Rattle.siri_wire.specs.declared.names.TheConstants.{ERROR_CONDITION, ERROR_TEXT, OTHER_ERROR}
 use Rattle.siri_wire.specs.Errors.{other_error}
 use Rattle.siri_wire_laws.specs.SpellingValues.{SpellsError}

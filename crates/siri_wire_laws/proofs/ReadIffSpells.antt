@@ -9,11 +9,10 @@ use Rattle.siri_json.specs.Values.{Found, found, absent, wrong, member_of, objec
 use Rattle.siri_messages.specs.declared.message.Message.{Message}
 use Rattle.siri_messages.specs.declared.message.Message.TheVariants as message
 use Rattle.siri_messages.specs.Kinds.{kind_of}
-use Rattle.siri_items.specs.Refusals.{Refusal, ◌>>=◌, refused, each}
-use Rattle.siri_items.specs.Rules.{table, unless_wrong, maybe, required_row}
-use Rattle.siri_items.specs.Spelling.{IfFound}
-use Rattle.siri_items.proofs.SpellsImpliesRead.{required_row_ok}
-use Rattle.siri_items.proofs.ReadImpliesSpells.{bind_ok, required_row_spelled}
+use Rattle.siri_tables.specs.Refusals.{Refusal, ◌>>=◌, refused, each}
+use Rattle.siri_tables.specs.Rules.{table, unless_wrong, maybe, required_row}
+use Rattle.siri_tables.specs.Spelling.{IfFound}
+use Rattle.siri_tables.proofs.RowSpells.{required_row_ok, bind_ok, required_row_spelled}
 use Rattle.siri_wire.specs.declared.kinds.Kind.{Kind}
 use Rattle.siri_wire.specs.declared.kinds.Kind.TheVariants as kind
 use Rattle.siri_wire.specs.declared.names.TheConstants.{SIRI, CHECK_STATUS_REQUEST, CHECK_STATUS_RESPONSE, DATA_READY_ACKNOWLEDGEMENT, DATA_READY_NOTIFICATION, DATA_RECEIVED_ACKNOWLEDGEMENT, DATA_SUPPLY_REQUEST, HEARTBEAT_NOTIFICATION, SERVICE_DELIVERY, SERVICE_REQUEST, SUBSCRIPTION_REQUEST, SUBSCRIPTION_RESPONSE, TERMINATE_SUBSCRIPTION_REQUEST, TERMINATE_SUBSCRIPTION_RESPONSE}

@@ -14,11 +14,10 @@ use Rattle.siri_records.specs.declared.key.Key.{Key}
 use Rattle.siri_records.specs.declared.key.Key.TheVariants as key
 use Rattle.siri_items.specs.declared.names.TheConstants.{DATA_FRAME_REF, DATED_VEHICLE_JOURNEY_REF, DIRECTION_REF, LINE_REF, MONITORING_REF, PARTICIPANT_REF, SITUATION_NUMBER}
 use Rattle.siri_items.specs.Journeys.{journey}
-use Rattle.siri_items.specs.Refusals.{Refusal, ◌>>=◌, refused, below}
-use Rattle.siri_items.specs.Rules.{name, text, table, maybe, unless_wrong, required, row, required_row, inside, required_value, is_null, entry_count, entries_from, at_most, list_of, list, or_empty}
-use Rattle.siri_items.specs.Spelling.{Spells}
-use Rattle.siri_items.proofs.ReadImpliesSpells.{bind_ok, row_spelled, required_row_spelled}
-use Rattle.siri_items.proofs.SpellsImpliesRead.{row_ok, required_row_ok}
+use Rattle.siri_tables.specs.Refusals.{Refusal, ◌>>=◌, refused, below}
+use Rattle.siri_tables.specs.Rules.{name, text, table, maybe, unless_wrong, required, row, required_row, inside, required_value, is_null, entry_count, entries_from, at_most, list_of, list, or_empty}
+use Rattle.siri_tables.specs.Spelling.{Spells}
+use Rattle.siri_tables.proofs.RowSpells.{bind_ok, row_spelled, required_row_spelled, row_ok, required_row_ok}
 use Rattle.siri_wire.specs.declared.names.TheConstants.{ERROR_TEXT, ESTIMATED_JOURNEY_VERSION_FRAME, ESTIMATED_VEHICLE_JOURNEY, ITEM_REF, OTHER_ERROR}
 use Rattle.siri_wire.specs.Errors.{other_error}
 use Rattle.siri_wire.specs.Frames.{journeys, frame, concat_frames, few_in_all, frames_of, journeys_of_frames}

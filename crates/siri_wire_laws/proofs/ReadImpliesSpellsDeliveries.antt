@@ -18,9 +18,9 @@ use Rattle.siri_messages.specs.declared.supplies.DataReceivedAcknowledgement.{Da
 use Rattle.siri_messages.specs.declared.supplies.DataSupplyRequest.{DataSupplyRequest}
 use Rattle.siri_messages.specs.declared.supplies.Mark.{Mark}
 use Rattle.siri_items.specs.declared.names.TheConstants.{RECORDED_AT_TIME}
-use Rattle.siri_items.specs.Refusals.{Refusal, ◌>>=◌, each}
-use Rattle.siri_items.specs.Rules.{name, moment, number, flag, table, list, list_inside, row, required_row, read_from_text, unless_wrong, maybe}
-use Rattle.siri_items.proofs.ReadImpliesSpells.{bind_ok, row_spelled, required_row_spelled}
+use Rattle.siri_tables.specs.Refusals.{Refusal, ◌>>=◌, each}
+use Rattle.siri_tables.specs.Rules.{name, moment, number, flag, table, list, list_inside, row, required_row, read_from_text, unless_wrong, maybe}
+use Rattle.siri_tables.proofs.RowSpells.{bind_ok, row_spelled, required_row_spelled}
 use Rattle.siri_wire.specs.declared.names.TheConstants.{ALL_DATA, CONSUMER_REF, ESTIMATED_TIMETABLE_DELIVERY, EXTENSIONS, MESSAGE_IDENTIFIER, MONITORED_STOP_VISIT, MONITORED_STOP_VISIT_CANCELLATION, MORE_DATA, NUMBER, PART, PRODUCER_REF, PT_SITUATION_ELEMENT, REMOVED, REQUESTOR_REF, REQUEST_MESSAGE_REF, REQUEST_TIMESTAMP, RESPONSE_MESSAGE_IDENTIFIER, RESPONSE_TIMESTAMP, ROUND, SERVICE_STARTED_TIME, SITUATIONS, SITUATION_EXCHANGE_DELIVERY, START, STATUS, STOP_MONITORING_DELIVERY, SUBSCRIBER_REF, SUBSCRIPTION_REF, VEHICLE_ACTIVITY, VEHICLE_ACTIVITY_CANCELLATION, VEHICLE_MONITORING_DELIVERY}
 use Rattle.siri_wire.specs.declared.read_parts.DeliveryExtensions.{DeliveryExtensions}
 use Rattle.siri_wire.specs.declared.read_parts.Heading.{Heading}

@@ -15,11 +15,10 @@ use Rattle.siri_messages.specs.declared.supplies.DataReceivedAcknowledgement.{Da
 use Rattle.siri_messages.specs.declared.supplies.DataSupplyRequest.{DataSupplyRequest}
 use Rattle.siri_messages.specs.declared.supplies.Mark.{Mark}
 use Rattle.siri_items.specs.declared.names.TheConstants.{RECORDED_AT_TIME}
-use Rattle.siri_items.specs.Refusals.{Refusal, ◌>>=◌, each}
-use Rattle.siri_items.specs.Rules.{name, moment, number, flag, table, read_from_text, unless_wrong, maybe}
-use Rattle.siri_items.specs.Spelling.{Spells}
-use Rattle.siri_items.proofs.SpellsImpliesRead.{row_ok, required_row_ok}
-use Rattle.siri_items.proofs.ReadImpliesSpells.{bind_ok}
+use Rattle.siri_tables.specs.Refusals.{Refusal, ◌>>=◌, each}
+use Rattle.siri_tables.specs.Rules.{name, moment, number, flag, table, read_from_text, unless_wrong, maybe}
+use Rattle.siri_tables.specs.Spelling.{Spells}
+use Rattle.siri_tables.proofs.RowSpells.{row_ok, required_row_ok, bind_ok}
 use Rattle.siri_wire.specs.declared.names.TheConstants.{ALL_DATA, CONSUMER_REF, EXTENSIONS, MESSAGE_IDENTIFIER, MORE_DATA, NUMBER, PART, PRODUCER_REF, REQUESTOR_REF, REQUEST_MESSAGE_REF, REQUEST_TIMESTAMP, RESPONSE_MESSAGE_IDENTIFIER, RESPONSE_TIMESTAMP, ROUND, SERVICE_STARTED_TIME, START, STATUS, SUBSCRIBER_REF, SUBSCRIPTION_REF}
 use Rattle.siri_wire.specs.declared.read_parts.DeliveryExtensions.{DeliveryExtensions}
 use Rattle.siri_wire.specs.declared.read_parts.Heading.{Heading}

@@ -17,8 +17,8 @@ use Rattle.siri_messages.specs.declared.terminations.TerminateSubscriptionReques
 use Rattle.siri_messages.specs.declared.terminations.TerminateSubscriptionResponse.{TerminateSubscriptionResponse}
 use Rattle.siri_messages.specs.declared.terminations.TerminationResponseStatus.{TerminationResponseStatus}
 use Rattle.siri_items.specs.declared.names.TheConstants.{MONITORING_REF, LINE_REF, DIRECTION_REF, OPERATOR_REF, DESTINATION_REF, START_TIME, VEHICLE_REF, STOP_POINT_REF}
-use Rattle.siri_items.specs.Rules.{name, text, moment, non_negative_span, number, flag, table, inside}
-use Rattle.siri_items.proofs.SpellsImpliesRead.{row_ok, required_row_ok}
+use Rattle.siri_tables.specs.Rules.{name, text, moment, non_negative_span, number, flag, table, inside}
+use Rattle.siri_tables.proofs.RowSpells.{row_ok, required_row_ok}
 use Rattle.siri_wire.specs.declared.names.TheConstants.{CHANGE_BEFORE_UPDATES, CONSUMER_ADDRESS, DELIVERY_METHOD, ESTIMATED_TIMETABLE_REQUEST, EXTENSIONS, HEARTBEAT_INTERVAL, INCREMENTAL_UPDATES, INITIAL_TERMINATION_TIME, MAXIMUM_STOP_VISITS, MESSAGE_IDENTIFIER, PREVIEW_INTERVAL, REQUESTOR_REF, REQUEST_MESSAGE_REF, REQUEST_TIMESTAMP, RESPONSE_TIMESTAMP, SITUATION_EXCHANGE_REQUEST, STATUS, STOP_MONITORING_REQUEST, SUBSCRIBER_REF, SUBSCRIPTION_CONTEXT, SUBSCRIPTION_IDENTIFIER, SUBSCRIPTION_REF, VALID_UNTIL, VEHICLE_MONITORING_REQUEST}
 use Rattle.siri_wire.specs.declared.read_subscriptions.RequestedSubscriptions.{RequestedSubscriptions}
 use Rattle.siri_wire_laws.specs.ProperRequests.{requested_by}

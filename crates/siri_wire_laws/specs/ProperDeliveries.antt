@@ -17,7 +17,8 @@ use Rattle.siri_messages.specs.declared.supplies.DataReadyNotification.{DataRead
 use Rattle.siri_messages.specs.declared.supplies.DataReceivedAcknowledgement.{DataReceivedAcknowledgement}
 use Rattle.siri_messages.specs.declared.supplies.DataSupplyRequest.{DataSupplyRequest}
 use Rattle.siri_messages.specs.declared.supplies.Mark.{Mark}
-use Rattle.siri_items.specs.Proper.{IsName, IsText, IsMoment, IsNumber, IsListWithin, IsProper as IsProperItem, service_of}
+use Rattle.siri_tables.specs.Proper.{IsName, IsText, IsMoment, IsNumber, IsListWithin}
+use Rattle.siri_items.specs.Proper.{IsProper as IsProperItem, service_of}
 
 -- ---- rounds, a line a row; a flag is always proper
 

@@ -18,7 +18,7 @@ use Rattle.siri_messages.specs.declared.subscriptions.SubscriptionResponse.{Subs
 use Rattle.siri_messages.specs.declared.terminations.TerminateSubscriptionRequest.{TerminateSubscriptionRequest}
 use Rattle.siri_messages.specs.declared.terminations.TerminateSubscriptionResponse.{TerminateSubscriptionResponse}
 use Rattle.siri_messages.specs.declared.terminations.TerminationResponseStatus.{TerminationResponseStatus}
-use Rattle.siri_items.specs.Proper.{IsName, IsText, IsMoment, IsNumber, IsListWithin, IsNonNegativeSpan}
+use Rattle.siri_tables.specs.Proper.{IsName, IsText, IsMoment, IsNumber, IsListWithin, IsNonNegativeSpan}
 use Rattle.siri_wire.specs.Requests.{asks_nothing}
 use Rattle.siri_wire.specs.Subscriptions.{requests_nothing}
 use Rattle.siri_wire.specs.declared.read_subscriptions.RequestedSubscriptions.{RequestedSubscriptions}

@@ -7,7 +7,7 @@ use Rattle.siri_json.specs.Values.{member_of, object_in}
 use Rattle.siri_messages.specs.declared.message.Message.{Message}
 use Rattle.siri_messages.specs.declared.message.Message.TheVariants as message
 use Rattle.siri_messages.specs.Kinds.{kind_of}
-use Rattle.siri_items.specs.Spelling.{IfFound}
+use Rattle.siri_tables.specs.Spelling.{IfFound}
 use Rattle.siri_wire.specs.declared.kinds.Kind.{Kind}
 use Rattle.siri_wire.specs.declared.kinds.Kind.TheVariants as kind
 use Rattle.siri_wire.specs.declared.names.TheConstants.{SIRI}

@@ -9,7 +9,7 @@ ghost use Rattle.siri_records.specs.declared.journey.Journey.{Journey};
 ghost use Rattle.siri_records.specs.declared.key.Key.{Key};
 ghost use Rattle.siri_messages.specs.declared.deliveries.FunctionalDelivery.{FunctionalDelivery};
 ghost use Rattle.siri_messages.specs.declared.supplies.Mark.{Mark};
-ghost use Rattle.siri_items.specs.Refusals.{Refusal};
+ghost use Rattle.siri_tables.specs.Refusals.{Refusal};
 ghost use Rattle.siri_wire.specs.declared.read_parts.DeliveryExtensions.{DeliveryExtensions};
 ghost use Rattle.siri_wire.specs.declared.read_parts.RoundPosition.{RoundPosition};
 ghost use Rattle.siri_wire.specs.Deliveries.{stop_monitoring_delivery, estimated_timetable_delivery, vehicle_monitoring_delivery, situation_exchange_delivery};

@@ -1,7 +1,7 @@
 use Rattle.std.proofs.Common.{◌≡◌, ◌++◌, map, drop}
 use Rattle.std.specs.List.{filter_map}
 use Rattle.serde_json.specs.View.{view}
-use Rattle.siri_items.specs.Written.{written_name}
+use Rattle.siri_tables.specs.Writing.{written_name}
 use Rattle.siri_items.proofs.write_situation.name_list.Given as goal
 
 abbrev pub invariant-loop-name : goal.invariant-loop-name

@@ -1,8 +1,0 @@
-use Rattle.std.proofs.Common.{◌≡◌, map}
-use Rattle.serde_json.specs.View.{view}
-use Rattle.siri_items.specs.Rules.{entries_from}
-use Rattle.siri_items.proofs.Entries.{after, rest_from}
-use Rattle.siri_items.proofs.rows.entries_from.Given as goal
-
-abbrev pub invariant-loop-place : goal.invariant-loop-place
-invariant-loop-place g l = after l.found.items (entries_from g.R.Rule.rule l.place (rest_from l.place l.values)) ≡ entries_from g.R.Rule.rule 0 (map view l.values)

@@ -1,8 +1,0 @@
-use Rattle.std.proofs.Common.{◌≡◌, map}
-use Rattle.serde_json.specs.View.{view}
-use Rattle.siri_items.specs.Rules.{found_from, inside, name}
-use Rattle.siri_items.proofs.Entries.{after, rest_from}
-use Rattle.siri_items.proofs.rows.names_from.Given as goal
-
-abbrev pub invariant-loop-place : goal.invariant-loop-place
-invariant-loop-place l = after l.found.items (found_from (inside name l.inner) l.place (rest_from l.place l.values)) ≡ found_from (inside name l.inner) 0 (map view l.values)

@@ -1,9 +1,0 @@
-use Rattle.std.proofs.Common.{◌≡◌, ◌≤◌, drop, min}
-use Rattle.siri_items.specs.Scalars.{number_on}
-use Rattle.siri_items.proofs.scalars.number_on.Given as goal
-
-abbrev pub invariant-loop-byte : goal.invariant-loop-byte
-invariant-loop-byte l = record {
-  told : min 1800000001 (number_on l.number (drop l.byte-index l.digits)) ≡ min 1800000001 (number_on l.before l.digits);
-  small : l.number ≤ 1800000001;
-}

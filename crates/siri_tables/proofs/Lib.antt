@@ -1,0 +1,12 @@
+pub mod Ascii
+pub mod Back
+pub mod BackLists
+pub mod BackValues
+pub mod CanonicalParts
+mod Capped
+pub mod DecimalRead
+pub mod Entries
+pub mod Nonempty
+pub mod ProperParts
+pub mod RowSpells
+pub mod Steps

@@ -1,0 +1,6 @@
+pub mod Refusals
+pub mod Scalars
+pub mod Rules
+pub mod Spelling
+pub mod Writing
+pub mod Proper

@@ -1,0 +1,180 @@
+//! Numbers and decimals as texts.
+
+ghost use Rattle.std.specs.Prelude.{◌≡◌, ◌<◌, ◌≤◌, ◌-◌, length, min, IfSome, IfOk, OnOk, ◌++◌, ◌==◌};
+ghost use Rattle.std.specs.List.{list_all, prefix_len, suffix_len};
+ghost use Rattle.std.specs.Char.{is_ascii_digit};
+ghost use Rattle.siri_tables.specs.Scalars as Spec;
+ghost use Rattle.siri_tables.specs.Writing as Written;
+
+use siri_base::{OutOfMemory, append, append_number};
+use std::alloc::Global;
+
+// One more than the units of 180 degrees: the greatest number that is told apart.
+const BEYOND: u64 = 1_800_000_001;
+
+fn is_all_digits(text: &[u8]) -> bool
+    ensures { result ≡ list_all is_ascii_digit text.now }
+{
+    text.iter().all(|byte| byte.is_ascii_digit())
+}
+
+/// The number of 1 to 18 digits; `None` exactly where the text isn't of this form.
+#[tactic(auto, unfolding(crate::specs::Scalars::number_of))]
+pub fn number_of(text: &str) -> Option<u64>
+    ensures { result ≡ Spec.number_of text.now }
+{
+    if text.len() >= 1 && text.len() <= 18 && is_all_digits(text.as_bytes()) {
+        text.parse().ok()
+    } else {
+        None
+    }
+}
+
+/// The decimal of a text, in 10^-7 degrees: an optional `+` or `-`, digits, optionally `.` and digits, one
+/// digit in all at least, at most 64 bytes, at most 180 degrees; digits past the seventh of the fraction are cut.
+/// `None` exactly where the text isn't of this form.
+#[tactic(auto, unfolding(crate::specs::Scalars::decimal_of))]
+pub fn decimal_of(text: &[u8]) -> Option<i64>
+    ensures { result ≡ Spec.decimal_of text.now }
+{
+    if text.len() > 64 {
+        return None;
+    }
+    let (negative, rest) = sign(text);
+    let units = magnitude(rest)? as i64;
+    Some(if negative { -units } else { units })
+}
+
+fn sign(text: &[u8]) -> (bool, &[u8])
+    ensures { (result.0, result.1.now) ≡ Spec.sign_at text.now }
+{
+    match text {
+        [b'-', rest @ ..] => (true, rest),
+        [b'+', rest @ ..] => (false, rest),
+        _ => (false, text),
+    }
+}
+
+fn whole_len(text: &[u8]) -> usize
+    ensures len { result ≡ prefix_len is_ascii_digit text.now }
+    ensures within { result ≤ length text.now }
+{
+    text.iter().take_while(|byte| byte.is_ascii_digit()).count()
+}
+
+#[tactic(auto, unfolding(crate::specs::Scalars::magnitude_of))]
+fn magnitude(text: &[u8]) -> Option<u64>
+    ensures value { result ≡ Spec.magnitude_of text.now }
+    ensures small { IfSome result (λ units. units ≤ 1800000000) }
+{
+    let (whole, rest) = text.split_at(whole_len(text));
+    units_after(whole, rest)
+}
+
+#[tactic(auto, unfolding(crate::specs::Scalars::units_after))]
+fn units_after(whole: &[u8], rest: &[u8]) -> Option<u64>
+    ensures value { result ≡ Spec.units_after whole.now rest.now }
+    ensures small { IfSome result (λ units. units ≤ 1800000000) }
+{
+    match rest {
+        [] if !whole.is_empty() => units(whole, rest),
+        [b'.', fraction @ ..]
+            if is_all_digits(fraction) && (!whole.is_empty() || !fraction.is_empty()) => {
+            units(whole, fraction)
+        }
+        _ => None,
+    }
+}
+
+#[tactic(auto, using(crate::proofs::Capped::capped_twice))]
+fn units(whole: &[u8], fraction: &[u8]) -> Option<u64>
+    ensures value { result ≡ Spec.units_of whole.now fraction.now }
+    ensures small { IfSome result (λ units. units ≤ 1800000000) }
+{
+    let degrees = number_on(0, whole);
+    let units = number_on(degrees, &seven_digits(fraction));
+    if units < BEYOND { Some(units) } else { None }
+}
+
+fn seven_digits(fraction: &[u8]) -> [u8; 7]
+    ensures { result ≡ Spec.seven_digits fraction.now }
+{
+    let mut digits = [b'0'; 7];
+    let count = fraction.len().min(7);
+    digits[..count].copy_from_slice(&fraction[..count]);
+    digits
+}
+
+// The number that these digits make behind others. All numbers from `BEYOND` on are told as one.
+#[tactic(auto)]
+fn number_on(before: u64, digits: &[u8]) -> u64
+    requires { before ≤ 1800000001 }
+    ensures { result ≡ min 1800000001 (Spec.number_on before digits.now) }
+{
+    let mut number = before;
+    for byte in digits {
+        number = (10 * number + u64::from(byte.saturating_sub(b'0'))).min(BEYOND);
+    }
+    number
+}
+
+/// The text of so many 10^-7 degrees, in degrees: `-` where negative, the whole part, and `.` with the fraction without
+/// the zeros at its end where it isn't zero.
+#[tactic(auto, unfolding(crate::specs::Writing::decimal_text, crate::specs::Writing::magnitude_text))]
+pub fn decimal_text(alloc: Global, units: i64) -> Result<Vec<u8>, OutOfMemory>
+    ensures { IfOk result (λ text. text.items ≡ Written.decimal_text units) }
+{
+    let mut text = Vec::new(alloc);
+    if units < 0 {
+        append(&mut text, b"-")?;
+    }
+    let magnitude = units.unsigned_abs();
+    append_number(alloc, &mut text, magnitude / 10_000_000)?;
+    append_fraction(&mut text, magnitude % 10_000_000)?;
+    Ok(text)
+}
+
+#[tactic(auto, unfolding(crate::specs::Writing::fraction_text))]
+fn append_fraction(into: &mut Vec<u8>, fraction: u64) -> Result<(), OutOfMemory>
+    requires { fraction < 10000000 }
+    ensures { OnOk result (into.new.items ≡ into.old.items ++ Written.fraction_text fraction) }
+{
+    if fraction == 0 {
+        return Ok(());
+    }
+    append(into, b".")?;
+    let digits = seven_wide(fraction);
+    append(into, without_zeros(&digits))
+}
+
+fn seven_wide(fraction: u64) -> [u8; 7]
+    requires { fraction < 10000000 }
+    ensures { result ≡ Written.seven_wide fraction }
+{
+    [
+        b'0' + (fraction / 1_000_000) as u8,
+        b'0' + (fraction / 100_000 % 10) as u8,
+        b'0' + (fraction / 10_000 % 10) as u8,
+        b'0' + (fraction / 1_000 % 10) as u8,
+        b'0' + (fraction / 100 % 10) as u8,
+        b'0' + (fraction / 10 % 10) as u8,
+        b'0' + (fraction % 10) as u8,
+    ]
+}
+
+fn zeros_at_end(digits: &[u8]) -> usize
+    ensures zeros { result ≡ suffix_len (λ digit. digit == 48) digits.now }
+    ensures within { result ≤ length digits.now }
+{
+    digits
+        .iter()
+        .rev()
+        .take_while(|digit| **digit == b'0')
+        .count()
+}
+
+fn without_zeros(digits: &[u8; 7]) -> &[u8]
+    ensures { result.now ≡ Written.without_zeros digits.now }
+{
+    &digits[..7 - zeros_at_end(digits)]
+}
