@@ -1,5 +1,5 @@
 -- The history of a producer, and what is current after it.
-use Rattle.std.specs.Prelude.{◌≡◌, ℕ, List, [], ◌++◌, length, max, map, filter, flat_map, fold, Bool, ◌&&◌, not, nat_le, is_some, if◌then◌else◌, Option}
+use Rattle.std.specs.Prelude.{◌≡◌, ℕ, List, [], ◌++◌, length, max, map, flat_map, fold, Bool, ◌&&◌, not, nat_le, is_some, if◌then◌else◌, Option}
 use Rattle.std.specs.List.{All}
 use Rattle.siri_records.specs.declared.item.Item.{Item}
 use Rattle.siri_records.specs.declared.key.Key.{Key}

@@ -1,6 +1,6 @@
 -- The current item of a key in words of its observations: the last one that was taken, unless the key was withdrawn
 -- after that.
-use Rattle.std.specs.Prelude.{ℕ, List, [], ◌∷◌, ◌++◌, filter, Bool, true, false, Option, Some, None, if◌then◌else◌}
+use Rattle.std.specs.Prelude.{ℕ, List, [], ◌∷◌, ◌++◌, filter, Bool, Option, Some, None, if◌then◌else◌}
 use Rattle.std.specs.Ordering.{is_eq}
 use Rattle.std.specs.List.{last_or}
 use Rattle.siri_records.specs.declared.item.Item.{Item}
@@ -9,7 +9,7 @@ use Rattle.siri_records.specs.Keys.{key_of}
 use Rattle.siri_records.specs.Order.{key_cmp}
 use Rattle.siri_records.specs.Keyed.{Items}
 use Rattle.siri_model.specs.Fed.{refuses, taken}
-use Rattle.siri_model.specs.History.{Entry, Observed, Withdrawn, State, Step, Start, Clock, Feed, Take, Settle, History, nothing, after_step, entries_fed}
+use Rattle.siri_model.specs.History.{Entry, Observed, Withdrawn, State, Step, Start, Feed, Take, History, nothing, after_step, entries_fed}
 
 -- the key that an entry observes or withdraws
 abbrev pub entry_key : Entry → Key

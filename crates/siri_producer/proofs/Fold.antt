@@ -16,17 +16,8 @@ use Rattle.siri_store.specs.Calls.{refuses, observed}
 use Rattle.siri_producer.specs.declared.feeding.Feeding.{Feeding}
 use Rattle.siri_producer.specs.Feeding.{more, after, after_all}
 use Rattle.siri_producer.specs.FedCounts.{at_most_greatest, fed_counts}
-use Rattle.siri_producer.proofs.Entries.{sorted_inserted, sorted_removed, passing_removed, passing_inserted, passing_inserted_failing}
-
--- ---- items stay in order
-
-in_order_if : (b : Bool) (old new : Items) → InOrder old → InOrder new → InOrder (if b then old else new)
-in_order_if true old new a b = a
-in_order_if false old new a b = b
-
-pub in_order_after : (now : ℕ) (items : Items) (e : Entry) → InOrder items → InOrder (after_entry now items e)
-in_order_after now items (Observed item) s = in_order_if (is_refused now items item) items (insert_entry key_cmp items (key_of item) item) s (sorted_inserted key_cmp_total (key_of item) item items s)
-in_order_after now items (Withdrawn key) s = sorted_removed key_cmp_total key items s
+use Rattle.siri_model_laws.proofs.Entries.{passing_removed, passing_inserted, passing_inserted_failing}
+use Rattle.siri_model_laws.proofs.InOrder.{in_order_after}
 
 -- ---- one entry
 

@@ -1,7 +1,4 @@
-pub mod Current
-pub mod Entries
 pub mod Fold
-pub mod Ranks
+pub mod Holds
 pub mod Reached
-pub mod Shown
 pub mod Stands

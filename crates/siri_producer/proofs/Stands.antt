@@ -18,38 +18,10 @@ use Rattle.siri_producer.specs.Feeding.{after_all, ReachesSome}
 use Rattle.siri_producer.specs.Known.{Known, StandsFor, TookSome}
 use Rattle.siri_producer.specs.Standing.{HasHistory}
 use Rattle.siri_producer.specs.FedCounts.{fed_counts}
-use Rattle.siri_producer.proofs.Entries.{filter_stronger}
-use Rattle.siri_producer.proofs.Fold.{in_order_after, none_fed, fitting, all_alike}
-
--- ---- the current items are in order of key
-
-pub none_in_order : InOrder {X = Item} []
-unfolding IsStrictlySortedBy
-none_in_order = tt
-
-pub in_order_all : (now : ℕ) (items : Items) (entries : List Entry) → InOrder items → InOrder (fold (after_entry now) items entries)
-in_order_all now items [] s = s
-in_order_all now items (e ∷ entries) s = in_order_all now (after_entry now items e) entries (in_order_after now items e s)
-
-pub in_order_step : (state : State) (step : Step) → InOrder state.current → InOrder (after_step state step).current
-unfolding after_step
-in_order_step state (Start n m) s = none_in_order
-in_order_step state (Clock m) s = s
-in_order_step state (Feed entries) s = in_order_all state.now state.current entries s
-in_order_step state (Take message) s = in_order_all state.now state.current (entries_fed message) s
-in_order_step state Settle s = s
-
-in_order_from : (state : State) (steps : History) → InOrder state.current → InOrder (fold after_step state steps).current
-in_order_from state [] s = s
-in_order_from state (step ∷ steps) s = in_order_from (after_step state step) steps (in_order_step state step s)
-
-pub current_in_order : (h : History) → InOrder (current h)
-current_in_order h = in_order_from nothing h none_in_order
+use Rattle.siri_model_laws.proofs.InOrder.{current_in_order, more_steps, live_later}
+use Rattle.siri_producer.proofs.Fold.{none_fed, fitting, all_alike}
 
 -- ---- one more step
-
-pub more_steps : (h : History) (step : Step) → state_of (h ++ step ∷ []) ≡ after_step (state_of h) step
-more_steps h step = fold-append after_step nothing h (step ∷ [])
 
 stands_as : (known : Known) (h : History) (state : State) → state_of h ≡ state → known.start ≡ state.start → known.started ≡ state.started → known.moment ≡ state.now → known.held ≡ living state.now state.current → StandsFor known h
 stands_as known h state is start started moment held = record {
@@ -71,18 +43,6 @@ stands_new known number now start started moment held = record {
 }
 
 -- ---- the clock
-
--- what has not ended later has not ended now
-ended_later : (end : Option ℕ) (now later : ℕ) → now ≤ later → not (option_map_or (λ e. nat_lt e later) end false) ≡ true → not (option_map_or (λ e. nat_lt e now) end false) ≡ true
-ended_later None now later le h = refl
-ended_later (Some e) now later le h = grind (arith, ltb-true, lt-ltb)
-
-alive_later_at : (closed : Bool) (end : Option ℕ) (now later : ℕ) → now ≤ later → not (closed || option_map_or (λ e. nat_lt e later) end false) ≡ true → not (closed || option_map_or (λ e. nat_lt e now) end false) ≡ true
-alive_later_at true end now later le h = h
-alive_later_at false end now later le h = ended_later end now later le h
-
-pub live_later : (now later : ℕ) (items : Items) → now ≤ later → living later (living now items) ≡ living later items
-live_later now later items le = filter_stronger (λ (e : Key × Item). not (is_dead e.1 now)) (λ (e : Key × Item). not (is_dead e.1 later)) (λ e h. alive_later_at (is_closed e.1) (end_of e.1) now later le h) items
 
 pub stands_clock : (old new : Known) (moment : ℕ) (h : History) → StandsFor old h → new.start ≡ old.start → new.started ≡ old.started → new.moment ≡ max old.moment moment → new.held ≡ living (max old.moment moment) old.held → StandsFor new (h ++ Clock moment ∷ [])
 unfolding after_step

@@ -1,5 +1,5 @@
 -- What a producer knows, and the histories that it stands for.
-use Rattle.std.specs.Prelude.{◌≡◌, ℕ, ◌+◌, List, ◌∷◌, [], ◌++◌, take, length}
+use Rattle.std.specs.Prelude.{◌≡◌, ℕ, List, ◌∷◌, [], ◌++◌, take}
 use Rattle.siri_messages.specs.declared.requests.ServiceRequest.{ServiceRequest}
 use Rattle.siri_records.specs.Keyed.{Items, living}
 use Rattle.siri_messages.specs.declared.deliveries.ServiceDelivery.{ServiceDelivery}
@@ -41,11 +41,3 @@ CountsFor old entries fed = (h : History) → StandsFor old h → fed ≡ fed_co
 -- a delivery is the response by every history that the producer stands for, under its name
 abbrev pub ResponseFor : Known → ServiceRequest → ServiceDelivery → Type 0
 ResponseFor known request delivery = (h : History) → StandsFor known h → delivery ≡ response known.name (now_of h) (current h) request
-
--- how many topics a request has
-abbrev pub topics_in : ServiceRequest → ℕ
-topics_in r =
-    length r.stop_monitoring_request
-    + length r.estimated_timetable_request
-    + length r.vehicle_monitoring_request
-    + length r.situation_exchange_request

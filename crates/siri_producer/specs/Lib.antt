@@ -2,4 +2,3 @@ pub mod Known
 pub mod FedCounts
 pub mod Standing
 pub mod Feeding
-pub mod Answering

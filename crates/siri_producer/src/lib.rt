@@ -8,22 +8,14 @@
 //! ```
 //!
 //! A producer stands for the history of its steps: what it holds are the current items of that history that aren't dead.
-//! What follows of every history stands as laws, functions that do nothing.
 //!
-//! Stands on `siri_base`, `siri_records`, `siri_topic`, `siri_messages` and `siri_store`; its contracts cite the histories
-//! of `siri_model`. It reads and writes no text, and knows no wire and no clock.
+//! Stands on `siri_base`, `siri_records`, `siri_topic`, `siri_messages`, `siri_store` and `siri_direct`; its contracts cite the histories
+//! of `siri_model`, and its proofs what follows of them in `siri_model_laws`. It reads and writes no text, and knows no wire and no clock.
 #![tactic(auto)]
 
-mod answers;
 mod feeding;
-mod laws;
 mod owned;
 mod producer;
-mod soonest;
 
 pub use feeding::Fed;
-pub use laws::{
-    an_entry_is_of_its_key_alone, current_items_are_in_order, current_items_stand_under_their_keys,
-    few_keys_are_live, the_last_observation_is_current,
-};
 pub use producer::Producer;

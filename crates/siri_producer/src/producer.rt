@@ -1,13 +1,14 @@
 // The producer.
 ghost use Rattle.std.specs.Prelude.{◌≡◌, ◌+◌, ◌*◌, ◌≤◌, [], ◌∷◌, ◌++◌, length, IfOk, OnOk, OnErr};
 ghost use Rattle.siri_records.specs.Keyed.{InOrder};
+ghost use Rattle.siri_direct.specs.Topics.{topics_in};
 ghost use Rattle.siri_model.specs.Direct.{response};
 ghost use Rattle.siri_model.specs.History.{History, Start, Clock, Feed, IsKeyed, entries_of};
-ghost use Rattle.siri_producer.specs.Known.{StandsFor, GoesOn, TookSome, CountsFor, ResponseFor, topics_in};
+ghost use Rattle.siri_producer.specs.Known.{StandsFor, GoesOn, TookSome, CountsFor, ResponseFor};
 
-use crate::answers::answer_all;
 use crate::feeding::{Fed, Feeding};
-use siri_base::{Copies, Moment, Name, OutOfMemory};
+use siri_base::{Moment, Name, OutOfMemory};
+use siri_direct::response_to;
 use siri_messages::{ServiceDelivery, ServiceRequest};
 use siri_store::Store;
 use std::alloc::Global;
@@ -95,7 +96,6 @@ impl Producer {
     /// The direct response to a request: one functional delivery for each of its topics, in the order Stop Monitoring,
     /// Estimated Timetable, Vehicle Monitoring, Situation Exchange and in each list's order. Nothing but the counter changes,
     /// and that rises by at most as many steps as items are held, for each topic.
-    #[tactic(auto, unfolding(siri_model::specs::Direct::response))]
     pub fn direct(&mut self, request: &ServiceRequest) -> Result<ServiceDelivery, OutOfMemory>
         ensures ok { IfOk result (ResponseFor self.old request.now) }
         ensures held { IfOk result (λ delivery. delivery ≡ response self.old.name self.old.moment self.old.held request.now) }
@@ -103,36 +103,7 @@ impl Producer {
         ensures risen { self.old.reads ≤ self.new.reads }
         ensures reads { self.new.reads ≤ self.old.reads + length self.old.held * topics_in request.now }
     {
-        let store = &mut self.feeding.store;
-        Ok(ServiceDelivery {
-            response_timestamp: Some(store.now()),
-            producer_ref: Some(self.name.copy()?),
-            response_message_identifier: None,
-            request_message_ref: request.message_identifier.copy()?,
-            status: true,
-            error_condition: None,
-            more_data: false,
-            stop_monitoring_delivery: answer_all(
-                self.alloc,
-                store,
-                &request.stop_monitoring_request,
-            )?,
-            estimated_timetable_delivery: answer_all(
-                self.alloc,
-                store,
-                &request.estimated_timetable_request,
-            )?,
-            vehicle_monitoring_delivery: answer_all(
-                self.alloc,
-                store,
-                &request.vehicle_monitoring_request,
-            )?,
-            situation_exchange_delivery: answer_all(
-                self.alloc,
-                store,
-                &request.situation_exchange_request,
-            )?,
-        })
+        response_to(self.alloc, &mut self.feeding.store, &self.name, request)
     }
 
     /// Its name.

@@ -1,7 +1,7 @@
 use Rattle.std.proofs.Common.{subst}
 use Rattle.siri_model.specs.History.{History}
 use Rattle.siri_producer.specs.Known.{Known, StandsFor}
-use Rattle.siri_producer.proofs.Current.{held_in_order, held_keyed, held_few}
+use Rattle.siri_producer.proofs.Holds.{held_in_order, held_keyed, held_few}
 use Rattle.siri_producer.proofs.Stands.{history_known}
 use Rattle.siri_producer.proofs.producer.Producer.held.Goals as goal
 

@@ -1,0 +1,23 @@
+//! What follows from the definitions of `siri_model`, of every history: each law is the contract of a function that does
+//! nothing when it is called.
+//!
+//! ```text
+//!     a history --current--> items: in order of key, each under its own, few of them live, each the last that was taken
+//!               --direct---> a view --target, parts--> the target: what lives ask of views and parts holds of items
+//!               --table----> lives: their rows change as a subscription table does
+//! ```
+//!
+//! Stands on `siri_base`, `siri_records`, `siri_topic`, `siri_messages`, `siri_change`, `siri_subs`, `siri_life` and
+//! `siri_model`. The producer's proofs cite its lemmas.
+#![tactic(auto)]
+
+mod history_laws;
+mod meaning_laws;
+mod table_laws;
+
+pub use history_laws::{
+    an_entry_is_of_its_key_alone, current_items_are_in_order, current_items_stand_under_their_keys,
+    few_keys_are_live, the_last_observation_is_current,
+};
+pub use meaning_laws::{direct_responses_are_views, lives_of_items_are_lawful};
+pub use table_laws::{rows_follow_their_lives, subscriptions_are_held_once};

@@ -1,5 +1,0 @@
-use Rattle.siri_producer.proofs.Current.{last_taken}
-use Rattle.siri_producer.proofs.laws.the_last_observation_is_current.Goals as goal
-
-pub returns : goal.returns
-returns c = last_taken
