@@ -1,0 +1,4 @@
+pub mod Refusals
+pub mod Responses
+pub mod Parts
+pub mod Statuses
