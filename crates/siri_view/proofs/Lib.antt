@@ -1,0 +1,4 @@
+pub mod Keyed
+pub mod Outcomes
+pub mod Places
+pub mod Taken

@@ -1,0 +1,225 @@
+// What is kept of each subscription that is held, in order of identifier.
+ghost use Rattle.std.specs.Prelude.{◌≡◌, ◌<◌, ◌≤◌, ◌+◌, ◌^◌, ℕ, [], length, map, fold, Some, None, is_some, option_map, slice_get, IfSome, OnOk, OnErr, IsOk, Ok, vec_len};
+ghost use Rattle.std.specs.Vec.{vec_capacity};
+ghost use Rattle.std.specs.List.{filter};
+ghost use Rattle.std.specs.List.Sorted.{IsStrictlySortedBy};
+ghost use Rattle.std.specs.Map.{keys_of};
+ghost use Rattle.siri_records.specs.Places.{Finds, IsHere, set_value_at};
+ghost use Rattle.siri_life.specs.Link as life;
+ghost use Rattle.siri_life.specs.Link.{taken};
+ghost use Rattle.siri_view.specs.Consuming.{with_request, is_new};
+ghost use Rattle.siri_view.specs.Kept.{meaning, name_cmp, kept_of, with_kept, without_kept};
+ghost use Rattle.siri_view.specs.Marks.{mark_by};
+ghost use Rattle.siri_view.specs.Places.{Wants, with_taken, taken_at, asked_at};
+
+use crate::asked::AskedFor;
+use crate::marks::Numbers;
+use crate::part::Part;
+use crate::subscribed::Subscribed;
+use siri_base::{Name, OutOfMemory};
+use siri_topic::Subscription;
+use std::alloc::Global;
+use std::cmp::Ordering;
+use std::marker::Model;
+
+type Entry = (Name, Subscribed);
+
+// The subscriptions that are held by their identifiers, in order of the bytes of these, each once.
+#[derive(Drop)]
+pub(crate) struct Holdings {
+    entries: Vec<Entry>,
+}
+
+impl Model for Holdings {
+    ghost use Rattle.std.specs.List.Sorted.{IsStrictlySortedBy};
+    ghost use Rattle.std.specs.Map.{keys_of};
+    ghost use Rattle.siri_view.specs.Kept.{Holdings as Entries, name_cmp};
+
+    ghost Value = { Entries };
+
+    ghost view = { λ h. h.entries.items };
+
+    ghost invariant = { λ h. IsStrictlySortedBy name_cmp (keys_of h.entries.items) };
+}
+
+impl Holdings {
+    // None is held. It takes no memory.
+    pub(crate) fn new(alloc: Global) -> Holdings
+        ensures { result ≡ [] }
+    {
+        Holdings {
+            entries: Vec::new(alloc),
+        }
+    }
+
+    pub(crate) fn allocator(&self) -> Global {
+        *self.entries.allocator()
+    }
+
+    pub(crate) fn len(&self) -> usize
+        ensures number { result ≡ length self.now }
+        ensures ordered { IsStrictlySortedBy name_cmp (keys_of self.now) }
+    {
+        self.entries.len()
+    }
+
+    // The identifier at a place in order.
+    pub(crate) fn identifier(&self, place: usize) -> Option<&Name>
+        ensures { option_map (λ name. name.now) result ≡ option_map (λ entry. entry.0) (slice_get self.now place) }
+    {
+        match self.entries.get(place) {
+            Some(entry) => Some(&entry.0),
+            None => None,
+        }
+    }
+
+    // What is kept under an identifier.
+    pub(crate) fn get(&self, identifier: &Name) -> Option<&Subscribed>
+        ensures kept { option_map (λ kept. kept.now) result ≡ kept_of identifier.now self.now }
+        ensures same { IfSome result (λ kept. with_kept identifier.now kept.now self.now ≡ self.now) }
+    {
+        match find(&self.entries, identifier) {
+            Ok(at) => Some(&self.entries[at].1),
+            Err(_) => None,
+        }
+    }
+
+    // A part of a subscription that wants it is taken. After want of memory all is as before.
+    pub(crate) fn take(
+        &mut self,
+        identifier: &Name,
+        mark: Numbers,
+        more: bool,
+        part: Part,
+    ) -> Result<(), OutOfMemory>
+        requires wanted { Wants (mark_by mark) (kept_of identifier.now self.old) }
+        ensures ok { OnOk result (self.new ≡ with_taken identifier.now (mark_by mark) more part (kept_of identifier.now self.old) self.old) }
+        ensures err { OnErr result (self.new ≡ self.old) }
+    {
+        let alloc = self.allocator();
+        match find(&self.entries, identifier) {
+            Ok(at) => take_at(&mut self.entries, at, alloc, mark, more, part),
+            Err(_) => {
+                discard_part(part);
+                Ok(())
+            }
+        }
+    }
+
+    // Subscriptions are asked for under a number, one after the other. The memory for all of them is taken before the
+    // first: after want of memory all is as before.
+    pub(crate) fn ask(
+        &mut self,
+        number: u64,
+        requests: Vec<(Name, AskedFor)>,
+    ) -> Result<(), OutOfMemory>
+        ensures ok { OnOk result (self.new ≡ fold (with_request number) self.old requests.items) }
+        ensures err { OnErr result (self.new ≡ self.old) }
+    {
+        let alloc = self.allocator();
+        self.entries.reserve(requests.len())?;
+        for (identifier, asked) in requests {
+            ask_for(alloc, &mut self.entries, identifier, number, asked)?;
+        }
+        Ok(())
+    }
+
+    // How many of these subscriptions aren't held.
+    pub(crate) fn count_new(&self, wanted: &[Subscription]) -> usize
+        ensures { result ≡ length (filter (is_new self.now) wanted.now) }
+    {
+        wanted
+            .iter()
+            .filter(|subscription| self.get(&subscription.identifier).is_none())
+            .count()
+    }
+
+    // What is kept under an identifier goes.
+    pub(crate) fn remove(&mut self, identifier: &Name)
+        ensures { self.new ≡ without_kept identifier.now self.old }
+    {
+        match find(&self.entries, identifier) {
+            Ok(at) => discard(self.entries.remove(at)),
+            Err(_) => {}
+        }
+    }
+}
+
+// Where an identifier stands, or where it would.
+fn find(entries: &Vec<Entry>, identifier: &Name) -> Result<usize, usize>
+    requires { IsStrictlySortedBy name_cmp (keys_of entries.now.items) }
+    ensures { Finds (name_cmp identifier.now) entries.now.items result }
+{
+    entries.binary_search_by(
+        |entry: &Entry| -> Ordering
+            ensures { result ≡ name_cmp entry.now.0 identifier.entry.now }
+        { entry.0.cmp(identifier) },
+    )
+}
+
+// A subscription is asked for under a number. It takes no memory where there is room for one more entry.
+fn ask_for(
+    alloc: Global,
+    entries: &mut Vec<Entry>,
+    identifier: Name,
+    number: u64,
+    asked: AskedFor,
+) -> Result<(), OutOfMemory>
+    requires ordered { IsStrictlySortedBy name_cmp (keys_of entries.old.items) }
+    ensures ok { OnOk result (entries.new.items ≡ with_request number entries.old.items (identifier, asked)) }
+    ensures ordered { IsStrictlySortedBy name_cmp (keys_of entries.new.items) }
+    ensures room { vec_len entries.old < vec_capacity entries.old → IsOk result }
+    ensures len { vec_len entries.new ≤ vec_len entries.old + 1 }
+    ensures capacity { vec_capacity entries.old ≤ vec_capacity entries.new }
+{
+    match find(entries, &identifier) {
+        Ok(at) => {
+            discard_name(identifier);
+            ask_at(alloc, entries, at, number, asked);
+        }
+        Err(at) => {
+            let kept = Subscribed::new(alloc, number, asked);
+            entries.insert(at, (identifier, kept))?;
+        }
+    }
+    Ok(())
+}
+
+// The subscription at a place is asked for again.
+fn ask_at(alloc: Global, entries: &mut Vec<Entry>, at: usize, number: u64, asked: AskedFor)
+    requires { at < vec_len entries.old }
+    ensures items { entries.new.items ≡ asked_at number asked entries.old.items at }
+    ensures keys { keys_of entries.new.items ≡ keys_of entries.old.items }
+    ensures len { vec_len entries.new ≡ vec_len entries.old }
+    ensures capacity { vec_capacity entries.new ≡ vec_capacity entries.old }
+{
+    let entry = &mut entries[at];
+    entry.1.ask(alloc, number, asked);
+}
+
+// A part of the subscription at a place is taken.
+fn take_at(
+    entries: &mut Vec<Entry>,
+    at: usize,
+    alloc: Global,
+    mark: Numbers,
+    more: bool,
+    part: Part,
+) -> Result<(), OutOfMemory>
+    requires place { at < vec_len entries.old }
+    requires wanted { Wants (mark_by mark) (option_map (λ entry. entry.1) (slice_get entries.old.items at)) }
+    ensures ok { OnOk result (entries.new.items ≡ taken_at (mark_by mark) more part entries.old.items at) }
+    ensures err { OnErr result (entries.new.items ≡ entries.old.items) }
+    ensures keys { keys_of entries.new.items ≡ keys_of entries.old.items }
+{
+    let entry = &mut entries[at];
+    entry.1.take(alloc, mark, more, part)
+}
+
+// Each of these lets one value go and does nothing else.
+
+fn discard(_entry: Entry) {}
+
+fn discard_part(_part: Part) {}
+
+fn discard_name(_identifier: Name) {}
