@@ -10,13 +10,13 @@ use std::io::Write;
 use std::process::ExitCode;
 
 fn main(rt: HostRuntime) -> ExitCode {
-    let status = do_words(&rt);
-    tell(&rt, &status);
+    let status = run_command(&rt);
+    report_status(&rt, &status);
     ExitCode::from(status.number())
 }
 
 /// Runs the command over the words after the program's name. Words that aren't UTF-8 are no plain spelling.
-fn do_words(rt: &HostRuntime) -> Status {
+fn run_command(rt: &HostRuntime) -> Status {
     let alloc = rt.alloc();
     let Ok(given) = env::args(rt) else {
         return Status::Usage;
@@ -36,7 +36,7 @@ fn do_words(rt: &HostRuntime) -> Status {
 }
 
 /// Writes the status's text and a line end to standard error, where it has one.
-fn tell(rt: &HostRuntime, status: &Status) {
+fn report_status(rt: &HostRuntime, status: &Status) {
     if let Ok(text) = status.text(rt.alloc()) {
         if text.len() > 0 {
             let mut errors = rt.stderr();

@@ -15,9 +15,7 @@ use Rattle.siri_wire.proofs.Documents.{document_too_long}
 use Rattle.siri_cli.specs.RunResult.{RunResult}
 use Rattle.siri_cli.specs.Ends.{Bytes, Ends, AppendsFront, ReadsAll, is_cut}
 use Rattle.siri_cli.specs.inner.DocumentParts.{IsDocument, Tells}
-use Rattle.siri_cli.specs.OneDocument.{Answered, Answers, check_text, convert_text, ok_text, told_of}
-use Rattle.siri_wire.specs.Canonical.{canonical}
-use Rattle.siri_cli.proofs.Written.{front_none}
+use Rattle.siri_cli.specs.OneDocument.{Answered, Answers, told_by, told_of}
 
 -- a buffer after its whole was lent and came back
 pub lent_whole : (n : ℕ) (lent items : List ℕ) → length lent ≡ length items → n ≡ length items → take n (lent ++ drop (length lent) items) ≡ lent
@@ -50,34 +48,30 @@ input_read most input later document e bound whole = choose (eq-or-lt_of_le boun
         whole n ∙ sym (ap (drop most) all ∙ drop_all most document bound)
 
 -- what is told of a document, by its message or its refusal
-abbrev IsTold : (Message → List ℕ) → (List ℕ → RunResult) → Type 0
-IsTold text tell = (document : List ℕ) → tell document ≡ told_of text (message_of document)
+told_is : (text : Message → List ℕ) (document : List ℕ) → told_by text document ≡ told_of text (message_of document)
+unfolding told_by
+told_is text document = refl
 
-answers : (text : Message → List ℕ) (tell : List ℕ → RunResult) → IsTold text tell → (input left old new : Bytes) (document : List ℕ) (told : RunResult) (end : Status) → IsDocument input left document → told ≡ tell document → Tells old told new end → Answers tell input left old new end
-answers text tell is None left old new document told end d e w = tt
-answers text tell is (Some input) None old new document told end d e w = absurd d.taken
-answers text tell is (Some input) (Some later) old new document told end d e w =
-    let same : told ≡ tell input = e ∙ is document ∙ ap (told_of text) (message_same input later document d.taken d.bound d.whole) ∙ sym (is input) in
+pub told_answers : (text : Message → List ℕ) (input left old new : Bytes) (document : List ℕ) (told : RunResult) (end : Status) → IsDocument input left document → told ≡ told_by text document → Tells old told new end → Answers (told_by text) input left old new end
+told_answers text None left old new document told end d e w = tt
+told_answers text (Some input) None old new document told end d e w = absurd d.taken
+told_answers text (Some input) (Some later) old new document told end d e w =
+    let same : told ≡ told_by text input = e ∙ told_is text document ∙ ap (told_of text) (message_same input later document d.taken d.bound d.whole) ∙ sym (told_is text input) in
     let read : Some later ≡ Some (drop 8388609 input) = ap Some (input_read 8388609 input later document d.taken d.bound d.whole) in
-    let choose : (cut : Bool) → MatchBool cut (AppendsFront old new (tell input).text) (Ends old (tell input) new end) → MatchBool cut (AppendsFront old new (tell input).text) (Answered (tell input) input (Some later) old new end) =
-    λ cut. elim cut as (λ cut. MatchBool cut (AppendsFront old new (tell input).text) (Ends old (tell input) new end) → MatchBool cut (AppendsFront old new (tell input).text) (Answered (tell input) input (Some later) old new end)) [
+    let choose : (cut : Bool) → MatchBool cut (AppendsFront old new (told_by text input).text) (Ends old (told_by text input) new end) → MatchBool cut (AppendsFront old new (told_by text input).text) (Answered (told_by text input) input (Some later) old new end) =
+    λ cut. elim cut as (λ cut. MatchBool cut (AppendsFront old new (told_by text input).text) (Ends old (told_by text input) new end) → MatchBool cut (AppendsFront old new (told_by text input).text) (Answered (told_by text input) input (Some later) old new end)) [
       | true ↦ λ front. front
       | false ↦ λ ends. record { ends = ends; read = read }
     ] in
     choose (is_cut end) (subst (λ t. Tells old t new end) same w)
 
--- nothing was written
-unanswered : (tell : List ℕ → RunResult) (input left held : Bytes) (end : Status) → is_cut end ≡ true → Answers tell input left held held end
-unanswered tell None left held end cut = tt
-unanswered tell (Some input) left held end cut = rw cut (front_none held (tell input).text)
-
 -- a document of which its message is told was read to its end
-at_end : (text : Message → List ℕ) (tell : List ℕ → RunResult) → IsTold text tell → (input left old new : Bytes) (document : List ℕ) (told : RunResult) → IsDocument input left document → told ≡ tell document → Tells old told new status.Done → IsAtEnd left
-at_end text tell is input left old new document told d e w = choose (eq-or-lt_of_le d.bound)
+at_end : (text : Message → List ℕ) (input left old new : Bytes) (document : List ℕ) (told : RunResult) → IsDocument input left document → told ≡ told_by text document → Tells old told new status.Done → IsAtEnd left
+at_end text input left old new document told d e w = choose (eq-or-lt_of_le d.bound)
   where
     choose : (length document ≡ 8388609) ⊎ (length document < 8388609) → IsAtEnd left
     choose (inl n) =
-        let refused : told ≡ told_of text (Err (record { path = []; reason = reason.TooLong })) = e ∙ is document ∙ ap (told_of text) (document_too_long document (omega (arith, n))) in
+        let refused : told ≡ told_of text (Err (record { path = []; reason = reason.TooLong })) = e ∙ told_is text document ∙ ap (told_of text) (document_too_long document (omega (arith, n))) in
         absurd (cc (w.status_is, ap (λ (t : RunResult). t.status) refused))
     choose (inr n) = d.whole n
 
@@ -95,25 +89,5 @@ reads_all (Some left) status.WriteFault h = tt
 reads_all (Some left) status.ClockFault h = tt
 reads_all (Some left) status.KeeperFault h = tt
 
-all : (text : Message → List ℕ) (tell : List ℕ → RunResult) → IsTold text tell → (input left old new : Bytes) (document : List ℕ) (told : RunResult) (end : Status) → IsDocument input left document → told ≡ tell document → Tells old told new end → ReadsAll left end
-all text tell is input left old new document told end d e w = reads_all left end (λ h. at_end text tell is input left old new document told d e (subst (Tells old told new) h w))
-
-check_is : IsTold ok_text check_text
-unfolding check_text
-check_is document = refl
-
-convert_is : IsTold canonical convert_text
-unfolding convert_text
-convert_is document = refl
-
-pub check_answers : (input left old new : Bytes) (document : List ℕ) (told : RunResult) (end : Status) → IsDocument input left document → told ≡ check_text document → Tells old told new end → Answers check_text input left old new end
-check_answers = answers ok_text check_text check_is
-
-pub convert_answers : (input left old new : Bytes) (document : List ℕ) (told : RunResult) (end : Status) → IsDocument input left document → told ≡ convert_text document → Tells old told new end → Answers convert_text input left old new end
-convert_answers = answers canonical convert_text convert_is
-
-pub check_all : (input left old new : Bytes) (document : List ℕ) (told : RunResult) (end : Status) → IsDocument input left document → told ≡ check_text document → Tells old told new end → ReadsAll left end
-check_all = all ok_text check_text check_is
-
-pub convert_all : (input left old new : Bytes) (document : List ℕ) (told : RunResult) (end : Status) → IsDocument input left document → told ≡ convert_text document → Tells old told new end → ReadsAll left end
-convert_all = all canonical convert_text convert_is
+pub told_all : (text : Message → List ℕ) (input left old new : Bytes) (document : List ℕ) (told : RunResult) (end : Status) → IsDocument input left document → told ≡ told_by text document → Tells old told new end → ReadsAll left end
+told_all text input left old new document told end d e w = reads_all left end (λ h. at_end text input left old new document told d e (subst (Tells old told new) h w))

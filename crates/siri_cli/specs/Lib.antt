@@ -1,7 +1,7 @@
 -- In order of reading: the words of the command line; a line of a script and the argument of its word; the lines of a
 -- report; what the lines of a script bring, which is the report; what a run leaves in its sink, over a script and over one
 -- document; the statuses of a run. The words in `inner` are cited by private functions alone.
-pub mod Words
+pub mod Commands
 pub mod Lines
 pub mod Arguments
 pub mod ReportLines

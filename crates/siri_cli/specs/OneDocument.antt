@@ -4,7 +4,7 @@ use Rattle.siri_base.specs.declared.status.Status.{Status}
 use Rattle.siri_base.specs.declared.status.Status.TheVariants as status
 use Rattle.siri_base.specs.Words.{reason_name}
 use Rattle.siri_json.specs.Paths.{path_text}
-use Rattle.siri_items.specs.Refusals.{Refusal}
+use Rattle.siri_tables.specs.Refusals.{Refusal}
 use Rattle.siri_messages.specs.declared.message.Message.{Message}
 use Rattle.siri_messages.specs.Kinds.{kind_of}
 use Rattle.siri_wire.specs.Documents.{message_of}
@@ -26,17 +26,20 @@ abbrev pub told_of : (Message → List ℕ) → Result Message Refusal → RunRe
 told_of text (Ok message) = record { text = text message ++ line_feed; status = status.Done }
 told_of text (Err refusal) = refused_told refusal
 
+unfoldable pub told_by : (Message → List ℕ) → List ℕ → RunResult
+told_by text document = told_of text (message_of document)
+
 -- `ok KIND`
 abbrev pub ok_text : Message → List ℕ
 ok_text message = codes "ok " ++ kind_of message
 
 -- what `check` tells of a document: the name of its message, or the refusal
-unfoldable pub check_text : List ℕ → RunResult
-check_text document = told_of ok_text (message_of document)
+abbrev pub check_text : List ℕ → RunResult
+check_text document = told_by ok_text document
 
 -- what `convert` tells of a document: its message's canonical text, or the refusal
-unfoldable pub convert_text : List ℕ → RunResult
-convert_text document = told_of canonical (message_of document)
+abbrev pub convert_text : List ℕ → RunResult
+convert_text document = told_by canonical document
 
 -- the whole text was written, the status is its own, and the input was read to its end, but no further than its byte 8,388,609
 pub record Answered (told : RunResult) (input : List ℕ) (left old new : Bytes) (end : Status) : Type 0 where

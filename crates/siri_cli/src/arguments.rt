@@ -9,13 +9,16 @@ use siri_messages::{Message, ServiceDelivery, ServiceRequest};
 use siri_time::read_moment;
 use siri_wire::{DecodeError, Refusal, decode};
 use std::alloc::Global;
+use thiserror::Error;
 
 /// Why a line isn't taken.
-#[derive(Debug, Drop)]
+#[derive(Debug, Drop, Error)]
 pub enum LineError {
     /// It isn't of the grammar.
+    #[error("the line isn't of the grammar")]
     Refused(ScriptReason),
     /// There was no memory.
+    #[error("out of memory")]
     OutOfMemory,
 }
 

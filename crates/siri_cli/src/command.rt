@@ -6,10 +6,11 @@ ghost use Rattle.siri_cli.specs.OneDocument.{Answers, check_text, convert_text};
 ghost use Rattle.siri_cli.specs.Reports.{Reports};
 ghost use Rattle.siri_cli.specs.Run.{EndsDocument, EndsReplay, TakesDocument, UsesNone};
 ghost use Rattle.siri_cli.specs.Report.{report};
-ghost use Rattle.siri_cli.specs.Words.{command_of};
+ghost use Rattle.siri_cli.specs.Commands.{command_of};
 
-use crate::check::check;
-use crate::convert::convert;
+use crate::check::Check;
+use crate::convert::Convert;
+use crate::document::answer_document;
 use crate::replay::replay;
 use crate::words::Command;
 use siri_base::{Clock, Keeper, Sink, Source, Status, Wire};
@@ -17,6 +18,11 @@ use std::alloc::Global;
 
 /// Does what the words after the program's name say: `replay` reads a script and writes its report, `check` and
 /// `convert` read one document and write what is told of it.
+///
+/// `Usage` exactly where the words are no plain spelling of a command. `Refused` where the document of `check` or
+/// `convert` is refused. `Script` and `Limit` where a line of a script is refused, each with the number of that line.
+/// `ReadFault` and `WriteFault` only where the source or the sink failed, `OutOfMemory` wherever memory is asked for,
+/// otherwise `Done`. No command uses the wire, the clock and the keeper.
 pub fn run<S: Source, K: Sink, W: Wire, C: Clock, E: Keeper>(
     alloc: Global,
     words: &[String],
@@ -26,28 +32,35 @@ pub fn run<S: Source, K: Sink, W: Wire, C: Clock, E: Keeper>(
     clock: &mut C,
     keeper: &mut E,
 ) -> Status
+    // What each command writes, and which status ends it.
     ensures replay { command_of (map string_bytes words.now) ≡ Some Command.Replay
         → Reports report (S.left source.old) (S.left source.new) (K.held sink.old) (K.held sink.new) result }
     ensures check { command_of (map string_bytes words.now) ≡ Some Command.Check
         → Answers check_text (S.left source.old) (S.left source.new) (K.held sink.old) (K.held sink.new) result }
     ensures convert { command_of (map string_bytes words.now) ≡ Some Command.Convert
         → Answers convert_text (S.left source.old) (S.left source.new) (K.held sink.old) (K.held sink.new) result }
+
+    // What was read, and where nothing was done.
     ensures all { ReadsAll (S.left source.new) result }
     ensures usage { (result ≡ Status.Usage) ↔ (command_of (map string_bytes words.now) ≡ None) }
     ensures nothing { result ≡ Status.Usage → (source.new ≡ source.old) × (sink.new ≡ sink.old) }
+
+    // What each status comes of.
     ensures read { result ≡ Status.ReadFault → Rose (S.faults source.old) (S.faults source.new) }
     ensures write { result ≡ Status.WriteFault → Rose (K.faults sink.old) (K.faults sink.new) }
     ensures refused { result ≡ Status.Refused → TakesDocument (command_of (map string_bytes words.now)) }
     ensures document { TakesDocument (command_of (map string_bytes words.now)) → EndsDocument result }
     ensures unread { TakesDocument (command_of (map string_bytes words.now)) → result ≡ Status.ReadFault → sink.new ≡ sink.old }
     ensures script { command_of (map string_bytes words.now) ≡ Some Command.Replay → EndsReplay result }
+
+    // The rest of the outside.
     ensures unused { UsesNone (command_of (map string_bytes words.now))
         → (wire.new ≡ wire.old) × (clock.new ≡ clock.old) × (keeper.new ≡ keeper.old) }
 {
     match Command::read(words) {
         None => Status::Usage,
         Some(Command::Replay) => replay(alloc, source, sink),
-        Some(Command::Check) => check(alloc, source, sink),
-        Some(Command::Convert) => convert(alloc, source, sink),
+        Some(Command::Check) => answer_document::<Check, S, K>(alloc, source, sink),
+        Some(Command::Convert) => answer_document::<Convert, S, K>(alloc, source, sink),
     }
 }

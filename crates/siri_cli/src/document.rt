@@ -1,10 +1,13 @@
 // Reads the one document of a command, and tells what is made of it.
-ghost use Rattle.std.specs.Prelude.{◌≡◌, ◌≢◌, ◌≤◌, ◌<◌, ◌+◌, length, take, drop, IfOk, OnOk};
+ghost use Rattle.std.specs.Prelude.{◌≡◌, ◌≢◌, ◌≤◌, ◌<◌, ◌+◌, ℕ, List, ◌++◌, length, take, drop, IfOk, OnOk};
 ghost use Rattle.std.specs.Io.KnownBytes.{Consumes, IsAtEnd};
 ghost use Rattle.siri_base.specs.Causes.{Rose, HasOutsideCause};
+ghost use Rattle.siri_messages.specs.declared.message.Message.{Message as Msg};
 ghost use Rattle.siri_wire.specs.Documents.{Decodes, message_of};
+ghost use Rattle.siri_cli.specs.Ends.{ReadsAll};
 ghost use Rattle.siri_cli.specs.inner.DocumentParts.{IsDocument, Tells};
-ghost use Rattle.siri_cli.specs.OneDocument.{refused_told};
+ghost use Rattle.siri_cli.specs.OneDocument.{Answers, refused_told, told_by};
+ghost use Rattle.siri_cli.specs.ReportLines.{line_feed};
 ghost use Rattle.siri_cli.specs.Run.{EndsDocument};
 
 use crate::writing::write_text;
@@ -21,9 +24,19 @@ const PIECE: usize = 65_536;
 /// How many bytes are read at most: one more than a document may have.
 const MOST: usize = MAX_DOCUMENT + 1;
 
+/// What a command tells of the message of a document.
+pub trait Telling {
+    /// The text that is told of a message.
+    ghost text: { Msg → List ℕ };
+
+    /// That text and a line feed. The message isn't kept.
+    fn line(alloc: Global, message: Message) -> Result<Vec<u8>, OutOfMemory>
+        ensures { IfOk result (λ line. line.items ≡ text message ++ line_feed) };
+}
+
 /// What is told of a document, and whether it is refused.
 #[derive(Drop)]
-pub struct Answer {
+struct Answer {
     text: Vec<u8>,
     refused: bool,
 }
@@ -39,7 +52,7 @@ impl Model for Answer {
 
 impl Answer {
     /// The text tells what the document is.
-    pub fn of(text: Vec<u8>) -> Answer
+    fn of(text: Vec<u8>) -> Answer
         ensures { result ≡ record { text = text.items; status = Status.Done } }
     {
         Answer {
@@ -49,7 +62,7 @@ impl Answer {
     }
 
     /// `PATH: REASON`: the text tells why the document is refused.
-    pub fn refused(refusal: &Refusal) -> Result<Answer, OutOfMemory>
+    fn refused(refusal: &Refusal) -> Result<Answer, OutOfMemory>
         ensures { IfOk result (λ answer. answer ≡ refused_told (record { path = refusal.now.path; reason = refusal.now.reason })) }
     {
         let mut text = refusal.path.text()?.into_vec();
@@ -63,7 +76,7 @@ impl Answer {
     }
 
     /// Writes the whole text.
-    pub fn write<K: Sink>(self, sink: &mut K) -> Status
+    fn write<K: Sink>(self, sink: &mut K) -> Status
         ensures text { Tells (K.held sink.old) self (K.held sink.new) result }
         ensures write { result ≡ Status.WriteFault → Rose (K.faults sink.old) (K.faults sink.new) }
         ensures read { result ≢ Status.ReadFault }
@@ -78,8 +91,43 @@ impl Answer {
     }
 }
 
+/// Reads one document, and writes what the command tells of its message, or the refusal.
+pub fn answer_document<T: Telling, S: Source, K: Sink>(
+    alloc: Global,
+    source: &mut S,
+    sink: &mut K,
+) -> Status
+    ensures answers { Answers (told_by T.text) (S.left source.old) (S.left source.new) (K.held sink.old) (K.held sink.new) result }
+    ensures all { ReadsAll (S.left source.new) result }
+    ensures unread { result ≡ Status.ReadFault → sink.new ≡ sink.old }
+    ensures read { result ≡ Status.ReadFault → Rose (S.faults source.old) (S.faults source.new) }
+    ensures write { result ≡ Status.WriteFault → Rose (K.faults sink.old) (K.faults sink.new) }
+    ensures ends { EndsDocument result }
+{
+    match read_document(alloc, source) {
+        Ok(document) => match answer_of::<T>(alloc, document) {
+            Ok(answer) => answer.write(sink),
+            Err(_) => Status::OutOfMemory,
+        },
+        Err(OutsideError::Failed) => Status::ReadFault,
+        Err(OutsideError::OutOfMemory) => Status::OutOfMemory,
+    }
+}
+
+/// What the command tells of a document, whose bytes aren't kept.
+#[tactic(auto, unfolding(crate::specs::OneDocument::told_by))]
+fn answer_of<T: Telling>(alloc: Global, document: Vec<u8>) -> Result<Answer, OutOfMemory>
+    ensures { IfOk result (λ answer. answer ≡ told_by T.text document.items) }
+{
+    match read_message(alloc, document) {
+        Ok(message) => Ok(Answer::of(T::line(alloc, message)?)),
+        Err(DecodeError::Refused(refusal)) => Answer::refused(&refusal),
+        Err(DecodeError::OutOfMemory) => Err(OutOfMemory),
+    }
+}
+
 /// Reads the document to its end, or to its byte 8,388,609, where it is too long.
-pub fn read_document<S: Source>(alloc: Global, source: &mut S) -> Result<Vec<u8>, OutsideError>
+fn read_document<S: Source>(alloc: Global, source: &mut S) -> Result<Vec<u8>, OutsideError>
     ensures document { IfOk result (λ document. IsDocument (S.left source.old) (S.left source.new) document.items) }
     ensures cause { HasOutsideCause (S.faults source.old) (S.faults source.new) result }
 {
@@ -134,7 +182,7 @@ fn read_at<S: Source>(
 }
 
 /// The message of a document, whose bytes aren't kept.
-pub fn read_message(alloc: Global, document: Vec<u8>) -> Result<Message, DecodeError>
+fn read_message(alloc: Global, document: Vec<u8>) -> Result<Message, DecodeError>
     ensures { Decodes result (message_of document.items) }
 {
     decode(alloc, &document)

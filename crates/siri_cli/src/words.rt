@@ -13,7 +13,7 @@ pub enum Command {
 }
 
 impl Command {
-    ghost use Rattle.siri_cli.specs.Words.{command_of, command_named};
+    ghost use Rattle.siri_cli.specs.Commands.{command_of, command_named};
 
     /// The command of the words after the program's name, or `None` exactly where they are no plain spelling of one.
     pub fn read(words: &[String]) -> Option<Command>

@@ -2,11 +2,11 @@
 use Rattle.std.proofs.Common.{◌≡◌, ℕ, ◌≤◌, List, length, Result, Ok, Err, refl, ap}
 use Rattle.siri_base.specs.declared.status.Status.TheVariants as status
 use Rattle.siri_messages.specs.declared.message.Message.{Message}
-use Rattle.siri_items.specs.Refusals.{Refusal}
+use Rattle.siri_tables.specs.Refusals.{Refusal}
 use Rattle.siri_wire.specs.Canonical.{canonical}
 use Rattle.siri_wire.specs.Documents.{message_of}
 use Rattle.siri_wire_laws.proofs.ProperReadMessages.{converted_line_read}
-use Rattle.siri_cli.specs.OneDocument.{told_of, convert_text}
+use Rattle.siri_cli.specs.OneDocument.{told_of, told_by, convert_text}
 
 converted_of : (document : List ℕ) (read : Result Message Refusal) → message_of document ≡ read → (told_of canonical read).status ≡ status.Done → length (told_of canonical read).text ≤ 8388608
     → told_of canonical (message_of (told_of canonical read).text) ≡ told_of canonical read
@@ -14,5 +14,5 @@ converted_of document (Ok m) read done few = ap (told_of canonical) (converted_l
 converted_of document (Err r) read done few = absurd cc
 
 pub converted_twice : (document : List ℕ) → (convert_text document).status ≡ status.Done → length (convert_text document).text ≤ 8388608 → convert_text (convert_text document).text ≡ convert_text document
-unfolding convert_text
+unfolding told_by
 converted_twice document done few = converted_of document (message_of document) refl done few

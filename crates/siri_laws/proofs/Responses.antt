@@ -16,9 +16,10 @@ use Rattle.siri_messages.specs.declared.message.Message.TheVariants as message
 use Rattle.siri_messages.specs.declared.requests.ServiceRequest.{ServiceRequest}
 use Rattle.siri_model.specs.Direct.{shown, at_most, most_of, answering, answer, response}
 use Rattle.siri_model.specs.History.{History, entries_of, now_of, current}
-use Rattle.siri_producer.proofs.Current.{few_live}
-use Rattle.siri_producer.proofs.Shown.{response_live}
-use Rattle.siri_items.specs.Proper.{IsName, IsMoment, IsListWithin, IsProper as IsProperItem, service_of}
+use Rattle.siri_model_laws.proofs.Current.{few_live}
+use Rattle.siri_direct.proofs.Shown.{response_live}
+use Rattle.siri_tables.specs.Proper.{IsName, IsMoment, IsListWithin}
+use Rattle.siri_items.specs.Proper.{IsProper as IsProperItem, service_of}
 use Rattle.siri_wire.specs.Canonical.{canonical}
 use Rattle.siri_wire.specs.Documents.{message_of}
 use Rattle.siri_wire_laws.specs.ProperDeliveries.{IsProperOf, IsProperDelivery, IsProperServiceDelivery}

@@ -6,7 +6,7 @@ ghost use Rattle.siri_messages.specs.declared.message.Message.TheVariants as mes
 ghost use Rattle.siri_messages.specs.declared.requests.ServiceRequest.{ServiceRequest};
 ghost use Rattle.siri_model.specs.Direct.{response};
 ghost use Rattle.siri_model.specs.History.{History, Feed, entries_of, now_of, current};
-ghost use Rattle.siri_items.specs.Proper.{IsName};
+ghost use Rattle.siri_tables.specs.Proper.{IsName};
 ghost use Rattle.siri_wire.specs.Canonical.{canonical};
 ghost use Rattle.siri_wire.specs.Documents.{message_of};
 ghost use Rattle.siri_wire_laws.specs.ProperMessages.{IsProper};

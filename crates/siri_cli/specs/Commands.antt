@@ -1,4 +1,4 @@
--- The words of the command line.
+-- The words of the command line, and the commands that they ask for.
 use Rattle.std.specs.Prelude.{ℕ, List, [], ◌∷◌, codes, Option, Some, None, if◌then◌else◌, nat_eq}
 use Rattle.std.specs.Cmp.Lexicographic.{pointwise}
 use Rattle.siri_cli.specs.declared.words.Command.{Command}
