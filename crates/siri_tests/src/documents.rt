@@ -1,6 +1,5 @@
 // Documents, each with what `check` and `convert` write of it and the number of the status.
-use crate::running::run_words;
-use siri_base::{InMemorySink, InMemorySource};
+use crate::running::brings;
 use std::test::Fail;
 
 // A document, and what is written of it.
@@ -193,12 +192,12 @@ const KINDS: [(&str, &str); 13] = [
 #[test]
 fn documents_are_checked_and_converted(rt: HostRuntime) -> Result<(), Fail> {
     for (place, case) in CASES.iter().enumerate() {
-        for (word, expected) in [("check", case.check), ("convert", case.convert)] {
-            let mut source = InMemorySource::new(case.document.as_bytes());
-            let mut sink = InMemorySink::new(rt.alloc());
-            let status = run_words(rt.alloc(), &[word], &mut source, &mut sink)?;
-            assert_eq!(rt; status.number(), case.number, "{word} {place}");
-            assert!(rt; sink.bytes() == expected.as_bytes(), "{word} {place}");
+        let input = case.document.as_bytes();
+        for (word, written) in [("check", case.check), ("convert", case.convert)] {
+            assert!(rt;
+                brings(rt.alloc(), &[word], input, written, case.number, "")?,
+                "{word} {place}"
+            );
         }
     }
     Ok(())
@@ -207,12 +206,12 @@ fn documents_are_checked_and_converted(rt: HostRuntime) -> Result<(), Fail> {
 #[test]
 fn canonical_texts_of_every_kind_stay(rt: HostRuntime) -> Result<(), Fail> {
     for (kind, document) in KINDS {
-        for (word, expected) in [("check", kind), ("convert", document)] {
-            let mut source = InMemorySource::new(document.as_bytes());
-            let mut sink = InMemorySink::new(rt.alloc());
-            let status = run_words(rt.alloc(), &[word], &mut source, &mut sink)?;
-            assert_eq!(rt; status.number(), 0, "{word} {kind}");
-            assert!(rt; sink.bytes() == expected.as_bytes(), "{word} {kind}");
+        let input = document.as_bytes();
+        for (word, written) in [("check", kind), ("convert", document)] {
+            assert!(rt;
+                brings(rt.alloc(), &[word], input, written, 0, "")?,
+                "{word} {kind}"
+            );
         }
     }
     Ok(())

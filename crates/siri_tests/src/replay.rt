@@ -1,7 +1,7 @@
 // Scripts, each with the report, the number and the text of the status that it brings.
 ghost use Rattle.std.specs.Prelude.{Some, []};
 
-use crate::running::run_words;
+use crate::running::{brings, end_of};
 use siri_base::{
     Failed, FailingSink, FailingSource, InMemorySink, InMemorySource, OutOfMemory, Sink, Source,
     append_number,
@@ -215,32 +215,23 @@ fn edges(alloc: Global) -> Result<Vec<u8>, AllocError> {
     joined(alloc, &[EIGHT, EDGES, ASK, "PT30M", END])
 }
 
-// Whether the words over a script bring this report, and end with the status of this number and text.
-fn brings(
+// Whether a script brings this report, and ends with the status of this number and text.
+fn replays(
     alloc: Global,
-    words: &[&str],
     script: &[&str],
     report: &str,
     number: u8,
     text: &str,
-) -> Result<bool, Fail> {
+) -> Result<bool, OutOfMemory> {
     let script = joined(alloc, script)?;
-    let mut source = InMemorySource::new(&script);
-    let mut sink = InMemorySink::new(alloc);
-    let status = run_words(alloc, words, &mut source, &mut sink)?;
-    let told = status.text(alloc)?;
-    Ok(
-        status.number() == number
-            && told.slice() == text.as_bytes()
-            && sink.bytes() == report.as_bytes(),
-    )
+    brings(alloc, &["replay"], &script, report, number, text)
 }
 
 #[test]
 fn whole_scripts_bring_their_reports(rt: HostRuntime) -> Result<(), Fail> {
     for (place, (script, report)) in WHOLE.iter().enumerate() {
         assert!(rt;
-            brings(rt.alloc(), &["replay"], script, report, 0, "")?,
+            replays(rt.alloc(), script, report, 0, "")?,
             "script {place}"
         );
     }
@@ -251,7 +242,7 @@ fn whole_scripts_bring_their_reports(rt: HostRuntime) -> Result<(), Fail> {
 fn refused_lines_end_the_report(rt: HostRuntime) -> Result<(), Fail> {
     for (place, (script, report, text)) in REFUSED.iter().enumerate() {
         assert!(rt;
-            brings(rt.alloc(), &["replay"], script, report, 65, text)?,
+            replays(rt.alloc(), script, report, 65, text)?,
             "script {place}"
         );
     }
@@ -263,7 +254,7 @@ fn words_of_no_command_are_a_usage(rt: HostRuntime) -> Result<(), Fail> {
     let wrong: [&[&str]; 2] = [&["serve"], &[]];
     for (place, words) in wrong.iter().enumerate() {
         assert!(rt;
-            brings(rt.alloc(), words, &[EIGHT], "", 64, "siri: usage")?,
+            brings(rt.alloc(), words, EIGHT.as_bytes(), "", 64, "siri: usage")?,
             "words {place}"
         );
     }
@@ -297,10 +288,27 @@ fn pieces_of_one_byte_bring_the_same(rt: HostRuntime) -> Result<(), Fail> {
     let script = edges(rt.alloc())?;
     let mut source = ByteSource { bytes: &script };
     let mut sink = InMemorySink::new(rt.alloc());
-    let status = run_words(rt.alloc(), &["replay"], &mut source, &mut sink)?;
-    assert_eq!(rt; status.number(), 0);
+    let ended = end_of(rt.alloc(), &["replay"], &mut source, &mut sink)?;
+    assert!(rt; ended.is(0, ""));
     assert!(rt; sink.bytes() == SHOWN.as_bytes());
     Ok(())
+}
+
+// Whether a read that fails at a place of the script ends the run with this report. The one failure is over then: the
+// rest comes.
+fn ends_at_read(alloc: Global, script: &[u8], place: usize, report: &str) -> Result<bool, Fail> {
+    let places = [place];
+    let mut source = FailingSource::new(script, &places);
+    let mut sink = InMemorySink::new(alloc);
+    let ended = end_of(alloc, &["replay"], &mut source, &mut sink)?;
+    let mut rest = [0; 1024];
+    let (_, left) = script.split_at(place.min(script.len()));
+    let count = source.read(&mut rest)?;
+    Ok(
+        ended.is(66, "siri: read fault")
+            && sink.bytes() == report.as_bytes()
+            && &rest[..count] == left,
+    )
 }
 
 #[test]
@@ -316,43 +324,32 @@ fn a_failed_read_ends_the_run(rt: HostRuntime) -> Result<(), Fail> {
         (script.len(), SHOWN),
     ];
     for (place, report) in cases {
-        let places = [place];
-        let mut source = FailingSource::new(&script, &places);
-        let mut sink = InMemorySink::new(rt.alloc());
-        let status = run_words(rt.alloc(), &["replay"], &mut source, &mut sink)?;
-        let text = status.text(rt.alloc())?;
-        assert_eq!(rt; status.number(), 66, "at {place}");
         assert!(rt;
-            text.slice() == b"siri: read fault".as_slice(),
+            ends_at_read(rt.alloc(), &script, place, report)?,
             "at {place}"
         );
-        assert!(rt; sink.bytes() == report.as_bytes(), "at {place}");
-        // The one failure is over: the rest comes.
-        let mut rest = [0; 1024];
-        let (_, left) = script.split_at(place.min(script.len()));
-        let count = source.read(&mut rest)?;
-        assert!(rt; &rest[..count] == left, "at {place}");
     }
     Ok(())
+}
+
+// Whether a write that fails at a place of the report ends the run with the report up to there. The one failure is over
+// then: the next write is taken.
+fn ends_at_write(alloc: Global, script: &[u8], place: usize) -> Result<bool, Fail> {
+    let places = [place];
+    let mut source = InMemorySource::new(script);
+    let mut sink = FailingSink::new(alloc, &places);
+    let ended = end_of(alloc, &["replay"], &mut source, &mut sink)?;
+    let (report, _) = SHOWN.as_bytes().split_at(place.min(SHOWN.len()));
+    let is_cut = sink.bytes() == report;
+    let taken = sink.write(b"..")?;
+    Ok(ended.is(74, "siri: write fault") && is_cut && taken == 2)
 }
 
 #[test]
 fn a_failed_write_ends_the_run(rt: HostRuntime) -> Result<(), Fail> {
     let script = edges(rt.alloc())?;
     for place in [0, 5, 10, 19, 20, 21, SHOWN.len() - 1] {
-        let places = [place];
-        let mut source = InMemorySource::new(&script);
-        let mut sink = FailingSink::new(rt.alloc(), &places);
-        let status = run_words(rt.alloc(), &["replay"], &mut source, &mut sink)?;
-        let text = status.text(rt.alloc())?;
-        assert_eq!(rt; status.number(), 74, "at {place}");
-        assert!(rt;
-            text.slice() == b"siri: write fault".as_slice(),
-            "at {place}"
-        );
-        assert!(rt; sink.bytes() == &SHOWN.as_bytes()[..place], "at {place}");
-        // The one failure is over: the next write is taken.
-        assert_eq!(rt; sink.write(b"..")?, 2, "at {place}");
+        assert!(rt; ends_at_write(rt.alloc(), &script, place)?, "at {place}");
     }
     Ok(())
 }
@@ -370,6 +367,12 @@ const AT: &str =
     "\",\"MonitoredVehicleJourney\":{\"LineRef\":\"L1\",\"MonitoredCall\":{\"ExpectedDepartureTime\":\"2024-05-01T";
 
 const STOP: &str = "Z\"}},\"MonitoringRef\":\"S1\"}";
+
+// What is told of the feeds, and of those that come after them.
+const MANY_TOLD: &str = concat!(
+    "started 1\nfed 5000 0 0\nfed 5000 0 0\nfed 5000 0 0\nfed 5000 0 0\n",
+    "fed 0 0 1\nfed 1 0 0\nfed 1 0 0\nfed 1 0 0\n",
+);
 
 fn add(script: &mut Vec<u8>, pieces: &[&str]) -> Result<(), AllocError> {
     for piece in pieces {
@@ -435,18 +438,7 @@ fn as_many_items_are_live_as_may_be(rt: HostRuntime) -> Result<(), Fail> {
             FED,
         ],
     )?;
-    let mut source = InMemorySource::new(&script);
-    let mut sink = InMemorySink::new(rt.alloc());
-    let status = run_words(rt.alloc(), &["replay"], &mut source, &mut sink)?;
-    assert_eq!(rt; status.number(), 0);
-    assert!(rt;
-        sink.bytes()
-            == concat!(
-                "started 1\nfed 5000 0 0\nfed 5000 0 0\nfed 5000 0 0\nfed 5000 0 0\n",
-                "fed 0 0 1\nfed 1 0 0\nfed 1 0 0\nfed 1 0 0\n",
-            )
-            .as_bytes()
-    );
+    assert!(rt; brings(rt.alloc(), &["replay"], &script, MANY_TOLD, 0, "")?);
     Ok(())
 }
 
@@ -455,11 +447,15 @@ fn as_many_items_are_live_as_may_be(rt: HostRuntime) -> Result<(), Fail> {
 fn a_line_is_text(rt: HostRuntime) -> Result<(), Fail> {
     let mut script = joined(rt.alloc(), &[EIGHT])?;
     script.extend_from_slice(b"\xff\n")?;
-    let mut source = InMemorySource::new(&script);
-    let mut sink = InMemorySink::new(rt.alloc());
-    let status = run_words(rt.alloc(), &["replay"], &mut source, &mut sink)?;
-    let text = status.text(rt.alloc())?;
-    assert_eq!(rt; status.number(), 65);
-    assert!(rt; text.slice() == b"siri: line 2: NotText".as_slice());
+    assert!(rt;
+        brings(
+            rt.alloc(),
+            &["replay"],
+            &script,
+            "started 1\n",
+            65,
+            "siri: line 2: NotText"
+        )?
+    );
     Ok(())
 }
