@@ -1,0 +1,5 @@
+pub mod Kept
+pub mod Acknowledged
+pub mod Ended
+pub mod Asked
+pub mod Accepted

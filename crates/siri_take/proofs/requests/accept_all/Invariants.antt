@@ -1,0 +1,16 @@
+use Rattle.std.proofs.Common.{◌≡◌, ◌+◌, ◌++◌, ◌≤◌, length, vec_len}
+use Rattle.std.specs.Vec.{vec_capacity}
+use Rattle.std.specs.Vec.Iter.{into_iter_items}
+use Rattle.siri_courses.specs.Courses.{kept_rows}
+use Rattle.siri_take.specs.Prepared.{all_statuses, all_rows}
+use Rattle.siri_take.proofs.requests.accept_all.Given as goal
+
+-- what is left leads to where all of them do, and there is room for its statuses
+abbrev pub invariant-loop-prepared : goal.invariant-loop-prepared
+invariant-loop-prepared l = record {
+  can_next : (goal.iterator-loop-prepared).can_next l.prepared-iterator;
+  is_finite : (goal.iterator-loop-prepared).is_finite l.prepared-iterator;
+  said : l.statuses.items ++ all_statuses l.now l.number (into_iter_items l.prepared-iterator) (kept_rows l.table) ≡ all_statuses l.now l.number l.fn.prepared.items (kept_rows l.fn.table);
+  leads : all_rows l.now l.number (into_iter_items l.prepared-iterator) (kept_rows l.table) ≡ all_rows l.now l.number l.fn.prepared.items (kept_rows l.fn.table);
+  room : vec_len l.statuses + length (into_iter_items l.prepared-iterator) ≤ vec_capacity l.statuses;
+}

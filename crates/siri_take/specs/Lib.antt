@@ -1,0 +1,5 @@
+pub mod Requests
+pub mod Prepared
+pub mod Terminations
+pub mod Endings
+pub mod Acknowledgements
