@@ -1,8 +1,6 @@
 -- A script is read in each world that it stands for.
-use Rattle.std.proofs.Common.{◌≡◌, ℕ, ◌+◌, ◌<◌, List, [], ◌∷◌, ◌++◌, eqb, false, None, Ok, Err, Result, refl, sym, ap, ◌∙◌, subst, length, take, get_or}
-use Rattle.std.proofs.lemmas.List.Sums.{fold-append}
+use Rattle.std.proofs.Common.{◌≡◌, ℕ, ◌+◌, ◌<◌, List, [], ◌∷◌, ◌++◌, eqb, false, None, Ok, Err, Result, refl, sym, ap, ◌∙◌, subst, append_assoc, length, take, get_or}
 use Rattle.std.proofs.Math.Seq.{take-length}
-use Rattle.std.specs.Prelude.{filter, not}
 use Rattle.std.specs.declared.vec.Vec.{Vec}
 use Rattle.std.specs.declared.alloc.Global.{Global}
 use Rattle.std.specs.Io.KnownBytes.{Appends, Consumes, Keeps, IsAtEnd}
@@ -12,9 +10,8 @@ use Rattle.siri_base.specs.declared.errors.OutsideError.{OutsideError}
 use Rattle.siri_base.specs.declared.reason.ScriptReason.{ScriptReason}
 use Rattle.siri_base.specs.declared.status.Status.{Status}
 use Rattle.siri_base.specs.declared.status.Status.TheVariants as status
-use Rattle.siri_records.specs.Ends.{is_dead}
-use Rattle.siri_model.specs.History.{History, Step, State, Settle, after_step, nothing, state_of}
-use Rattle.siri_producer.specs.Known.{Known, StandsFor}
+use Rattle.siri_model.specs.History.{History, Step, Settle}
+use Rattle.siri_producer.specs.Known.{Known, GoesOn, SameButReads, StandsFor}
 use Rattle.siri_cli.specs.declared.report_line.ReportLine.{ReportLine}
 use Rattle.siri_cli.specs.declared.script.Script.{Script}
 use Rattle.siri_cli.specs.declared.script_end.ScriptEnd.{ScriptEnd}
@@ -34,30 +31,22 @@ use Rattle.siri_cli.proofs.Whole.{follows_start, follows_more, follows_break, fo
 
 -- ---- the producer
 
-settled : (state : State) → after_step state Settle ≡ state
-unfolding after_step
-settled state = refl
-
--- a settle changes nothing
-same_state : (history : History) (step : Step) → state_of (history ++ step ∷ Settle ∷ []) ≡ state_of (history ++ step ∷ [])
-same_state history step =
-    fold-append after_step nothing history (step ∷ Settle ∷ [])
-    ∙ settled (after_step (state_of history) step)
-    ∙ sym (fold-append after_step nothing history (step ∷ []))
-
-pub stands_settled : (known : Known) (history : History) (step : Step) → StandsFor known (history ++ step ∷ []) → StandsFor known (history ++ step ∷ Settle ∷ [])
-stands_settled known history step s =
-    let same = sym (same_state history step) in
-    record {
-      start = s.start ∙ ap (λ (state : State). state.start) same;
-      started = s.started ∙ ap (λ (state : State). state.started) same;
-      moment = s.moment ∙ ap (λ (state : State). state.now) same;
-      held = s.held ∙ ap (λ (state : State). filter (λ entry. not (is_dead entry.1 state.now)) state.current) same;
-    }
+-- a settle after a step
+pub stands_settled : (first last : Known) (history : History) (step : Step) → StandsFor first (history ++ step ∷ []) → GoesOn first last Settle → StandsFor last (history ++ step ∷ Settle ∷ [])
+stands_settled first last history step s goes = subst (StandsFor last) (append_assoc history (step ∷ []) (Settle ∷ [])) (goes (history ++ step ∷ []) s)
 
 -- an answer changes nothing but the steps that are counted
-pub same_but_reads : (old new : Known) (history : History) → new ≡ record old { reads = new.reads } → IsProducerOf old history → IsProducerOf new history
-same_but_reads old new history e s = subst (λ (known : Known). IsProducerOf known history) (sym e) (s.0, record { start = s.1.start; started = s.1.started; moment = s.1.moment; held = s.1.held })
+pub same_but_reads : (old new : Known) (history : History) → SameButReads old new → IsProducerOf old history → IsProducerOf new history
+same_but_reads old new history e s =
+    let knows = s.1.responder in
+    subst (λ (known : Known). IsProducerOf known history) (sym e) (
+      s.0,
+      record {
+        responder = record { start = knows.start; started = knows.started; moment = knows.moment; held = knows.held };
+        table = s.1.table;
+        settled = s.1.settled;
+      },
+    )
 
 -- a word's argument was read, and the lines of its outcome are written
 pub done : {A : Type 0} (argument : Result A ScriptReason) (value : A) (outcome : A → Outcome) (written : List ReportLine) → argument ≡ Ok value → written ≡ (outcome value).lines → with_argument argument outcome ≡ Ok (record { lines = written; world = (outcome value).world })

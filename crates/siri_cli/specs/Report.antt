@@ -9,7 +9,7 @@ use Rattle.siri_messages.specs.declared.message.Message.TheVariants as message
 use Rattle.siri_model.specs.History.{History, Start, Clock, Feed, Settle, entries_of, now_of, current}
 use Rattle.siri_model.specs.Fed.{counts_of}
 use Rattle.siri_model.specs.Direct.{response}
-use Rattle.siri_producer.specs.FedCounts.{fed_counts}
+use Rattle.siri_responder.specs.FedCounts.{fed_counts}
 use Rattle.siri_cli.specs.declared.lines.ScriptWord.{ScriptWord}
 use Rattle.siri_cli.specs.declared.lines.ScriptWord.TheVariants as word
 use Rattle.siri_cli.specs.declared.report_line.ReportLine.{ReportLine}

@@ -1,7 +1,7 @@
 -- The texts of the lines of a report.
 use Rattle.std.specs.Prelude.{ℕ, List, [], ◌∷◌, ◌++◌, codes, flat_map}
 use Rattle.std.specs.Fmt.{decimal}
-use Rattle.siri_producer.specs.declared.feeding.Fed.{Fed}
+use Rattle.siri_responder.specs.declared.feeding.Fed.{Fed}
 use Rattle.siri_wire.specs.Canonical.{canonical}
 use Rattle.siri_cli.specs.declared.report_line.ReportLine.{ReportLine}
 use Rattle.siri_cli.specs.declared.report_line.ReportLine.TheVariants as line

@@ -1,6 +1,7 @@
 // What a line of a script does.
-ghost use Rattle.std.specs.Prelude.{◌≡◌, IfOk, IsErrOf, Some, codes, option_map};
-ghost use Rattle.siri_model.specs.History.{History};
+ghost use Rattle.std.specs.Prelude.{◌≡◌, IfOk, IsErrOf, OnOk, Some, codes, option_map};
+ghost use Rattle.siri_model.specs.History.{History, Settle};
+ghost use Rattle.siri_producer.specs.Known.{GoesOn};
 ghost use Rattle.siri_cli.specs.Report.{World, event, says};
 ghost use Rattle.siri_cli.specs.inner.Standing.{Brings, Does, IsProducerOf, StandsForWorld};
 
@@ -114,6 +115,7 @@ fn clock(
 {
     let moment = moment_in(argument)?;
     producer.clock(moment);
+    settle(producer)?;
     Ok(Vec::new(alloc))
 }
 
@@ -128,7 +130,17 @@ fn feed(
 {
     let delivery = delivery_in(alloc, argument)?;
     let fed = producer.feed_owned(delivery)?;
+    settle(producer)?;
     Ok(one(alloc, ReportLine::Fed(fed))?)
+}
+
+/// The end of an event. No word asks for a subscription yet, so nothing is sent.
+fn settle(producer: &mut Producer) -> Result<(), OutOfMemory>
+    ensures ok { OnOk result (GoesOn producer.old producer.new Settle) }
+    ensures name { producer.new.responder.name ≡ producer.old.responder.name }
+{
+    let _ = producer.settle()?;
+    Ok(())
 }
 
 /// The producer is asked for a direct response.

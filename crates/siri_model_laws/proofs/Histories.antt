@@ -1,6 +1,6 @@
 -- The rows of a history's table after one more step.
 use Rattle.std.proofs.Common.{◌≡◌, ℕ, List, [], ◌∷◌, ◌++◌, map, filter, fold, max, Bool, true, false, cond, not, ◌&&◌, ◌||◌, Option, None, Some, refl, sym, ap, ◌∙◌, subst}
-use Rattle.std.specs.Prelude.{if◌then◌else◌}
+use Rattle.std.specs.Prelude.{if◌then◌else◌, option_map, find as find_first}
 use Rattle.std.specs.Cmp.Lexicographic.{bytes_decides}
 use Rattle.std.proofs.lemmas.Bool.{and_parts}
 use Rattle.siri_messages.specs.Rounds.{has_round}
@@ -13,17 +13,17 @@ use Rattle.siri_life.specs.Named.{Name, Of, same_name, same_subscription, those,
 use Rattle.siri_life.specs.Serving.{Act, Fed, Heard, accepted_if, accepts, acknowledged, clocked_serving, ended_if, expired_serving, lives_on, serving_after, settled_rows}
 use Rattle.siri_subs.specs.declared.entry.Row.{Row}
 use Rattle.siri_subs.specs.Table as table
-use Rattle.siri_subs.specs.Table.{EachOnce, is_held}
+use Rattle.siri_subs.specs.Table.{EachOnce, is_held, is_of}
 use Rattle.siri_subs.proofs.Once.{once_put, once_kept}
 use Rattle.siri_model.specs.Direct.{shown}
 use Rattle.siri_model.specs.History.{Entry, Step, Start, Clock, Feed, Take, Settle, History, State, entries_of, now_of, current, state_of}
-use Rattle.siri_model.specs.Lives.{Living, Served, acknowledgement_of, acts_in, is_taken, mark_of, none_served, served_after, serving_of, table_of}
+use Rattle.siri_model.specs.Lives.{Living, Served, acknowledgement_of, acts_in, is_taken, mark_of, none_served, served_after, serving_of, table_of, life_of}
 use Rattle.siri_messages.specs.Asked.{Asked, asked_in}
 use Rattle.siri_model.specs.Meaning.{meaning}
 use Rattle.siri_model.specs.Rows.{KeptLife, acknowledged_row, row_of, rows_of, settled_row, with_row_of, rows_asked, rows_ended as rows_terminated, rows_acknowledged, rows_taken, rows_after}
 use Rattle.siri_model_laws.proofs.Moves.{acknowledgement_like, acknowledgement_moves, rows_settled, settled_like}
 use Rattle.siri_model_laws.proofs.Serves.{AreNamed, goes_with, heard_keeps, more_served}
-use Rattle.siri_model_laws.proofs.Tables.{rows_without, rows_expired, rows_put, rows_accepted, rows_ended, rows_none, rows_changed}
+use Rattle.siri_model_laws.proofs.Tables.{rows_without, rows_expired, rows_put, rows_accepted, rows_ended, rows_none, rows_changed, row_found}
 
 -- ---- names
 
@@ -272,3 +272,7 @@ rows_step h Settle = rows_after_settle h
 -- the rows of a history's table after one more step
 pub rows_go_on : (h : History) (step : Step) → rows_of (table_of (h ++ step ∷ [])) ≡ rows_after (state_of h) step (rows_of (table_of h))
 rows_go_on h step = ap (λ (v : Served). rows_of v.table) (more_served h step) ∙ rows_step h step
+
+-- the row of a subscription is that of its life
+pub row_of_life : (h : History) (subscriber identifier : List ℕ) → find_first (is_of subscriber identifier) (rows_of (table_of h)) ≡ option_map row_of (life_of subscriber identifier h)
+row_of_life h subscriber identifier = row_found subscriber identifier (table_of h) (well_after h).named

@@ -173,3 +173,16 @@ module _ (c s : Name) (change : Row KeptLife → Row KeptLife) where
       by true b' f e there r = let same : x.it ≡ l = cc in here b' f (sym e) same
       by false false f e there r = ap (λ rows. row_of x.it ∷ rows) (r there is)
       by false true f e there r = absurd (cc)
+
+-- ---- the row of a subscription
+
+pub row_found : (c s : Name) (t : List (Of Living)) → AreNamed t → find_first (is_of c s) (rows_of t) ≡ option_map row_of (find c s t)
+row_found c s [] n = refl
+row_found c s (x ∷ xs) n = by (same_subscription c s x.subscriber x.identifier) (is_of c s (row_of x.it)) (like c s x n.0) (row_found c s xs n.1)
+  where
+    by : (b b' : Bool) → b ≡ b' → find_first (is_of c s) (rows_of xs) ≡ option_map row_of (find c s xs)
+        → cond b' (Some (row_of x.it)) (find_first (is_of c s) (rows_of xs)) ≡ option_map row_of (first (cond b (x.it ∷ those c s xs) (those c s xs)))
+    by true true e r = refl
+    by false false e r = r
+    by true false e r = absurd (cc)
+    by false true e r = absurd (cc)

@@ -1,4 +1,4 @@
-pub mod Fold
-pub mod Holds
-pub mod Reached
 pub mod Stands
+pub mod Quiet
+pub mod Takes
+pub mod Settles

@@ -1,124 +1,130 @@
 -- A producer goes on standing for its history.
-use Rattle.std.proofs.Common.{◌≡◌, ℕ, ◌≤◌, List, [], ◌∷◌, ◌++◌, length, take, fold, max, Bool, true, false, ◌||◌, not, nat_lt, Option, None, Some, refl, sym, ap, ◌∙◌, arith}
-use Rattle.std.specs.Option.{option_map_or}
-use Rattle.std.proofs.Math.Seq.{take-append_seam}
-use Rattle.std.proofs.lemmas.List.Sums.{fold-append}
-use Rattle.std.proofs.lemmas.Bool.{ltb-true, lt-ltb}
-use Rattle.std.specs.List.Sorted.{IsStrictlySortedBy}
-use Rattle.siri_records.specs.declared.item.Item.{Item}
-use Rattle.siri_records.specs.declared.key.Key.{Key}
-use Rattle.siri_records.specs.Ends.{is_dead, is_closed, end_of}
-use Rattle.siri_records.specs.Keyed.{Items, living, InOrder}
-use Rattle.siri_model.specs.History.{Entry, Step, Start, Clock, Feed, Take, Settle, History, State, nothing, after_entry, after_step, entries_fed, state_of, now_of, current}
-use Rattle.siri_model.specs.Fed.{counts_of}
-use Rattle.siri_store.specs.Held.{Held}
-use Rattle.siri_producer.specs.declared.feeding.Fed.{Fed}
-use Rattle.siri_producer.specs.declared.feeding.Feeding.{Feeding}
-use Rattle.siri_producer.specs.Feeding.{after_all, ReachesSome}
-use Rattle.siri_producer.specs.Known.{Known, StandsFor, TookSome}
-use Rattle.siri_producer.specs.Standing.{HasHistory}
-use Rattle.siri_producer.specs.FedCounts.{fed_counts}
-use Rattle.siri_model_laws.proofs.InOrder.{current_in_order, more_steps, live_later}
-use Rattle.siri_producer.proofs.Fold.{none_fed, fitting, all_alike}
+use Rattle.std.proofs.Common.{◌≡◌, ℕ, List, [], ◌∷◌, ◌++◌, map, take, max, Bool, true, false, not, Option, None, Some, Result, Ok, Err, refl, sym, ap, ◌∙◌, subst}
+use Rattle.std.specs.Prelude.{if◌then◌else◌, flat_map, OnOk, OnErr}
+use Rattle.siri_records.specs.Keyed.{Items, living}
+use Rattle.siri_messages.specs.Rounds.{has_round}
+use Rattle.siri_messages.specs.declared.deliveries.ServiceDelivery.{ServiceDelivery}
+use Rattle.siri_messages.specs.declared.message.Message.{Message}
+use Rattle.siri_messages.specs.declared.message.Message.TheVariants as message
+use Rattle.siri_subs.specs.declared.entry.Row.{Row}
+use Rattle.siri_subs.specs.Table.{expired}
+use Rattle.siri_subs.proofs.Mapped.{expired_mapped}
+use Rattle.siri_model.specs.Direct.{shown}
+use Rattle.siri_model.specs.History.{Entry, Step, Start, Clock, Feed, Take, Settle, History, State, after_step, entries_fed, entries_of, state_of, now_of, current}
+use Rattle.siri_model.specs.Lives.{is_settle, served_after, table_of}
+use Rattle.siri_model.specs.Rows.{KeptLife, rows_after, rows_of, settled_row}
+use Rattle.siri_model_laws.proofs.Current.{last_appended}
+use Rattle.siri_model_laws.proofs.Histories.{rows_go_on}
+use Rattle.siri_model_laws.proofs.InOrder.{more_steps}
+use Rattle.siri_model_laws.proofs.Lawful.{shown_live}
+use Rattle.siri_responder.specs.Known as responder
+use Rattle.siri_responder.proofs.Stands.{stands_alike, stands_named}
+use Rattle.siri_courses.specs.declared.course.Course.{Course}
+use Rattle.siri_courses.specs.Courses.{kept, kept_rows}
+use Rattle.siri_settle.specs.Sends.{At, row_sends, table_sends}
+use Rattle.siri_producer.specs.Known.{Known, StandsFor, GoesOn, TookSome}
+use Rattle.siri_producer.specs.Standing.{IsProducer, known_of}
 
 -- ---- one more step
 
-stands_as : (known : Known) (h : History) (state : State) → state_of h ≡ state → known.start ≡ state.start → known.started ≡ state.started → known.moment ≡ state.now → known.held ≡ living state.now state.current → StandsFor known h
-stands_as known h state is start started moment held = record {
-  start = start ∙ ap (λ (s : State). s.start) (sym is);
-  started = started ∙ ap (λ (s : State). s.started) (sym is);
-  moment = moment ∙ ap (λ (s : State). s.now) (sym is);
-  held = held ∙ ap (λ (s : State). living s.now s.current) (sym is);
+pub goes_on : (old new : Known) (h : History) (step : Step) → StandsFor old h → responder.StandsFor new.responder (h ++ step ∷ []) → new.table ≡ rows_after (state_of h) step old.table → new.is_settled ≡ is_settle (Some step) → StandsFor new (h ++ step ∷ [])
+goes_on old new h step s knows rows settled = record {
+  responder = knows;
+  table = rows ∙ ap (rows_after (state_of h) step) s.table ∙ sym (rows_go_on h step);
+  settled = settled ∙ ap is_settle (sym (last_appended None h step));
 }
 
--- ---- the start
+-- ---- steps that bring no entry
 
-pub stands_new : (known : Known) (number now : ℕ) → known.start ≡ number → known.started ≡ now → known.moment ≡ now → known.held ≡ [] → StandsFor known (Start number now ∷ [])
+-- the counter doesn't matter
+pub stands_counted : (old new : responder.Known) (h : History) → new ≡ record old { reads = new.reads } → responder.StandsFor old h → responder.StandsFor new h
+stands_counted old new h is s = subst (λ (k : responder.Known). responder.StandsFor k h) (sym is) (stands_named old old.name new.reads h s)
+
+knows_same : (known : responder.Known) (h : History) (step : Step) → after_step (state_of h) step ≡ state_of h → responder.StandsFor known h → responder.StandsFor known (h ++ step ∷ [])
+knows_same known h step same s = stands_alike known h (h ++ step ∷ []) (more_steps h step ∙ same) s
+
+pub knows_settled : (known : responder.Known) (h : History) → responder.StandsFor known h → responder.StandsFor known (h ++ Settle ∷ [])
 unfolding after_step
-stands_new known number now start started moment held = record {
-  start = start;
-  started = started;
-  moment = moment;
-  held = held;
+knows_settled known h s = knows_same known h Settle refl s
+
+-- a message that is no feed
+takes_nothing : (state : State) (m : Message) → entries_fed m ≡ [] → after_step state (Take m) ≡ state
+unfolding after_step
+takes_nothing state m none = rw none refl
+
+pub knows_taken : (known : responder.Known) (h : History) (m : Message) → entries_fed m ≡ [] → responder.StandsFor known h → responder.StandsFor known (h ++ Take m ∷ [])
+knows_taken known h m none s = knows_same known h (Take m) (takes_nothing (state_of h) m none) s
+
+-- a message that is a feed
+pub fed_all : (d : ServiceDelivery) → has_round d ≡ false → entries_fed (message.ServiceDelivery d) ≡ entries_of d
+fed_all d none = rw none refl
+
+pub knows_fed : (known : responder.Known) (h : History) (m : Message) → responder.StandsFor known (h ++ Feed (entries_fed m) ∷ []) → responder.StandsFor known (h ++ Take m ∷ [])
+unfolding after_step
+knows_fed known h m s = stands_alike known (h ++ Feed (entries_fed m) ∷ []) (h ++ Take m ∷ []) (more_steps h (Take m) ∙ sym (more_steps h (Feed (entries_fed m)))) s
+
+-- ---- what is held is what is shown of
+
+-- a settle by the live items is one by the current items
+settled_live : (now : ℕ) (items : Items) (row : Row KeptLife) → settled_row now (living now items) row ≡ settled_row now items row
+settled_live now items row = rw (shown_live now items row.wanted.topic) refl
+
+pub rows_settled_live : (now : ℕ) (items : Items) (rows : List (Row KeptLife)) → map (settled_row now (living now items)) rows ≡ map (settled_row now items) rows
+rows_settled_live now items [] = refl
+rows_settled_live now items (row ∷ rows) = λ i. settled_live now items row i ∷ rows_settled_live now items rows i
+
+sends_live : (at : At) (items : Items) (row : Row KeptLife) → row_sends at (living at.now items) row ≡ row_sends at items row
+sends_live at items row = rw (shown_live at.now items row.wanted.topic) refl
+
+pub table_sends_live : (at : At) (items : Items) (rows : List (Row KeptLife)) → table_sends at (living at.now items) rows ≡ table_sends at items rows
+table_sends_live at items [] = refl
+table_sends_live at items (row ∷ rows) = λ i. sends_live at items row i ++ table_sends_live at items rows i
+
+-- ---- what a step of the responder makes of the producer
+
+-- some history goes on
+pub went : (old new : Known) (step : Step) → ((h : History) × StandsFor old h) → GoesOn old new step → (h : History) × StandsFor new h
+went old new step has goes = (has.0 ++ step ∷ [], goes has.0 has.1)
+
+-- a producer that isn't settled, whose rows are these
+pub is_producer : (known : responder.Known) (rows : List (Row Course)) → ((h : History) × StandsFor (known_of known rows false) h) → IsProducer known rows false
+is_producer known rows has = record { stands = has; levels = λ e. absurd (cc) }
+
+rows_started : (number moment : ℕ) → rows_of (table_of (Start number moment ∷ [])) ≡ []
+unfolding served_after
+rows_started number moment = refl
+
+pub started : (known : responder.Known) (rows : List (Row Course)) (number moment : ℕ) → responder.StandsFor known (Start number moment ∷ []) → rows ≡ [] → StandsFor (known_of known rows false) (Start number moment ∷ [])
+started known rows number moment knows none = record {
+  responder = knows;
+  table = ap kept_rows none ∙ sym (rows_started number moment);
+  settled = refl;
 }
 
--- ---- the clock
+rows_clocked : (rows after : List (Row Course)) (h : History) (moment now : ℕ) → now ≡ now_of (h ++ Clock moment ∷ []) → after ≡ expired now rows → kept_rows after ≡ rows_after (state_of h) (Clock moment) (kept_rows rows)
+unfolding rows_after after_step
+rows_clocked rows after h moment now is e =
+    ap kept_rows e
+    ∙ sym (expired_mapped kept now rows)
+    ∙ ap (λ n. expired n (kept_rows rows)) (is ∙ ap (λ (s : State). s.now) (more_steps h (Clock moment)))
 
-pub stands_clock : (old new : Known) (moment : ℕ) (h : History) → StandsFor old h → new.start ≡ old.start → new.started ≡ old.started → new.moment ≡ max old.moment moment → new.held ≡ living (max old.moment moment) old.held → StandsFor new (h ++ Clock moment ∷ [])
-unfolding after_step
-stands_clock old new moment h s start started now held = stands_as new (h ++ Clock moment ∷ []) (after_step (state_of h) (Clock moment)) (more_steps h (Clock moment))
-    (start ∙ s.start)
-    (started ∙ s.started)
-    (now ∙ ap (λ n. max n moment) s.moment)
-    (held ∙ ap (λ n. living (max n moment) old.held) s.moment ∙ ap (living (max (now_of h) moment)) s.held ∙ live_later (now_of h) (max (now_of h) moment) (current h) (omega arith))
+pub goes_clocked : (known new : responder.Known) (rows after : List (Row Course)) (settled : Bool) (moment now : ℕ) → responder.GoesOn known new (Clock moment) → now ≡ new.moment → after ≡ expired now rows → GoesOn (known_of known rows settled) (known_of new after false) (Clock moment)
+goes_clocked known new rows after settled moment now goes is e = λ h s.
+    let knows = goes h s.responder in
+    goes_on (known_of known rows settled) (known_of new after false) h (Clock moment) s knows (rows_clocked rows after h moment now (is ∙ knows.moment) e) refl
 
--- ---- a feed
+rows_fed : (rows : List (Row KeptLife)) (state : State) (entries : List Entry) → rows ≡ rows_after state (Feed entries) rows
+unfolding rows_after
+rows_fed rows state entries = refl
 
-abbrev pub nothing_told : Fed
-nothing_told = record { observed = 0; withdrawn = 0; full = 0 }
+pub goes_fed : (known new : responder.Known) (rows : List (Row Course)) (settled : Bool) (entries : List Entry) → responder.GoesOn known new (Feed entries) → GoesOn (known_of known rows settled) (known_of new rows false) (Feed entries)
+goes_fed known new rows settled entries goes = λ h s.
+    goes_on (known_of known rows settled) (known_of new rows false) h (Feed entries) s (goes h s.responder) (rows_fed (kept_rows rows) (state_of h) entries) refl
 
--- what a producer holds, as a store that told nothing yet
-abbrev pub store_of : Known → Feeding
-store_of k = record { store = record { entries = k.held; moment = k.moment; reads = k.reads }; fed = nothing_told }
+pub took_fed : (known new : responder.Known) (rows : List (Row Course)) (settled : Bool) (entries : List Entry) → responder.TookSome known new entries → TookSome (known_of known rows settled) (known_of new rows false) entries
+took_fed known new rows settled entries some = (some.0, goes_fed known new rows settled (take some.0 entries) some.1)
 
-told_none : fed_counts none_fed ≡ nothing_told
-told_none = refl
-
-store_fits : (k : Known) (h : History) → StandsFor k h → store_of k ≡ fitting (now_of h) k.reads (current h) none_fed
-store_fits k h s = λ i. record { store = record { entries = s.held i; moment = s.moment i; reads = k.reads }; fed = told_none i }
-
-fed_is : (k : Known) (h : History) (entries : List Entry) → StandsFor k h → after_all (store_of k) entries ≡ fitting (now_of h) k.reads (fold (after_entry (now_of h)) (current h) entries) (counts_of (now_of h) (current h) entries)
-fed_is k h entries s = ap (λ f. after_all f entries) (store_fits k h s) ∙ all_alike (now_of h) k.reads (current h) entries (current_in_order h)
-
-pub stands_fed : (old new : Known) (entries : List Entry) (h : History) → StandsFor old h → new.start ≡ old.start → new.started ≡ old.started → record { entries = new.held; moment = new.moment; reads = new.reads } ≡ (after_all (store_of old) entries).store → StandsFor new (h ++ Feed entries ∷ [])
-unfolding after_step
-stands_fed old new entries h s start started is =
-    let fed = is ∙ ap (λ (f : Feeding). f.store) (fed_is old h entries s) in
-    stands_as new (h ++ Feed entries ∷ []) (after_step (state_of h) (Feed entries)) (more_steps h (Feed entries))
-    (start ∙ s.start)
-    (started ∙ s.started)
-    (ap (λ (t : Held). t.moment) fed)
-    (ap (λ (t : Held). t.entries) fed)
-
-pub told_fed : (old : Known) (fed : Fed) (entries : List Entry) (h : History) → StandsFor old h → fed ≡ (after_all (store_of old) entries).fed → fed ≡ fed_counts (counts_of (now_of h) (current h) entries)
-told_fed old fed entries h s is = is ∙ ap (λ (f : Feeding). f.fed) (fed_is old h entries s)
-
-pub took_some : (old new : Known) (fed : Fed) (entries : List Entry) → new.start ≡ old.start → new.started ≡ old.started → ReachesSome (store_of old) (record { store = record { entries = new.held; moment = new.moment; reads = new.reads }; fed = fed }) entries → TookSome old new entries
-took_some old new fed entries start started some =
-    let r = some.1 in
-    let front = ap (take (length r.taken)) r.apart ∙ take-append_seam r.taken some.0 in
-    (length r.taken, λ h s. stands_fed old new (take (length r.taken) entries) h s start started (ap (λ (f : Feeding). f.store) r.stands ∙ ap (λ es. (after_all (store_of old) es).store) (sym front)))
-
--- nothing was fed
-pub took_none : (known : Known) (entries : List Entry) → TookSome known known entries
-took_none known entries = (0, λ h s. stands_fed known known [] h s refl refl refl)
-
--- ---- some history that a producer stands for
-
--- neither the name nor the counter matters
-pub stands_named : (known : Known) (name : List ℕ) (reads : ℕ) (h : History) → StandsFor known h → StandsFor (record known { name = name; reads = reads }) h
-stands_named known name reads h s = record { start = s.start; started = s.started; moment = s.moment; held = s.held }
-
--- what a producer knows, but for its name and its counter
-abbrev unnamed : ℕ → ℕ → ℕ → Items → Known
-unnamed start started moment held = record { name = []; start = start; started = started; moment = moment; held = held; reads = 0 }
-
-pub history_new : (number now : ℕ) → HasHistory number now now []
-history_new number now = (Start number now ∷ [], stands_new (unnamed number now now []) number now refl refl refl refl)
-
-pub history_clock : (start started moment : ℕ) (held : Items) (now : ℕ) → HasHistory start started moment held → HasHistory start started (max moment now) (living (max moment now) held)
-history_clock start started moment held now has =
-    (has.0 ++ Clock now ∷ [], stands_clock (unnamed start started moment held) (unnamed start started (max moment now) (living (max moment now) held)) now has.0 has.1 refl refl refl refl)
-
-pub history_fed : (start started : ℕ) (old new : Feeding) (entries : List Entry) → HasHistory start started old.store.moment old.store.entries → new ≡ after_all (record old { fed = nothing_told }) entries → HasHistory start started new.store.moment new.store.entries
-history_fed start started old new entries has is =
-    let before = record (unnamed start started old.store.moment old.store.entries) { reads = old.store.reads } in
-    let after = record (unnamed start started new.store.moment new.store.entries) { reads = new.store.reads } in
-    let from = stands_named (unnamed start started old.store.moment old.store.entries) [] old.store.reads has.0 has.1 in
-    (has.0 ++ Feed entries ∷ [], stands_named after [] 0 (has.0 ++ Feed entries ∷ []) (stands_fed before after entries has.0 from refl refl (ap (λ (f : Feeding). f.store) is)))
-
-pub history_some : (start started : ℕ) (old new : Feeding) (entries : List Entry) → HasHistory start started old.store.moment old.store.entries → ReachesSome (record old { fed = nothing_told }) new entries → HasHistory start started new.store.moment new.store.entries
-history_some start started old new entries has some = history_fed start started old new some.1.taken has some.1.stands
-
-pub history_known : (known : Known) → HasHistory known.start known.started known.moment known.held → (h : History) × StandsFor known h
-history_known known has = (has.0, stands_named (unnamed known.start known.started known.moment known.held) known.name known.reads has.0 has.1)
+pub is_fed : {T E : Type 0} (result : Result T E) (known new : responder.Known) (rows : List (Row Course)) (settled : Bool) (entries : List Entry) → ((h : History) × StandsFor (known_of known rows settled) h)
+    → OnOk result (responder.GoesOn known new (Feed entries)) → OnErr result (responder.TookSome known new entries) → IsProducer new rows false
+is_fed (Ok value) known new rows settled entries has ok err = is_producer new rows (went (known_of known rows settled) (known_of new rows false) (Feed entries) has (goes_fed known new rows settled entries ok))
+is_fed (Err error) known new rows settled entries has ok err = is_producer new rows (went (known_of known rows settled) (known_of new rows false) (Feed (take err.0 entries)) has (goes_fed known new rows settled (take err.0 entries) err.1))

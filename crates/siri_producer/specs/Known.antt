@@ -1,30 +1,34 @@
 -- What a producer knows, and the histories that it stands for.
-use Rattle.std.specs.Prelude.{◌≡◌, ℕ, List, ◌∷◌, [], ◌++◌, take}
-use Rattle.siri_messages.specs.declared.requests.ServiceRequest.{ServiceRequest}
-use Rattle.siri_records.specs.Keyed.{Items, living}
+use Rattle.std.specs.Prelude.{◌≡◌, ℕ, List, ◌∷◌, [], ◌++◌, take, Bool, true, false}
 use Rattle.siri_messages.specs.declared.deliveries.ServiceDelivery.{ServiceDelivery}
+use Rattle.siri_messages.specs.declared.message.Message.{Message}
+use Rattle.siri_messages.specs.declared.requests.ServiceRequest.{ServiceRequest}
+use Rattle.siri_subs.specs.declared.entry.Row.{Row}
 use Rattle.siri_model.specs.Direct.{response}
 use Rattle.siri_model.specs.Fed.{counts_of}
-use Rattle.siri_model.specs.History.{Entry, Feed, History, Step, start_of, started_of, now_of, current}
-use Rattle.siri_producer.specs.declared.feeding.Fed.{Fed}
-use Rattle.siri_producer.specs.FedCounts.{fed_counts}
+use Rattle.siri_model.specs.History.{Entry, Feed, History, Step, entries_fed, now_of, current}
+use Rattle.siri_model.specs.Lives.{table_of, is_settled}
+use Rattle.siri_model.specs.Rows.{KeptLife, rows_of}
+use Rattle.siri_responder.specs.declared.feeding.Fed.{Fed}
+use Rattle.siri_responder.specs.FedCounts.{fed_counts}
+use Rattle.siri_responder.specs.Known as responder
+use Rattle.siri_settle.specs.declared.outs.Out.{Out}
+use Rattle.siri_producer.specs.declared.answers.Answer.{Answer}
+use Rattle.siri_producer.specs.Answers.{answer_to, is_feed}
+use Rattle.siri_producer.specs.Sends.{sends}
 
--- its name, its start number and the moment of its start, its moment, the items that it holds in order of key, and the
--- steps that were counted
+-- what its responder knows, the rows of its subscriptions in order of first acceptance, and whether it settled last
 pub record Known : Type 0 where
-  pub name : List ℕ
-  pub start : ℕ
-  pub started : ℕ
-  pub moment : ℕ
-  pub held : Items
-  pub reads : ℕ
+  pub responder : responder.Known
+  pub table : List (Row KeptLife)
+  pub is_settled : Bool
 
--- a producer stands for a history whose start and moments it has, and whose live current items it holds
+-- a producer stands for a history where its responder does, its rows are those of the history's lives, and it knows whether
+-- the last step is a settle
 pub record StandsFor (known : Known) (history : History) : Type 0 where
-  pub start : known.start ≡ start_of history
-  pub started : known.started ≡ started_of history
-  pub moment : known.moment ≡ now_of history
-  pub held : known.held ≡ living (now_of history) (current history)
+  pub responder : responder.StandsFor known.responder history
+  pub table : known.table ≡ rows_of (table_of history)
+  pub settled : known.is_settled ≡ is_settled history
 
 -- whatever history a producer stood for before a call, it stands for that history and one more step after it
 abbrev pub GoesOn : Known → Known → Step → Type 0
@@ -34,10 +38,33 @@ GoesOn old new step = (h : History) → StandsFor old h → StandsFor new (h ++ 
 abbrev pub TookSome : Known → Known → List Entry → Type 0
 TookSome old new entries = (n : ℕ) × GoesOn old new (Feed (take n entries))
 
--- what is told of a feed are the counts by every history that the producer stood for before it
+-- nothing changed but the counter of steps
+abbrev pub SameButReads : Known → Known → Type 0
+SameButReads old new = new ≡ record old { responder = record old.responder { reads = new.responder.reads } }
+
+-- memory was wanting for a message: of a feed some first entries were taken, of any other message nothing changed but the
+-- counter of steps
+abbrev pub RefusedIf : (feeds : Bool) → Known → Known → Message → Type 0
+RefusedIf true old new message = TookSome old new (entries_fed message)
+RefusedIf false old new message = SameButReads old new
+
+abbrev pub RefusedAt : Known → Known → Message → Type 0
+RefusedAt old new message = RefusedIf (is_feed message) old new message
+
+-- ---- what is answered, by every history that a producer stands for
+
+-- what is told of a feed are the counts
 abbrev pub CountsFor : Known → List Entry → Fed → Type 0
 CountsFor old entries fed = (h : History) → StandsFor old h → fed ≡ fed_counts (counts_of (now_of h) (current h) entries)
 
--- a delivery is the response by every history that the producer stands for, under its name
+-- a delivery is the response, under its name
 abbrev pub ResponseFor : Known → ServiceRequest → ServiceDelivery → Type 0
-ResponseFor known request delivery = (h : History) → StandsFor known h → delivery ≡ response known.name (now_of h) (current h) request
+ResponseFor known request delivery = (h : History) → StandsFor known h → delivery ≡ response known.responder.name (now_of h) (current h) request
+
+-- a message that is taken gets its answer
+abbrev pub AnswerFor : Known → Message → Answer → Type 0
+AnswerFor known message answer = (h : History) → StandsFor known h → answer ≡ answer_to known.responder.name h message
+
+-- what is sent at a settle
+abbrev pub SendsFor : Known → List Out → Type 0
+SendsFor known outs = (h : History) → StandsFor known h → outs ≡ sends known.responder.name h

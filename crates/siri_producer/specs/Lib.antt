@@ -1,4 +1,5 @@
 pub mod Known
-pub mod FedCounts
+pub mod Answers
+pub mod Sends
 pub mod Standing
-pub mod Feeding
+pub mod Quiet

@@ -1,21 +1,30 @@
-//! The producer: it keeps the current items of what it is fed, and answers what is shown of them.
+//! The producer: it is fed and asked, takes messages about subscriptions, and sends each subscriber what changes
+//! (EN 15531-2).
 //!
 //! ```text
 //!     a delivery that is fed -> feed   ---+
-//!     a later moment         -> clock  ---+--> the live current items
+//!     a later moment         -> clock  ---+--> the current items, the subscriptions with their rounds
+//!     a message              -> take   ---+--> and its answer
+//!     the end of an event    -> settle ---+--> and what is sent
 //!
 //!     a ServiceRequest       -> direct ---> a ServiceDelivery with what is shown to each topic
+//!     a subscription         -> quiet  ---> its number, where its consumer's view is known to be right
 //! ```
 //!
-//! A producer stands for the history of its steps: what it holds are the current items of that history that aren't dead.
+//! A producer stands for the history of its steps: what it holds are the current items of that history that aren't dead, and
+//! its table is that of the lives of the subscriptions in it. An event is a `clock`, a `feed` or a `take`, and a `settle` after
+//! it.
 //!
-//! Stands on `siri_base`, `siri_records`, `siri_topic`, `siri_messages`, `siri_store` and `siri_direct`; its contracts cite the histories
-//! of `siri_model`, and its proofs what follows of them in `siri_model_laws`. It reads and writes no text, and knows no wire and no clock.
+//! Stands on `siri_base`, `siri_messages`, `siri_subs`, `siri_responder`, `siri_courses`, `siri_take` and `siri_settle`; its
+//! contracts cite the histories and lives of `siri_model`, and its proofs what follows of them in `siri_model_laws`. It reads
+//! and writes no text, and knows no wire and no clock.
 #![tactic(auto)]
 
-mod feeding;
-mod owned;
+mod answers;
 mod producer;
+mod taking;
 
-pub use feeding::Fed;
+pub use answers::{Answer, Note};
 pub use producer::Producer;
+pub use siri_responder::Fed;
+pub use siri_settle::Out;

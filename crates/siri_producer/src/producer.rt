@@ -1,68 +1,71 @@
 // The producer.
-ghost use Rattle.std.specs.Prelude.{◌≡◌, ◌+◌, ◌*◌, ◌≤◌, [], ◌∷◌, ◌++◌, length, IfOk, OnOk, OnErr};
-ghost use Rattle.siri_records.specs.Keyed.{InOrder};
+ghost use Rattle.std.specs.Prelude.{◌≡◌, ◌+◌, ◌*◌, ◌≤◌, [], ◌∷◌, ◌++◌, length, IfOk, OnOk, OnErr, ℕ};
 ghost use Rattle.siri_direct.specs.Topics.{topics_in};
-ghost use Rattle.siri_model.specs.Direct.{response};
-ghost use Rattle.siri_model.specs.History.{History, Start, Clock, Feed, IsKeyed, entries_of};
-ghost use Rattle.siri_producer.specs.Known.{StandsFor, GoesOn, TookSome, CountsFor, ResponseFor};
+ghost use Rattle.siri_model.specs.History.{History, Start, Clock, Feed, Take, Settle, entries_of};
+ghost use Rattle.siri_model.specs.Lives.{quiet_number};
+ghost use Rattle.siri_producer.specs.Quiet as definition;
+ghost use Rattle.siri_producer.specs.Known.{StandsFor, GoesOn, TookSome, CountsFor, ResponseFor, AnswerFor, RefusedAt, SameButReads, SendsFor};
 
-use crate::feeding::{Fed, Feeding};
-use siri_base::{Moment, Name, OutOfMemory};
-use siri_direct::response_to;
-use siri_messages::{ServiceDelivery, ServiceRequest};
-use siri_store::Store;
+use crate::{Answer, Fed, Out};
+use siri_base::{List, Moment, Name, OutOfMemory};
+use siri_courses::Course;
+use siri_messages::{Message, ServiceDelivery, ServiceRequest};
+use siri_responder::Responder;
+use siri_settle::settle;
+use siri_subs::Table;
 use std::alloc::Global;
 use std::marker::Model;
 
 /// A producer, with a name, the number of its start and the moment of it, which is its ServiceStartedTime. It has a moment,
-/// which is the greatest that it was given, and holds the current items that aren't dead then.
+/// which is the greatest that it was given, holds the current items that aren't dead then, and keeps at most 200
+/// subscriptions, each with its rounds.
 #[derive(Drop)]
 pub struct Producer {
-    alloc: Global,
-    name: Name,
-    start: u64,
-    started: Moment,
-    feeding: Feeding,
+    pub(crate) alloc: Global,
+    pub(crate) responder: Responder,
+    pub(crate) table: Table<Course>,
+    pub(crate) is_settled: bool,
 }
 
 impl Model for Producer {
+    ghost use Rattle.siri_courses.specs.Courses.{kept_rows};
     ghost use Rattle.siri_producer.specs.Known.{Known};
-    ghost use Rattle.siri_producer.specs.Standing.{HasHistory};
-    ghost use Rattle.siri_store.specs.Calls.{NoneDead};
+    ghost use Rattle.siri_producer.specs.Standing.{IsProducer};
 
     ghost Value = { Known };
 
-    ghost view = { λ p. record { name = p.name; start = p.start; started = p.started; moment = p.feeding.store.moment; held = p.feeding.store.entries; reads = p.feeding.store.reads } };
+    ghost view = { λ p. record { responder = p.responder; table = kept_rows p.table; is_settled = p.is_settled } };
 
-    ghost invariant = { λ p. record { alive : NoneDead p.feeding.store; stands : HasHistory p.start p.started p.feeding.store.moment p.feeding.store.entries } };
+    ghost invariant = { λ p. IsProducer p.responder p.table p.is_settled };
 }
 
 impl Producer {
-    /// A producer at its start, of a number from 1 to 999,999,999,999,999,999. It holds nothing.
+    /// A producer at its start, of a number from 1 to 999,999,999,999,999,999. It holds nothing, and no subscription.
     pub fn new(alloc: Global, name: Name, start: u64, now: Moment) -> Result<Producer, OutOfMemory>
         requires from_one { 1 ≤ start }
         requires to_eighteen_digits { start ≤ 999999999999999999 }
         ensures stands { IfOk result (λ producer. StandsFor producer (Start start now ∷ [])) }
-        ensures name { IfOk result (λ producer. producer.name ≡ name) }
-        ensures reads { IfOk result (λ producer. producer.reads ≡ 0) }
+        ensures name { IfOk result (λ producer. producer.responder.name ≡ name) }
+        ensures reads { IfOk result (λ producer. producer.responder.reads ≡ 0) }
     {
         Ok(Producer {
             alloc,
-            name,
-            start,
-            started: now,
-            feeding: Feeding::new(Store::new(alloc, now)?),
+            responder: Responder::new(alloc, name, start, now)?,
+            table: Table::new(alloc)?,
+            is_settled: false,
         })
     }
 
-    /// Its moment becomes the later one, and dead items leave. It takes no memory.
+    /// Its moment becomes the later one; dead items leave, and subscriptions whose termination time has come. It takes no
+    /// memory.
     pub fn clock(&mut self, now: Moment)
         ensures stands { GoesOn self.old self.new (Clock now) }
-        ensures name { self.new.name ≡ self.old.name }
-        ensures reads { self.new.reads ≡ self.old.reads }
+        ensures name { self.new.responder.name ≡ self.old.responder.name }
+        ensures reads { self.new.responder.reads ≡ self.old.responder.reads }
     {
-        self.feeding.store.advance(now);
-        let _ = self.feeding.store.expire();
+        self.is_settled = false;
+        self.responder.clock(now);
+        self.table.expire(self.responder.now());
     }
 
     /// Takes the items and removals of a delivery, in the order Stop Monitoring, Estimated Timetable, Vehicle Monitoring,
@@ -72,12 +75,11 @@ impl Producer {
         ensures ok { OnOk result (GoesOn self.old self.new (Feed (entries_of delivery.now))) }
         ensures counts { IfOk result (CountsFor self.old (entries_of delivery.now)) }
         ensures err { OnErr result (TookSome self.old self.new (entries_of delivery.now)) }
-        ensures name { self.new.name ≡ self.old.name }
-        ensures reads { self.new.reads ≡ self.old.reads }
+        ensures name { self.new.responder.name ≡ self.old.responder.name }
+        ensures reads { self.new.responder.reads ≡ self.old.responder.reads }
     {
-        self.feeding.begin();
-        self.feeding.feed(self.alloc, delivery)?;
-        Ok(self.feeding.fed)
+        self.is_settled = false;
+        self.responder.feed(delivery)
     }
 
     /// As `feed`, of a delivery that is handed over: its items are kept and none is copied.
@@ -85,12 +87,11 @@ impl Producer {
         ensures ok { OnOk result (GoesOn self.old self.new (Feed (entries_of delivery))) }
         ensures counts { IfOk result (CountsFor self.old (entries_of delivery)) }
         ensures err { OnErr result (TookSome self.old self.new (entries_of delivery)) }
-        ensures name { self.new.name ≡ self.old.name }
-        ensures reads { self.new.reads ≡ self.old.reads }
+        ensures name { self.new.responder.name ≡ self.old.responder.name }
+        ensures reads { self.new.responder.reads ≡ self.old.responder.reads }
     {
-        self.feeding.begin();
-        self.feeding.feed_owned(self.alloc, delivery)?;
-        Ok(self.feeding.fed)
+        self.is_settled = false;
+        self.responder.feed_owned(delivery)
     }
 
     /// The direct response to a request: one functional delivery for each of its topics, in the order Stop Monitoring,
@@ -98,58 +99,120 @@ impl Producer {
     /// and that rises by at most as many steps as items are held, for each topic.
     pub fn direct(&mut self, request: &ServiceRequest) -> Result<ServiceDelivery, OutOfMemory>
         ensures ok { IfOk result (ResponseFor self.old request.now) }
-        ensures held { IfOk result (λ delivery. delivery ≡ response self.old.name self.old.moment self.old.held request.now) }
-        ensures rest { self.new ≡ record self.old { reads = self.new.reads } }
-        ensures risen { self.old.reads ≤ self.new.reads }
-        ensures reads { self.new.reads ≤ self.old.reads + length self.old.held * topics_in request.now }
+        ensures rest { SameButReads self.old self.new }
+        ensures risen { self.old.responder.reads ≤ self.new.responder.reads }
+        ensures reads { self.new.responder.reads ≤ self.old.responder.reads + length self.old.responder.held * topics_in request.now }
     {
-        response_to(self.alloc, &mut self.feeding.store, &self.name, request)
+        self.responder.direct(request)
+    }
+
+    /// Takes a message, and answers what became of it, with the reply. A ServiceDelivery of no round is a feed; after want of
+    /// memory its entries before the refused one stand, and all of them where only the reply found none. After want of memory
+    /// for any other message nothing but the counter of steps changed.
+    pub fn take(&mut self, message: &Message) -> Result<Answer, OutOfMemory>
+        ensures ok { OnOk result (GoesOn self.old self.new (Take message.now)) }
+        ensures answer { IfOk result (AnswerFor self.old message.now) }
+        ensures err { OnErr result (RefusedAt self.old self.new message.now) }
+        ensures name { self.new.responder.name ≡ self.old.responder.name }
+        ensures risen { self.old.responder.reads ≤ self.new.responder.reads }
+    {
+        match message {
+            Message::ServiceRequest(request) => self.take_service_request(request),
+            Message::SubscriptionRequest(request) => self.take_subscriptions(request),
+            Message::TerminateSubscriptionRequest(request) => self.take_terminations(request),
+            Message::DataReceivedAcknowledgement(message) => Ok(self.take_acknowledgement(message)),
+            Message::ServiceDelivery(delivery) => self.take_delivery(delivery),
+            _ => Ok(self.ignore()),
+        }
+    }
+
+    /// The end of an event: each subscription in the order of the table looks whether a round is due and opens it, and what is
+    /// due is sent: the message of its wanted part, and then a heartbeat. All memory is taken before anything changes, so after
+    /// want of memory nothing but the counter of steps did.
+    pub fn settle(&mut self) -> Result<List<Out>, OutOfMemory>
+        ensures ok { OnOk result (GoesOn self.old self.new Settle) }
+        ensures sends { IfOk result (SendsFor self.old) }
+        ensures err { OnErr result (SameButReads self.old self.new) }
+        ensures name { self.new.responder.name ≡ self.old.responder.name }
+        ensures risen { self.old.responder.reads ≤ self.new.responder.reads }
+    {
+        let outs = settle(self.alloc, &mut self.responder, &mut self.table)?;
+        self.is_settled = true;
+        Ok(outs)
+    }
+
+    /// The number of a subscription, where it is quiet, right after a settle: nothing of it is outstanding, a round was
+    /// acknowledged, and the acknowledged view is what is shown, but for predicted times and delays within its slack. It takes
+    /// no memory.
+    pub fn quiet(&self, subscriber: &Name, identifier: &Name) -> Option<u64>
+        ensures { (h : History) → StandsFor self.now h → result ≡ quiet_number h subscriber.now identifier.now }
+    {
+        if !self.is_settled {
+            return None;
+        }
+        let place = self.table.place_of(subscriber, identifier)?;
+        match self.table.at(place) {
+            Some(row) if is_quiet(row.slot) => Some(row.number),
+            _ => None,
+        }
     }
 
     /// Its name.
     pub fn name(&self) -> &Name
-        ensures { result.now ≡ self.now.name }
+        ensures { result.now ≡ self.now.responder.name }
     {
-        &self.name
+        self.responder.name()
     }
 
     /// The number of its start.
     pub fn start(&self) -> u64
-        ensures { result ≡ self.now.start }
+        ensures { result ≡ self.now.responder.start }
     {
-        self.start
+        self.responder.start()
     }
 
     /// Its ServiceStartedTime.
     pub fn started(&self) -> Moment
-        ensures { result ≡ self.now.started }
+        ensures { result ≡ self.now.responder.started }
     {
-        self.started
+        self.responder.started()
     }
 
     /// Its moment, which is the greatest that it was given.
     pub fn now(&self) -> Moment
-        ensures { result ≡ self.now.moment }
+        ensures { result ≡ self.now.responder.moment }
     {
-        self.feeding.store.now()
+        self.responder.now()
     }
 
-    /// How many items it holds, in order of key, each once and under its own key, at most 20,000. There is a history that
-    /// the producer stands for.
+    /// How many items it holds, at most 20,000. There is a history that the producer stands for.
     pub fn held(&self) -> usize
-        ensures number { result ≡ length self.now.held }
+        ensures number { result ≡ length self.now.responder.held }
         ensures stands { (h : History) × StandsFor self.now h }
-        ensures in_order { InOrder self.now.held }
-        ensures keyed { IsKeyed self.now.held }
-        ensures few { length self.now.held ≤ 20000 }
+        ensures few { length self.now.responder.held ≤ 20000 }
     {
-        self.feeding.store.held()
+        self.responder.held()
+    }
+
+    /// How many subscriptions it holds, at most 200.
+    pub fn subscriptions(&self) -> usize
+        ensures number { result ≡ length self.now.table }
+        ensures few { length self.now.table ≤ 200 }
+    {
+        self.table.len()
     }
 
     /// The steps that its store counted: held items that were looked at. It is 0 at first and never falls.
     pub fn reads(&self) -> u64
-        ensures { result ≡ self.now.reads }
+        ensures { result ≡ self.now.responder.reads }
     {
-        self.feeding.store.reads()
+        self.responder.reads()
     }
+}
+
+// Whether a subscription is quiet, by what its last look found.
+fn is_quiet(course: &Course) -> bool
+    ensures { result ≡ definition.is_quiet course.now }
+{
+    course.rounds.outstanding().is_none() && course.rounds.last() > 0 && course.is_level
 }

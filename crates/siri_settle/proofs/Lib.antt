@@ -1,2 +1,5 @@
 pub mod Wholes
 pub mod Found
+pub mod Rows
+pub mod Planned
+pub mod Done

@@ -1,2 +1,5 @@
 pub mod Openings
 pub mod Messages
+pub mod Sends
+pub mod Settled
+pub mod Due

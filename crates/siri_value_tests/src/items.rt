@@ -3,6 +3,7 @@ use siri_base::{Moment, Name, Span};
 use siri_records::{Item, StopCall, Vehicle, VehicleJourney, Visit, VisitJourney};
 use siri_topic::{Subscription, Topic, VehicleTopic};
 use std::alloc::Global;
+use std::rc::Rc;
 use std::test::Fail;
 
 /// 2024-05-01T08:10:00Z
@@ -16,17 +17,19 @@ pub fn span(ms: i64) -> Result<Span, Fail> {
     Ok(Span::new(ms).ok_or("no span")?)
 }
 
-/// The visit `a` at the stop `S1`, which departs at a moment.
-pub fn visit(alloc: Global, departure: i64) -> Result<Item, Fail> {
+/// The visit `a` at the stop `S1`, which departs at a moment. It is shared, since an item itself is dear to let go.
+pub fn visit(alloc: Global, departure: i64) -> Result<Rc<Item>, Fail> {
     let departure = moment(departure)?;
     let stop = Name::new(alloc, "S1")?;
-    Ok(visit_of(stop, Name::new(alloc, "a")?, departure))
+    let name = Name::new(alloc, "a")?;
+    Ok(Rc::new(alloc, visit_of(stop, name, departure))?)
 }
 
-/// A vehicle with a delay.
-pub fn vehicle(alloc: Global, name: &str, delay: i64) -> Result<Item, Fail> {
+/// A vehicle with a delay, shared too.
+pub fn vehicle(alloc: Global, name: &str, delay: i64) -> Result<Rc<Item>, Fail> {
     let delay = span(delay)?;
-    Ok(vehicle_of(Name::new(alloc, name)?, delay))
+    let name = Name::new(alloc, name)?;
+    Ok(Rc::new(alloc, vehicle_of(name, delay))?)
 }
 
 fn visit_of(stop: Name, item: Name, departure: Moment) -> Item {

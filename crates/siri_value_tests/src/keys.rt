@@ -72,23 +72,39 @@ fn journey_of(line: Name, direction: Option<Name>, journey: Name) -> Key {
     }
 }
 
-// A key of each kind in their order, with two of journeys, of which the first has no direction.
-fn keys(alloc: Global) -> Result<List<Key>, Fail> {
-    let mut keys = List::new(alloc);
+fn visit_key(alloc: Global) -> Result<Key, Fail> {
     let monitoring = Name::new(alloc, "S1")?;
-    keys.push(Key::Visit {
+    Ok(Key::Visit {
         monitoring,
         item: Name::new(alloc, "a")?,
-    })?;
-    keys.push(journey(alloc, None)?)?;
-    keys.push(journey(alloc, Some(Name::new(alloc, "out")?))?)?;
-    keys.push(Key::Vehicle {
+    })
+}
+
+fn vehicle_key(alloc: Global) -> Result<Key, Fail> {
+    Ok(Key::Vehicle {
         vehicle: Name::new(alloc, "7")?,
-    })?;
-    keys.push(Key::Situation {
+    })
+}
+
+fn situation_key(alloc: Global) -> Result<Key, Fail> {
+    Ok(Key::Situation {
         participant: None,
         number: Name::new(alloc, "12")?,
-    })?;
+    })
+}
+
+// A key of each kind in their order, with two of journeys, of which the first has no direction.
+fn put_keys(keys: &mut List<Key>, alloc: Global) -> Result<(), Fail> {
+    keys.push(visit_key(alloc)?)?;
+    keys.push(journey(alloc, None)?)?;
+    keys.push(journey(alloc, Some(Name::new(alloc, "out")?))?)?;
+    keys.push(vehicle_key(alloc)?)?;
+    Ok(keys.push(situation_key(alloc)?)?)
+}
+
+fn keys(alloc: Global) -> Result<List<Key>, Fail> {
+    let mut keys = List::new(alloc);
+    put_keys(&mut keys, alloc)?;
     Ok(keys)
 }
 

@@ -13,6 +13,7 @@ use siri_topic::{
     LineDirection, SituationTopic, StopTopic, Subscription, TimetableTopic, Topic, VehicleTopic,
 };
 use std::alloc::Global;
+use std::rc::Rc;
 use std::test::Fail;
 
 fn name(alloc: Global, text: &str) -> Result<Option<Name>, Fail> {
@@ -72,12 +73,16 @@ fn situation_topic(alloc: Global) -> Result<Topic, Fail> {
 }
 
 // A topic of each service.
-fn topics(alloc: Global) -> Result<List<Topic>, Fail> {
-    let mut topics = List::new(alloc);
+fn put_topics(topics: &mut List<Topic>, alloc: Global) -> Result<(), Fail> {
     topics.push(stop_topic(alloc)?)?;
     topics.push(timetable_topic(alloc)?)?;
     topics.push(vehicle_topic(alloc)?)?;
-    topics.push(situation_topic(alloc)?)?;
+    Ok(topics.push(situation_topic(alloc)?)?)
+}
+
+fn topics(alloc: Global) -> Result<List<Topic>, Fail> {
+    let mut topics = List::new(alloc);
+    put_topics(&mut topics, alloc)?;
     Ok(topics)
 }
 
@@ -316,15 +321,20 @@ const KINDS: [&str; 13] = [
     "HeartbeatNotification",
 ];
 
-fn kind_of_copy(message: &Message) -> Result<&'static str, OutOfMemory> {
-    let copy = message.copy()?;
+// A message is shared before it is let go, since a message itself is dear to let go.
+fn kind_of_copy(alloc: Global, message: &Message) -> Result<&'static str, Fail> {
+    let copy = Rc::new(alloc, message.copy()?)?;
     Ok(copy.kind())
+}
+
+fn shared(alloc: Global, place: usize) -> Result<Rc<Message>, Fail> {
+    Ok(Rc::new(alloc, message(alloc, place)?)?)
 }
 
 // The kind of the copy of the message at a place.
 fn kind(alloc: Global, place: usize) -> Result<&'static str, Fail> {
-    let message = message(alloc, place)?;
-    Ok(kind_of_copy(&message)?)
+    let message = shared(alloc, place)?;
+    kind_of_copy(alloc, &message)
 }
 
 #[test]

@@ -6,14 +6,13 @@ use siri_base::Name;
 use siri_store::Store;
 use siri_topic::{StopTopic, Topic};
 use std::alloc::Global;
-use std::rc::Rc;
 use std::test::Fail;
 
 // Whether the visit is observed.
 fn observe(store: &mut Store, alloc: Global) -> Result<bool, Fail>
     requires { NoneDead store.old }
 {
-    let item = Rc::new(alloc, visit(alloc, TEN_PAST)?)?;
+    let item = visit(alloc, TEN_PAST)?;
     Ok(store.observe(item).is_ok())
 }
 

@@ -4,7 +4,6 @@ use siri_base::{List, Name};
 use siri_change::{Change, View, changes, patch, target};
 use siri_records::{Item, Key};
 use std::alloc::{AllocError, Global};
-use std::rc::Rc;
 use std::test::Fail;
 
 // A vehicle and its delay, or none where it is removed.
@@ -16,14 +15,10 @@ fn key(alloc: Global, name: &str) -> Result<Key, Fail> {
     })
 }
 
-fn shared(alloc: Global, name: &str, delay: i64) -> Result<Rc<Item>, Fail> {
-    Ok(Rc::new(alloc, vehicle(alloc, name, delay)?)?)
-}
-
 fn addition(alloc: Global, name: &str, delay: i64) -> Result<Change, Fail> {
     let key = key(alloc, name)?;
     Ok(Change {
-        item: Some(shared(alloc, name, delay)?),
+        item: Some(vehicle(alloc, name, delay)?),
         key,
     })
 }

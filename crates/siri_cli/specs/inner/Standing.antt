@@ -23,7 +23,7 @@ use Rattle.siri_cli.specs.inner.Reading.{Progress}
 
 -- the script's producer, and a history that it stands for
 abbrev pub IsProducerOf : Known → History → Type 0
-IsProducerOf known history = (known.name ≡ codes "producer") × StandsFor known history
+IsProducerOf known history = (known.responder.name ≡ codes "producer") × StandsFor known history
 
 -- no producer, and no history; or both
 abbrev pub StandsForWorld : Option Known → World → Type 0

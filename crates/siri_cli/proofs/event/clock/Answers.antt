@@ -9,5 +9,5 @@ returns c = λ h s.
     let moment = c.in_ok-moment.moment in (
       Some (h ++ Clock moment ∷ Settle ∷ []),
       done _ moment (clocked h) c.new.result.items c.in_ok-moment.ensures c.new.ensures.items,
-      (c.clock.ensures.name ∙ s.0, stands_settled c.clock.new.self h (Clock moment) (c.clock.ensures.stands h s.1)),
+      (c.settle.ensures.name ∙ c.clock.ensures.name ∙ s.0, stands_settled c.clock.new.self c.settle.new.producer h (Clock moment) (c.clock.ensures.stands h s.1) c.in_ok-settle.ensures.ok),
     )

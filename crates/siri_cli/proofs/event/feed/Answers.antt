@@ -10,5 +10,5 @@ returns c = λ h s.
     let delivery = c.in_ok-delivery.delivery in (
       Some (h ++ Feed (entries_of delivery) ∷ Settle ∷ []),
       done _ delivery (fed h) c.in_ok-one.field-0.items c.in_ok-delivery.ensures (c.in_ok-one.ensures ∙ ap (λ counts. line.Fed counts ∷ []) (c.in_ok-fed.ensures.counts h s.1)),
-      (c.feed_owned.ensures.name ∙ s.0, stands_settled c.feed_owned.new.self h (Feed (entries_of delivery)) (c.in_ok-fed.ensures.ok h s.1)),
+      (c.settle.ensures.name ∙ c.feed_owned.ensures.name ∙ s.0, stands_settled c.feed_owned.new.self c.settle.new.producer h (Feed (entries_of delivery)) (c.in_ok-fed.ensures.ok h s.1) c.in_ok-settle.ensures.ok),
     )

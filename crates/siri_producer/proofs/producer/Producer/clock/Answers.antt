@@ -1,23 +1,16 @@
-use Rattle.std.proofs.Common.{max, ap, ◌∙◌}
-use Rattle.siri_records.specs.Keyed.{living}
-use Rattle.siri_store.specs.Held.{Held}
-use Rattle.siri_producer.specs.Known.{Known}
-use Rattle.siri_producer.proofs.Stands.{stands_clock, history_clock}
+use Rattle.std.proofs.Common.{false, subst}
+use Rattle.siri_model.specs.History.{Clock}
+use Rattle.siri_producer.specs.Known.{Known, GoesOn}
+use Rattle.siri_producer.specs.Standing.{known_of}
+use Rattle.siri_producer.proofs.Stands.{goes_clocked, is_producer, went}
 use Rattle.siri_producer.proofs.producer.Producer.clock.Goals as goal
 
 pub invariant_of-self : goal.invariant_of-self
 invariant_of-self c =
     let inside = c.self.inside in
-    record {
-      alive = c.expire.ensures.alive;
-      stands = rw (c.expire.ensures.rest, c.advance.ensures) (history_clock inside.start inside.started inside.feeding.store.moment inside.feeding.store.entries c.args.now c.self.invariant.stands);
-    }
+    is_producer _ _ (went _ _ (Clock c.args.now) c.self.invariant.stands (goes_clocked inside.responder _ inside.table _ inside.is_settled c.args.now _ c.clock.ensures.stands c.now.ensures c.expire.ensures.table))
 
 pub returns-clause-stands : goal.returns-clause-stands
-returns-clause-stands c = λ h s.
-    let store = c.expire.ensures.rest ∙ ap (λ (t : Held). record { entries = living t.moment t.entries; moment = t.moment; reads = t.reads }) c.advance.ensures in
-    stands_clock c.args.self.now _ c.args.now h s
-    (ap (λ (k : Known). k.start) c.self.view_is)
-    (ap (λ (k : Known). k.started) c.self.view_is)
-    (ap (λ (t : Held). t.moment) store ∙ ap (λ (k : Known). max k.moment c.args.now) c.self.view_is)
-    (ap (λ (t : Held). t.entries) store ∙ ap (λ (k : Known). living (max k.moment c.args.now) k.held) c.self.view_is)
+returns-clause-stands c =
+    let inside = c.self.inside in
+    subst (λ (k : Known). GoesOn k (known_of c.clock.new.self c.expire.new.self false) (Clock c.args.now)) c.self.view_is (goes_clocked inside.responder _ inside.table _ inside.is_settled c.args.now _ c.clock.ensures.stands c.now.ensures c.expire.ensures.table)

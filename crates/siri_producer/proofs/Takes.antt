@@ -1,0 +1,192 @@
+-- What a message makes of a producer, and what it answers.
+use Rattle.std.proofs.Common.{◌≡◌, ℕ, List, [], ◌∷◌, ◌++◌, filter, length, take, Bool, true, false, not, Option, None, Some, refl, sym, ap, ◌∙◌, subst}
+use Rattle.std.specs.Prelude.{if◌then◌else◌}
+use Rattle.std.proofs.Math.Seq.{take-length}
+use Rattle.siri_messages.specs.Asked.{asked_in}
+use Rattle.siri_messages.specs.Rounds.{has_round}
+use Rattle.siri_messages.specs.declared.deliveries.ServiceDelivery.{ServiceDelivery}
+use Rattle.siri_messages.specs.declared.message.Message.{Message}
+use Rattle.siri_messages.specs.declared.message.Message.TheVariants as message
+use Rattle.siri_messages.specs.declared.requests.ServiceRequest.{ServiceRequest}
+use Rattle.siri_messages.specs.declared.subscriptions.SubscriptionRequest.{SubscriptionRequest}
+use Rattle.siri_messages.specs.declared.subscriptions.SubscriptionResponse.{SubscriptionResponse}
+use Rattle.siri_messages.specs.declared.supplies.DataReceivedAcknowledgement.{DataReceivedAcknowledgement}
+use Rattle.siri_messages.specs.declared.terminations.TerminateSubscriptionRequest.{TerminateSubscriptionRequest}
+use Rattle.siri_messages.specs.declared.terminations.TerminateSubscriptionResponse.{TerminateSubscriptionResponse}
+use Rattle.siri_subs.specs.declared.entry.Row.{Row}
+use Rattle.siri_model.specs.Fed.{counts_of}
+use Rattle.siri_model.specs.History.{Step, Feed, Take, History, State, after_step, entries_fed, entries_of, state_of, start_of, now_of, current}
+use Rattle.siri_model.specs.Lives.{is_settle, is_taken, table_of}
+use Rattle.siri_model.specs.Rows.{KeptLife, rows_after, rows_acknowledged, rows_asked, rows_ended, rows_of, rows_taken}
+use Rattle.siri_model_laws.proofs.Current.{last_appended}
+use Rattle.siri_model_laws.proofs.Histories.{rows_go_on}
+use Rattle.siri_model_laws.proofs.InOrder.{more_steps}
+use Rattle.siri_replies.specs.Statuses.{feed_acknowledgement}
+use Rattle.siri_responder.specs.declared.feeding.Fed.{Fed}
+use Rattle.siri_responder.specs.FedCounts.{fed_counts}
+use Rattle.siri_responder.specs.Known as responder
+use Rattle.siri_courses.specs.declared.course.Course.{Course}
+use Rattle.siri_courses.specs.Courses.{kept_rows}
+use Rattle.siri_take.specs.Acknowledgements.{counts}
+use Rattle.siri_take.specs.Requests.{subscription_answer}
+use Rattle.siri_take.specs.Terminations.{termination_answer}
+use Rattle.siri_producer.specs.declared.answers.Answer.{Answer}
+use Rattle.siri_producer.specs.declared.answers.Note.TheVariants as note
+use Rattle.siri_producer.specs.Answers.{acknowledged_note, answer_to, fed_answer, is_ignored, noted, replied}
+use Rattle.siri_producer.specs.Known.{Known, StandsFor, GoesOn, TookSome, AnswerFor, RefusedAt, RefusedIf}
+use Rattle.siri_producer.specs.Standing.{IsProducer, known_of}
+use Rattle.siri_producer.proofs.Stands.{fed_all, goes_fed, goes_on, is_producer, knows_fed, knows_taken, stands_counted, went}
+use Rattle.siri_responder.proofs.Stands.{stands_alike}
+
+module _ (known : responder.Known) (rows : List (Row Course)) (settled : Bool) where
+  -- ---- ServiceRequest
+  pub goes_asked : (new : responder.Known) (r : ServiceRequest) → new ≡ record known { reads = new.reads } → GoesOn (known_of known rows settled) (known_of new rows false) (Take (message.ServiceRequest r))
+  unfolding rows_after rows_taken
+  goes_asked new r rest = λ h s.
+      let m = message.ServiceRequest r in
+      goes_on (known_of known rows settled) (known_of new rows false) h (Take m) s (stands_counted known new (h ++ Take m ∷ []) rest (knows_taken known h m refl s.responder)) refl refl
+
+  pub answer_asked : (r : ServiceRequest) (d : ServiceDelivery) → responder.ResponseFor known r d → AnswerFor (known_of known rows settled) (message.ServiceRequest r) (replied note.Asked (message.ServiceDelivery d))
+  unfolding answer_to
+  answer_asked r d is = λ h s. ap (λ d. replied note.Asked (message.ServiceDelivery d)) (is h s.responder)
+
+  -- ---- SubscriptionRequest
+  pub goes_subscribed : (after : List (Row Course)) (now : ℕ) (r : SubscriptionRequest) → now ≡ known.moment → kept_rows after ≡ rows_asked now r.message_identifier (filter is_taken (asked_in r)) (kept_rows rows) → GoesOn (known_of known rows settled) (known_of known after false) (Take (message.SubscriptionRequest r))
+  unfolding rows_after rows_taken
+  goes_subscribed after now r n is = λ h s.
+      let m = message.SubscriptionRequest r in
+      goes_on (known_of known rows settled) (known_of known after false) h (Take m) s (knows_taken known h m refl s.responder)
+      (is ∙ ap (λ n. rows_asked n r.message_identifier (filter is_taken (asked_in r)) (kept_rows rows)) (n ∙ s.responder.moment)) refl
+
+  pub answer_subscribed : (now : ℕ) (r : SubscriptionRequest) (a : SubscriptionResponse) → now ≡ known.moment → a ≡ subscription_answer now r (kept_rows rows) → AnswerFor (known_of known rows settled) (message.SubscriptionRequest r) (replied note.Subscribed (message.SubscriptionResponse a))
+  unfolding answer_to
+  answer_subscribed now r a n is = λ h s.
+      ap (λ a. replied note.Subscribed (message.SubscriptionResponse a)) (is ∙ (λ i. subscription_answer ((n ∙ s.responder.moment) i) r (s.table i)))
+
+  -- ---- TerminateSubscriptionRequest
+  pub goes_ended : (after : List (Row Course)) (r : TerminateSubscriptionRequest) → kept_rows after ≡ rows_ended r.message_identifier r.subscriber_ref r.subscription_ref (kept_rows rows) → GoesOn (known_of known rows settled) (known_of known after false) (Take (message.TerminateSubscriptionRequest r))
+  unfolding rows_after rows_taken
+  goes_ended after r is = λ h s.
+      let m = message.TerminateSubscriptionRequest r in
+      goes_on (known_of known rows settled) (known_of known after false) h (Take m) s (knows_taken known h m refl s.responder) is refl
+
+  pub answer_ended : (now : ℕ) (r : TerminateSubscriptionRequest) (a : TerminateSubscriptionResponse) → now ≡ known.moment → a ≡ termination_answer now r (kept_rows rows) → AnswerFor (known_of known rows settled) (message.TerminateSubscriptionRequest r) (replied note.Ended (message.TerminateSubscriptionResponse a))
+  unfolding answer_to
+  answer_ended now r a n is = λ h s.
+      ap (λ a. replied note.Ended (message.TerminateSubscriptionResponse a)) (is ∙ (λ i. termination_answer ((n ∙ s.responder.moment) i) r (s.table i)))
+
+  -- ---- DataReceivedAcknowledgement
+  pub goes_acknowledged : (after : List (Row Course)) (start now : ℕ) (a : DataReceivedAcknowledgement) → start ≡ known.start → now ≡ known.moment → kept_rows after ≡ rows_acknowledged start now a.status a.consumer_ref a.extensions (kept_rows rows) → GoesOn (known_of known rows settled) (known_of known after false) (Take (message.DataReceivedAcknowledgement a))
+  unfolding rows_after rows_taken
+  goes_acknowledged after start now a k n is = λ h s.
+      let m = message.DataReceivedAcknowledgement a in
+      goes_on (known_of known rows settled) (known_of known after false) h (Take m) s (knows_taken known h m refl s.responder)
+      (is ∙ (λ i. rows_acknowledged ((k ∙ s.responder.start) i) ((n ∙ s.responder.moment) i) a.status a.consumer_ref a.extensions (kept_rows rows))) refl
+
+  pub answer_acknowledged : (start : ℕ) (a : DataReceivedAcknowledgement) (b : Bool) → start ≡ known.start → counts start a (kept_rows rows) ≡ b → AnswerFor (known_of known rows settled) (message.DataReceivedAcknowledgement a) (noted (acknowledged_note b))
+  unfolding answer_to
+  answer_acknowledged start a b k is = λ h s.
+      ap (λ b. noted (acknowledged_note b)) (sym is ∙ (λ i. counts ((k ∙ s.responder.start) i) a (s.table i)))
+
+-- ---- a ServiceDelivery of no round
+
+-- as a feed
+pub feed_taken : (known : Known) (h : History) (d : ServiceDelivery) → has_round d ≡ false → StandsFor known (h ++ Feed (entries_of d) ∷ []) → StandsFor known (h ++ Take (message.ServiceDelivery d) ∷ [])
+unfolding rows_after rows_taken
+feed_taken known h d none s =
+    let m = message.ServiceDelivery d in
+    let fed = Feed (entries_of d) in
+    record {
+      responder = knows_fed known.responder h m (rw none s.responder);
+      table = s.table ∙ rows_go_on h fed ∙ sym (rows_go_on h (Take m));
+      settled = s.settled ∙ ap is_settle (last_appended None h fed) ∙ sym (ap is_settle (last_appended None h (Take m)));
+    }
+
+-- all of it was taken, but the reply wasn't made
+pub refused_reply : (old new : Known) (d : ServiceDelivery) → has_round d ≡ false → GoesOn old new (Feed (entries_of d)) → RefusedAt old new (message.ServiceDelivery d)
+refused_reply old new d none goes =
+    let entries = entries_fed (message.ServiceDelivery d) in
+    let all : GoesOn old new (Feed entries) = subst (λ es. GoesOn old new (Feed es)) (sym (fed_all d none)) goes in
+    let some : TookSome old new entries = (length entries, subst (λ es. GoesOn old new (Feed es)) (sym (take-length entries)) all) in
+    subst (λ b. RefusedIf (not b) old new (message.ServiceDelivery d)) (sym none) some
+
+now_fed : (h : History) (d : ServiceDelivery) → now_of (h ++ Feed (entries_of d) ∷ []) ≡ now_of h
+unfolding after_step
+now_fed h d = ap (λ (s : State). s.now) (more_steps h (Feed (entries_of d)))
+
+pub answer_fed : (old new : Known) (d : ServiceDelivery) (h : History) (fed : Fed) (name : List ℕ) (now : ℕ) (reply : DataReceivedAcknowledgement) → has_round d ≡ false → StandsFor old h → GoesOn old new (Feed (entries_of d))
+    → fed ≡ fed_counts (counts_of (now_of h) (current h) (entries_of d)) → name ≡ old.responder.name → now ≡ new.responder.moment → reply ≡ feed_acknowledgement name now d fed.full
+    → replied (note.Fed fed) (message.DataReceivedAcknowledgement reply) ≡ answer_to old.responder.name h (message.ServiceDelivery d)
+unfolding answer_to
+answer_fed old new d h fed name now reply none s goes counts n m is =
+    let moment : now ≡ now_of h = m ∙ (goes h s).responder.moment ∙ now_fed h d in
+    let same : reply ≡ feed_acknowledgement old.responder.name (now_of h) d fed.full = is ∙ (λ i. feed_acknowledgement (n i) (moment i) d fed.full) in
+    ap (λ r. replied (note.Fed fed) (message.DataReceivedAcknowledgement r)) same
+    ∙ ap (λ (f : Fed). replied (note.Fed f) (message.DataReceivedAcknowledgement (feed_acknowledgement old.responder.name (now_of h) d f.full))) counts
+    ∙ rw none refl
+
+-- ---- any other message
+
+takes_none : (m : Message) → is_ignored m ≡ true → entries_fed m ≡ []
+takes_none (message.ServiceRequest r) other = absurd (cc)
+takes_none (message.SubscriptionRequest r) other = absurd (cc)
+takes_none (message.TerminateSubscriptionRequest r) other = absurd (cc)
+takes_none (message.DataReceivedAcknowledgement a) other = absurd (cc)
+takes_none (message.ServiceDelivery d) other = rw other refl
+takes_none (message.SubscriptionResponse m) other = refl
+takes_none (message.TerminateSubscriptionResponse m) other = refl
+takes_none (message.DataReadyNotification m) other = refl
+takes_none (message.DataReadyAcknowledgement m) other = refl
+takes_none (message.DataSupplyRequest m) other = refl
+takes_none (message.CheckStatusRequest m) other = refl
+takes_none (message.CheckStatusResponse m) other = refl
+takes_none (message.HeartbeatNotification m) other = refl
+
+rows_ignored : (start now : ℕ) (m : Message) (rows : List (Row KeptLife)) → is_ignored m ≡ true → rows ≡ rows_taken start now m rows
+unfolding rows_taken
+rows_ignored start now (message.ServiceRequest r) rows other = absurd (cc)
+rows_ignored start now (message.SubscriptionRequest r) rows other = absurd (cc)
+rows_ignored start now (message.TerminateSubscriptionRequest r) rows other = absurd (cc)
+rows_ignored start now (message.DataReceivedAcknowledgement a) rows other = absurd (cc)
+rows_ignored start now (message.ServiceDelivery d) rows other = refl
+rows_ignored start now (message.SubscriptionResponse m) rows other = refl
+rows_ignored start now (message.TerminateSubscriptionResponse m) rows other = refl
+rows_ignored start now (message.DataReadyNotification m) rows other = refl
+rows_ignored start now (message.DataReadyAcknowledgement m) rows other = refl
+rows_ignored start now (message.DataSupplyRequest m) rows other = refl
+rows_ignored start now (message.CheckStatusRequest m) rows other = refl
+rows_ignored start now (message.CheckStatusResponse m) rows other = refl
+rows_ignored start now (message.HeartbeatNotification m) rows other = refl
+
+answer_other : (name : List ℕ) (h : History) (m : Message) → is_ignored m ≡ true → noted note.Ignored ≡ answer_to name h m
+unfolding answer_to
+answer_other name h (message.ServiceRequest r) other = absurd (cc)
+answer_other name h (message.SubscriptionRequest r) other = absurd (cc)
+answer_other name h (message.TerminateSubscriptionRequest r) other = absurd (cc)
+answer_other name h (message.DataReceivedAcknowledgement a) other = absurd (cc)
+answer_other name h (message.ServiceDelivery d) other = rw other refl
+answer_other name h (message.SubscriptionResponse m) other = refl
+answer_other name h (message.TerminateSubscriptionResponse m) other = refl
+answer_other name h (message.DataReadyNotification m) other = refl
+answer_other name h (message.DataReadyAcknowledgement m) other = refl
+answer_other name h (message.DataSupplyRequest m) other = refl
+answer_other name h (message.CheckStatusRequest m) other = refl
+answer_other name h (message.CheckStatusResponse m) other = refl
+answer_other name h (message.HeartbeatNotification m) other = refl
+
+pub goes_ignored : (known : responder.Known) (rows : List (Row Course)) (settled : Bool) (m : Message) → is_ignored m ≡ true → GoesOn (known_of known rows settled) (known_of known rows false) (Take m)
+unfolding rows_after
+goes_ignored known rows settled m other = λ h s.
+    goes_on (known_of known rows settled) (known_of known rows false) h (Take m) s (knows_taken known h m (takes_none m other) s.responder) (rows_ignored (start_of h) (now_of h) m (kept_rows rows) other) refl
+
+pub answer_ignored : (known : Known) (m : Message) → is_ignored m ≡ true → AnswerFor known m (noted note.Ignored)
+answer_ignored known m other = λ h s. answer_other known.responder.name h m other
+
+-- a feed of nothing is a step after which nothing else is known, but that the last step isn't a settle
+still : (known : responder.Known) (h : History) → responder.StandsFor known h → responder.StandsFor known (h ++ Feed [] ∷ [])
+unfolding after_step
+still known h s = stands_alike known h (h ++ Feed [] ∷ []) (more_steps h (Feed [])) s
+
+pub some_ignored : (known : responder.Known) (rows : List (Row Course)) (settled : Bool) → ((h : History) × StandsFor (known_of known rows settled) h) → IsProducer known rows false
+some_ignored known rows settled has =
+    is_producer known rows (went (known_of known rows settled) (known_of known rows false) (Feed []) has (goes_fed known known rows settled [] (still known)))

@@ -1,0 +1,60 @@
+-- What a producer answers to a message that it takes (EN 15531-2).
+use Rattle.std.specs.Prelude.{ℕ, List, Bool, true, false, not, if◌then◌else◌, Option, Some, None}
+use Rattle.siri_messages.specs.Rounds.{has_round}
+use Rattle.siri_messages.specs.declared.deliveries.ServiceDelivery.{ServiceDelivery}
+use Rattle.siri_messages.specs.declared.message.Message.{Message}
+use Rattle.siri_messages.specs.declared.message.Message.TheVariants as message
+use Rattle.siri_model.specs.Direct.{response}
+use Rattle.siri_model.specs.Fed.{counts_of}
+use Rattle.siri_model.specs.History.{History, entries_of, now_of, start_of, current}
+use Rattle.siri_model.specs.Lives.{table_of}
+use Rattle.siri_model.specs.Rows.{rows_of}
+use Rattle.siri_replies.specs.Statuses.{feed_acknowledgement}
+use Rattle.siri_responder.specs.FedCounts.{fed_counts}
+use Rattle.siri_take.specs.Requests.{subscription_answer}
+use Rattle.siri_take.specs.Terminations.{termination_answer}
+use Rattle.siri_take.specs.Acknowledgements.{counts}
+use Rattle.siri_producer.specs.declared.answers.Answer.{Answer}
+use Rattle.siri_producer.specs.declared.answers.Note.{Note}
+use Rattle.siri_producer.specs.declared.answers.Note.TheVariants as note
+
+-- a message is a feed: a ServiceDelivery of no round
+abbrev pub is_feed : Message → Bool
+is_feed (message.ServiceDelivery d) = not (has_round d)
+is_feed other = false
+
+-- a producer does nothing with a message: with a DataSupplyRequest and a CheckStatusRequest not yet
+abbrev pub is_ignored : Message → Bool
+is_ignored (message.ServiceRequest r) = false
+is_ignored (message.SubscriptionRequest r) = false
+is_ignored (message.TerminateSubscriptionRequest r) = false
+is_ignored (message.DataReceivedAcknowledgement a) = false
+is_ignored (message.ServiceDelivery d) = has_round d
+is_ignored other = true
+
+-- a message that is noted, and isn't replied to
+abbrev pub noted : Note → Answer
+noted word = record { note = word; reply = None }
+
+-- a message that is replied to
+abbrev pub replied : Note → Message → Answer
+replied word reply = record { note = word; reply = Some reply }
+
+-- a feed is acknowledged, by what is told of it
+abbrev pub fed_answer : (name : List ℕ) → History → ServiceDelivery → Answer
+fed_answer name h d =
+    let fed = fed_counts (counts_of (now_of h) (current h) (entries_of d)) in
+    replied (note.Fed fed) (message.DataReceivedAcknowledgement (feed_acknowledgement name (now_of h) d fed.full))
+
+abbrev pub acknowledged_note : Bool → Note
+acknowledged_note true = note.Acknowledged
+acknowledged_note false = note.NotThis
+
+-- the answer of a producer of this name, after a history. A DataSupplyRequest and a CheckStatusRequest are ignored yet
+unfoldable pub answer_to : (name : List ℕ) → History → Message → Answer
+answer_to name h (message.ServiceRequest r) = replied note.Asked (message.ServiceDelivery (response name (now_of h) (current h) r))
+answer_to name h (message.SubscriptionRequest r) = replied note.Subscribed (message.SubscriptionResponse (subscription_answer (now_of h) r (rows_of (table_of h))))
+answer_to name h (message.TerminateSubscriptionRequest r) = replied note.Ended (message.TerminateSubscriptionResponse (termination_answer (now_of h) r (rows_of (table_of h))))
+answer_to name h (message.DataReceivedAcknowledgement a) = noted (acknowledged_note (counts (start_of h) a (rows_of (table_of h))))
+answer_to name h (message.ServiceDelivery d) = if has_round d then noted note.Ignored else fed_answer name h d
+answer_to name h other = noted note.Ignored

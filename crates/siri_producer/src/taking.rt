@@ -1,0 +1,140 @@
+// What a producer does with each message.
+ghost use Rattle.std.specs.Prelude.{◌≡◌, ◌≤◌, IfOk, OnOk, OnErr, true, false};
+ghost use Rattle.siri_messages.specs.declared.message.Message.{Message};
+ghost use Rattle.siri_messages.specs.declared.message.Message.TheVariants as message;
+ghost use Rattle.siri_messages.specs.Rounds.{has_round};
+ghost use Rattle.siri_model.specs.History.{Take};
+ghost use Rattle.siri_producer.specs.Answers.{is_ignored};
+ghost use Rattle.siri_producer.specs.Known.{GoesOn, AnswerFor, RefusedAt};
+
+use crate::{Answer, Note, Producer};
+use siri_base::OutOfMemory;
+use siri_messages::{
+    DataReceivedAcknowledgement, Message, ServiceDelivery, ServiceRequest, SubscriptionRequest,
+    TerminateSubscriptionRequest,
+};
+use siri_replies::feed_acknowledgement;
+use siri_rounds::Taken;
+use siri_take::{acknowledge, subscribe, terminate};
+
+impl Producer {
+    pub(crate) fn take_service_request(
+        &mut self,
+        request: &ServiceRequest,
+    ) -> Result<Answer, OutOfMemory>
+        ensures ok { OnOk result (GoesOn self.old self.new (Take (message.ServiceRequest request.now))) }
+        ensures answer { IfOk result (AnswerFor self.old (message.ServiceRequest request.now)) }
+        ensures err { OnErr result (RefusedAt self.old self.new (message.ServiceRequest request.now)) }
+        ensures name { self.new.responder.name ≡ self.old.responder.name }
+        ensures risen { self.old.responder.reads ≤ self.new.responder.reads }
+    {
+        let delivery = self.responder.direct(request)?;
+        self.is_settled = false;
+        Ok(Answer::replied(Note::Asked, Message::ServiceDelivery(delivery)))
+    }
+
+    pub(crate) fn take_subscriptions(
+        &mut self,
+        request: &SubscriptionRequest,
+    ) -> Result<Answer, OutOfMemory>
+        ensures ok { OnOk result (GoesOn self.old self.new (Take (message.SubscriptionRequest request.now))) }
+        ensures answer { IfOk result (AnswerFor self.old (message.SubscriptionRequest request.now)) }
+        ensures err { OnErr result (RefusedAt self.old self.new (message.SubscriptionRequest request.now)) }
+        ensures name { self.new.responder.name ≡ self.old.responder.name }
+        ensures risen { self.old.responder.reads ≤ self.new.responder.reads }
+    {
+        let response = subscribe(self.alloc, &mut self.table, self.responder.now(), request)?;
+        self.is_settled = false;
+        Ok(Answer::replied(Note::Subscribed, Message::SubscriptionResponse(response)))
+    }
+
+    pub(crate) fn take_terminations(
+        &mut self,
+        request: &TerminateSubscriptionRequest,
+    ) -> Result<Answer, OutOfMemory>
+        ensures ok { OnOk result (GoesOn self.old self.new (Take (message.TerminateSubscriptionRequest request.now))) }
+        ensures answer { IfOk result (AnswerFor self.old (message.TerminateSubscriptionRequest request.now)) }
+        ensures err { OnErr result (RefusedAt self.old self.new (message.TerminateSubscriptionRequest request.now)) }
+        ensures name { self.new.responder.name ≡ self.old.responder.name }
+        ensures risen { self.old.responder.reads ≤ self.new.responder.reads }
+    {
+        let response = terminate(self.alloc, &mut self.table, self.responder.now(), request)?;
+        self.is_settled = false;
+        Ok(Answer::replied(
+            Note::Ended,
+            Message::TerminateSubscriptionResponse(response),
+        ))
+    }
+
+    pub(crate) fn take_acknowledgement(
+        &mut self,
+        acknowledgement: &DataReceivedAcknowledgement,
+    ) -> Answer
+        ensures stands { GoesOn self.old self.new (Take (message.DataReceivedAcknowledgement acknowledgement.now)) }
+        ensures answer { AnswerFor self.old (message.DataReceivedAcknowledgement acknowledgement.now) result }
+        ensures name { self.new.responder.name ≡ self.old.responder.name }
+        ensures risen { self.old.responder.reads ≤ self.new.responder.reads }
+    {
+        let start = self.responder.start();
+        let taken = acknowledge(
+            &mut self.table,
+            start,
+            self.responder.now(),
+            acknowledgement,
+        );
+        self.is_settled = false;
+        match taken {
+            Taken::Taken => Answer::noted(Note::Acknowledged),
+            Taken::NotThis => Answer::noted(Note::NotThis),
+        }
+    }
+
+    // A ServiceDelivery, which is a feed where it is of no round.
+    pub(crate) fn take_delivery(
+        &mut self,
+        delivery: &ServiceDelivery,
+    ) -> Result<Answer, OutOfMemory>
+        ensures ok { OnOk result (GoesOn self.old self.new (Take (message.ServiceDelivery delivery.now))) }
+        ensures answer { IfOk result (AnswerFor self.old (message.ServiceDelivery delivery.now)) }
+        ensures err { OnErr result (RefusedAt self.old self.new (message.ServiceDelivery delivery.now)) }
+        ensures name { self.new.responder.name ≡ self.old.responder.name }
+        ensures risen { self.old.responder.reads ≤ self.new.responder.reads }
+    {
+        if delivery.has_round() {
+            return Ok(self.ignore());
+        }
+        self.take_feed(delivery)
+    }
+
+    // A ServiceDelivery of no round.
+    pub(crate) fn take_feed(&mut self, delivery: &ServiceDelivery) -> Result<Answer, OutOfMemory>
+        requires { has_round delivery.now ≡ false }
+        ensures ok { OnOk result (GoesOn self.old self.new (Take (message.ServiceDelivery delivery.now))) }
+        ensures answer { IfOk result (AnswerFor self.old (message.ServiceDelivery delivery.now)) }
+        ensures err { OnErr result (RefusedAt self.old self.new (message.ServiceDelivery delivery.now)) }
+        ensures name { self.new.responder.name ≡ self.old.responder.name }
+        ensures risen { self.old.responder.reads ≤ self.new.responder.reads }
+    {
+        let fed = self.feed(delivery)?;
+        let now = self.responder.now();
+        let reply = feed_acknowledgement(
+            self.alloc,
+            self.responder.name(),
+            now,
+            delivery,
+            fed.full,
+        )?;
+        Ok(Answer::replied(Note::Fed(fed), Message::DataReceivedAcknowledgement(reply)))
+    }
+
+    // Any other message. Nothing changes, but that an event has begun.
+    pub(crate) fn ignore(&mut self) -> Answer
+        ensures stands { (m : Message) → is_ignored m ≡ true → GoesOn self.old self.new (Take m) }
+        ensures answer { (m : Message) → is_ignored m ≡ true → AnswerFor self.old m result }
+        ensures name { self.new.responder.name ≡ self.old.responder.name }
+        ensures reads { self.new.responder.reads ≡ self.old.responder.reads }
+    {
+        self.is_settled = false;
+        Answer::noted(Note::Ignored)
+    }
+}

@@ -1,0 +1,4 @@
+pub mod Fold
+pub mod Holds
+pub mod Reached
+pub mod Stands

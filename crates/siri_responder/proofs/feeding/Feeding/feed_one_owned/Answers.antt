@@ -1,0 +1,5 @@
+use Rattle.siri_responder.proofs.Reached.{front_some, on_err}
+use Rattle.siri_responder.proofs.feeding.Feeding.feed_one_owned.Goals as goal
+
+pub returns-in_err-observe_all_owned-clause-err : goal.returns-in_err-observe_all_owned-clause-err
+returns-in_err-observe_all_owned-clause-err c = on_err _ (front_some _ _ _ _ c.in_err-observe_all_owned.ensures.err)

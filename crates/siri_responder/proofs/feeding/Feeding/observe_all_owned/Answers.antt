@@ -1,0 +1,10 @@
+use Rattle.std.proofs.Common.{[], ◌∷◌}
+use Rattle.siri_model.specs.History.{Observed}
+use Rattle.siri_responder.proofs.Reached.{reached_more}
+use Rattle.siri_responder.proofs.feeding.Feeding.observe_all_owned.Goals as goal
+
+pub loop-item-preserved : goal.loop-item-preserved
+loop-item-preserved c = record {
+  alive = c.in_ok-observe.ensures.alive;
+  reached = reached_more _ _ _ _ (Observed c.in-Some.item ∷ []) _ (rw (c.in-Some.ensures.steps.0) at c.loop-item.invariant.reached) c.in_ok-observe.ensures.ok;
+}

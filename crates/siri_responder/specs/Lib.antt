@@ -1,0 +1,4 @@
+pub mod Known
+pub mod FedCounts
+pub mod Standing
+pub mod Feeding
