@@ -2,7 +2,7 @@
 use crate::items::{moment, subscription, vehicle};
 use siri_base::{List, Name, Place};
 use siri_change::Change;
-use siri_messages::CheckStatusRequest;
+use siri_messages::{CheckStatusRequest, ServiceDelivery};
 use siri_records::Key;
 use siri_replies::{
     Refusal, accepted_status, ended_status, feed_acknowledgement, heartbeat, number_text,
@@ -89,15 +89,19 @@ fn changes(alloc: Global) -> Result<List<Change>, Fail> {
     Ok(list)
 }
 
+fn counts(delivery: &ServiceDelivery) -> (usize, usize) {
+    match delivery.vehicle_monitoring_delivery.slice() {
+        [functional] => (functional.items.len(), functional.removals.len()),
+        _ => (0, 0),
+    }
+}
+
 // How many items and removals the delivery of a part carries.
 fn carried(alloc: Global, part: &Part<'_>) -> Result<(usize, usize), Fail> {
     let producer = Name::new(alloc, "producer")?;
     let wanted = subscription(alloc, "S", 100)?;
     let delivery = part_delivery(alloc, &producer, &wanted, 5, 1, part)?;
-    match delivery.vehicle_monitoring_delivery.slice() {
-        [functional] => Ok((functional.items.len(), functional.removals.len())),
-        _ => Ok((0, 0)),
-    }
+    Ok(counts(&delivery))
 }
 
 // The number that the notification of a part names.
