@@ -1,3 +1,4 @@
 pub mod Converting
 pub mod Current
 pub mod Responses
+pub mod Settles

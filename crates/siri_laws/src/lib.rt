@@ -4,11 +4,14 @@
 //! ```text
 //!   document --convert--> text --convert--> the same text
 //!   proper feeds and a proper request --response--> a proper delivery --canonical--> text --message_of--> that delivery
+//!   a history --settle--> what is due --settle--> nothing
 //! ```
 #![tactic(auto)]
 
 mod document_laws;
 mod history_laws;
+mod settle_laws;
 
 pub use document_laws::converting_twice_is_converting_once;
 pub use history_laws::{answer_is_read, feed_is_proper, response_is_proper};
+pub use settle_laws::a_second_settle_sends_nothing;
