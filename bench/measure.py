@@ -124,6 +124,57 @@ def producer(program, yardstick, folder):
         print(row % (name, "%.1f" % ours, "%.1f" % theirs, "%.2f" % (ours / theirs)))
 
 
+VIEWS = [2_000, 20_000]
+ROUNDS = 2_000
+
+
+# The bytes that `siri convert` writes of such a visit, in the mean.
+CANONICAL = 592
+
+
+def consumer(program, folder):
+    """What a round of one change takes of a consumer whose view has 2,000 visits and 20,000, each as the difference between
+    2,000 such rounds and none; and the peak of its memory, less that of one visit, beside the canonical texts of the visits."""
+    path = os.path.join(folder, "consumer")
+    open(path, "w").close()
+    sizes = [(visits, rounds) for visits in VIEWS for rounds in (0, ROUNDS)]
+    runs = [[run_once([program, "view", str(visits), str(rounds)], path) for visits, rounds in sizes] for _ in range(PHASE_RUNS)]
+    bare = max(run_once([program, "view", "1", "0"], path)[1] for _ in range(RUNS))
+    row = "%-20s %10s %12s %16s %8s"
+    print(row % ("view", "us a round", "bytes/visit", "canonical bytes", "ratio"))
+    for place, visits in enumerate(VIEWS):
+        before, after = [min(run[2 * place + more][0] for run in runs) for more in range(2)]
+        peak = max(run[2 * place + more][1] for run in runs for more in range(2))
+        held = (peak - bare) * 1e6 / visits
+        figures = ("%.1f" % ((after - before) / ROUNDS * 1e6), "%.0f" % held, "%.0f" % CANONICAL, "%.2f" % (held / CANONICAL))
+        print(row % (("%d visits" % visits,) + figures))
+
+
+LOADS = [(20_000, 0, 2_000), (2_000, 20, 2_000), (20_000, 20, 200), (20_000, 200, 20)]
+
+
+def subscriptions(program, folder):
+    """What a change of one visit takes of a producer, by the visits that it holds and its subscriptions to 100 of them each: it
+    is fed, settled, sent, acknowledged and settled again, as the difference between so many changes and none; and the peak of
+    its memory, less that of the visits alone, for each visit that is shown to a subscription."""
+    path = os.path.join(folder, "subscriptions")
+    open(path, "w").close()
+
+    def run(*load):
+        return run_once([program, "producer"] + [str(number) for number in load], path)
+    row = "%8s %14s %9s %12s %20s"
+    print(row % ("visits", "subscriptions", "changes", "ms a change", "bytes a shown visit"))
+    for visits, wanted, changes in LOADS:
+        runs = [[run(visits, wanted, number) for number in (0, changes)] for _ in range(RUNS)]
+        before, after = [min(run[more][0] for run in runs) for more in range(2)]
+        milliseconds = (after - before) / changes * 1e3
+        held = ""
+        if wanted > 0:
+            bare = min(run(visits, 0, 0)[1] for _ in range(RUNS))
+            held = "%.0f" % ((max(run[0][1] for run in runs) - bare) * 1e6 / (wanted * 100))
+        print(row % (visits, wanted, changes, "%.3f" % milliseconds, held))
+
+
 def main(crates, yardstick, folder):
     siri = os.path.join(crates, "siri/out/siri")
     replay_beside_yardsticks(siri, folder)
@@ -133,6 +184,11 @@ def main(crates, yardstick, folder):
     documents(siri, yardstick, folder)
     print()
     producer(siri, yardstick, folder)
+    print()
+    rounds = os.path.join(crates, "siri_round_speed/out/siri_round_speed")
+    consumer(rounds, folder)
+    print()
+    subscriptions(rounds, folder)
 
 
 main(*sys.argv[1:])

@@ -1,5 +1,5 @@
 #!/usr/bin/env bash
-# Measures four things, each beside a yardstick in the same run, and prints processor seconds (user and system, the least
+# Measures six things, each beside a yardstick in the same run, and prints processor seconds (user and system, the least
 # of 5 runs, of 15 for phases and documents), megabytes of input a second, and the peak memory:
 #
 # - `siri replay` on two kinds of script, at half the size and at the whole one, beside `grep -c '^#'` over the script of
@@ -8,11 +8,15 @@
 # - `siri convert` and `siri check` of that delivery, beside a program on Rust's serde_json (bench/yardstick), which wants
 #   cargo and Debian's package librust-serde-json-dev;
 # - `siri replay` of 20,000 live visits and 100 asks that show 200 of them each, beside the same program, which keeps the
-#   visits as trees: time and memory of a fed visit and time of an ask, as differences of runs.
+#   visits as trees: time and memory of a fed visit and time of an ask, as differences of runs;
+# - a consumer whose view has 20,000 visits, and one with 2,000: time of a round of one change and memory, as differences of
+#   runs of `siri_round_speed`, with no yardstick but the canonical texts of the visits;
+# - a producer with 20,000 live visits of 200 stops and a subscription to each stop, and with fewer of both: time of a change of
+#   one visit that is settled, sent and acknowledged, and memory, in the same way and with no yardstick.
 set -eu
 here=$(dirname -- "$(readlink -f -- "${BASH_SOURCE[0]}")")
 "$here/../siri" build
-(cd "$here/../crates/siri_speed" && rt run >/dev/null)
+for program in siri_speed siri_round_speed; do (cd "$here/../crates/$program" && rt run >/dev/null); done
 (cd "$here/yardstick" && cargo build --release --offline --quiet)
 
 inputs=$(mktemp -d)
