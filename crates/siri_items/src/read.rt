@@ -1,7 +1,7 @@
 //! Reading items.
 
 ghost use Rattle.std.specs.Prelude.{◌≡◌};
-ghost use Rattle.serde_json.specs.View.{view};
+ghost use Rattle.siri_json.specs.Shown.{shown};
 ghost use Rattle.siri_tables.specs.Refusals.{Gives, at_path};
 ghost use Rattle.siri_items.specs.Items.{item_of};
 
@@ -9,8 +9,7 @@ use crate::read_journey::JourneyTable;
 use crate::read_situation::SituationTable;
 use crate::read_vehicle::VehicleTable;
 use crate::read_visit::VisitTable;
-use serde_json::Value;
-use siri_json::Path;
+use siri_json::{Path, Tree};
 use siri_records::{Item, Service};
 use siri_tables::refusal::{TableError, from_path};
 use siri_tables::rows::required_value;
@@ -20,17 +19,17 @@ use std::alloc::Global;
 /// before its path. A journey's RecordedAtTime is its own.
 pub fn read_item(
     alloc: Global,
-    tree: &Value,
+    tree: &Tree<'_>,
     service: Service,
     at: &Path,
 ) -> Result<Item, TableError>
-    ensures { Gives result (at_path at.now (item_of service (view tree.now))) }
+    ensures { Gives result (at_path at.now (item_of service (shown tree.now))) }
 {
     from_path(at, item(alloc, tree, service))
 }
 
-fn item(alloc: Global, tree: &Value, service: Service) -> Result<Item, TableError>
-    ensures { Gives result (item_of service (view tree.now)) }
+fn item(alloc: Global, tree: &Tree<'_>, service: Service) -> Result<Item, TableError>
+    ensures { Gives result (item_of service (shown tree.now)) }
 {
     match service {
         Service::Stop => Ok(Item::Visit(required_value::<VisitTable>(alloc, tree)?)),

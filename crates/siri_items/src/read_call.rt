@@ -2,15 +2,14 @@
 
 ghost use Rattle.std.specs.Prelude.{◌≡◌, Option};
 ghost use Rattle.serde_json.specs.Data.{Data};
-ghost use Rattle.serde_json.specs.View.{view};
+ghost use Rattle.siri_json.specs.Shown.{shown};
 ghost use Rattle.siri_tables.specs.Refusals.{Gives};
 ghost use Rattle.siri_tables.specs.Rules.{table, table_unless_blank};
 ghost use Rattle.siri_items.specs.Calls.{stop_call, call_is_blank, framed_ref, read_framed_ref_rows, framed_ref_of, plain_journey_ref, journey_ref, required_journey_ref, location, location_is_blank, optional_location, optional_call};
 
 use crate::names;
-use serde_json::Value;
 use siri_base::{Name, Reason};
-use siri_json::{ObjectOf, object_of};
+use siri_json::{ObjectOf, Tree, object_of};
 use siri_records::{StopCall, VehicleLocation};
 use siri_tables::refusal::{TableError, refuse, refuse_at};
 use siri_tables::rows::{required_row, row};
@@ -30,7 +29,7 @@ impl Table for StopCallTable {
     ghost rows = { stop_call };
 
     #[tactic(auto, unfolding(crate::specs::Calls::stop_call))]
-    fn read_rows(alloc: Global, tree: &Value) -> Result<StopCall, TableError> {
+    fn read_rows(alloc: Global, tree: &Tree<'_>) -> Result<StopCall, TableError> {
         Ok(StopCall {
             stop_point_ref: row::<NameRule>(alloc, tree, names::STOP_POINT_REF)?,
             order: row::<NumberRule>(alloc, tree, names::ORDER)?,
@@ -63,7 +62,7 @@ impl Rule for OptionalCallRule {
     ghost rule = { optional_call };
 
     #[tactic(auto, unfolding(siri_tables::specs::Rules::table_unless_blank))]
-    fn read(alloc: Global, value: &Value) -> Result<Option<StopCall>, TableError> {
+    fn read(alloc: Global, value: &Tree<'_>) -> Result<Option<StopCall>, TableError> {
         match StopCallTable::read(alloc, value)? {
             Some(call) if call_is_blank(&call) => Ok(None),
             other => Ok(other),
@@ -103,7 +102,7 @@ impl Table for LocationTable {
     ghost rows = { location };
 
     #[tactic(auto, unfolding(crate::specs::Calls::location))]
-    fn read_rows(alloc: Global, tree: &Value) -> Result<VehicleLocation, TableError> {
+    fn read_rows(alloc: Global, tree: &Tree<'_>) -> Result<VehicleLocation, TableError> {
         Ok(VehicleLocation {
             longitude: row::<DecimalRule>(alloc, tree, names::LONGITUDE)?,
             latitude: row::<DecimalRule>(alloc, tree, names::LATITUDE)?,
@@ -117,7 +116,7 @@ impl Rule for LocationRule {
     ghost rule = { optional_location };
 
     #[tactic(auto, unfolding(siri_tables::specs::Rules::table_unless_blank, crate::specs::Calls::location_is_blank))]
-    fn read(alloc: Global, value: &Value) -> Result<Option<VehicleLocation>, TableError> {
+    fn read(alloc: Global, value: &Tree<'_>) -> Result<Option<VehicleLocation>, TableError> {
         match LocationTable::read(alloc, value)? {
             Some(
                 VehicleLocation {
@@ -167,9 +166,9 @@ fn framed_ref_of(
 #[tactic(auto, unfolding(crate::specs::Calls::read_framed_ref_rows))]
 fn read_framed_ref_rows(
     alloc: Global,
-    tree: &Value,
+    tree: &Tree<'_>,
 ) -> Result<Option<RequiredJourneyRef>, TableError>
-    ensures { Gives result (read_framed_ref_rows (view tree.now)) }
+    ensures { Gives result (read_framed_ref_rows (shown tree.now)) }
 {
     let frame = row::<NameRule>(alloc, tree, names::DATA_FRAME_REF)?;
     let dated = row::<NameRule>(alloc, tree, names::DATED_VEHICLE_JOURNEY_REF)?;
@@ -182,7 +181,7 @@ impl Rule for FramedVehicleJourneyRefRule {
     ghost rule = { framed_ref };
 
     #[tactic(auto, unfolding(crate::specs::Calls::framed_ref))]
-    fn read(alloc: Global, value: &Value) -> Result<Option<RequiredJourneyRef>, TableError> {
+    fn read(alloc: Global, value: &Tree<'_>) -> Result<Option<RequiredJourneyRef>, TableError> {
         match object_of(value) {
             ObjectOf::Is(tree) => read_framed_ref_rows(alloc, tree),
             ObjectOf::Absent => Ok(None),
@@ -194,8 +193,8 @@ impl Rule for FramedVehicleJourneyRefRule {
 /// How the object names its journey: by FramedVehicleJourneyRef where a row of it is there, otherwise by
 /// DatedVehicleJourneyRef, where that is. `Missing` at the frame's DatedVehicleJourneyRef where only DataFrameRef is there.
 #[tactic(auto, unfolding(crate::specs::Calls::journey_ref, crate::specs::Calls::plain_journey_ref))]
-pub fn journey_ref(alloc: Global, tree: &Value) -> Result<JourneyRef, TableError>
-    ensures { Gives result (journey_ref (view tree.now)) }
+pub fn journey_ref(alloc: Global, tree: &Tree<'_>) -> Result<JourneyRef, TableError>
+    ensures { Gives result (journey_ref (shown tree.now)) }
 {
     match row::<FramedVehicleJourneyRefRule>(alloc, tree, names::FRAMED_VEHICLE_JOURNEY_REF)? {
         Some(framed_ref) => Ok(JourneyRef {
@@ -215,8 +214,11 @@ pub fn journey_ref(alloc: Global, tree: &Value) -> Result<JourneyRef, TableError
 
 /// How the object names its journey, which it has to: otherwise `Missing` at DatedVehicleJourneyRef.
 #[tactic(auto, unfolding(crate::specs::Calls::required_journey_ref, crate::specs::Calls::plain_required_journey_ref))]
-pub fn required_journey_ref(alloc: Global, tree: &Value) -> Result<RequiredJourneyRef, TableError>
-    ensures { Gives result (required_journey_ref (view tree.now)) }
+pub fn required_journey_ref(
+    alloc: Global,
+    tree: &Tree<'_>,
+) -> Result<RequiredJourneyRef, TableError>
+    ensures { Gives result (required_journey_ref (shown tree.now)) }
 {
     match row::<FramedVehicleJourneyRefRule>(alloc, tree, names::FRAMED_VEHICLE_JOURNEY_REF)? {
         Some(framed_ref) => Ok(framed_ref),

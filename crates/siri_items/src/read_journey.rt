@@ -2,7 +2,7 @@
 
 ghost use Rattle.std.specs.Prelude.{◌≡◌, IsTrue};
 ghost use Rattle.serde_json.specs.Data.{Data};
-ghost use Rattle.serde_json.specs.View.{view};
+ghost use Rattle.siri_json.specs.Shown.{shown};
 ghost use Rattle.siri_tables.specs.Refusals.{Gives, is_key};
 ghost use Rattle.siri_tables.specs.Rules.{list, list_inside, table};
 ghost use Rattle.siri_items.specs.Calls.{stop_call};
@@ -11,8 +11,8 @@ ghost use Rattle.siri_items.specs.Journeys.{read_journey_rows, has_time, with_ti
 use crate::journey_fields::JourneyFields;
 use crate::names;
 use crate::read_call::{StopCallTable, required_journey_ref};
-use serde_json::Value;
 use siri_base::{List, Reason};
+use siri_json::Tree;
 use siri_records::{Journey, StopCall, moment_of};
 use siri_tables::refusal::{TableError, refuse};
 use siri_tables::rows::{list_inside, required_row, row};
@@ -23,20 +23,20 @@ const MOST_CALLS: usize = 1000;
 
 fn calls_inside(
     alloc: Global,
-    tree: &Value,
+    tree: &Tree<'_>,
     outer: &str,
     key: &str,
 ) -> Result<List<StopCall>, TableError>
     requires outer { IsTrue (is_key outer.now) }
     requires key { IsTrue (is_key key.now) }
-    ensures { Gives result (list_inside outer.now (list (table stop_call) 1000 key.now) (view tree.now)) }
+    ensures { Gives result (list_inside outer.now (list (table stop_call) 1000 key.now) (shown tree.now)) }
 {
     list_inside::<StopCallTable>(alloc, tree, outer, key, MOST_CALLS)
 }
 
 #[tactic(auto, unfolding(crate::specs::Journeys::read_journey_rows))]
-fn read_journey_rows(alloc: Global, tree: &Value) -> Result<Journey, TableError>
-    ensures { Gives result (read_journey_rows (view tree.now)) }
+fn read_journey_rows(alloc: Global, tree: &Tree<'_>) -> Result<Journey, TableError>
+    ensures { Gives result (read_journey_rows (shown tree.now)) }
 {
     let mut fields = JourneyFields::new();
     let recorded_at_time = row::<MomentRule>(alloc, tree, names::RECORDED_AT_TIME)?;
@@ -79,7 +79,7 @@ impl Table for JourneyTable {
     ghost rows = { journey };
 
     #[tactic(auto, unfolding(crate::specs::Journeys::journey))]
-    fn read_rows(alloc: Global, tree: &Value) -> Result<Journey, TableError> {
+    fn read_rows(alloc: Global, tree: &Tree<'_>) -> Result<Journey, TableError> {
         let journey = read_journey_rows(alloc, tree)?;
         if has_time(journey.recorded_calls.slice()) || has_time(journey.estimated_calls.slice()) {
             Ok(journey)

@@ -2,16 +2,15 @@
 
 ghost use Rattle.std.specs.Prelude.{◌≡◌, Some, flat_map, sum_by, nat_le, OnOk, ◌++◌, IfOk};
 ghost use Rattle.serde_json.specs.Data.{Data};
-ghost use Rattle.serde_json.specs.View.{view};
+ghost use Rattle.siri_json.specs.Shown.{shown};
 ghost use Rattle.siri_tables.specs.Refusals.{Gives};
 ghost use Rattle.siri_tables.specs.Rules.{list_inside};
 ghost use Rattle.siri_items.specs.declared.names.TheConstants.{NETWORKS};
 ghost use Rattle.siri_items.specs.Situations.{period, lines_at, network, all_lines, lines_of, network_lines, affected, or_nothing, situation};
 
 use crate::names;
-use serde_json::Value;
 use siri_base::{List, Name, OutOfMemory, Reason};
-use siri_json::{ObjectOf, member, object_of};
+use siri_json::{ObjectOf, Tree, member, object_of};
 use siri_records::{Period, Situation};
 use siri_tables::refusal::{TableError, below, refuse, refuse_at};
 use siri_tables::rows::{
@@ -32,7 +31,7 @@ impl Table for PeriodTable {
     ghost rows = { period };
 
     #[tactic(auto, unfolding(crate::specs::Situations::period))]
-    fn read_rows(alloc: Global, tree: &Value) -> Result<Period, TableError> {
+    fn read_rows(alloc: Global, tree: &Tree<'_>) -> Result<Period, TableError> {
         Ok(Period {
             start_time: required_row::<MomentRule>(alloc, tree, names::START_TIME)?,
             end_time: row::<MomentRule>(alloc, tree, names::END_TIME)?,
@@ -57,8 +56,8 @@ pub struct Network {
 
 struct NetworkTable;
 
-fn lines_at(alloc: Global, value: &Value) -> Result<Network, TableError>
-    ensures { Gives result (lines_at (Some (view value.now))) }
+fn lines_at(alloc: Global, value: &Tree<'_>) -> Result<Network, TableError>
+    ensures { Gives result (lines_at (Some (shown value.now))) }
 {
     let lines = names_of(alloc, value, names::LINE_REF)?;
     Ok(Network {
@@ -73,7 +72,7 @@ impl Table for NetworkTable {
     ghost rows = { network };
 
     #[tactic(auto, unfolding(crate::specs::Situations::network))]
-    fn read_rows(alloc: Global, tree: &Value) -> Result<Network, TableError> {
+    fn read_rows(alloc: Global, tree: &Tree<'_>) -> Result<Network, TableError> {
         match member(tree, names::AFFECTED_LINE) {
             Some(value) => below(alloc, names::AFFECTED_LINE, lines_at(alloc, value)),
             None => Ok(Network {
@@ -108,8 +107,8 @@ fn joined(alloc: Global, networks: List<Network>) -> Result<List<Name>, OutOfMem
 }
 
 #[tactic(auto, unfolding(crate::specs::Situations::lines_of))]
-fn lines_of(alloc: Global, value: &Value) -> Result<List<Name>, TableError>
-    ensures { Gives result (lines_of (view value.now)) }
+fn lines_of(alloc: Global, value: &Tree<'_>) -> Result<List<Name>, TableError>
+    ensures { Gives result (lines_of (shown value.now)) }
 {
     let networks = list_of::<NetworkTable>(alloc, value)?;
     if !is_few(networks.slice()) {
@@ -119,8 +118,8 @@ fn lines_of(alloc: Global, value: &Value) -> Result<List<Name>, TableError>
 }
 
 #[tactic(auto, unfolding(crate::specs::Situations::network_lines))]
-fn network_lines(alloc: Global, tree: &Value) -> Result<List<Name>, TableError>
-    ensures { Gives result (network_lines (view tree.now)) }
+fn network_lines(alloc: Global, tree: &Tree<'_>) -> Result<List<Name>, TableError>
+    ensures { Gives result (network_lines (shown tree.now)) }
 {
     match member(tree, names::AFFECTED_NETWORK) {
         Some(value) => below(alloc, names::AFFECTED_NETWORK, lines_of(alloc, value)),
@@ -129,8 +128,8 @@ fn network_lines(alloc: Global, tree: &Value) -> Result<List<Name>, TableError>
 }
 
 #[tactic(auto, unfolding(siri_tables::specs::Rules::list_inside))]
-fn all_lines(alloc: Global, tree: &Value) -> Result<List<Name>, TableError>
-    ensures { Gives result (list_inside NETWORKS.now network_lines (view tree.now)) }
+fn all_lines(alloc: Global, tree: &Tree<'_>) -> Result<List<Name>, TableError>
+    ensures { Gives result (list_inside NETWORKS.now network_lines (shown tree.now)) }
 {
     let Some(value) = member(tree, names::NETWORKS) else {
         return Ok(List::new(alloc));
@@ -150,7 +149,7 @@ impl Table for AffectedTable {
     ghost rows = { affected };
 
     #[tactic(auto, unfolding(crate::specs::Situations::affected))]
-    fn read_rows(alloc: Global, tree: &Value) -> Result<Affected, TableError> {
+    fn read_rows(alloc: Global, tree: &Tree<'_>) -> Result<Affected, TableError> {
         Ok(Affected {
             operators: names_inside(
                 alloc,
@@ -195,7 +194,7 @@ impl Table for SituationTable {
     ghost rows = { situation };
 
     #[tactic(auto, unfolding(crate::specs::Situations::situation))]
-    fn read_rows(alloc: Global, tree: &Value) -> Result<Situation, TableError> {
+    fn read_rows(alloc: Global, tree: &Tree<'_>) -> Result<Situation, TableError> {
         let creation_time = row::<MomentRule>(alloc, tree, names::CREATION_TIME)?;
         let participant_ref = row::<NameRule>(alloc, tree, names::PARTICIPANT_REF)?;
         let situation_number = required_row::<NameRule>(alloc, tree, names::SITUATION_NUMBER)?;

@@ -2,14 +2,14 @@
 
 ghost use Rattle.std.specs.Prelude.{◌≡◌};
 ghost use Rattle.serde_json.specs.Data.{Data};
-ghost use Rattle.serde_json.specs.View.{view};
+ghost use Rattle.siri_json.specs.Shown.{shown};
 ghost use Rattle.siri_tables.specs.Refusals.{Gives};
 ghost use Rattle.siri_items.specs.Vehicles.{vehicle_journey, vehicle};
 
 use crate::journey_fields::JourneyFields;
 use crate::names;
 use crate::read_call::{LocationRule, OptionalCallRule, journey_ref};
-use serde_json::Value;
+use siri_json::Tree;
 use siri_records::{Vehicle, VehicleJourney};
 use siri_tables::refusal::TableError;
 use siri_tables::rows::{required_row, row};
@@ -24,7 +24,7 @@ impl Table for VehicleJourneyTable {
     ghost rows = { vehicle_journey };
 
     #[tactic(auto, unfolding(crate::specs::Vehicles::vehicle_journey))]
-    fn read_rows(alloc: Global, tree: &Value) -> Result<VehicleJourney, TableError> {
+    fn read_rows(alloc: Global, tree: &Tree<'_>) -> Result<VehicleJourney, TableError> {
         let mut fields = JourneyFields::new();
         fields.line_ref = row::<NameRule>(alloc, tree, names::LINE_REF)?;
         fields.direction_ref = row::<NameRule>(alloc, tree, names::DIRECTION_REF)?;
@@ -52,7 +52,7 @@ impl Table for VehicleTable {
     ghost rows = { vehicle };
 
     #[tactic(auto, unfolding(crate::specs::Vehicles::vehicle))]
-    fn read_rows(alloc: Global, tree: &Value) -> Result<Vehicle, TableError> {
+    fn read_rows(alloc: Global, tree: &Tree<'_>) -> Result<Vehicle, TableError> {
         Ok(Vehicle {
             recorded_at_time: row::<MomentRule>(alloc, tree, names::RECORDED_AT_TIME)?,
             item_identifier: row::<NameRule>(alloc, tree, names::ITEM_IDENTIFIER)?,

@@ -2,15 +2,15 @@
 
 ghost use Rattle.std.specs.Prelude.{◌≡◌};
 ghost use Rattle.serde_json.specs.Data.{Data};
-ghost use Rattle.serde_json.specs.View.{view};
+ghost use Rattle.siri_json.specs.Shown.{shown};
 ghost use Rattle.siri_tables.specs.Refusals.{Gives};
 ghost use Rattle.siri_items.specs.Visits.{timed_call, visit_journey, visit};
 
 use crate::journey_fields::JourneyFields;
 use crate::names;
 use crate::read_call::{LocationRule, StopCallTable, journey_ref};
-use serde_json::Value;
 use siri_base::Reason;
+use siri_json::Tree;
 use siri_records::{StopCall, Visit, VisitJourney, moment_of};
 use siri_tables::refusal::{TableError, refuse_at};
 use siri_tables::rows::{required_row, row};
@@ -19,8 +19,8 @@ use std::alloc::Global;
 
 /// The call at the monitored stop, which has to be there and to have a time: otherwise `NoMoment` at it.
 #[tactic(auto, unfolding(crate::specs::Visits::timed_call))]
-fn timed_call(alloc: Global, tree: &Value) -> Result<StopCall, TableError>
-    ensures { Gives result (timed_call (view tree.now)) }
+fn timed_call(alloc: Global, tree: &Tree<'_>) -> Result<StopCall, TableError>
+    ensures { Gives result (timed_call (shown tree.now)) }
 {
     let call = required_row::<StopCallTable>(alloc, tree, names::MONITORED_CALL)?;
     match moment_of(&call) {
@@ -37,7 +37,7 @@ impl Table for VisitJourneyTable {
     ghost rows = { visit_journey };
 
     #[tactic(auto, unfolding(crate::specs::Visits::visit_journey))]
-    fn read_rows(alloc: Global, tree: &Value) -> Result<VisitJourney, TableError> {
+    fn read_rows(alloc: Global, tree: &Tree<'_>) -> Result<VisitJourney, TableError> {
         let mut fields = JourneyFields::new();
         fields.line_ref = row::<NameRule>(alloc, tree, names::LINE_REF)?;
         fields.direction_ref = row::<NameRule>(alloc, tree, names::DIRECTION_REF)?;
@@ -65,7 +65,7 @@ impl Table for VisitTable {
     ghost rows = { visit };
 
     #[tactic(auto, unfolding(crate::specs::Visits::visit))]
-    fn read_rows(alloc: Global, tree: &Value) -> Result<Visit, TableError> {
+    fn read_rows(alloc: Global, tree: &Tree<'_>) -> Result<Visit, TableError> {
         Ok(Visit {
             recorded_at_time: row::<MomentRule>(alloc, tree, names::RECORDED_AT_TIME)?,
             item_identifier: required_row::<NameRule>(alloc, tree, names::ITEM_IDENTIFIER)?,

@@ -16,7 +16,9 @@
 
 use siri_base::OutOfMemory;
 use siri_items::{read_item, write_item};
-use siri_json::{Path, TreeError, Value, entry_at, entry_list, member, read_tree, write_tree};
+use siri_json::{
+    Path, Scratch, Tree, TreeError, Value, entry_at, entry_list, member, read_tree, write_tree,
+};
 use siri_records::{Item, Service};
 use siri_tables::TableError;
 use std::alloc::{AllocError, AllocFailed, Global};
@@ -95,8 +97,8 @@ fn made(alloc: Global, document: Vec<u8>, phase: &str) -> Result<usize, Stopped>
     if phase == "bytes" {
         return Ok(document.len());
     }
-    let tree = read_tree(alloc, &document)?;
-    drop(document);
+    let mut scratch = Scratch::new(alloc);
+    let tree = read_tree(alloc, &document, &mut scratch)?;
     let visits = visits_of(&tree).ok_or(Stopped)?;
     if phase == "tree" {
         return Ok(visits.len());
@@ -117,13 +119,13 @@ fn made(alloc: Global, document: Vec<u8>, phase: &str) -> Result<usize, Stopped>
 }
 
 /// The visits of the first StopMonitoringDelivery.
-fn visits_of(tree: &Value) -> Option<&[Value]> {
+fn visits_of<'v, 'a>(tree: &'v Tree<'a>) -> Option<&'v [Tree<'a>]> {
     let delivery = member(member(tree, "Siri")?, "ServiceDelivery")?;
     let service = entry_at(member(delivery, "StopMonitoringDelivery")?, 0)?;
     Some(entry_list(member(service, "MonitoredStopVisit")?))
 }
 
-fn items_of(alloc: Global, visits: &[Value]) -> Result<Vec<Item>, Stopped> {
+fn items_of(alloc: Global, visits: &[Tree<'_>]) -> Result<Vec<Item>, Stopped> {
     let root = Path::new(alloc);
     let mut items = Vec::new(alloc);
     for visit in visits {

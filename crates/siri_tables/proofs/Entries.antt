@@ -1,10 +1,10 @@
 -- The entries of a list.
-use Rattle.std.proofs.Common.{◌≡◌, ℕ, ◌+◌, ◌<◌, ◌≤◌, true, false, List, [], ◌∷◌, ◌++◌, length, get_or, drop, map, Option, Result, Ok, Err, refl, ap, sym, ◌∙◌, append_assoc, add-one, drop-cons}
+use Rattle.std.proofs.Common.{◌≡◌, ℕ, ◌+◌, ◌<◌, ◌≤◌, true, false, List, [], ◌∷◌, ◌++◌, length, get_or, drop, map, Option, Global, Result, Ok, Err, refl, ap, sym, ◌∙◌, append_assoc, add-one, drop-cons}
 use Rattle.std.specs.Prelude.{option_to_list}
 use Rattle.std.proofs.lemmas.List.{append-nil, drop_all}
 use Rattle.serde_json.specs.Data.{Data}
-use Rattle.serde_json.specs.View.{view}
-use Rattle.serde_json.specs.declared.value.Value.{Value}
+use Rattle.siri_json.specs.Shown.{shown}
+use Rattle.json.specs.declared.value.Value.{Value}
 use Rattle.siri_json.specs.declared.path.Step.TheVariants.{Place}
 use Rattle.siri_tables.specs.declared.refusal.TableError.{TableError}
 use Rattle.siri_tables.specs.declared.refusal.TableError.TheVariants as errors
@@ -16,17 +16,17 @@ abbrev pub after : {A : Type 0} → List A → Result (List A) Refusal → Resul
 after front read = read >>= λ xs. Ok (front ++ xs)
 
 -- the values from a place on
-abbrev pub rest_from : ℕ → List Value → List Data
-rest_from place vs = map view (drop place vs)
+abbrev pub rest_from : ℕ → List (Value Global) → List Data
+rest_from place vs = map shown (drop place vs)
 
-pub rest_from-cons : (place : ℕ) (vs : List Value) (d : Value) → place < length vs → rest_from place vs ≡ view (get_or vs place d) ∷ rest_from (place + 1) vs
-rest_from-cons place vs d lt = ap (map view) (drop-cons vs place d lt) ∙ rw (add-one) refl
+pub rest_from-cons : (place : ℕ) (vs : List (Value Global)) (d : Value Global) → place < length vs → rest_from place vs ≡ shown (get_or vs place d) ∷ rest_from (place + 1) vs
+rest_from-cons place vs d lt = ap (map shown) (drop-cons vs place d lt) ∙ rw (add-one) refl
 
-pub rest_from-here : (place : ℕ) (vs : List Value) (v : Value) → place < length vs → v ≡ get_or vs place v → rest_from place vs ≡ view v ∷ rest_from (place + 1) vs
-rest_from-here place vs v lt here = rest_from-cons place vs v lt ∙ ap (λ (x : Value). view x ∷ rest_from (place + 1) vs) (sym here)
+pub rest_from-here : (place : ℕ) (vs : List (Value Global)) (v : Value Global) → place < length vs → v ≡ get_or vs place v → rest_from place vs ≡ shown v ∷ rest_from (place + 1) vs
+rest_from-here place vs v lt here = rest_from-cons place vs v lt ∙ ap (λ (x : Value Global). shown x ∷ rest_from (place + 1) vs) (sym here)
 
-pub rest_from-all : (place : ℕ) (vs : List Value) → length vs ≤ place → rest_from place vs ≡ []
-rest_from-all place vs le = ap (map view) (drop_all place vs le)
+pub rest_from-all : (place : ℕ) (vs : List (Value Global)) → length vs ≤ place → rest_from place vs ≡ []
+rest_from-all place vs le = ap (map shown) (drop_all place vs le)
 
 pub passes : {A : Type 0} (rule : Data → Result (Option A) Refusal) (front : List A) (place : ℕ) (v : Data) (rest : List Data) (total : Result (List A) Refusal)
     → is_null v ≡ true → after front (entries_from rule place (v ∷ rest)) ≡ total → after front (entries_from rule (place + 1) rest) ≡ total

@@ -15,8 +15,8 @@
 //! written under a rule is read by it again, and what is read is proper; these lemmas stand in `proofs/` for each rule and
 //! row, and the crates above put them together for their tables.
 //!
-//! Stands on `siri_base`, `siri_time` and `siri_json`, and on the trees of `serde_json`. It knows no item, no message and
-//! no name of a member, and doesn't read or write the bytes of a document.
+//! Stands on `siri_base`, `siri_time` and `siri_json`: it reads the trees of `json`, and writes those of `serde_json`. It knows
+//! no item, no message and no name of a member, and doesn't read or write the bytes of a document.
 #![tactic(auto)]
 
 pub mod refusal;
@@ -26,3 +26,4 @@ mod scalars;
 pub mod writing;
 
 pub use refusal::TableError;
+pub use scalars::number_of;

@@ -1,24 +1,23 @@
 //! Rows of tables: what a member of an object is read as under a rule, where it may be absent, has to be there, or is a list.
 
 ghost use Rattle.std.specs.Prelude.{◌≡◌, ◌∷◌, ◌++◌, [], Result, Option, Ok, Err, IsTrue, map, count_by, not, option_to_list, OnOk};
-ghost use Rattle.serde_json.specs.View.{view};
+ghost use Rattle.siri_json.specs.Shown.{shown};
 ghost use Rattle.siri_json.specs.Values.{entries_of};
 ghost use Rattle.siri_tables.specs.Refusals.{Refusal, Gives, is_key};
 ghost use Rattle.siri_tables.specs.Rules.{name, at_most, row, required_row, required_value, is_null, entry_count, entries_from, found_from, list_of, names_of, list, nonempty_list, inside, names, list_inside};
 
 use crate::refusal::{TableError, below, below_place, refuse, refuse_at};
 use crate::rules::{NameRule, Rule, RuleIn};
-use serde_json::Value;
 use siri_base::{List, Name, OutOfMemory, Reason};
-use siri_json::{ObjectOf, entry_list, member, object_of};
+use siri_json::{ObjectOf, Tree, entry_list, is_null, member, object_of};
 use std::alloc::Global;
 
 /// What the member of that name is read as under a rule: nothing where there is none, or where its value counts as absent
 /// under the rule. What the rule refuses is refused below that name.
 #[tactic(auto, unfolding(crate::specs::Rules::row))]
-pub fn row<R: Rule>(alloc: Global, tree: &Value, key: &str) -> Result<Option<R::Out>, TableError>
+pub fn row<R: Rule>(alloc: Global, tree: &Tree<'_>, key: &str) -> Result<Option<R::Out>, TableError>
     requires { IsTrue (is_key key.now) }
-    ensures { Gives result (row R.rule key.now (view tree.now)) }
+    ensures { Gives result (row R.rule key.now (shown tree.now)) }
 {
     match member(tree, key) {
         Some(value) => below(alloc, key, R::read(alloc, value)),
@@ -28,9 +27,13 @@ pub fn row<R: Rule>(alloc: Global, tree: &Value, key: &str) -> Result<Option<R::
 
 /// What the member of that name is read as, which has to be there: otherwise `Missing` at that name.
 #[tactic(auto, unfolding(crate::specs::Rules::required_row))]
-pub fn required_row<R: Rule>(alloc: Global, tree: &Value, key: &str) -> Result<R::Out, TableError>
+pub fn required_row<R: Rule>(
+    alloc: Global,
+    tree: &Tree<'_>,
+    key: &str,
+) -> Result<R::Out, TableError>
     requires { IsTrue (is_key key.now) }
-    ensures { Gives result (required_row R.rule key.now (view tree.now)) }
+    ensures { Gives result (required_row R.rule key.now (shown tree.now)) }
 {
     match row::<R>(alloc, tree, key)? {
         Some(found) => Ok(found),
@@ -39,8 +42,8 @@ pub fn required_row<R: Rule>(alloc: Global, tree: &Value, key: &str) -> Result<R
 }
 
 /// What a value is read as that must not count as absent: otherwise `Missing`.
-pub fn required_value<R: Rule>(alloc: Global, value: &Value) -> Result<R::Out, TableError>
-    ensures { Gives result (required_value R.rule (view value.now)) }
+pub fn required_value<R: Rule>(alloc: Global, value: &Tree<'_>) -> Result<R::Out, TableError>
+    ensures { Gives result (required_value R.rule (shown value.now)) }
 {
     required_value_in::<R>(alloc, &(), value)
 }
@@ -49,9 +52,9 @@ pub fn required_value<R: Rule>(alloc: Global, value: &Value) -> Result<R::Out, T
 fn required_value_in<R: RuleIn>(
     alloc: Global,
     with: &R::With,
-    value: &Value,
+    value: &Tree<'_>,
 ) -> Result<R::Out, TableError>
-    ensures { Gives result (required_value (R.rule_in with.now) (view value.now)) }
+    ensures { Gives result (required_value (R.rule_in with.now) (shown value.now)) }
 {
     match R::read_in(alloc, with, value)? {
         Some(found) => Ok(found),
@@ -64,11 +67,11 @@ fn required_value_in<R: RuleIn>(
 #[tactic(auto, unfolding(crate::specs::Rules::inside))]
 pub fn inside<R: Rule>(
     alloc: Global,
-    value: &Value,
+    value: &Tree<'_>,
     key: &str,
 ) -> Result<Option<R::Out>, TableError>
     requires { IsTrue (is_key key.now) }
-    ensures { Gives result (inside R.rule key.now (view value.now)) }
+    ensures { Gives result (inside R.rule key.now (shown value.now)) }
 {
     match object_of(value) {
         ObjectOf::Is(tree) => row::<R>(alloc, tree, key),
@@ -81,13 +84,13 @@ pub fn inside<R: Rule>(
 #[tactic(auto, unfolding(crate::specs::Rules::row))]
 pub fn row_inside<R: Rule>(
     alloc: Global,
-    tree: &Value,
+    tree: &Tree<'_>,
     outer: &str,
     key: &str,
 ) -> Result<Option<R::Out>, TableError>
     requires outer { IsTrue (is_key outer.now) }
     requires key { IsTrue (is_key key.now) }
-    ensures { Gives result (row (inside R.rule key.now) outer.now (view tree.now)) }
+    ensures { Gives result (row (inside R.rule key.now) outer.now (shown tree.now)) }
 {
     match member(tree, outer) {
         Some(value) => below(alloc, outer, inside::<R>(alloc, value, key)),
@@ -96,28 +99,28 @@ pub fn row_inside<R: Rule>(
 }
 
 /// How many entries of a value aren't null.
-pub fn entry_count(value: &Value) -> usize
-    ensures { result ≡ entry_count (view value.now) }
+pub fn entry_count(value: &Tree<'_>) -> usize
+    ensures { result ≡ entry_count (shown value.now) }
 {
     count_in(entry_list(value))
 }
 
-fn count_in(values: &[Value]) -> usize
-    ensures { result ≡ count_by (λ e. not (is_null e)) (map view values.now) }
+fn count_in(values: &[Tree<'_>]) -> usize
+    ensures { result ≡ count_by (λ e. not (is_null e)) (map shown values.now) }
 {
-    values.iter().filter(|entry| !entry.is_null()).count()
+    values.iter().filter(|entry| !is_null(entry)).count()
 }
 
 fn entries_from<R: RuleIn>(
     alloc: Global,
     with: &R::With,
-    values: &[Value],
+    values: &[Tree<'_>],
 ) -> Result<List<R::Out>, TableError>
-    ensures { Gives result (entries_from (R.rule_in with.now) 0 (map view values.now)) }
+    ensures { Gives result (entries_from (R.rule_in with.now) 0 (map shown values.now)) }
 {
     let mut found = Vec::new(alloc);
     for (place, value) in values.iter().enumerate() {
-        if !value.is_null() {
+        if !is_null(value) {
             found.push(below_place(place, required_value_in::<R>(alloc, with, value))?)?;
         }
     }
@@ -127,8 +130,8 @@ fn entries_from<R: RuleIn>(
 /// The entries of a value, each under a rule: those that are null are passed over, any other that counts as absent is
 /// `Missing` at its place. A value that is no list is its own only entry.
 #[tactic(auto, unfolding(crate::specs::Rules::list_of))]
-pub fn list_of<R: Rule>(alloc: Global, value: &Value) -> Result<List<R::Out>, TableError>
-    ensures { Gives result (list_of R.rule (view value.now)) }
+pub fn list_of<R: Rule>(alloc: Global, value: &Tree<'_>) -> Result<List<R::Out>, TableError>
+    ensures { Gives result (list_of R.rule (shown value.now)) }
 {
     entries_from::<R>(alloc, &(), entry_list(value))
 }
@@ -137,10 +140,10 @@ pub fn list_of<R: Rule>(alloc: Global, value: &Value) -> Result<List<R::Out>, Ta
 fn few_of<R: RuleIn>(
     alloc: Global,
     with: &R::With,
-    value: &Value,
+    value: &Tree<'_>,
     most: usize,
 ) -> Result<List<R::Out>, TableError>
-    ensures { Gives result (at_most most (list_of (R.rule_in with.now)) (view value.now)) }
+    ensures { Gives result (at_most most (list_of (R.rule_in with.now)) (shown value.now)) }
 {
     if entry_count(value) > most {
         return refuse(alloc, Reason::TooMany);
@@ -152,12 +155,12 @@ fn few_of<R: RuleIn>(
 /// that name where more than `most` entries aren't null, before any is read.
 pub fn list<R: Rule>(
     alloc: Global,
-    tree: &Value,
+    tree: &Tree<'_>,
     key: &str,
     most: usize,
 ) -> Result<List<R::Out>, TableError>
     requires { IsTrue (is_key key.now) }
-    ensures { Gives result (list R.rule most key.now (view tree.now)) }
+    ensures { Gives result (list R.rule most key.now (shown tree.now)) }
 {
     list_in::<R>(alloc, tree, key, most, &())
 }
@@ -166,13 +169,13 @@ pub fn list<R: Rule>(
 #[tactic(auto, unfolding(crate::specs::Rules::list))]
 pub fn list_in<R: RuleIn>(
     alloc: Global,
-    tree: &Value,
+    tree: &Tree<'_>,
     key: &str,
     most: usize,
     with: &R::With,
 ) -> Result<List<R::Out>, TableError>
     requires { IsTrue (is_key key.now) }
-    ensures { Gives result (list (R.rule_in with.now) most key.now (view tree.now)) }
+    ensures { Gives result (list (R.rule_in with.now) most key.now (shown tree.now)) }
 {
     match member(tree, key) {
         Some(value) => below(alloc, key, few_of::<R>(alloc, with, value, most)),
@@ -184,12 +187,12 @@ pub fn list_in<R: RuleIn>(
 #[tactic(auto, unfolding(crate::specs::Rules::nonempty_list))]
 pub fn nonempty_list<R: Rule>(
     alloc: Global,
-    tree: &Value,
+    tree: &Tree<'_>,
     key: &str,
     most: usize,
 ) -> Result<List<R::Out>, TableError>
     requires { IsTrue (is_key key.now) }
-    ensures { Gives result (nonempty_list R.rule most key.now (view tree.now)) }
+    ensures { Gives result (nonempty_list R.rule most key.now (shown tree.now)) }
 {
     let found = list::<R>(alloc, tree, key, most)?;
     if found.len() == 0 {
@@ -207,13 +210,13 @@ fn push_some(found: &mut Vec<Name>, value: Option<Name>) -> Result<(), OutOfMemo
     Ok(())
 }
 
-fn names_from(alloc: Global, values: &[Value], inner: &str) -> Result<List<Name>, TableError>
+fn names_from(alloc: Global, values: &[Tree<'_>], inner: &str) -> Result<List<Name>, TableError>
     requires { IsTrue (is_key inner.now) }
-    ensures { Gives result (found_from (inside name inner.now) 0 (map view values.now)) }
+    ensures { Gives result (found_from (inside name inner.now) 0 (map shown values.now)) }
 {
     let mut found = Vec::new(alloc);
     for (place, value) in values.iter().enumerate() {
-        if !value.is_null() {
+        if !is_null(value) {
             push_some(
                 &mut found,
                 below_place(place, inside::<NameRule>(alloc, value, inner))?,
@@ -225,21 +228,21 @@ fn names_from(alloc: Global, values: &[Value], inner: &str) -> Result<List<Name>
 
 /// The names that the entries of a value have at a name; entries without one are passed over.
 #[tactic(auto, unfolding(crate::specs::Rules::names_of))]
-pub fn names_of(alloc: Global, value: &Value, inner: &str) -> Result<List<Name>, TableError>
+pub fn names_of(alloc: Global, value: &Tree<'_>, inner: &str) -> Result<List<Name>, TableError>
     requires { IsTrue (is_key inner.now) }
-    ensures { Gives result (names_of inner.now (view value.now)) }
+    ensures { Gives result (names_of inner.now (shown value.now)) }
 {
     names_from(alloc, entry_list(value), inner)
 }
 
 fn few_names(
     alloc: Global,
-    value: &Value,
+    value: &Tree<'_>,
     inner: &str,
     most: usize,
 ) -> Result<List<Name>, TableError>
     requires { IsTrue (is_key inner.now) }
-    ensures { Gives result (at_most most (names_of inner.now) (view value.now)) }
+    ensures { Gives result (at_most most (names_of inner.now) (shown value.now)) }
 {
     if entry_count(value) > most {
         return refuse(alloc, Reason::TooMany);
@@ -252,14 +255,14 @@ fn few_names(
 #[tactic(auto, unfolding(crate::specs::Rules::names))]
 pub fn names(
     alloc: Global,
-    tree: &Value,
+    tree: &Tree<'_>,
     key: &str,
     inner: &str,
     most: usize,
 ) -> Result<List<Name>, TableError>
     requires key { IsTrue (is_key key.now) }
     requires inner { IsTrue (is_key inner.now) }
-    ensures { Gives result (names inner.now most key.now (view tree.now)) }
+    ensures { Gives result (names inner.now most key.now (shown tree.now)) }
 {
     match member(tree, key) {
         Some(value) => below(alloc, key, few_names(alloc, value, inner, most)),
@@ -272,14 +275,14 @@ pub fn names(
 #[tactic(auto, unfolding(crate::specs::Rules::list_inside))]
 pub fn list_inside<R: Rule>(
     alloc: Global,
-    tree: &Value,
+    tree: &Tree<'_>,
     outer: &str,
     key: &str,
     most: usize,
 ) -> Result<List<R::Out>, TableError>
     requires outer { IsTrue (is_key outer.now) }
     requires key { IsTrue (is_key key.now) }
-    ensures { Gives result (list_inside outer.now (list R.rule most key.now) (view tree.now)) }
+    ensures { Gives result (list_inside outer.now (list R.rule most key.now) (shown tree.now)) }
 {
     let Some(value) = member(tree, outer) else {
         return Ok(List::new(alloc));
@@ -296,7 +299,7 @@ pub fn list_inside<R: Rule>(
 #[tactic(auto, unfolding(crate::specs::Rules::list_inside))]
 pub fn names_inside(
     alloc: Global,
-    tree: &Value,
+    tree: &Tree<'_>,
     outer: &str,
     key: &str,
     inner: &str,
@@ -305,7 +308,7 @@ pub fn names_inside(
     requires outer { IsTrue (is_key outer.now) }
     requires key { IsTrue (is_key key.now) }
     requires inner { IsTrue (is_key inner.now) }
-    ensures { Gives result (list_inside outer.now (names inner.now most key.now) (view tree.now)) }
+    ensures { Gives result (list_inside outer.now (names inner.now most key.now) (shown tree.now)) }
 {
     let Some(value) = member(tree, outer) else {
         return Ok(List::new(alloc));

@@ -3,15 +3,14 @@
 
 ghost use Rattle.std.specs.Prelude.{◌≡◌, Result, Option};
 ghost use Rattle.serde_json.specs.Data.{Data};
-ghost use Rattle.serde_json.specs.View.{view};
+ghost use Rattle.siri_json.specs.Shown.{shown};
 ghost use Rattle.siri_tables.specs.Refusals.{Refusal, Gives};
 ghost use Rattle.siri_tables.specs.Rules.{name, text, moment, span, non_negative_span, number, decimal, flag, table};
 
 use crate::refusal::{TableError, refuse};
 use crate::scalars;
-use serde_json::Value;
 use siri_base::{Moment, Name, Reason, Span, Text, TextError};
-use siri_json::{ObjectOf, TextOf, flag_of, object_of, text_of};
+use siri_json::{ObjectOf, TextOf, Tree, flag_of, object_of, text_of};
 use siri_time::{TimeError, read_moment, read_span};
 use std::alloc::Global;
 
@@ -22,8 +21,8 @@ pub trait Rule {
     /// What a value is read as, nothing where it counts as absent, or the first refusal.
     ghost rule: { Data → Result (Option Self.Out) Refusal };
 
-    fn read(alloc: Global, value: &Value) -> Result<Option<Self::Out>, TableError>
-        ensures { Gives result (rule (view value.now)) };
+    fn read(alloc: Global, value: &Tree<'_>) -> Result<Option<Self::Out>, TableError>
+        ensures { Gives result (rule (shown value.now)) };
 }
 
 /// How a value is read beside something else that is known, as who asks for it.
@@ -39,9 +38,9 @@ pub trait RuleIn {
     fn read_in(
         alloc: Global,
         with: &Self::With,
-        value: &Value,
+        value: &Tree<'_>,
     ) -> Result<Option<Self::Out>, TableError>
-        ensures { Gives result (rule_in with.now (view value.now)) };
+        ensures { Gives result (rule_in with.now (shown value.now)) };
 }
 
 /// How an object is read, row by row.
@@ -51,8 +50,8 @@ pub trait Table {
     /// What the rows of an object spell, or the first refusal.
     ghost rows: { Data → Result Self.Out Refusal };
 
-    fn read_rows(alloc: Global, tree: &Value) -> Result<Self::Out, TableError>
-        ensures { Gives result (rows (view tree.now)) };
+    fn read_rows(alloc: Global, tree: &Tree<'_>) -> Result<Self::Out, TableError>
+        ensures { Gives result (rows (shown tree.now)) };
 }
 
 /// A name: a text of at most 255 bytes, otherwise `BadName`.
@@ -85,7 +84,7 @@ impl Rule for NameRule {
     ghost rule = { name };
 
     #[tactic(auto, unfolding(crate::specs::Rules::read_from_text))]
-    fn read(alloc: Global, value: &Value) -> Result<Option<Name>, TableError> {
+    fn read(alloc: Global, value: &Tree<'_>) -> Result<Option<Name>, TableError> {
         match text_of(value) {
             TextOf::Is(text) => match Name::new(alloc, text) {
                 Ok(name) => Ok(Some(name)),
@@ -105,7 +104,7 @@ impl Rule for TextRule {
     ghost rule = { text };
 
     #[tactic(auto, unfolding(crate::specs::Rules::read_from_text))]
-    fn read(alloc: Global, value: &Value) -> Result<Option<Text>, TableError> {
+    fn read(alloc: Global, value: &Tree<'_>) -> Result<Option<Text>, TableError> {
         match text_of(value) {
             TextOf::Is(text) => match Text::new(alloc, text) {
                 Ok(text) => Ok(Some(text)),
@@ -125,7 +124,7 @@ impl Rule for MomentRule {
     ghost rule = { moment };
 
     #[tactic(auto, unfolding(crate::specs::Rules::read_from_text))]
-    fn read(alloc: Global, value: &Value) -> Result<Option<Moment>, TableError> {
+    fn read(alloc: Global, value: &Tree<'_>) -> Result<Option<Moment>, TableError> {
         match text_of(value) {
             TextOf::Is(text) => match read_moment(text.as_bytes()) {
                 Ok(moment) => Ok(Some(moment)),
@@ -144,7 +143,7 @@ impl Rule for SpanRule {
     ghost rule = { span };
 
     #[tactic(auto, unfolding(crate::specs::Rules::read_from_text))]
-    fn read(alloc: Global, value: &Value) -> Result<Option<Span>, TableError> {
+    fn read(alloc: Global, value: &Tree<'_>) -> Result<Option<Span>, TableError> {
         match text_of(value) {
             TextOf::Is(text) => match read_span(text.as_bytes()) {
                 Ok(span) => Ok(Some(span)),
@@ -162,7 +161,7 @@ impl Rule for NonNegativeSpanRule {
     ghost rule = { non_negative_span };
 
     #[tactic(auto, unfolding(crate::specs::Rules::read_from_text))]
-    fn read(alloc: Global, value: &Value) -> Result<Option<Span>, TableError> {
+    fn read(alloc: Global, value: &Tree<'_>) -> Result<Option<Span>, TableError> {
         match text_of(value) {
             TextOf::Is(text) => match read_span(text.as_bytes()) {
                 Ok(span) if span.ms() >= 0 => Ok(Some(span)),
@@ -180,7 +179,7 @@ impl Rule for NumberRule {
     ghost rule = { number };
 
     #[tactic(auto, unfolding(crate::specs::Rules::read_from_text))]
-    fn read(alloc: Global, value: &Value) -> Result<Option<u64>, TableError> {
+    fn read(alloc: Global, value: &Tree<'_>) -> Result<Option<u64>, TableError> {
         match text_of(value) {
             TextOf::Is(text) => match scalars::number_of(text) {
                 Some(number) => Ok(Some(number)),
@@ -198,7 +197,7 @@ impl Rule for DecimalRule {
     ghost rule = { decimal };
 
     #[tactic(auto, unfolding(crate::specs::Rules::read_from_text))]
-    fn read(alloc: Global, value: &Value) -> Result<Option<i64>, TableError> {
+    fn read(alloc: Global, value: &Tree<'_>) -> Result<Option<i64>, TableError> {
         match text_of(value) {
             TextOf::Is(text) => match scalars::decimal_of(text.as_bytes()) {
                 Some(units) => Ok(Some(units)),
@@ -216,7 +215,7 @@ impl Rule for FlagRule {
     ghost rule = { flag };
 
     #[tactic(auto, unfolding(crate::specs::Rules::flag))]
-    fn read(alloc: Global, value: &Value) -> Result<Option<bool>, TableError> {
+    fn read(alloc: Global, value: &Tree<'_>) -> Result<Option<bool>, TableError> {
         match flag_of(value) {
             Some(flag) => Ok(Some(flag)),
             None => refuse(alloc, Reason::WrongKind),
@@ -225,8 +224,8 @@ impl Rule for FlagRule {
 }
 
 #[tactic(auto, unfolding(crate::specs::Rules::table))]
-fn from_object<T: Table>(alloc: Global, value: &Value) -> Result<Option<T::Out>, TableError>
-    ensures { Gives result (table T.rows (view value.now)) }
+fn from_object<T: Table>(alloc: Global, value: &Tree<'_>) -> Result<Option<T::Out>, TableError>
+    ensures { Gives result (table T.rows (shown value.now)) }
 {
     match object_of(value) {
         ObjectOf::Is(tree) => Ok(Some(T::read_rows(alloc, tree)?)),
@@ -241,7 +240,7 @@ impl<T: Table> Rule for T {
 
     ghost rule = { table T.rows };
 
-    fn read(alloc: Global, value: &Value) -> Result<Option<T::Out>, TableError> {
+    fn read(alloc: Global, value: &Tree<'_>) -> Result<Option<T::Out>, TableError> {
         from_object::<T>(alloc, value)
     }
 }
@@ -254,7 +253,7 @@ impl<R: Rule> RuleIn for R {
 
     ghost rule_in = { λ with. R.rule };
 
-    fn read_in(alloc: Global, _with: &(), value: &Value) -> Result<Option<R::Out>, TableError> {
+    fn read_in(alloc: Global, _with: &(), value: &Tree<'_>) -> Result<Option<R::Out>, TableError> {
         R::read(alloc, value)
     }
 }

@@ -1,67 +1,100 @@
-// Documents and their trees as compact texts, numbers, and the texts of paths.
+// Documents and what is found in their trees, numbers, and the texts of paths.
 use siri_base::{Copies, Name};
-use siri_json::{MAX_DOCUMENT, Path, Step, TreeError, parse, quote_numbers, read_tree, write_tree};
+use siri_json::{
+    MAX_DOCUMENT, Path, Scratch, Step, TextOf, Tree, TreeError, Value, entry_at, entry_list,
+    member, quote_numbers, read_tree, text_of, write_tree,
+};
 use std::alloc::{AllocError, Global};
 use std::test::Fail;
 
-// A row: a document, and the compact text of its tree or why there is none. The last five are of RFC 8259, section 13.
-const DOCUMENTS: [(&str, &str); 12] = [
-    ("[01]", "NotJson"),
-    ("{1:2}", "NotJson"),
-    ("{1.5:2}", "NotJson"),
-    ("{1.5 \t:2}", "NotJson"),
-    ("", "NotJson"),
-    (
-        "[2.35,\"2.35\",-0,1E+2]",
-        "[\"2.35\",\"2.35\",\"-0\",\"1E+2\"]",
-    ),
-    (
-        "{\"b\":1,\"a\":\"4\\\"5\",\"b\":null}",
-        "{\"a\":\"4\\\"5\",\"b\":null}",
-    ),
-    ("\"Hello world!\"", "\"Hello world!\""),
-    ("42", "\"42\""),
-    ("true", "true"),
+// A row: a document, the names of a member and of one inside it, and the texts of what stands there, or why there is no tree. The
+// last three are of RFC 8259, section 13.
+const DOCUMENTS: [(&str, (&str, &str), &str); 13] = [
+    ("[01]", ("", ""), "NotJson"),
+    ("{1:2}", ("", ""), "NotJson"),
+    ("{1.5:2}", ("", ""), "NotJson"),
+    ("{1.5 \t:2}", ("", ""), "NotJson"),
+    ("", ("", ""), "NotJson"),
+    ("[2.35,\"2.35\",-0,1E+2]", ("", ""), "2.35 2.35 -0 1E+2 "),
+    ("{\"b\":1,\"a\":\"4\\\"5\",\"b\":null}", ("a", ""), "4\"5 "),
+    ("{\"b\":1,\"a\":\"4\\\"5\",\"b\":null}", ("b", ""), "None"),
+    ("\"Hello world!\"", ("", ""), "Hello world! "),
+    ("42", ("", ""), "42 "),
+    ("true", ("", ""), "Wrong "),
     (
         "{\n\"Image\": {\n\"Width\":  800,\n\"Height\": 600,\n\"Title\":  \"View from 15th Floor\",\n\"Thumbnail\": {\n\"Url\":    \"http://www.example.com/image/481989943\",\n\"Height\": 125,\n\"Width\":  100\n},\n\"Animated\" : false,\n\"IDs\": [116, 943, 234, 38793]\n}\n}",
-        "{\"Image\":{\"Animated\":false,\"Height\":\"600\",\"IDs\":[\"116\",\"943\",\"234\",\"38793\"],\"Thumbnail\":{\"Height\":\"125\",\"Url\":\"http://www.example.com/image/481989943\",\"Width\":\"100\"},\"Title\":\"View from 15th Floor\",\"Width\":\"800\"}}",
+        ("Image", "IDs"),
+        "116 943 234 38793 ",
     ),
     (
         "[\n{\n\"precision\": \"zip\",\n\"Latitude\":  37.7668,\n\"Longitude\": -122.3959,\n\"Address\":   \"\",\n\"City\":      \"SAN FRANCISCO\",\n\"State\":     \"CA\",\n\"Zip\":       \"94107\",\n\"Country\":   \"US\"\n},\n{\n\"precision\": \"zip\",\n\"Latitude\":  37.371991,\n\"Longitude\": -122.026020,\n\"Address\":   \"\",\n\"City\":      \"SUNNYVALE\",\n\"State\":     \"CA\",\n\"Zip\":       \"94085\",\n\"Country\":   \"US\"\n}\n]",
-        "[{\"Address\":\"\",\"City\":\"SAN FRANCISCO\",\"Country\":\"US\",\"Latitude\":\"37.7668\",\"Longitude\":\"-122.3959\",\"State\":\"CA\",\"Zip\":\"94107\",\"precision\":\"zip\"},{\"Address\":\"\",\"City\":\"SUNNYVALE\",\"Country\":\"US\",\"Latitude\":\"37.371991\",\"Longitude\":\"-122.026020\",\"State\":\"CA\",\"Zip\":\"94085\",\"precision\":\"zip\"}]",
+        ("Longitude", ""),
+        "-122.3959 ",
     ),
 ];
 
-// The compact text of a document's tree, or the name of what was answered in its place.
-fn told(alloc: Global, document: &[u8]) -> Result<Vec<u8>, AllocError> {
-    let name = match read_tree(alloc, document) {
-        Ok(tree) => match write_tree(alloc, &tree) {
-            Ok(text) => return Ok(text),
-            Err(_) => "OutOfMemory",
+// The member of that name, in a list's first entry; without a name the value itself.
+fn below<'v, 'a>(value: &'v Tree<'a>, name: &str) -> Option<&'v Tree<'a>> {
+    if name.is_empty() {
+        return Some(value);
+    }
+    member(entry_at(value, 0)?, name)
+}
+
+// The member `inner` of the member `outer`.
+fn found<'v, 'a>(tree: &'v Tree<'a>, outer: &str, inner: &str) -> Option<&'v Tree<'a>> {
+    below(below(tree, outer)?, inner)
+}
+
+// The texts of its entries, each with a space after it.
+fn texts(alloc: Global, value: &Tree<'_>) -> Result<String, AllocError> {
+    let mut told = String::new(alloc);
+    for entry in entry_list(value) {
+        told.push_str(match text_of(entry) {
+            TextOf::Is(text) => text,
+            TextOf::Absent => "Absent",
+            TextOf::Wrong => "Wrong",
+        })?;
+        told.push_str(" ")?;
+    }
+    Ok(told)
+}
+
+// What stands below these names in a document's tree, or the name of what was answered in its place.
+fn told(alloc: Global, document: &[u8], names: (&str, &str)) -> Result<String, AllocError> {
+    let mut scratch = Scratch::new(alloc);
+    let name = match read_tree(alloc, document, &mut scratch) {
+        Ok(tree) => match found(&tree, names.0, names.1) {
+            Some(value) => return texts(alloc, value),
+            None => "None",
         },
         Err(TreeError::NotJson) => "NotJson",
         Err(TreeError::TooLong) => "TooLong",
         Err(TreeError::OutOfMemory) => "OutOfMemory",
     };
-    Vec::from_slice(alloc, name.as_bytes())
+    String::from_str(alloc, name)
 }
 
 #[test]
 fn documents_are_read_with_their_numbers_as_texts(rt: HostRuntime) -> Result<(), Fail> {
-    for (document, want) in DOCUMENTS {
-        let text = told(rt.alloc(), document.as_bytes())?;
-        assert!(rt; text.as_slice() == want.as_bytes(), "{document}");
+    for (document, names, want) in DOCUMENTS {
+        let text = told(rt.alloc(), document.as_bytes(), names)?;
+        assert!(rt; text.as_str() == want, "{document}");
     }
     let spaces = vec![in rt.alloc(); b' '; MAX_DOCUMENT + 1]?;
-    assert!(rt; told(rt.alloc(), &spaces)?.as_slice() == b"TooLong".as_slice());
-    assert!(rt; told(rt.alloc(), b"\"\xff\"")?.as_slice() == b"NotJson".as_slice());
+    assert!(rt; told(rt.alloc(), &spaces, ("", ""))?.as_str() == "TooLong");
+    assert!(rt; told(rt.alloc(), b"\"\xff\"", ("", ""))?.as_str() == "NotJson");
     Ok(())
 }
 
-// A JSON text as it stands, read and written.
-fn written(alloc: Global, text: &[u8]) -> Option<Vec<u8>> {
-    let tree = parse(alloc, text).ok()?;
-    write_tree(alloc, &tree).ok()
+// The text of a list of a number and a text.
+fn written(alloc: Global) -> Option<Vec<u8>> {
+    let mut entries = Vec::new(alloc);
+    entries.push(Value::from(1u64)).ok()?;
+    entries
+        .push(Value::String(String::from_str(alloc, "1").ok()?))
+        .ok()?;
+    write_tree(alloc, &Value::Array(entries)).ok()
 }
 
 #[test]
@@ -71,7 +104,7 @@ fn numbers_are_quoted_outside_of_strings(rt: HostRuntime) -> Result<(), Fail> {
         .ok()
         .ok_or("a text")?;
     assert!(rt; text.as_slice() == b"{\"a\":[\"1\",\"-2.5e3\",\"3\"],\"4\":true}".as_slice());
-    let plain = written(rt.alloc(), b"[1,\"1\"]").ok_or("a text")?;
+    let plain = written(rt.alloc()).ok_or("a text")?;
     assert!(rt; plain.as_slice() == b"[1,\"1\"]".as_slice());
     Ok(())
 }

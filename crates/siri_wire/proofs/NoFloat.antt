@@ -41,7 +41,7 @@ row_no_float : (name : List ℕ) (value : Option Data) (members : Members) → H
 row_no_float name None ms p q = q
 row_no_float name (Some value) ms p q = put_no_float name value ms p q
 
-rows_no_float : (members : Members) (rows : List Row) → members_have_float members ≡ false → HaveNoFloat rows → members_have_float (with_rows members rows) ≡ false
+pub rows_no_float : (members : Members) (rows : List Row) → members_have_float members ≡ false → HaveNoFloat rows → members_have_float (with_rows members rows) ≡ false
 rows_no_float ms [] q p = q
 rows_no_float ms (row ∷ rows) q p = rows_no_float (put_row row.0 row.1 ms) rows (row_no_float row.0 row.1 ms p.0 q) p.1
 

@@ -12,6 +12,7 @@ pub mod Parts
 pub mod Frames
 pub mod Deliveries
 pub mod Documents
+pub mod Wanted
 pub mod WrittenValues
 pub mod WrittenTopics
 pub mod WrittenDeliveries

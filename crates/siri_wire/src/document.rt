@@ -2,7 +2,7 @@
 
 ghost use Rattle.std.specs.Prelude.{◌≡◌};
 ghost use Rattle.serde_json.specs.Data.{Data};
-ghost use Rattle.serde_json.specs.View.{view};
+ghost use Rattle.siri_json.specs.Shown.{shown};
 ghost use Rattle.siri_tables.specs.Refusals.{Gives};
 ghost use Rattle.siri_wire.specs.Documents.{message_at, siri, root, message_of, Decodes, decode_error};
 
@@ -21,9 +21,8 @@ use crate::read_supplies::{
 use crate::read_terminations::{
     TerminateSubscriptionRequestTable, TerminateSubscriptionResponseTable,
 };
-use serde_json::Value;
 use siri_base::Reason;
-use siri_json::{Path, TreeError, read_tree};
+use siri_json::{Path, Scratch, Tree, TreeError, read_tree};
 use siri_messages::Message;
 use siri_tables::TableError;
 use siri_tables::refusal::refuse;
@@ -62,8 +61,8 @@ impl From<TableError> for DecodeError {
     }
 }
 
-fn message_at(alloc: Global, tree: &Value, kind: Kind) -> Result<Message, TableError>
-    ensures { Gives result (message_at kind (view tree.now)) }
+fn message_at(alloc: Global, tree: &Tree<'_>, kind: Kind) -> Result<Message, TableError>
+    ensures { Gives result (message_at kind (shown tree.now)) }
 {
     let name = kind.name();
     Ok(match kind {
@@ -136,7 +135,7 @@ impl Table for SiriTable {
     ghost rows = { siri };
 
     #[tactic(auto, unfolding(crate::specs::Documents::siri))]
-    fn read_rows(alloc: Global, tree: &Value) -> Result<Message, TableError> {
+    fn read_rows(alloc: Global, tree: &Tree<'_>) -> Result<Message, TableError> {
         match only_held(tree) {
             Some(kind) => message_at(alloc, tree, kind),
             None => refuse(alloc, Reason::UnknownMessage),
@@ -145,11 +144,11 @@ impl Table for SiriTable {
 }
 
 #[tactic(auto, unfolding(crate::specs::Documents::root))]
-fn root(alloc: Global, tree: &Value) -> Result<Message, TableError>
-    ensures { Gives result (root (view tree.now)) }
+fn root(alloc: Global, tree: &Tree<'_>) -> Result<Message, TableError>
+    ensures { Gives result (root (shown tree.now)) }
 {
     match tree {
-        Value::Object(_) => required_row::<SiriTable>(alloc, tree, names::SIRI),
+        Tree::Object(_) => required_row::<SiriTable>(alloc, tree, names::SIRI),
         _ => refuse(alloc, Reason::WrongKind),
     }
 }
@@ -158,7 +157,8 @@ fn root(alloc: Global, tree: &Value) -> Result<Message, TableError>
 fn message_of(alloc: Global, document: &[u8]) -> Result<Message, TableError>
     ensures { Gives result (message_of document.now) }
 {
-    match read_tree(alloc, document) {
+    let mut scratch = Scratch::new(alloc);
+    match read_tree(alloc, document, &mut scratch) {
         Ok(tree) => root(alloc, &tree),
         Err(TreeError::TooLong) => refuse(alloc, Reason::TooLong),
         Err(TreeError::NotJson) => refuse(alloc, Reason::NotJson),

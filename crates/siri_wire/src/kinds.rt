@@ -1,12 +1,11 @@
 //! The kinds of messages, and which of them an object holds.
 
 ghost use Rattle.std.specs.Prelude.{◌≡◌};
-ghost use Rattle.serde_json.specs.View.{view};
+ghost use Rattle.siri_json.specs.Shown.{shown};
 ghost use Rattle.siri_wire.specs.Documents.{kinds, name_of, holds, only, held, only_held};
 
 use crate::names;
-use serde_json::Value;
-use siri_json::{ObjectOf, member, object_of};
+use siri_json::{ObjectOf, Tree, member, object_of};
 
 /// A kind of messages (EN 15531-2).
 #[derive(Clone, Copy)]
@@ -66,8 +65,8 @@ impl Kind {
 }
 
 #[tactic(auto, unfolding(crate::specs::Documents::holds))]
-fn holds(tree: &Value, key: &str) -> bool
-    ensures { result ≡ holds key.now (view tree.now) }
+fn holds(tree: &Tree<'_>, key: &str) -> bool
+    ensures { result ≡ holds key.now (shown tree.now) }
 {
     match member(tree, key) {
         Some(value) => match object_of(value) {
@@ -79,8 +78,8 @@ fn holds(tree: &Value, key: &str) -> bool
 }
 
 // The kind of the only one of these messages that an object holds.
-fn only_among(tree: &Value, kinds: &[Kind]) -> Option<Kind>
-    ensures { result ≡ only (held (view tree.now) kinds.now) }
+fn only_among(tree: &Tree<'_>, kinds: &[Kind]) -> Option<Kind>
+    ensures { result ≡ only (held (shown tree.now) kinds.now) }
 {
     let mut only = None;
     for kind in kinds {
@@ -97,8 +96,8 @@ fn only_among(tree: &Value, kinds: &[Kind]) -> Option<Kind>
 /// The kind of the only message that an object holds: `None` exactly where it holds none, or more than one. A member
 /// that is null or an empty list counts as absent.
 #[tactic(auto, unfolding(crate::specs::Documents::only_held))]
-pub fn only_held(tree: &Value) -> Option<Kind>
-    ensures { result ≡ only_held (view tree.now) }
+pub fn only_held(tree: &Tree<'_>) -> Option<Kind>
+    ensures { result ≡ only_held (shown tree.now) }
 {
     only_among(tree, &KINDS)
 }

@@ -2,7 +2,7 @@
 
 ghost use Rattle.std.specs.Prelude.{◌≡◌};
 ghost use Rattle.serde_json.specs.Data.{Data};
-ghost use Rattle.serde_json.specs.View.{view};
+ghost use Rattle.siri_json.specs.Shown.{shown};
 ghost use Rattle.siri_tables.specs.Refusals.{Gives};
 ghost use Rattle.siri_wire.specs.Deliveries.{visit_item, vehicle_item, situation_item, stop_monitoring_delivery, estimated_timetable_delivery, vehicle_monitoring_delivery, situation_exchange_delivery, service_delivery};
 
@@ -14,8 +14,8 @@ use crate::read_parts::{
     SituationExtensionsTable, extensions_or_empty, read_heading,
 };
 use crate::read_removals::{VehicleCancellationTable, VisitCancellationTable};
-use serde_json::Value;
 use siri_items::{SituationTable, VehicleTable, VisitTable};
+use siri_json::Tree;
 use siri_messages::{FunctionalDelivery, ServiceDelivery};
 use siri_records::Item;
 use siri_tables::TableError;
@@ -33,7 +33,7 @@ impl Table for VisitItemTable {
     ghost rows = { visit_item };
 
     #[tactic(auto, unfolding(crate::specs::Deliveries::visit_item))]
-    fn read_rows(alloc: Global, tree: &Value) -> Result<Item, TableError> {
+    fn read_rows(alloc: Global, tree: &Tree<'_>) -> Result<Item, TableError> {
         Ok(Item::Visit(VisitTable::read_rows(alloc, tree)?))
     }
 }
@@ -46,7 +46,7 @@ impl Table for VehicleItemTable {
     ghost rows = { vehicle_item };
 
     #[tactic(auto, unfolding(crate::specs::Deliveries::vehicle_item))]
-    fn read_rows(alloc: Global, tree: &Value) -> Result<Item, TableError> {
+    fn read_rows(alloc: Global, tree: &Tree<'_>) -> Result<Item, TableError> {
         Ok(Item::Vehicle(VehicleTable::read_rows(alloc, tree)?))
     }
 }
@@ -59,7 +59,7 @@ impl Table for SituationItemTable {
     ghost rows = { situation_item };
 
     #[tactic(auto, unfolding(crate::specs::Deliveries::situation_item))]
-    fn read_rows(alloc: Global, tree: &Value) -> Result<Item, TableError> {
+    fn read_rows(alloc: Global, tree: &Tree<'_>) -> Result<Item, TableError> {
         Ok(Item::Situation(SituationTable::read_rows(alloc, tree)?))
     }
 }
@@ -73,7 +73,7 @@ impl Table for StopMonitoringDeliveryTable {
     ghost rows = { stop_monitoring_delivery };
 
     #[tactic(auto, unfolding(crate::specs::Deliveries::stop_monitoring_delivery))]
-    fn read_rows(alloc: Global, tree: &Value) -> Result<FunctionalDelivery, TableError> {
+    fn read_rows(alloc: Global, tree: &Tree<'_>) -> Result<FunctionalDelivery, TableError> {
         let heading = read_heading(alloc, tree)?;
         let extensions = row::<RoundPositionTable>(alloc, tree, names::EXTENSIONS)?;
         let items = list::<VisitItemTable>(alloc, tree, names::MONITORED_STOP_VISIT, MOST_ENTRIES)?;
@@ -98,7 +98,7 @@ impl Table for EstimatedTimetableDeliveryTable {
     ghost rows = { estimated_timetable_delivery };
 
     #[tactic(auto, unfolding(crate::specs::Deliveries::estimated_timetable_delivery))]
-    fn read_rows(alloc: Global, tree: &Value) -> Result<FunctionalDelivery, TableError> {
+    fn read_rows(alloc: Global, tree: &Tree<'_>) -> Result<FunctionalDelivery, TableError> {
         let heading = read_heading(alloc, tree)?;
         let extensions = row::<JourneyExtensionsTable>(alloc, tree, names::EXTENSIONS)?;
         let items = journeys_of_frames(alloc, tree)?;
@@ -120,7 +120,7 @@ impl Table for VehicleMonitoringDeliveryTable {
     ghost rows = { vehicle_monitoring_delivery };
 
     #[tactic(auto, unfolding(crate::specs::Deliveries::vehicle_monitoring_delivery))]
-    fn read_rows(alloc: Global, tree: &Value) -> Result<FunctionalDelivery, TableError> {
+    fn read_rows(alloc: Global, tree: &Tree<'_>) -> Result<FunctionalDelivery, TableError> {
         let heading = read_heading(alloc, tree)?;
         let extensions = row::<RoundPositionTable>(alloc, tree, names::EXTENSIONS)?;
         let items = list::<VehicleItemTable>(alloc, tree, names::VEHICLE_ACTIVITY, MOST_ENTRIES)?;
@@ -145,7 +145,7 @@ impl Table for SituationExchangeDeliveryTable {
     ghost rows = { situation_exchange_delivery };
 
     #[tactic(auto, unfolding(crate::specs::Deliveries::situation_exchange_delivery))]
-    fn read_rows(alloc: Global, tree: &Value) -> Result<FunctionalDelivery, TableError> {
+    fn read_rows(alloc: Global, tree: &Tree<'_>) -> Result<FunctionalDelivery, TableError> {
         let heading = read_heading(alloc, tree)?;
         let extensions = row::<SituationExtensionsTable>(alloc, tree, names::EXTENSIONS)?;
         let items = list_inside::<SituationItemTable>(
@@ -174,7 +174,7 @@ impl Table for ServiceDeliveryTable {
     ghost rows = { service_delivery };
 
     #[tactic(auto, unfolding(crate::specs::Deliveries::service_delivery))]
-    fn read_rows(alloc: Global, tree: &Value) -> Result<ServiceDelivery, TableError> {
+    fn read_rows(alloc: Global, tree: &Tree<'_>) -> Result<ServiceDelivery, TableError> {
         Ok(ServiceDelivery {
             response_timestamp: row::<MomentRule>(alloc, tree, names::RESPONSE_TIMESTAMP)?,
             producer_ref: row::<NameRule>(alloc, tree, names::PRODUCER_REF)?,

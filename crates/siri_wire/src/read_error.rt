@@ -1,14 +1,13 @@
 //! Reading the texts of errors.
 
 ghost use Rattle.std.specs.Prelude.{◌≡◌, Result, Option};
-ghost use Rattle.serde_json.specs.View.{view};
+ghost use Rattle.siri_json.specs.Shown.{shown};
 ghost use Rattle.siri_tables.specs.Refusals.{Gives};
 ghost use Rattle.siri_wire.specs.Errors.{other_error, error_condition};
 
 use crate::names;
-use serde_json::Value;
 use siri_base::{Reason, Text};
-use siri_json::{ObjectOf, member, object_of};
+use siri_json::{ObjectOf, Tree, member, object_of};
 use siri_tables::TableError;
 use siri_tables::refusal::{below, refuse};
 use siri_tables::rows::inside;
@@ -17,8 +16,8 @@ use std::alloc::Global;
 
 /// The text of an error of a kind of its own.
 #[tactic(auto, unfolding(crate::specs::Errors::other_error, siri_tables::specs::Rules::inside, siri_tables::specs::Rules::row))]
-fn other_error(alloc: Global, value: &Value) -> Result<Option<Text>, TableError>
-    ensures { Gives result (other_error (view value.now)) }
+fn other_error(alloc: Global, value: &Tree<'_>) -> Result<Option<Text>, TableError>
+    ensures { Gives result (other_error (shown value.now)) }
 {
     let tree = match object_of(value) {
         ObjectOf::Is(tree) => tree,
@@ -37,8 +36,8 @@ fn other_error(alloc: Global, value: &Value) -> Result<Option<Text>, TableError>
 
 /// The text of an object's ErrorCondition.
 #[tactic(auto, unfolding(crate::specs::Errors::error_condition, siri_tables::specs::Rules::row))]
-pub fn error_condition(alloc: Global, tree: &Value) -> Result<Option<Text>, TableError>
-    ensures { Gives result (error_condition (view tree.now)) }
+pub fn error_condition(alloc: Global, tree: &Tree<'_>) -> Result<Option<Text>, TableError>
+    ensures { Gives result (error_condition (shown tree.now)) }
 {
     match member(tree, names::ERROR_CONDITION) {
         Some(value) => below(alloc, names::ERROR_CONDITION, other_error(alloc, value)),

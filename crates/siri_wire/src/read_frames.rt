@@ -2,16 +2,15 @@
 
 ghost use Rattle.std.specs.Prelude.{◌≡◌, map, IfOk};
 ghost use Rattle.serde_json.specs.Data.{Data};
-ghost use Rattle.serde_json.specs.View.{view};
+ghost use Rattle.siri_json.specs.Shown.{shown};
 ghost use Rattle.siri_tables.specs.Refusals.{Gives};
 ghost use Rattle.siri_wire.specs.Frames.{journey_of_frame, journeys, frame, concat_frames, frames_of, journeys_of_frames};
 
 use crate::names;
 use crate::read_parts::MOST_ENTRIES;
-use serde_json::Value;
 use siri_base::{List, Moment, OutOfMemory, Reason};
 use siri_items::{JourneyTable, names as item_names};
-use siri_json::member;
+use siri_json::{Tree, member};
 use siri_records::{Item, Journey};
 use siri_tables::TableError;
 use siri_tables::refusal::{below, refuse};
@@ -44,8 +43,8 @@ fn journeys_of_frame(
 }
 
 #[tactic(auto, unfolding(crate::specs::Frames::journeys))]
-fn journeys(alloc: Global, tree: &Value) -> Result<List<Journey>, TableError>
-    ensures { Gives result (journeys (view tree.now)) }
+fn journeys(alloc: Global, tree: &Tree<'_>) -> Result<List<Journey>, TableError>
+    ensures { Gives result (journeys (shown tree.now)) }
 {
     match member(tree, names::ESTIMATED_VEHICLE_JOURNEY) {
         Some(value) => below(
@@ -63,7 +62,7 @@ impl Table for FrameTable {
     ghost rows = { frame };
 
     #[tactic(auto, unfolding(crate::specs::Frames::frame))]
-    fn read_rows(alloc: Global, tree: &Value) -> Result<List<Item>, TableError> {
+    fn read_rows(alloc: Global, tree: &Tree<'_>) -> Result<List<Item>, TableError> {
         let recorded_at_time = row::<MomentRule>(alloc, tree, item_names::RECORDED_AT_TIME)?;
         let journeys = journeys(alloc, tree)?;
         Ok(journeys_of_frame(alloc, &recorded_at_time, journeys)?)
@@ -81,8 +80,8 @@ fn concat_frames(alloc: Global, frames: List<List<Item>>) -> Result<List<Item>, 
 }
 
 #[tactic(auto, unfolding(crate::specs::Frames::frames_of))]
-fn frames_of(alloc: Global, value: &Value) -> Result<List<Item>, TableError>
-    ensures { Gives result (frames_of (view value.now)) }
+fn frames_of(alloc: Global, value: &Tree<'_>) -> Result<List<Item>, TableError>
+    ensures { Gives result (frames_of (shown value.now)) }
 {
     let frames = list_of::<FrameTable>(alloc, value)?;
     let items = concat_frames(alloc, frames)?;
@@ -95,8 +94,8 @@ fn frames_of(alloc: Global, value: &Value) -> Result<List<Item>, TableError>
 /// The journeys of all frames of a delivery, at most 20,000: otherwise `TooMany` at EstimatedJourneyVersionFrame, after
 /// what its entries are refused for.
 #[tactic(auto, unfolding(crate::specs::Frames::journeys_of_frames))]
-pub fn journeys_of_frames(alloc: Global, tree: &Value) -> Result<List<Item>, TableError>
-    ensures { Gives result (journeys_of_frames (view tree.now)) }
+pub fn journeys_of_frames(alloc: Global, tree: &Tree<'_>) -> Result<List<Item>, TableError>
+    ensures { Gives result (journeys_of_frames (shown tree.now)) }
 {
     match member(tree, names::ESTIMATED_JOURNEY_VERSION_FRAME) {
         Some(value) => below(

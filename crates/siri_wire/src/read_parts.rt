@@ -2,7 +2,7 @@
 
 ghost use Rattle.std.specs.Prelude.{◌≡◌};
 ghost use Rattle.serde_json.specs.Data.{Data};
-ghost use Rattle.serde_json.specs.View.{view};
+ghost use Rattle.siri_json.specs.Shown.{shown};
 ghost use Rattle.siri_tables.specs.Refusals.{Gives};
 ghost use Rattle.siri_wire.specs.Parts.{heading, no_round, within_round, round_position, delivery_extensions, extensions_or_empty, delivery_of};
 ghost use Rattle.siri_wire.specs.Removals.{removed_journey, removed_situation};
@@ -11,8 +11,8 @@ use crate::names;
 use crate::read_error::error_condition;
 use crate::read_removals::{RemovedJourneyTable, RemovedSituationTable};
 use crate::read_supplies::lacks;
-use serde_json::Value;
 use siri_base::{List, Moment, Name, Text};
+use siri_json::Tree;
 use siri_messages::FunctionalDelivery;
 use siri_records::{Item, Key};
 use siri_tables::TableError;
@@ -52,8 +52,8 @@ pub struct DeliveryExtensions {
 /// Status, which is true where it is absent, and ErrorCondition. No row is required; each is refused at its member, the
 /// first in this order.
 #[tactic(auto, unfolding(crate::specs::Parts::heading))]
-pub fn read_heading(alloc: Global, tree: &Value) -> Result<Heading, TableError>
-    ensures { Gives result (heading (view tree.now)) }
+pub fn read_heading(alloc: Global, tree: &Tree<'_>) -> Result<Heading, TableError>
+    ensures { Gives result (heading (shown tree.now)) }
 {
     Ok(Heading {
         response_timestamp: row::<MomentRule>(alloc, tree, names::RESPONSE_TIMESTAMP)?,
@@ -103,8 +103,8 @@ impl RoundPosition {
 }
 
 #[tactic(auto, unfolding(crate::specs::Parts::within_round))]
-fn within_round(alloc: Global, tree: &Value) -> Result<RoundPosition, TableError>
-    ensures { Gives result (within_round (view tree.now)) }
+fn within_round(alloc: Global, tree: &Tree<'_>) -> Result<RoundPosition, TableError>
+    ensures { Gives result (within_round (shown tree.now)) }
 {
     Ok(RoundPosition {
         start: Some(required_row::<NumberRule>(alloc, tree, names::START)?),
@@ -123,7 +123,7 @@ impl Table for RoundPositionTable {
     ghost rows = { round_position };
 
     #[tactic(auto, unfolding(crate::specs::Parts::round_position))]
-    fn read_rows(alloc: Global, tree: &Value) -> Result<RoundPosition, TableError> {
+    fn read_rows(alloc: Global, tree: &Tree<'_>) -> Result<RoundPosition, TableError> {
         if lacks(tree, names::ROUND) {
             return Ok(RoundPosition::no_round());
         }
@@ -140,7 +140,7 @@ impl Table for JourneyExtensionsTable {
     ghost rows = { delivery_extensions removed_journey };
 
     #[tactic(auto, unfolding(crate::specs::Parts::delivery_extensions))]
-    fn read_rows(alloc: Global, tree: &Value) -> Result<DeliveryExtensions, TableError> {
+    fn read_rows(alloc: Global, tree: &Tree<'_>) -> Result<DeliveryExtensions, TableError> {
         Ok(DeliveryExtensions {
             round_position: RoundPositionTable::read_rows(alloc, tree)?,
             removals: list::<RemovedJourneyTable>(alloc, tree, names::REMOVED, MOST_ENTRIES)?,
@@ -157,7 +157,7 @@ impl Table for SituationExtensionsTable {
     ghost rows = { delivery_extensions removed_situation };
 
     #[tactic(auto, unfolding(crate::specs::Parts::delivery_extensions))]
-    fn read_rows(alloc: Global, tree: &Value) -> Result<DeliveryExtensions, TableError> {
+    fn read_rows(alloc: Global, tree: &Tree<'_>) -> Result<DeliveryExtensions, TableError> {
         Ok(DeliveryExtensions {
             round_position: RoundPositionTable::read_rows(alloc, tree)?,
             removals: list::<RemovedSituationTable>(alloc, tree, names::REMOVED, MOST_ENTRIES)?,

@@ -2,13 +2,13 @@
 
 ghost use Rattle.std.specs.Prelude.{◌≡◌};
 ghost use Rattle.serde_json.specs.Data.{Data};
-ghost use Rattle.serde_json.specs.View.{view};
+ghost use Rattle.siri_json.specs.Shown.{shown};
 ghost use Rattle.siri_tables.specs.Refusals.{Gives};
 ghost use Rattle.siri_wire.specs.Removals.{visit_cancellation, vehicle_cancellation, removed_journey, removed_situation};
 
 use crate::names;
-use serde_json::Value;
 use siri_items::names as item_names;
+use siri_json::Tree;
 use siri_records::Key;
 use siri_tables::TableError;
 use siri_tables::rows::{required_row, row};
@@ -24,7 +24,7 @@ impl Table for VisitCancellationTable {
     ghost rows = { visit_cancellation };
 
     #[tactic(auto, unfolding(crate::specs::Removals::visit_cancellation))]
-    fn read_rows(alloc: Global, tree: &Value) -> Result<Key, TableError> {
+    fn read_rows(alloc: Global, tree: &Tree<'_>) -> Result<Key, TableError> {
         Ok(Key::Visit {
             item: required_row::<NameRule>(alloc, tree, names::ITEM_REF)?,
             monitoring: required_row::<NameRule>(alloc, tree, item_names::MONITORING_REF)?,
@@ -41,7 +41,7 @@ impl Table for VehicleCancellationTable {
     ghost rows = { vehicle_cancellation };
 
     #[tactic(auto, unfolding(crate::specs::Removals::vehicle_cancellation))]
-    fn read_rows(alloc: Global, tree: &Value) -> Result<Key, TableError> {
+    fn read_rows(alloc: Global, tree: &Tree<'_>) -> Result<Key, TableError> {
         Ok(Key::Vehicle {
             vehicle: required_row::<NameRule>(alloc, tree, names::ITEM_REF)?,
         })
@@ -57,7 +57,7 @@ impl Table for RemovedJourneyTable {
     ghost rows = { removed_journey };
 
     #[tactic(auto, unfolding(crate::specs::Removals::removed_journey))]
-    fn read_rows(alloc: Global, tree: &Value) -> Result<Key, TableError> {
+    fn read_rows(alloc: Global, tree: &Tree<'_>) -> Result<Key, TableError> {
         Ok(Key::Journey {
             line: required_row::<NameRule>(alloc, tree, item_names::LINE_REF)?,
             direction: row::<NameRule>(alloc, tree, item_names::DIRECTION_REF)?,
@@ -76,7 +76,7 @@ impl Table for RemovedSituationTable {
     ghost rows = { removed_situation };
 
     #[tactic(auto, unfolding(crate::specs::Removals::removed_situation))]
-    fn read_rows(alloc: Global, tree: &Value) -> Result<Key, TableError> {
+    fn read_rows(alloc: Global, tree: &Tree<'_>) -> Result<Key, TableError> {
         Ok(Key::Situation {
             participant: row::<NameRule>(alloc, tree, item_names::PARTICIPANT_REF)?,
             number: required_row::<NameRule>(alloc, tree, item_names::SITUATION_NUMBER)?,

@@ -2,7 +2,7 @@
 
 ghost use Rattle.std.specs.Prelude.{◌≡◌};
 ghost use Rattle.serde_json.specs.Data.{Data};
-ghost use Rattle.serde_json.specs.View.{view};
+ghost use Rattle.siri_json.specs.Shown.{shown};
 ghost use Rattle.siri_tables.specs.Refusals.{Gives};
 ghost use Rattle.siri_wire.specs.Requests.{read_service_request_rows, asks_nothing, service_request};
 
@@ -10,8 +10,8 @@ use crate::names;
 use crate::read_topics::{
     SituationTopicTable, StopTopicTable, TimetableTopicTable, VehicleTopicTable,
 };
-use serde_json::Value;
 use siri_base::Reason;
+use siri_json::Tree;
 use siri_messages::ServiceRequest;
 use siri_tables::TableError;
 use siri_tables::refusal::refuse;
@@ -22,8 +22,8 @@ use std::alloc::Global;
 const MOST_TOPICS: usize = 100;
 
 #[tactic(auto, unfolding(crate::specs::Requests::read_service_request_rows))]
-fn read_service_request_rows(alloc: Global, tree: &Value) -> Result<ServiceRequest, TableError>
-    ensures { Gives result (read_service_request_rows (view tree.now)) }
+fn read_service_request_rows(alloc: Global, tree: &Tree<'_>) -> Result<ServiceRequest, TableError>
+    ensures { Gives result (read_service_request_rows (shown tree.now)) }
 {
     Ok(ServiceRequest {
         request_timestamp: row::<MomentRule>(alloc, tree, names::REQUEST_TIMESTAMP)?,
@@ -75,7 +75,7 @@ impl Table for ServiceRequestTable {
     ghost rows = { service_request };
 
     #[tactic(auto, unfolding(crate::specs::Requests::service_request))]
-    fn read_rows(alloc: Global, tree: &Value) -> Result<ServiceRequest, TableError> {
+    fn read_rows(alloc: Global, tree: &Tree<'_>) -> Result<ServiceRequest, TableError> {
         let request = read_service_request_rows(alloc, tree)?;
         if asks_nothing(&request) {
             return refuse(alloc, Reason::NotCarried);

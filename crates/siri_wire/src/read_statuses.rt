@@ -2,12 +2,12 @@
 
 ghost use Rattle.std.specs.Prelude.{◌≡◌};
 ghost use Rattle.serde_json.specs.Data.{Data};
-ghost use Rattle.serde_json.specs.View.{view};
+ghost use Rattle.siri_json.specs.Shown.{shown};
 ghost use Rattle.siri_tables.specs.Refusals.{Gives};
 ghost use Rattle.siri_wire.specs.Statuses.{check_status_request, check_status_response, heartbeat_notification};
 
 use crate::names;
-use serde_json::Value;
+use siri_json::Tree;
 use siri_messages::{CheckStatusRequest, CheckStatusResponse, HeartbeatNotification};
 use siri_tables::TableError;
 use siri_tables::rows::row;
@@ -23,7 +23,7 @@ impl Table for CheckStatusRequestTable {
     ghost rows = { check_status_request };
 
     #[tactic(auto, unfolding(crate::specs::Statuses::check_status_request))]
-    fn read_rows(alloc: Global, tree: &Value) -> Result<CheckStatusRequest, TableError> {
+    fn read_rows(alloc: Global, tree: &Tree<'_>) -> Result<CheckStatusRequest, TableError> {
         Ok(CheckStatusRequest {
             request_timestamp: row::<MomentRule>(alloc, tree, names::REQUEST_TIMESTAMP)?,
             requestor_ref: row::<NameRule>(alloc, tree, names::REQUESTOR_REF)?,
@@ -41,7 +41,7 @@ impl Table for CheckStatusResponseTable {
     ghost rows = { check_status_response };
 
     #[tactic(auto, unfolding(crate::specs::Statuses::check_status_response))]
-    fn read_rows(alloc: Global, tree: &Value) -> Result<CheckStatusResponse, TableError> {
+    fn read_rows(alloc: Global, tree: &Tree<'_>) -> Result<CheckStatusResponse, TableError> {
         Ok(CheckStatusResponse {
             response_timestamp: row::<MomentRule>(alloc, tree, names::RESPONSE_TIMESTAMP)?,
             producer_ref: row::<NameRule>(alloc, tree, names::PRODUCER_REF)?,
@@ -61,7 +61,7 @@ impl Table for HeartbeatNotificationTable {
     ghost rows = { heartbeat_notification };
 
     #[tactic(auto, unfolding(crate::specs::Statuses::heartbeat_notification))]
-    fn read_rows(alloc: Global, tree: &Value) -> Result<HeartbeatNotification, TableError> {
+    fn read_rows(alloc: Global, tree: &Tree<'_>) -> Result<HeartbeatNotification, TableError> {
         Ok(HeartbeatNotification {
             request_timestamp: row::<MomentRule>(alloc, tree, names::REQUEST_TIMESTAMP)?,
             producer_ref: row::<NameRule>(alloc, tree, names::PRODUCER_REF)?,

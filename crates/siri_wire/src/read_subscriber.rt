@@ -1,13 +1,13 @@
 //! Reading who subscribes.
 
 ghost use Rattle.std.specs.Prelude.{◌≡◌};
-ghost use Rattle.serde_json.specs.View.{view};
+ghost use Rattle.siri_json.specs.Shown.{shown};
 ghost use Rattle.siri_tables.specs.Refusals.{Gives};
 ghost use Rattle.siri_wire.specs.Subscribers.{subscriber_or};
 
 use crate::names;
-use serde_json::Value;
 use siri_base::{Copies, Name, Reason};
+use siri_json::Tree;
 use siri_tables::TableError;
 use siri_tables::refusal::refuse_at;
 use siri_tables::rows::row;
@@ -19,10 +19,10 @@ use std::alloc::Global;
 #[tactic(auto, unfolding(crate::specs::Subscribers::subscriber_or))]
 pub fn subscriber_or(
     alloc: Global,
-    tree: &Value,
+    tree: &Tree<'_>,
     requestor: &Option<Name>,
 ) -> Result<Name, TableError>
-    ensures { Gives result (subscriber_or requestor.now (view tree.now)) }
+    ensures { Gives result (subscriber_or requestor.now (shown tree.now)) }
 {
     if let Some(named) = row::<NameRule>(alloc, tree, names::SUBSCRIBER_REF)? {
         return Ok(named);

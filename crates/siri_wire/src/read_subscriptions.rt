@@ -2,7 +2,7 @@
 
 ghost use Rattle.std.specs.Prelude.{◌≡◌, pos, IsTrue, Option, unwrap_or};
 ghost use Rattle.serde_json.specs.Data.{Data};
-ghost use Rattle.serde_json.specs.View.{view};
+ghost use Rattle.siri_json.specs.Shown.{shown};
 ghost use Rattle.siri_tables.specs.Refusals.{Gives, is_key};
 ghost use Rattle.siri_tables.specs.Rules.{list, table};
 ghost use Rattle.siri_wire.specs.Subscriptions.{topic_of, slack_of, is_fetched, subscription, heartbeat_interval, read_requested_rows, requests_nothing, requested, subscription_request, response_status, subscription_response};
@@ -14,9 +14,8 @@ use crate::read_subscriber::subscriber_or;
 use crate::read_topics::{
     SituationTopicTable, SubscribedStopTable, TimetableTopicTable, VehicleTopicTable,
 };
-use serde_json::Value;
 use siri_base::{List, Name, Reason, Span, Text};
-use siri_json::{ObjectOf, object_of};
+use siri_json::{ObjectOf, Tree, object_of};
 use siri_messages::{ResponseStatus, SubscriptionRequest, SubscriptionResponse};
 use siri_records::Service;
 use siri_tables::TableError;
@@ -33,8 +32,8 @@ const MOST_SUBSCRIPTIONS: usize = 200;
 const MOST_STATUSES: usize = 800;
 
 #[tactic(auto, unfolding(crate::specs::Subscriptions::topic_of))]
-fn topic_of(alloc: Global, tree: &Value, service: Service) -> Result<Topic, TableError>
-    ensures { Gives result (topic_of service (view tree.now)) }
+fn topic_of(alloc: Global, tree: &Tree<'_>, service: Service) -> Result<Topic, TableError>
+    ensures { Gives result (topic_of service (shown tree.now)) }
 {
     match service {
         Service::Stop => {
@@ -53,8 +52,8 @@ fn topic_of(alloc: Global, tree: &Value, service: Service) -> Result<Topic, Tabl
 }
 
 #[tactic(auto, unfolding(crate::specs::Subscriptions::slack_of))]
-fn slack_of(alloc: Global, tree: &Value, service: Service) -> Result<Option<Span>, TableError>
-    ensures { Gives result (slack_of service (view tree.now)) }
+fn slack_of(alloc: Global, tree: &Tree<'_>, service: Service) -> Result<Option<Span>, TableError>
+    ensures { Gives result (slack_of service (shown tree.now)) }
 {
     match service {
         Service::Situation => Ok(None),
@@ -64,11 +63,12 @@ fn slack_of(alloc: Global, tree: &Value, service: Service) -> Result<Option<Span
     }
 }
 
-fn or_zero(slack: Option<Span>) -> Span
-    ensures { result ≡ unwrap_or slack (pos 0) }
+/// A span, or zero where there is none.
+pub fn or_zero(span: Option<Span>) -> Span
+    ensures { result ≡ unwrap_or span (pos 0) }
 {
-    match slack.or(Span::new(0)) {
-        Some(slack) => slack,
+    match span.or(Span::new(0)) {
+        Some(span) => span,
         None => unreachable!(),
     }
 }
@@ -85,11 +85,11 @@ fn is_fetched(method: &Option<Text>) -> bool
 #[tactic(auto, unfolding(crate::specs::Subscriptions::subscription))]
 fn subscription(
     alloc: Global,
-    tree: &Value,
+    tree: &Tree<'_>,
     service: Service,
     requestor: &Option<Name>,
 ) -> Result<Subscription, TableError>
-    ensures { Gives result (subscription service requestor.now (view tree.now)) }
+    ensures { Gives result (subscription service requestor.now (shown tree.now)) }
 {
     let subscriber = subscriber_or(alloc, tree, requestor)?;
     let identifier = required_row::<NameRule>(alloc, tree, names::SUBSCRIPTION_IDENTIFIER)?;
@@ -127,7 +127,7 @@ impl<'a> RuleIn for SubscriptionRule<'a> {
     fn read_in(
         alloc: Global,
         with: &SubscriptionRule<'a>,
-        value: &Value,
+        value: &Tree<'_>,
     ) -> Result<Option<Subscription>, TableError> {
         match object_of(value) {
             ObjectOf::Is(tree) => {
@@ -142,13 +142,13 @@ impl<'a> RuleIn for SubscriptionRule<'a> {
 /// The subscriptions to a service at a name, at most 200, in a message of this requestor.
 fn subscriptions(
     alloc: Global,
-    tree: &Value,
+    tree: &Tree<'_>,
     key: &str,
     service: Service,
     requestor: &Option<Name>,
 ) -> Result<List<Subscription>, TableError>
     requires { IsTrue (is_key key.now) }
-    ensures { Gives result (list (table (subscription service requestor.now)) 200 key.now (view tree.now)) }
+    ensures { Gives result (list (table (subscription service requestor.now)) 200 key.now (shown tree.now)) }
 {
     let rule = SubscriptionRule { service, requestor };
     list_in::<SubscriptionRule>(alloc, tree, key, MOST_SUBSCRIPTIONS, &rule)
@@ -166,8 +166,8 @@ pub struct RequestedSubscriptions {
 }
 
 #[tactic(auto, unfolding(crate::specs::Subscriptions::heartbeat_interval))]
-fn heartbeat_interval(alloc: Global, tree: &Value) -> Result<Option<Span>, TableError>
-    ensures { Gives result (heartbeat_interval (view tree.now)) }
+fn heartbeat_interval(alloc: Global, tree: &Tree<'_>) -> Result<Option<Span>, TableError>
+    ensures { Gives result (heartbeat_interval (shown tree.now)) }
 {
     row_inside::<NonNegativeSpanRule>(
         alloc,
@@ -177,13 +177,15 @@ fn heartbeat_interval(alloc: Global, tree: &Value) -> Result<Option<Span>, Table
     )
 }
 
+/// What an object asks for in the name of this requestor, who subscribes where an element names no subscriber (EN
+/// 15531-2, SubscriptionRequest); it may be nothing.
 #[tactic(auto, unfolding(crate::specs::Subscriptions::read_requested_rows))]
-fn read_requested_rows(
+pub fn read_requested_rows(
     alloc: Global,
-    tree: &Value,
+    tree: &Tree<'_>,
     requestor: &Option<Name>,
 ) -> Result<RequestedSubscriptions, TableError>
-    ensures { Gives result (read_requested_rows requestor.now (view tree.now)) }
+    ensures { Gives result (read_requested_rows requestor.now (shown tree.now)) }
 {
     Ok(RequestedSubscriptions {
         heartbeat_interval: heartbeat_interval(alloc, tree)?,
@@ -227,15 +229,14 @@ fn requests_nothing(requested: &RequestedSubscriptions) -> bool
         && requested.situations.len() == 0
 }
 
-/// What an object asks for in the name of this requestor, who subscribes where an element names no subscriber (EN
-/// 15531-2, SubscriptionRequest): `NotCarried` where it asks for no subscription.
+// The same; `NotCarried` where it asks for no subscription.
 #[tactic(auto, unfolding(crate::specs::Subscriptions::requested))]
-pub fn read_requested(
+fn read_requested(
     alloc: Global,
-    tree: &Value,
+    tree: &Tree<'_>,
     requestor: &Option<Name>,
 ) -> Result<RequestedSubscriptions, TableError>
-    ensures { Gives result (requested requestor.now (view tree.now)) }
+    ensures { Gives result (requested requestor.now (shown tree.now)) }
 {
     let found = read_requested_rows(alloc, tree, requestor)?;
     if requests_nothing(&found) {
@@ -254,7 +255,7 @@ impl Table for SubscriptionRequestTable {
     ghost rows = { subscription_request };
 
     #[tactic(auto, unfolding(crate::specs::Subscriptions::subscription_request))]
-    fn read_rows(alloc: Global, tree: &Value) -> Result<SubscriptionRequest, TableError> {
+    fn read_rows(alloc: Global, tree: &Tree<'_>) -> Result<SubscriptionRequest, TableError> {
         let request_timestamp = row::<MomentRule>(alloc, tree, names::REQUEST_TIMESTAMP)?;
         let requestor_ref = row::<NameRule>(alloc, tree, names::REQUESTOR_REF)?;
         let message_identifier = required_row::<NumberRule>(
@@ -287,7 +288,7 @@ impl Table for ResponseStatusTable {
     ghost rows = { response_status };
 
     #[tactic(auto, unfolding(crate::specs::Subscriptions::response_status))]
-    fn read_rows(alloc: Global, tree: &Value) -> Result<ResponseStatus, TableError> {
+    fn read_rows(alloc: Global, tree: &Tree<'_>) -> Result<ResponseStatus, TableError> {
         Ok(ResponseStatus {
             subscriber_ref: row::<NameRule>(alloc, tree, names::SUBSCRIBER_REF)?,
             subscription_ref: row::<NameRule>(alloc, tree, names::SUBSCRIPTION_REF)?,
@@ -307,7 +308,7 @@ impl Table for SubscriptionResponseTable {
     ghost rows = { subscription_response };
 
     #[tactic(auto, unfolding(crate::specs::Subscriptions::subscription_response))]
-    fn read_rows(alloc: Global, tree: &Value) -> Result<SubscriptionResponse, TableError> {
+    fn read_rows(alloc: Global, tree: &Tree<'_>) -> Result<SubscriptionResponse, TableError> {
         Ok(SubscriptionResponse {
             response_timestamp: row::<MomentRule>(alloc, tree, names::RESPONSE_TIMESTAMP)?,
             request_message_ref: row::<NameRule>(alloc, tree, names::REQUEST_MESSAGE_REF)?,

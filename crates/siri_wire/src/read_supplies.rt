@@ -2,15 +2,14 @@
 
 ghost use Rattle.std.specs.Prelude.{◌≡◌, Result, Option};
 ghost use Rattle.serde_json.specs.Data.{Data};
-ghost use Rattle.serde_json.specs.View.{view};
+ghost use Rattle.siri_json.specs.Shown.{shown};
 ghost use Rattle.siri_tables.specs.Refusals.{Gives};
 ghost use Rattle.siri_wire.specs.Supplies.{mark, lacks, lacks_mark, mark_if_any, optional_mark, data_ready_notification, data_ready_acknowledgement, read_supply_rows, data_supply_request, data_received_acknowledgement};
 
 use crate::names;
 use crate::read_error::error_condition;
-use serde_json::Value;
 use siri_base::Reason;
-use siri_json::{ObjectOf, TextOf, member, object_of, text_of};
+use siri_json::{ObjectOf, TextOf, Tree, member, object_of, text_of};
 use siri_messages::{
     DataReadyAcknowledgement, DataReadyNotification, DataReceivedAcknowledgement,
     DataSupplyRequest, Mark,
@@ -30,7 +29,7 @@ impl Table for MarkTable {
     ghost rows = { mark };
 
     #[tactic(auto, unfolding(crate::specs::Supplies::mark))]
-    fn read_rows(alloc: Global, tree: &Value) -> Result<Mark, TableError> {
+    fn read_rows(alloc: Global, tree: &Tree<'_>) -> Result<Mark, TableError> {
         let subscription = required_row::<NameRule>(alloc, tree, names::SUBSCRIPTION_REF)?;
         Ok(Mark {
             number: required_row::<NumberRule>(alloc, tree, names::NUMBER)?,
@@ -44,8 +43,8 @@ impl Table for MarkTable {
 
 /// The member of that name, which is wanted to be a text, is absent.
 #[tactic(auto, unfolding(crate::specs::Supplies::lacks))]
-pub fn lacks(tree: &Value, key: &str) -> bool
-    ensures { result ≡ lacks key.now (view tree.now) }
+pub fn lacks(tree: &Tree<'_>, key: &str) -> bool
+    ensures { result ≡ lacks key.now (shown tree.now) }
 {
     match member(tree, key) {
         Some(value) => match text_of(value) {
@@ -57,8 +56,8 @@ pub fn lacks(tree: &Value, key: &str) -> bool
 }
 
 #[tactic(auto, unfolding(crate::specs::Supplies::lacks_mark))]
-fn lacks_mark(tree: &Value) -> bool
-    ensures { result ≡ lacks_mark (view tree.now) }
+fn lacks_mark(tree: &Tree<'_>) -> bool
+    ensures { result ≡ lacks_mark (shown tree.now) }
 {
     lacks(tree, names::SUBSCRIPTION_REF)
         && lacks(tree, names::NUMBER)
@@ -68,8 +67,8 @@ fn lacks_mark(tree: &Value) -> bool
 }
 
 #[tactic(auto, unfolding(crate::specs::Supplies::mark_if_any))]
-fn mark_if_any(alloc: Global, tree: &Value) -> Result<Option<Mark>, TableError>
-    ensures { Gives result (mark_if_any (view tree.now)) }
+fn mark_if_any(alloc: Global, tree: &Tree<'_>) -> Result<Option<Mark>, TableError>
+    ensures { Gives result (mark_if_any (shown tree.now)) }
 {
     if lacks_mark(tree) {
         return Ok(None);
@@ -86,7 +85,7 @@ impl Rule for OptionalMarkRule {
     ghost rule = { optional_mark };
 
     #[tactic(auto, unfolding(crate::specs::Supplies::optional_mark))]
-    fn read(alloc: Global, value: &Value) -> Result<Option<Mark>, TableError> {
+    fn read(alloc: Global, value: &Tree<'_>) -> Result<Option<Mark>, TableError> {
         match object_of(value) {
             ObjectOf::Is(tree) => mark_if_any(alloc, tree),
             ObjectOf::Absent => Ok(None),
@@ -104,7 +103,7 @@ impl Table for DataReadyNotificationTable {
     ghost rows = { data_ready_notification };
 
     #[tactic(auto, unfolding(crate::specs::Supplies::data_ready_notification))]
-    fn read_rows(alloc: Global, tree: &Value) -> Result<DataReadyNotification, TableError> {
+    fn read_rows(alloc: Global, tree: &Tree<'_>) -> Result<DataReadyNotification, TableError> {
         Ok(DataReadyNotification {
             request_timestamp: row::<MomentRule>(alloc, tree, names::REQUEST_TIMESTAMP)?,
             producer_ref: row::<NameRule>(alloc, tree, names::PRODUCER_REF)?,
@@ -122,7 +121,7 @@ impl Table for DataReadyAcknowledgementTable {
     ghost rows = { data_ready_acknowledgement };
 
     #[tactic(auto, unfolding(crate::specs::Supplies::data_ready_acknowledgement))]
-    fn read_rows(alloc: Global, tree: &Value) -> Result<DataReadyAcknowledgement, TableError> {
+    fn read_rows(alloc: Global, tree: &Tree<'_>) -> Result<DataReadyAcknowledgement, TableError> {
         Ok(DataReadyAcknowledgement {
             response_timestamp: row::<MomentRule>(alloc, tree, names::RESPONSE_TIMESTAMP)?,
             consumer_ref: row::<NameRule>(alloc, tree, names::CONSUMER_REF)?,
@@ -132,8 +131,8 @@ impl Table for DataReadyAcknowledgementTable {
 }
 
 #[tactic(auto, unfolding(crate::specs::Supplies::read_supply_rows))]
-fn read_supply_rows(alloc: Global, tree: &Value) -> Result<DataSupplyRequest, TableError>
-    ensures { Gives result (read_supply_rows (view tree.now)) }
+fn read_supply_rows(alloc: Global, tree: &Tree<'_>) -> Result<DataSupplyRequest, TableError>
+    ensures { Gives result (read_supply_rows (shown tree.now)) }
 {
     Ok(DataSupplyRequest {
         request_timestamp: row::<MomentRule>(alloc, tree, names::REQUEST_TIMESTAMP)?,
@@ -153,7 +152,7 @@ impl Table for DataSupplyRequestTable {
     ghost rows = { data_supply_request };
 
     #[tactic(auto, unfolding(crate::specs::Supplies::data_supply_request))]
-    fn read_rows(alloc: Global, tree: &Value) -> Result<DataSupplyRequest, TableError> {
+    fn read_rows(alloc: Global, tree: &Tree<'_>) -> Result<DataSupplyRequest, TableError> {
         let request = read_supply_rows(alloc, tree)?;
         if request.all_data {
             return refuse_at(alloc, names::ALL_DATA, Reason::NotCarried);
@@ -172,7 +171,10 @@ impl Table for DataReceivedAcknowledgementTable {
     ghost rows = { data_received_acknowledgement };
 
     #[tactic(auto, unfolding(crate::specs::Supplies::data_received_acknowledgement))]
-    fn read_rows(alloc: Global, tree: &Value) -> Result<DataReceivedAcknowledgement, TableError> {
+    fn read_rows(
+        alloc: Global,
+        tree: &Tree<'_>,
+    ) -> Result<DataReceivedAcknowledgement, TableError> {
         Ok(DataReceivedAcknowledgement {
             response_timestamp: row::<MomentRule>(alloc, tree, names::RESPONSE_TIMESTAMP)?,
             consumer_ref: row::<NameRule>(alloc, tree, names::CONSUMER_REF)?,

@@ -2,14 +2,14 @@
 
 ghost use Rattle.std.specs.Prelude.{◌≡◌};
 ghost use Rattle.serde_json.specs.Data.{Data};
-ghost use Rattle.serde_json.specs.View.{view};
+ghost use Rattle.siri_json.specs.Shown.{shown};
 ghost use Rattle.siri_tables.specs.Refusals.{Gives};
 ghost use Rattle.siri_wire.specs.Terminations.{termination_request, termination_status, termination_response};
 
 use crate::names;
 use crate::read_error::error_condition;
 use crate::read_subscriber::subscriber_or;
-use serde_json::Value;
+use siri_json::Tree;
 use siri_messages::{
     TerminateSubscriptionRequest, TerminateSubscriptionResponse, TerminationResponseStatus,
 };
@@ -30,7 +30,10 @@ impl Table for TerminateSubscriptionRequestTable {
     ghost rows = { termination_request };
 
     #[tactic(auto, unfolding(crate::specs::Terminations::termination_request))]
-    fn read_rows(alloc: Global, tree: &Value) -> Result<TerminateSubscriptionRequest, TableError> {
+    fn read_rows(
+        alloc: Global,
+        tree: &Tree<'_>,
+    ) -> Result<TerminateSubscriptionRequest, TableError> {
         let request_timestamp = row::<MomentRule>(alloc, tree, names::REQUEST_TIMESTAMP)?;
         let requestor_ref = row::<NameRule>(alloc, tree, names::REQUESTOR_REF)?;
         let message_identifier = required_row::<NumberRule>(
@@ -64,7 +67,7 @@ impl Table for TerminationResponseStatusTable {
     ghost rows = { termination_status };
 
     #[tactic(auto, unfolding(crate::specs::Terminations::termination_status))]
-    fn read_rows(alloc: Global, tree: &Value) -> Result<TerminationResponseStatus, TableError> {
+    fn read_rows(alloc: Global, tree: &Tree<'_>) -> Result<TerminationResponseStatus, TableError> {
         Ok(TerminationResponseStatus {
             subscriber_ref: row::<NameRule>(alloc, tree, names::SUBSCRIBER_REF)?,
             subscription_ref: row::<NameRule>(alloc, tree, names::SUBSCRIPTION_REF)?,
@@ -83,7 +86,10 @@ impl Table for TerminateSubscriptionResponseTable {
     ghost rows = { termination_response };
 
     #[tactic(auto, unfolding(crate::specs::Terminations::termination_response))]
-    fn read_rows(alloc: Global, tree: &Value) -> Result<TerminateSubscriptionResponse, TableError> {
+    fn read_rows(
+        alloc: Global,
+        tree: &Tree<'_>,
+    ) -> Result<TerminateSubscriptionResponse, TableError> {
         Ok(TerminateSubscriptionResponse {
             response_timestamp: row::<MomentRule>(alloc, tree, names::RESPONSE_TIMESTAMP)?,
             request_message_ref: row::<NameRule>(alloc, tree, names::REQUEST_MESSAGE_REF)?,

@@ -2,14 +2,14 @@
 
 ghost use Rattle.std.specs.Prelude.{◌≡◌};
 ghost use Rattle.serde_json.specs.Data.{Data};
-ghost use Rattle.serde_json.specs.View.{view};
+ghost use Rattle.siri_json.specs.Shown.{shown};
 ghost use Rattle.siri_tables.specs.Refusals.{Gives};
 ghost use Rattle.siri_wire.specs.Topics.{read_stop_topic_rows, stop_topic, subscribed_stop_topic, line_direction, timetable_topic, vehicle_topic, situation_topic};
 
 use crate::names;
-use serde_json::Value;
 use siri_base::Reason;
 use siri_items::names as item_names;
+use siri_json::Tree;
 use siri_tables::TableError;
 use siri_tables::refusal::refuse_at;
 use siri_tables::rows::{list_inside, required_row, row};
@@ -20,8 +20,8 @@ use std::alloc::Global;
 const MOST_LINES: usize = 100;
 
 #[tactic(auto, unfolding(crate::specs::Topics::read_stop_topic_rows))]
-fn read_stop_topic_rows(alloc: Global, tree: &Value) -> Result<StopTopic, TableError>
-    ensures { Gives result (read_stop_topic_rows (view tree.now)) }
+fn read_stop_topic_rows(alloc: Global, tree: &Tree<'_>) -> Result<StopTopic, TableError>
+    ensures { Gives result (read_stop_topic_rows (shown tree.now)) }
 {
     Ok(StopTopic {
         monitoring_ref: required_row::<NameRule>(alloc, tree, item_names::MONITORING_REF)?,
@@ -44,7 +44,7 @@ impl Table for StopTopicTable {
     ghost rows = { stop_topic };
 
     #[tactic(auto, unfolding(crate::specs::Topics::stop_topic))]
-    fn read_rows(alloc: Global, tree: &Value) -> Result<Topic, TableError> {
+    fn read_rows(alloc: Global, tree: &Tree<'_>) -> Result<Topic, TableError> {
         Ok(Topic::Stop(read_stop_topic_rows(alloc, tree)?))
     }
 }
@@ -59,7 +59,7 @@ impl Table for SubscribedStopTable {
     ghost rows = { subscribed_stop_topic };
 
     #[tactic(auto, unfolding(crate::specs::Topics::subscribed_stop_topic))]
-    fn read_rows(alloc: Global, tree: &Value) -> Result<Topic, TableError> {
+    fn read_rows(alloc: Global, tree: &Tree<'_>) -> Result<Topic, TableError> {
         let topic = read_stop_topic_rows(alloc, tree)?;
         match topic.maximum_stop_visits {
             None => Ok(Topic::Stop(topic)),
@@ -77,7 +77,7 @@ impl Table for LineDirectionTable {
     ghost rows = { line_direction };
 
     #[tactic(auto, unfolding(crate::specs::Topics::line_direction))]
-    fn read_rows(alloc: Global, tree: &Value) -> Result<LineDirection, TableError> {
+    fn read_rows(alloc: Global, tree: &Tree<'_>) -> Result<LineDirection, TableError> {
         Ok(LineDirection {
             line_ref: required_row::<NameRule>(alloc, tree, item_names::LINE_REF)?,
             direction_ref: row::<NameRule>(alloc, tree, item_names::DIRECTION_REF)?,
@@ -94,7 +94,7 @@ impl Table for TimetableTopicTable {
     ghost rows = { timetable_topic };
 
     #[tactic(auto, unfolding(crate::specs::Topics::timetable_topic))]
-    fn read_rows(alloc: Global, tree: &Value) -> Result<Topic, TableError> {
+    fn read_rows(alloc: Global, tree: &Tree<'_>) -> Result<Topic, TableError> {
         Ok(Topic::Timetable(TimetableTopic {
             preview_interval: row::<NonNegativeSpanRule>(alloc, tree, names::PREVIEW_INTERVAL)?,
             operator_ref: row::<NameRule>(alloc, tree, item_names::OPERATOR_REF)?,
@@ -118,7 +118,7 @@ impl Table for VehicleTopicTable {
     ghost rows = { vehicle_topic };
 
     #[tactic(auto, unfolding(crate::specs::Topics::vehicle_topic))]
-    fn read_rows(alloc: Global, tree: &Value) -> Result<Topic, TableError> {
+    fn read_rows(alloc: Global, tree: &Tree<'_>) -> Result<Topic, TableError> {
         Ok(Topic::Vehicle(VehicleTopic {
             vehicle_ref: row::<NameRule>(alloc, tree, item_names::VEHICLE_REF)?,
             line_ref: row::<NameRule>(alloc, tree, item_names::LINE_REF)?,
@@ -136,7 +136,7 @@ impl Table for SituationTopicTable {
     ghost rows = { situation_topic };
 
     #[tactic(auto, unfolding(crate::specs::Topics::situation_topic))]
-    fn read_rows(alloc: Global, tree: &Value) -> Result<Topic, TableError> {
+    fn read_rows(alloc: Global, tree: &Tree<'_>) -> Result<Topic, TableError> {
         Ok(Topic::Situation(SituationTopic {
             line_ref: row::<NameRule>(alloc, tree, item_names::LINE_REF)?,
             stop_point_ref: row::<NameRule>(alloc, tree, item_names::STOP_POINT_REF)?,
