@@ -1,5 +1,5 @@
 -- The subscriptions of a producer after its history, and the life of each (EN 15531-2, subscriptions and deliveries).
-use Rattle.std.specs.Prelude.{ℕ, pos, int_lt, List, [], ◌∷◌, map, filter, fold, Bool, true, false, not, ◌||◌, Option, Some, None, if◌then◌else◌}
+use Rattle.std.specs.Prelude.{ℕ, List, [], ◌∷◌, map, fold, Bool, true, false, Option, Some, None, if◌then◌else◌}
 use Rattle.std.specs.List.{last_or}
 use Rattle.siri_records.specs.Keyed.{Items}
 use Rattle.siri_messages.specs.Asked.{Asked, asked_in}
@@ -9,17 +9,13 @@ use Rattle.siri_messages.specs.declared.message.Message.TheVariants as message
 use Rattle.siri_messages.specs.declared.supplies.Mark.{Mark}
 use Rattle.siri_change.specs.Parts.{Carried}
 use Rattle.siri_life.specs.Life as life
-use Rattle.siri_life.specs.Life.{Life, Subscribe, Terminate, Acknowledge, is_quiet}
+use Rattle.siri_life.specs.Life.{Life, Subscribe, Terminate, Supply, Acknowledge, is_quiet}
 use Rattle.siri_life.specs.Named.{Name, Of, find}
 use Rattle.siri_life.specs.Serving.{Serving, Act, Clocked, Fed, Heard, Settled, opening_serving, serving_after}
 use Rattle.siri_model.specs.History.{Entry, Step, Start, Clock, Feed, Take, Settle, History, entries_of}
 use Rattle.siri_model.specs.Meaning.{direct_of, meaning}
 
 -- ---- what a message says, subscription by subscription
-
--- not every subscription is taken yet: one that is to be fetched, or that asks for heartbeats, isn't
-abbrev pub is_taken : Asked → Bool
-is_taken asked = not (asked.subscription.fetched || int_lt (pos 0) asked.beat)
 
 -- the part that a mark names
 abbrev pub mark_of : Mark → life.Mark
@@ -30,13 +26,13 @@ abbrev pub acknowledgement_of : Bool → Option Name → Option Mark → List (A
 acknowledgement_of true (Some consumer) (Some mark) = Heard consumer mark.subscription (Acknowledge (mark_of mark)) ∷ []
 acknowledgement_of status consumer mark = []
 
--- a message that is taken, as each subscription hears it; a ServiceDelivery of no round is a feed. A DataSupplyRequest
--- says nothing yet
+-- a message that is taken, as each subscription hears it; a ServiceDelivery of no round is a feed
 unfoldable pub acts_in : Message → List (Act Carried Asked Entry)
 acts_in (message.SubscriptionRequest r) =
-    map (λ asked. Heard asked.subscription.subscriber asked.subscription.identifier (Subscribe r.message_identifier asked)) (filter is_taken (asked_in r))
+    map (λ asked. Heard asked.subscription.subscriber asked.subscription.identifier (Subscribe r.message_identifier asked)) (asked_in r)
 acts_in (message.TerminateSubscriptionRequest r) = map (λ identifier. Heard r.subscriber_ref identifier (Terminate r.message_identifier)) r.subscription_ref
 acts_in (message.DataReceivedAcknowledgement a) = acknowledgement_of a.status a.consumer_ref a.extensions
+acts_in (message.DataSupplyRequest r) = Heard r.consumer_ref r.extensions.subscription (Supply (mark_of r.extensions)) ∷ []
 acts_in (message.ServiceDelivery d) = if has_round d then [] else Fed (entries_of d) ∷ []
 acts_in other = []
 

@@ -1,5 +1,5 @@
 -- What a producer keeps of the subscriptions of its history, row by row of its table, and what its steps do to a row.
-use Rattle.std.specs.Prelude.{ℕ, ◌==◌, max, List, [], map, filter, fold, Bool, true, ◌&&◌, Option, Some, None, if◌then◌else◌}
+use Rattle.std.specs.Prelude.{ℕ, ◌==◌, max, List, [], map, fold, Bool, true, ◌&&◌, Option, Some, None, if◌then◌else◌}
 use Rattle.siri_records.specs.Keyed.{Items}
 use Rattle.siri_messages.specs.Asked.{Asked, asked_in}
 use Rattle.siri_messages.specs.declared.message.Message.{Message}
@@ -8,12 +8,12 @@ use Rattle.siri_messages.specs.declared.supplies.Mark.{Mark as MarkOf}
 use Rattle.siri_change.specs.Parts.{Carried}
 use Rattle.siri_life.specs.Life.{Mark, Round}
 use Rattle.siri_life.specs.Named.{Name, Of}
-use Rattle.siri_life.specs.Slot.{Slot, slot_of, opens_round, begun, is_message_due, sent, with_acknowledgement}
+use Rattle.siri_life.specs.Slot.{Slot, slot_of, opens_round, begun, is_message_due, sent, with_acknowledgement, with_supply}
 use Rattle.siri_subs.specs.declared.entry.Row.{Row}
 use Rattle.siri_subs.specs.Table.{is_of, accepted, ended, expired}
 use Rattle.siri_model.specs.Direct.{shown}
 use Rattle.siri_model.specs.History.{State, Step, Start, Clock, Feed, Take, Settle}
-use Rattle.siri_model.specs.Lives.{Living, is_taken, mark_of}
+use Rattle.siri_model.specs.Lives.{Living, mark_of}
 use Rattle.siri_model.specs.Meaning.{meaning}
 
 -- what is kept of a life, beside what its request asked for: its rounds, and the moment of the last heartbeat, or of the
@@ -73,6 +73,11 @@ abbrev pub acknowledged_row : ℕ → ℕ → Mark → Row KeptLife → Row Kept
 acknowledged_row start now m row =
     if is_numbered m row.number start then with_rounds row (with_acknowledgement row.slot.rounds m.round m.part now) else row
 
+-- after a request to supply the part that a mark names
+abbrev pub supplied_row : ℕ → ℕ → Mark → Row KeptLife → Row KeptLife
+supplied_row start now m row =
+    if is_numbered m row.number start then with_rounds row (with_supply row.slot.rounds m.round m.part now) else row
+
 -- the rows with the one of a subscription changed
 abbrev pub with_row_of : Name → Name → (Row KeptLife → Row KeptLife) → List (Row KeptLife) → List (Row KeptLife)
 with_row_of subscriber identifier change rows = map (λ row. if is_of subscriber identifier row then change row else row) rows
@@ -123,9 +128,10 @@ rows_acknowledged start now status consumer mark rows = rows
 
 -- after a message that is taken, in a start at a moment
 unfoldable pub rows_taken : ℕ → ℕ → Message → List (Row KeptLife) → List (Row KeptLife)
-rows_taken start now (message.SubscriptionRequest r) rows = rows_asked now r.message_identifier (filter is_taken (asked_in r)) rows
+rows_taken start now (message.SubscriptionRequest r) rows = rows_asked now r.message_identifier (asked_in r) rows
 rows_taken start now (message.TerminateSubscriptionRequest r) rows = rows_ended r.message_identifier r.subscriber_ref r.subscription_ref rows
 rows_taken start now (message.DataReceivedAcknowledgement a) rows = rows_acknowledged start now a.status a.consumer_ref a.extensions rows
+rows_taken start now (message.DataSupplyRequest r) rows = with_row_of r.consumer_ref r.extensions.subscription (supplied_row start now (mark_of r.extensions)) rows
 rows_taken start now other rows = rows
 
 -- after a step, by what was known before it

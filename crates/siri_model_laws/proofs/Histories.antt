@@ -1,5 +1,5 @@
 -- The rows of a history's table after one more step.
-use Rattle.std.proofs.Common.{◌≡◌, ℕ, List, [], ◌∷◌, ◌++◌, map, filter, fold, max, Bool, true, false, cond, not, ◌&&◌, ◌||◌, Option, None, Some, refl, sym, ap, ◌∙◌, subst}
+use Rattle.std.proofs.Common.{◌≡◌, ℕ, List, [], ◌∷◌, ◌++◌, map, fold, max, Bool, true, false, cond, not, ◌&&◌, ◌||◌, Option, None, Some, refl, sym, ap, ◌∙◌, subst}
 use Rattle.std.specs.Prelude.{if◌then◌else◌, option_map, find as find_first}
 use Rattle.std.specs.Cmp.Lexicographic.{bytes_decides}
 use Rattle.std.proofs.lemmas.Bool.{and_parts}
@@ -8,20 +8,20 @@ use Rattle.siri_messages.specs.declared.message.Message.{Message}
 use Rattle.siri_messages.specs.declared.message.Message.TheVariants as message
 use Rattle.siri_messages.specs.declared.supplies.Mark.{Mark}
 use Rattle.siri_change.specs.Parts.{Carried}
-use Rattle.siri_life.specs.Life.{Subscribe, Terminate, is_before, after_acknowledgement, new_life}
+use Rattle.siri_life.specs.Life.{Subscribe, Terminate, is_before, after_acknowledgement, after_supply, new_life}
 use Rattle.siri_life.specs.Named.{Name, Of, same_name, same_subscription, those, first, find, put, without, keep}
-use Rattle.siri_life.specs.Serving.{Act, Fed, Heard, accepted_if, accepts, acknowledged, clocked_serving, ended_if, expired_serving, lives_on, serving_after, settled_rows}
+use Rattle.siri_life.specs.Serving.{Act, Fed, Heard, accepted_if, accepts, acknowledged, clocked_serving, ended_if, expired_serving, lives_on, serving_after, settled_rows, supplied, with_rows}
 use Rattle.siri_subs.specs.declared.entry.Row.{Row}
 use Rattle.siri_subs.specs.Table as table
 use Rattle.siri_subs.specs.Table.{EachOnce, is_held, is_of}
 use Rattle.siri_subs.proofs.Once.{once_put, once_kept}
 use Rattle.siri_model.specs.Direct.{shown}
 use Rattle.siri_model.specs.History.{Entry, Step, Start, Clock, Feed, Take, Settle, History, State, entries_of, now_of, current, state_of}
-use Rattle.siri_model.specs.Lives.{Living, Served, acknowledgement_of, acts_in, is_taken, mark_of, none_served, served_after, serving_of, table_of, life_of}
+use Rattle.siri_model.specs.Lives.{Living, Served, acknowledgement_of, acts_in, mark_of, none_served, served_after, serving_of, table_of, life_of}
 use Rattle.siri_messages.specs.Asked.{Asked, asked_in}
 use Rattle.siri_model.specs.Meaning.{meaning}
-use Rattle.siri_model.specs.Rows.{KeptLife, acknowledged_row, row_of, rows_of, settled_row, with_row_of, rows_asked, rows_ended as rows_terminated, rows_acknowledged, rows_taken, rows_after}
-use Rattle.siri_model_laws.proofs.Moves.{acknowledgement_like, acknowledgement_moves, rows_settled, settled_like}
+use Rattle.siri_model.specs.Rows.{KeptLife, acknowledged_row, supplied_row, row_of, rows_of, settled_row, with_row_of, rows_asked, rows_ended as rows_terminated, rows_acknowledged, rows_taken, rows_after}
+use Rattle.siri_model_laws.proofs.Moves.{IsLike, acknowledgement_like, acknowledgement_moves, supply_like, supply_moves, rows_settled, settled_like}
 use Rattle.siri_model_laws.proofs.Serves.{AreNamed, goes_with, heard_keeps, more_served}
 use Rattle.siri_model_laws.proofs.Tables.{rows_without, rows_expired, rows_put, rows_accepted, rows_ended, rows_none, rows_changed, row_found}
 
@@ -118,21 +118,31 @@ well_ended v c s true well = record {
 }
 well_ended v c s false well = record { named = well.named; once = well.once }
 
+-- a life moves on, in its place
+well_moved : (v : Served) (c s : Name) (l l' : Living) → find c s v.table ≡ Some l → IsLike l' l → IsWell v → IsWell (with_rows meaning v (put c s l' v.table) [])
+well_moved v c s l l' is alike well =
+    let names = found_named c s v.table l well.named is in
+    let wanted = sym alike.wanted in
+    let a = names.0 ∙ ap (λ (w : Asked). w.subscription.subscriber) wanted in
+    let b = names.1 ∙ ap (λ (w : Asked). w.subscription.identifier) wanted in
+    record {
+      named = named_put c s l' v.table well.named a b;
+      once = subst EachOnce (sym (rows_put c s l' v.table well.named a b)) (once_put (row_of l') (rows_of v.table) well.once);
+    }
+
 well_acknowledged : (v : Served) (c s : Name) (m : _) → IsWell v → IsWell (acknowledged meaning v c s m (find c s v.table))
 well_acknowledged v c s m well = by (find c s v.table) refl
   where
     by : (l : Option Living) → find c s v.table ≡ l → IsWell (acknowledged meaning v c s m l)
     by None is = record { named = well.named; once = well.once }
-    by (Some l) is =
-        let l' = after_acknowledgement meaning l v.start m v.now in
-        let names = found_named c s v.table l well.named is in
-        let wanted = sym (acknowledgement_like l v.start m v.now).wanted in
-        let a = names.0 ∙ ap (λ (w : Asked). w.subscription.subscriber) wanted in
-        let b = names.1 ∙ ap (λ (w : Asked). w.subscription.identifier) wanted in
-        record {
-          named = named_put c s l' v.table well.named a b;
-          once = subst EachOnce (sym (rows_put c s l' v.table well.named a b)) (once_put (row_of l') (rows_of v.table) well.once);
-        }
+    by (Some l) is = well_moved v c s l (after_acknowledgement meaning l v.start m v.now) is (acknowledgement_like l v.start m v.now) well
+
+well_supplied : (v : Served) (c s : Name) (m : _) → IsWell v → IsWell (supplied meaning v c s m (find c s v.table))
+well_supplied v c s m well = by (find c s v.table) refl
+  where
+    by : (l : Option Living) → find c s v.table ≡ l → IsWell (supplied meaning v c s m l)
+    by None is = record { named = well.named; once = well.once }
+    by (Some l) is = well_moved v c s l (after_supply meaning l v.start m v.now) is (supply_like l v.start m v.now) well
 
 -- ---- what a message does
 
@@ -182,6 +192,14 @@ rows_after_acknowledged v c s m well = by (find c s v.table) refl
     by None is = sym (rows_none c s (acknowledged_row v.start v.now m) v.table well.named is)
     by (Some l) is = rows_changed c s (acknowledged_row v.start v.now m) l (after_acknowledgement meaning l v.start m v.now) v.table well.named well.once is (acknowledgement_moves l v.start m v.now)
 
+-- a request for a part
+rows_after_supplied : (v : Served) (c s : Name) (m : _) → IsWell v → rows_of (supplied meaning v c s m (find c s v.table)).table ≡ with_row_of c s (supplied_row v.start v.now m) (rows_of v.table)
+rows_after_supplied v c s m well = by (find c s v.table) refl
+  where
+    by : (l : Option Living) → find c s v.table ≡ l → rows_of (supplied meaning v c s m l).table ≡ with_row_of c s (supplied_row v.start v.now m) (rows_of v.table)
+    by None is = sym (rows_none c s (supplied_row v.start v.now m) v.table well.named is)
+    by (Some l) is = rows_changed c s (supplied_row v.start v.now m) l (after_supply meaning l v.start m v.now) v.table well.named well.once is (supply_moves l v.start m v.now)
+
 rows_after_received : (v : Served) (status : Bool) (consumer : Option Name) (mark : Option Mark) → IsWell v → rows_of (serving_after meaning (acknowledgement_of status consumer mark) v).table ≡ rows_acknowledged v.start v.now status consumer mark (rows_of v.table)
 rows_after_received v true (Some c) (Some m) well = rows_after_acknowledged v c m.subscription (mark_of m) well
 rows_after_received v true (Some c) None well = refl
@@ -203,13 +221,13 @@ well_taken : (v : Served) (m : Message) → IsWell v → IsWell (serving_after m
 unfolding acts_in
 well_taken v (message.ServiceRequest m) well = well
 well_taken v (message.ServiceDelivery d) well = well_same v _ (delivered_same v (entries_of d) (has_round d)) well
-well_taken v (message.SubscriptionRequest r) well = well_asked v r.message_identifier (filter is_taken (asked_in r)) well
+well_taken v (message.SubscriptionRequest r) well = well_asked v r.message_identifier (asked_in r) well
 well_taken v (message.SubscriptionResponse m) well = well
 well_taken v (message.TerminateSubscriptionRequest r) well = well_terminated v r.subscriber_ref r.message_identifier r.subscription_ref well
 well_taken v (message.TerminateSubscriptionResponse m) well = well
 well_taken v (message.DataReadyNotification m) well = well
 well_taken v (message.DataReadyAcknowledgement m) well = well
-well_taken v (message.DataSupplyRequest m) well = well
+well_taken v (message.DataSupplyRequest r) well = well_supplied v r.consumer_ref r.extensions.subscription (mark_of r.extensions) well
 well_taken v (message.DataReceivedAcknowledgement a) well = well_received v a.status a.consumer_ref a.extensions well
 well_taken v (message.CheckStatusRequest m) well = well
 well_taken v (message.CheckStatusResponse m) well = well
@@ -219,13 +237,13 @@ rows_after_taken : (v : Served) (m : Message) → IsWell v → rows_of (serving_
 unfolding acts_in rows_taken
 rows_after_taken v (message.ServiceRequest m) well = refl
 rows_after_taken v (message.ServiceDelivery d) well = ap rows_of (delivered_same v (entries_of d) (has_round d))
-rows_after_taken v (message.SubscriptionRequest r) well = rows_after_asked v r.message_identifier (filter is_taken (asked_in r)) well
+rows_after_taken v (message.SubscriptionRequest r) well = rows_after_asked v r.message_identifier (asked_in r) well
 rows_after_taken v (message.SubscriptionResponse m) well = refl
 rows_after_taken v (message.TerminateSubscriptionRequest r) well = rows_after_terminated v r.subscriber_ref r.message_identifier r.subscription_ref well
 rows_after_taken v (message.TerminateSubscriptionResponse m) well = refl
 rows_after_taken v (message.DataReadyNotification m) well = refl
 rows_after_taken v (message.DataReadyAcknowledgement m) well = refl
-rows_after_taken v (message.DataSupplyRequest m) well = refl
+rows_after_taken v (message.DataSupplyRequest r) well = rows_after_supplied v r.consumer_ref r.extensions.subscription (mark_of r.extensions) well
 rows_after_taken v (message.DataReceivedAcknowledgement a) well = rows_after_received v a.status a.consumer_ref a.extensions well
 rows_after_taken v (message.CheckStatusRequest m) well = refl
 rows_after_taken v (message.CheckStatusResponse m) well = refl

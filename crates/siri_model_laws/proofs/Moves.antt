@@ -1,20 +1,20 @@
 -- A row moves as its life does.
-use Rattle.std.proofs.Common.{◌≡◌, ℕ, suc, List, [], ◌∷◌, length, map, Bool, true, false, cond, Option, None, Some, refl, sym, ap, ◌∙◌}
+use Rattle.std.proofs.Common.{◌≡◌, ℕ, suc, List, [], ◌∷◌, length, map, Bool, true, false, cond, ◌&&◌, Option, None, Some, refl, sym, ap, ◌∙◌}
 use Rattle.std.specs.Prelude.{nat_lt, ◌==◌}
 use Rattle.std.proofs.lemmas.Bool.{and_parts, eqb-true}
 use Rattle.siri_records.specs.Keyed.{Items}
 use Rattle.siri_change.specs.Parts.{Carried}
-use Rattle.siri_life.specs.Life.{Mark, Outstanding, is_mark, is_due, acknowledged_at, acknowledged_if, next_part, after_acknowledgement, opened, opened_at, opened_if, wants_round, new_round, after_send, sent_if, after_heartbeat, heartbeat_if, sends_heartbeat, settled}
+use Rattle.siri_life.specs.Life.{Mark, Outstanding, is_mark, is_due, acknowledged_at, acknowledged_if, next_part, after_acknowledgement, supplied_at, after_supply, opened, opened_at, opened_if, wants_round, new_round, after_send, sent_if, after_heartbeat, heartbeat_if, sends_heartbeat, settled}
 use Rattle.siri_life.specs.Named.{Of}
 use Rattle.siri_life.specs.Serving.{settled_rows}
-use Rattle.siri_life.specs.Slot.{Slot, slot_of, begun, opens_round, with_acknowledgement}
-use Rattle.siri_life.proofs.Slots.{slot_begins, slot_sends, slot_acknowledges, slot_keeps}
+use Rattle.siri_life.specs.Slot.{Slot, slot_of, begun, opens_round, with_acknowledgement, with_supply}
+use Rattle.siri_life.proofs.Slots.{slot_begins, slot_sends, slot_acknowledges, slot_supplies, slot_keeps}
 use Rattle.siri_model.specs.Direct.{shown}
 use Rattle.siri_model.specs.History.{History}
 use Rattle.siri_model.specs.Lives.{Living}
 use Rattle.siri_messages.specs.Asked.{Asked}
 use Rattle.siri_model.specs.Meaning.{meaning}
-use Rattle.siri_model.specs.Rows.{row_of, rows_of, is_numbered, acknowledged_row, looked, sent_if_due, settled_row}
+use Rattle.siri_model.specs.Rows.{row_of, rows_of, is_numbered, acknowledged_row, supplied_row, looked, sent_if_due, settled_row}
 
 -- a life asks for what another does, under its number, and its last heartbeat is the same
 pub record IsLike (new old : Living) : Type 0 where
@@ -72,6 +72,42 @@ module _ (l : Living) (k : ℕ) (m : Mark) (now : ℕ) where
           rw is (row_like (after_acknowledgement meaning l k m now) l (with_acknowledgement (slot_of meaning l) m.round m.part now) acknowledgement_like (slot_acknowledges meaning l k m now (eqb-true m.number l.number parts.0) (eqb-true m.start k parts.1)))
       by false is = rw is (ap row_of (sym (slot_keeps meaning l k m now is)))
 
+-- ---- a request for a part
+
+-- a message of the outstanding round is sent
+sent_like : (l : Living) (now : ℕ) (b : Bool) (o : Outstanding Items Carried) → IsLike (sent_if meaning b l o now) l
+sent_like l now true o = record { number = refl; wanted = refl; heartbeat = refl }
+sent_like l now false o = like_itself l
+
+-- no other number or start does anything
+other_supply : (b c r : Bool) → c ≡ false → (b && (c && r)) ≡ false
+other_supply true c r is = rw is refl
+other_supply false c r is = refl
+
+module _ (l : Living) (k : ℕ) (m : Mark) (now : ℕ) where
+  pub supply_like : IsLike (after_supply meaning l k m now) l
+  supply_like = by l.outstanding
+    where
+      by : (o : Option (Outstanding Items Carried)) → IsLike (supplied_at meaning o l k m now) l
+      by None = like_itself l
+      by (Some o) = sent_like l now (meaning.fetched l.wanted && is_mark m l.number k (length l.rounds) (suc o.acknowledged_parts)) o
+
+  supply_keeps : is_numbered m l.number k ≡ false → after_supply meaning l k m now ≡ l
+  supply_keeps off = by l.outstanding
+    where
+      by : (o : Option (Outstanding Items Carried)) → supplied_at meaning o l k m now ≡ l
+      by None = refl
+      by (Some o) = ap (λ b. sent_if meaning b l o now) (other_supply (meaning.fetched l.wanted) (is_numbered m l.number k) (m.round == length l.rounds && m.part == suc o.acknowledged_parts) off)
+
+  pub supply_moves : supplied_row k now m (row_of l) ≡ row_of (after_supply meaning l k m now)
+  supply_moves = by (is_numbered m l.number k) refl
+    where
+      by : (b : Bool) → is_numbered m l.number k ≡ b → supplied_row k now m (row_of l) ≡ row_of (after_supply meaning l k m now)
+      by true is =
+          let parts = and_parts (m.number == l.number) (m.start == k) is in
+          rw is (row_like (after_supply meaning l k m now) l (with_supply (slot_of meaning l) m.round m.part now) supply_like (slot_supplies meaning l k m now (eqb-true m.number l.number parts.0) (eqb-true m.start k parts.1)))
+      by false is = rw is (ap row_of (sym (supply_keeps is)))
+
 -- ---- a settle
 
 module _ (l : Living) (direct : Items) (now : ℕ) where
@@ -101,13 +137,9 @@ module _ (l : Living) (now : ℕ) where
   send_like : IsLike (after_send meaning l l.outstanding now) l
   send_like = by l.outstanding
     where
-      test : (b : Bool) (o : Outstanding Items Carried) → IsLike (sent_if meaning b l o now) l
-      test true o = record { number = refl; wanted = refl; heartbeat = refl }
-      test false o = like_itself l
-
       by : (o : Option (Outstanding Items Carried)) → IsLike (after_send meaning l o now) l
       by None = like_itself l
-      by (Some o) = test (is_due o.last_sent now) o
+      by (Some o) = sent_like l now (is_due o.last_sent now) o
 
   -- a heartbeat leaves all else
   beat_leaves : row_of (after_heartbeat meaning l now) ≡ record (row_of l) { slot = record { rounds = slot_of meaning l; last_heartbeat = cond (sends_heartbeat meaning l now) now l.last_heartbeat } }

@@ -1,6 +1,6 @@
 -- What a producer serves goes with what its history says: the same start, moment and state, and each life stands under the
 -- names of its subscription.
-use Rattle.std.proofs.Common.{◌≡◌, List, [], ◌∷◌, ◌++◌, map, filter, fold, max, Bool, true, false, Option, None, Some, refl, ap, ◌∙◌}
+use Rattle.std.proofs.Common.{◌≡◌, List, [], ◌∷◌, ◌++◌, map, fold, max, Bool, true, false, Option, None, Some, refl, ap, ◌∙◌}
 use Rattle.std.specs.Prelude.{if◌then◌else◌}
 use Rattle.std.proofs.lemmas.List.Sums.{fold-append}
 use Rattle.siri_messages.specs.Rounds.{has_round}
@@ -11,7 +11,7 @@ use Rattle.siri_life.specs.Life.{Packet, Subscribe, Terminate, Supply, Acknowled
 use Rattle.siri_life.specs.Named.{Name, Of, find}
 use Rattle.siri_life.specs.Serving.{Fed, Heard, accepted_if, accepts, ended_if, supplied, acknowledged, heard, serving_after}
 use Rattle.siri_model.specs.History.{Entry, Step, Start, Clock, Feed, Take, Settle, History, State, after_step, entries_of, entries_fed, fed, nothing, state_of}
-use Rattle.siri_model.specs.Lives.{Living, Served, acknowledgement_of, acts_in, is_taken, mark_of, none_served, served_after, serving_of}
+use Rattle.siri_model.specs.Lives.{Living, Served, acknowledgement_of, acts_in, mark_of, none_served, served_after, serving_of}
 use Rattle.siri_messages.specs.Asked.{Asked, asked_in}
 use Rattle.siri_model.specs.Meaning.{meaning}
 use Rattle.siri_model_laws.proofs.InOrder.{more_steps}
@@ -93,14 +93,14 @@ unfolding acts_in
 goes_taken v state (message.ServiceRequest m) goes = goes
 goes_taken v state (message.ServiceDelivery d) goes = goes_delivered v state (entries_of d) (has_round d) goes
 goes_taken v state (message.SubscriptionRequest r) goes =
-    goes_on _ v state (all_keep (λ (a : Asked). a.subscription.subscriber) (λ (a : Asked). a.subscription.identifier) (λ a. Subscribe r.message_identifier a) (filter is_taken (asked_in r)) v) goes
+    goes_on _ v state (all_keep (λ (a : Asked). a.subscription.subscriber) (λ (a : Asked). a.subscription.identifier) (λ a. Subscribe r.message_identifier a) (asked_in r) v) goes
 goes_taken v state (message.SubscriptionResponse m) goes = goes
 goes_taken v state (message.TerminateSubscriptionRequest r) goes =
     goes_on _ v state (all_keep (λ (i : Name). r.subscriber_ref) (λ i. i) (λ i. Terminate r.message_identifier) r.subscription_ref v) goes
 goes_taken v state (message.TerminateSubscriptionResponse m) goes = goes
 goes_taken v state (message.DataReadyNotification m) goes = goes
 goes_taken v state (message.DataReadyAcknowledgement m) goes = goes
-goes_taken v state (message.DataSupplyRequest m) goes = goes
+goes_taken v state (message.DataSupplyRequest r) goes = goes_on _ v state (heard_keeps v r.consumer_ref r.extensions.subscription (Supply (mark_of r.extensions))) goes
 goes_taken v state (message.DataReceivedAcknowledgement a) goes = goes_on _ v state (acknowledged_keeps v a.status a.consumer_ref a.extensions) goes
 goes_taken v state (message.CheckStatusRequest m) goes = goes
 goes_taken v state (message.CheckStatusResponse m) goes = goes
