@@ -2,7 +2,7 @@
 use Rattle.std.proofs.Common.{◌≡◌, ℕ, List, [], ◌∷◌, Bool, true, false, cond, not, ◌&&◌, Option, None, Some, slice_get, refl, sym, ap, ◌∙◌, subst}
 use Rattle.std.specs.Prelude.{if◌then◌else◌, ◌==◌, find, option_map}
 use Rattle.std.proofs.lemmas.List.Elements.{All-head, All-tail}
-use Rattle.siri_records.specs.Keyed.{Items, living}
+use Rattle.siri_records.specs.Keyed.{Items}
 use Rattle.siri_change.specs.Changes as change
 use Rattle.siri_change.specs.Parts.{Carried}
 use Rattle.siri_life.specs.Life as life
@@ -11,13 +11,13 @@ use Rattle.siri_subs.specs.declared.entry.Row.{Row}
 use Rattle.siri_subs.specs.Table.{is_of}
 use Rattle.siri_model.specs.Direct.{shown}
 use Rattle.siri_model.specs.History.{History, now_of, current}
-use Rattle.siri_model.specs.Lives.{Living, life_of, number_if_quiet, quiet_number, table_of}
+use Rattle.siri_model.specs.Lives.{Living, life_of, number_if_quiet, quiet_number}
 use Rattle.siri_model.specs.Meaning.{direct_of, meaning}
-use Rattle.siri_model.specs.Rows.{KeptLife, row_of, rows_of}
+use Rattle.siri_model.specs.Rows.{KeptLife, row_of}
 use Rattle.siri_model_laws.proofs.Histories.{row_of_life}
 use Rattle.siri_model_laws.proofs.Lawful.{shown_live}
 use Rattle.siri_courses.specs.declared.course.Course.{Course}
-use Rattle.siri_courses.specs.Courses.{kept_row, kept_rows, KnowsLevel, KnowLevels}
+use Rattle.siri_courses.specs.Courses.{kept_row, KnowsLevel, KnowLevels}
 use Rattle.siri_responder.specs.Known as responder
 use Rattle.siri_take.proofs.Kept.{found_kept, found_at}
 use Rattle.siri_subs.proofs.Placed.{found, find_none, none_found}

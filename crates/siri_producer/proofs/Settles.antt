@@ -1,8 +1,8 @@
 -- What a settle makes of a producer, and what it sends.
-use Rattle.std.proofs.Common.{◌≡◌, ℕ, List, [], ◌∷◌, ◌++◌, map, Bool, true, false, refl, sym, ap, ◌∙◌, subst}
+use Rattle.std.proofs.Common.{◌≡◌, ℕ, List, [], ◌∷◌, ◌++◌, map, Bool, true, refl, sym, ap, ◌∙◌, subst}
 use Rattle.siri_records.specs.Keyed.{Items}
 use Rattle.siri_subs.specs.declared.entry.Row.{Row}
-use Rattle.siri_model.specs.History.{Settle, History, state_of, start_of, started_of, now_of, current}
+use Rattle.siri_model.specs.History.{Settle, History, now_of, current}
 use Rattle.siri_model.specs.Lives.{table_of}
 use Rattle.siri_model.specs.Rows as model
 use Rattle.siri_model.specs.Rows.{KeptLife, rows_after, rows_of}
@@ -13,7 +13,7 @@ use Rattle.siri_settle.specs.declared.outs.Out.{Out}
 use Rattle.siri_settle.specs.Sends as settle
 use Rattle.siri_settle.specs.Sends.{table_sends}
 use Rattle.siri_settle.specs.Settled.{settled_row}
-use Rattle.siri_producer.specs.Known.{Known, StandsFor, GoesOn, SendsFor}
+use Rattle.siri_producer.specs.Known.{StandsFor, GoesOn, SendsFor}
 use Rattle.siri_producer.specs.Sends.{at_of, sends}
 use Rattle.siri_producer.specs.Standing.{IsProducer, known_of}
 use Rattle.siri_producer.proofs.Stands.{goes_on, knows_settled, rows_settled_live, stands_counted, table_sends_live, went}

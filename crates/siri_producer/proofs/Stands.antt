@@ -1,6 +1,6 @@
 -- A producer goes on standing for its history.
-use Rattle.std.proofs.Common.{◌≡◌, ℕ, List, [], ◌∷◌, ◌++◌, map, take, max, Bool, true, false, not, Option, None, Some, Result, Ok, Err, refl, sym, ap, ◌∙◌, subst}
-use Rattle.std.specs.Prelude.{if◌then◌else◌, flat_map, OnOk, OnErr}
+use Rattle.std.proofs.Common.{◌≡◌, ℕ, List, [], ◌∷◌, ◌++◌, map, take, Bool, false, None, Some, Result, Ok, Err, refl, sym, ap, ◌∙◌, subst}
+use Rattle.std.specs.Prelude.{OnOk, OnErr}
 use Rattle.siri_records.specs.Keyed.{Items, living}
 use Rattle.siri_messages.specs.Rounds.{has_round}
 use Rattle.siri_messages.specs.declared.deliveries.ServiceDelivery.{ServiceDelivery}
@@ -9,8 +9,7 @@ use Rattle.siri_messages.specs.declared.message.Message.TheVariants as message
 use Rattle.siri_subs.specs.declared.entry.Row.{Row}
 use Rattle.siri_subs.specs.Table.{expired}
 use Rattle.siri_subs.proofs.Mapped.{expired_mapped}
-use Rattle.siri_model.specs.Direct.{shown}
-use Rattle.siri_model.specs.History.{Entry, Step, Start, Clock, Feed, Take, Settle, History, State, after_step, entries_fed, entries_of, state_of, now_of, current}
+use Rattle.siri_model.specs.History.{Entry, Step, Start, Clock, Feed, Take, Settle, History, State, after_step, entries_fed, entries_of, state_of, now_of}
 use Rattle.siri_model.specs.Lives.{is_settle, served_after, table_of}
 use Rattle.siri_model.specs.Rows.{KeptLife, rows_after, rows_of, settled_row}
 use Rattle.siri_model_laws.proofs.Current.{last_appended}

@@ -1,6 +1,5 @@
 -- What a message makes of a producer, and what it answers.
-use Rattle.std.proofs.Common.{◌≡◌, ℕ, List, [], ◌∷◌, ◌++◌, filter, length, take, Bool, true, false, not, Option, None, Some, refl, sym, ap, ◌∙◌, subst}
-use Rattle.std.specs.Prelude.{if◌then◌else◌}
+use Rattle.std.proofs.Common.{◌≡◌, ℕ, List, [], ◌∷◌, ◌++◌, length, Bool, true, false, not, None, refl, sym, ap, ◌∙◌, subst}
 use Rattle.std.proofs.Math.Seq.{take-length}
 use Rattle.siri_messages.specs.Asked.{asked_in}
 use Rattle.siri_messages.specs.Rounds.{has_round}
@@ -8,31 +7,35 @@ use Rattle.siri_messages.specs.declared.deliveries.ServiceDelivery.{ServiceDeliv
 use Rattle.siri_messages.specs.declared.message.Message.{Message}
 use Rattle.siri_messages.specs.declared.message.Message.TheVariants as message
 use Rattle.siri_messages.specs.declared.requests.ServiceRequest.{ServiceRequest}
+use Rattle.siri_messages.specs.declared.statuses.CheckStatusRequest.{CheckStatusRequest}
+use Rattle.siri_messages.specs.declared.statuses.CheckStatusResponse.{CheckStatusResponse}
 use Rattle.siri_messages.specs.declared.subscriptions.SubscriptionRequest.{SubscriptionRequest}
 use Rattle.siri_messages.specs.declared.subscriptions.SubscriptionResponse.{SubscriptionResponse}
 use Rattle.siri_messages.specs.declared.supplies.DataReceivedAcknowledgement.{DataReceivedAcknowledgement}
+use Rattle.siri_messages.specs.declared.supplies.DataSupplyRequest.{DataSupplyRequest}
 use Rattle.siri_messages.specs.declared.terminations.TerminateSubscriptionRequest.{TerminateSubscriptionRequest}
 use Rattle.siri_messages.specs.declared.terminations.TerminateSubscriptionResponse.{TerminateSubscriptionResponse}
 use Rattle.siri_subs.specs.declared.entry.Row.{Row}
 use Rattle.siri_model.specs.Fed.{counts_of}
-use Rattle.siri_model.specs.History.{Step, Feed, Take, History, State, after_step, entries_fed, entries_of, state_of, start_of, now_of, current}
-use Rattle.siri_model.specs.Lives.{is_settle, is_taken, table_of}
-use Rattle.siri_model.specs.Rows.{KeptLife, rows_after, rows_acknowledged, rows_asked, rows_ended, rows_of, rows_taken}
+use Rattle.siri_model.specs.History.{Feed, Take, History, State, after_step, entries_fed, entries_of, start_of, now_of, current}
+use Rattle.siri_model.specs.Lives.{is_settle}
+use Rattle.siri_model.specs.Rows.{KeptLife, rows_after, rows_acknowledged, rows_asked, rows_ended, rows_taken}
 use Rattle.siri_model_laws.proofs.Current.{last_appended}
 use Rattle.siri_model_laws.proofs.Histories.{rows_go_on}
 use Rattle.siri_model_laws.proofs.InOrder.{more_steps}
-use Rattle.siri_replies.specs.Statuses.{feed_acknowledgement}
+use Rattle.siri_replies.specs.Statuses.{feed_acknowledgement, status_response}
 use Rattle.siri_responder.specs.declared.feeding.Fed.{Fed}
 use Rattle.siri_responder.specs.FedCounts.{fed_counts}
 use Rattle.siri_responder.specs.Known as responder
 use Rattle.siri_courses.specs.declared.course.Course.{Course}
 use Rattle.siri_courses.specs.Courses.{kept_rows}
+use Rattle.siri_take.specs.declared.supplies.SupplyAnswer.{SupplyAnswer}
+use Rattle.siri_take.specs.Supplies.{rows_supplied, supply_answer}
 use Rattle.siri_take.specs.Acknowledgements.{counts}
 use Rattle.siri_take.specs.Requests.{subscription_answer}
 use Rattle.siri_take.specs.Terminations.{termination_answer}
-use Rattle.siri_producer.specs.declared.answers.Answer.{Answer}
 use Rattle.siri_producer.specs.declared.answers.Note.TheVariants as note
-use Rattle.siri_producer.specs.Answers.{acknowledged_note, answer_to, fed_answer, is_ignored, noted, replied}
+use Rattle.siri_producer.specs.Answers.{acknowledged_note, answer_to, is_ignored, noted, replied, supply_reply}
 use Rattle.siri_producer.specs.Known.{Known, StandsFor, GoesOn, TookSome, AnswerFor, RefusedAt, RefusedIf}
 use Rattle.siri_producer.specs.Standing.{IsProducer, known_of}
 use Rattle.siri_producer.proofs.Stands.{fed_all, goes_fed, goes_on, is_producer, knows_fed, knows_taken, stands_counted, went}
@@ -51,12 +54,12 @@ module _ (known : responder.Known) (rows : List (Row Course)) (settled : Bool) w
   answer_asked r d is = λ h s. ap (λ d. replied note.Asked (message.ServiceDelivery d)) (is h s.responder)
 
   -- ---- SubscriptionRequest
-  pub goes_subscribed : (after : List (Row Course)) (now : ℕ) (r : SubscriptionRequest) → now ≡ known.moment → kept_rows after ≡ rows_asked now r.message_identifier (filter is_taken (asked_in r)) (kept_rows rows) → GoesOn (known_of known rows settled) (known_of known after false) (Take (message.SubscriptionRequest r))
+  pub goes_subscribed : (after : List (Row Course)) (now : ℕ) (r : SubscriptionRequest) → now ≡ known.moment → kept_rows after ≡ rows_asked now r.message_identifier (asked_in r) (kept_rows rows) → GoesOn (known_of known rows settled) (known_of known after false) (Take (message.SubscriptionRequest r))
   unfolding rows_after rows_taken
   goes_subscribed after now r n is = λ h s.
       let m = message.SubscriptionRequest r in
       goes_on (known_of known rows settled) (known_of known after false) h (Take m) s (knows_taken known h m refl s.responder)
-      (is ∙ ap (λ n. rows_asked n r.message_identifier (filter is_taken (asked_in r)) (kept_rows rows)) (n ∙ s.responder.moment)) refl
+      (is ∙ ap (λ n. rows_asked n r.message_identifier (asked_in r) (kept_rows rows)) (n ∙ s.responder.moment)) refl
 
   pub answer_subscribed : (now : ℕ) (r : SubscriptionRequest) (a : SubscriptionResponse) → now ≡ known.moment → a ≡ subscription_answer now r (kept_rows rows) → AnswerFor (known_of known rows settled) (message.SubscriptionRequest r) (replied note.Subscribed (message.SubscriptionResponse a))
   unfolding answer_to
@@ -74,6 +77,31 @@ module _ (known : responder.Known) (rows : List (Row Course)) (settled : Bool) w
   unfolding answer_to
   answer_ended now r a n is = λ h s.
       ap (λ a. replied note.Ended (message.TerminateSubscriptionResponse a)) (is ∙ (λ i. termination_answer ((n ∙ s.responder.moment) i) r (s.table i)))
+
+  -- ---- DataSupplyRequest
+  pub goes_supplied : (after : List (Row Course)) (start now : ℕ) (r : DataSupplyRequest) → start ≡ known.start → now ≡ known.moment → kept_rows after ≡ rows_supplied start now r.consumer_ref r.extensions (kept_rows rows) → GoesOn (known_of known rows settled) (known_of known after false) (Take (message.DataSupplyRequest r))
+  unfolding rows_after rows_taken
+  goes_supplied after start now r k n is = λ h s.
+      let m = message.DataSupplyRequest r in
+      goes_on (known_of known rows settled) (known_of known after false) h (Take m) s (knows_taken known h m refl s.responder)
+      (is ∙ (λ i. rows_supplied ((k ∙ s.responder.start) i) ((n ∙ s.responder.moment) i) r.consumer_ref r.extensions (kept_rows rows))) refl
+
+  pub answer_supplied : (name : List ℕ) (start now : ℕ) (r : DataSupplyRequest) (a : SupplyAnswer) → name ≡ known.name → start ≡ known.start → now ≡ known.moment → a ≡ supply_answer name start now r (kept_rows rows) → AnswerFor (known_of known rows settled) (message.DataSupplyRequest r) (supply_reply a)
+  unfolding answer_to
+  answer_supplied name start now r a p k n is = λ h s.
+      ap supply_reply (is ∙ (λ i. supply_answer (p i) ((k ∙ s.responder.start) i) ((n ∙ s.responder.moment) i) r (s.table i)))
+
+  -- ---- CheckStatusRequest
+  pub goes_checked : (r : CheckStatusRequest) → GoesOn (known_of known rows settled) (known_of known rows false) (Take (message.CheckStatusRequest r))
+  unfolding rows_after rows_taken
+  goes_checked r = λ h s.
+      let m = message.CheckStatusRequest r in
+      goes_on (known_of known rows settled) (known_of known rows false) h (Take m) s (knows_taken known h m refl s.responder) refl refl
+
+  pub answer_checked : (name : List ℕ) (now started : ℕ) (r : CheckStatusRequest) (a : CheckStatusResponse) → name ≡ known.name → now ≡ known.moment → started ≡ known.started → a ≡ status_response name now started r → AnswerFor (known_of known rows settled) (message.CheckStatusRequest r) (replied note.Checked (message.CheckStatusResponse a))
+  unfolding answer_to
+  answer_checked name now started r a p n k is = λ h s.
+      ap (λ a. replied note.Checked (message.CheckStatusResponse a)) (is ∙ (λ i. status_response (p i) ((n ∙ s.responder.moment) i) ((k ∙ s.responder.started) i) r))
 
   -- ---- DataReceivedAcknowledgement
   pub goes_acknowledged : (after : List (Row Course)) (start now : ℕ) (a : DataReceivedAcknowledgement) → start ≡ known.start → now ≡ known.moment → kept_rows after ≡ rows_acknowledged start now a.status a.consumer_ref a.extensions (kept_rows rows) → GoesOn (known_of known rows settled) (known_of known after false) (Take (message.DataReceivedAcknowledgement a))
@@ -137,8 +165,8 @@ takes_none (message.SubscriptionResponse m) other = refl
 takes_none (message.TerminateSubscriptionResponse m) other = refl
 takes_none (message.DataReadyNotification m) other = refl
 takes_none (message.DataReadyAcknowledgement m) other = refl
-takes_none (message.DataSupplyRequest m) other = refl
-takes_none (message.CheckStatusRequest m) other = refl
+takes_none (message.DataSupplyRequest r) other = absurd (cc)
+takes_none (message.CheckStatusRequest r) other = absurd (cc)
 takes_none (message.CheckStatusResponse m) other = refl
 takes_none (message.HeartbeatNotification m) other = refl
 
@@ -153,8 +181,8 @@ rows_ignored start now (message.SubscriptionResponse m) rows other = refl
 rows_ignored start now (message.TerminateSubscriptionResponse m) rows other = refl
 rows_ignored start now (message.DataReadyNotification m) rows other = refl
 rows_ignored start now (message.DataReadyAcknowledgement m) rows other = refl
-rows_ignored start now (message.DataSupplyRequest m) rows other = refl
-rows_ignored start now (message.CheckStatusRequest m) rows other = refl
+rows_ignored start now (message.DataSupplyRequest r) rows other = absurd (cc)
+rows_ignored start now (message.CheckStatusRequest r) rows other = absurd (cc)
 rows_ignored start now (message.CheckStatusResponse m) rows other = refl
 rows_ignored start now (message.HeartbeatNotification m) rows other = refl
 
@@ -169,8 +197,8 @@ answer_other name h (message.SubscriptionResponse m) other = refl
 answer_other name h (message.TerminateSubscriptionResponse m) other = refl
 answer_other name h (message.DataReadyNotification m) other = refl
 answer_other name h (message.DataReadyAcknowledgement m) other = refl
-answer_other name h (message.DataSupplyRequest m) other = refl
-answer_other name h (message.CheckStatusRequest m) other = refl
+answer_other name h (message.DataSupplyRequest r) other = absurd (cc)
+answer_other name h (message.CheckStatusRequest r) other = absurd (cc)
 answer_other name h (message.CheckStatusResponse m) other = refl
 answer_other name h (message.HeartbeatNotification m) other = refl
 

@@ -1,18 +1,22 @@
 -- What a producer answers to a message that it takes (EN 15531-2).
-use Rattle.std.specs.Prelude.{ℕ, List, Bool, true, false, not, if◌then◌else◌, Option, Some, None}
+use Rattle.std.specs.Prelude.{ℕ, List, Bool, true, false, not, if◌then◌else◌, Some, None, Result, Ok, Err}
 use Rattle.siri_messages.specs.Rounds.{has_round}
 use Rattle.siri_messages.specs.declared.deliveries.ServiceDelivery.{ServiceDelivery}
 use Rattle.siri_messages.specs.declared.message.Message.{Message}
 use Rattle.siri_messages.specs.declared.message.Message.TheVariants as message
 use Rattle.siri_model.specs.Direct.{response}
 use Rattle.siri_model.specs.Fed.{counts_of}
-use Rattle.siri_model.specs.History.{History, entries_of, now_of, start_of, current}
+use Rattle.siri_model.specs.History.{History, entries_of, now_of, start_of, started_of, current}
 use Rattle.siri_model.specs.Lives.{table_of}
 use Rattle.siri_model.specs.Rows.{rows_of}
-use Rattle.siri_replies.specs.Statuses.{feed_acknowledgement}
+use Rattle.siri_replies.specs.Statuses.{feed_acknowledgement, status_response}
 use Rattle.siri_responder.specs.FedCounts.{fed_counts}
+use Rattle.siri_rounds.specs.declared.answers.SupplyError.{SupplyError}
+use Rattle.siri_rounds.specs.declared.answers.SupplyError.TheVariants as refused_as
 use Rattle.siri_take.specs.Requests.{subscription_answer}
 use Rattle.siri_take.specs.Terminations.{termination_answer}
+use Rattle.siri_take.specs.declared.supplies.SupplyAnswer.{SupplyAnswer}
+use Rattle.siri_take.specs.Supplies.{supply_answer}
 use Rattle.siri_take.specs.Acknowledgements.{counts}
 use Rattle.siri_producer.specs.declared.answers.Answer.{Answer}
 use Rattle.siri_producer.specs.declared.answers.Note.{Note}
@@ -23,12 +27,14 @@ abbrev pub is_feed : Message → Bool
 is_feed (message.ServiceDelivery d) = not (has_round d)
 is_feed other = false
 
--- a producer does nothing with a message: with a DataSupplyRequest and a CheckStatusRequest not yet
+-- a producer does nothing with a message
 abbrev pub is_ignored : Message → Bool
 is_ignored (message.ServiceRequest r) = false
 is_ignored (message.SubscriptionRequest r) = false
 is_ignored (message.TerminateSubscriptionRequest r) = false
+is_ignored (message.DataSupplyRequest r) = false
 is_ignored (message.DataReceivedAcknowledgement a) = false
+is_ignored (message.CheckStatusRequest r) = false
 is_ignored (message.ServiceDelivery d) = has_round d
 is_ignored other = true
 
@@ -46,15 +52,27 @@ fed_answer name h d =
     let fed = fed_counts (counts_of (now_of h) (current h) (entries_of d)) in
     replied (note.Fed fed) (message.DataReceivedAcknowledgement (feed_acknowledgement name (now_of h) d fed.full))
 
+-- what a request for a part is told
+abbrev pub supply_note : Result (Unit {0}) SupplyError → Note
+supply_note (Ok done) = note.Supplied
+supply_note (Err refused_as.NothingReady) = note.NothingReady
+supply_note (Err (refused_as.WrongPart wanted)) = note.WrongPart wanted
+
+-- a request for a part is replied to with the part, or with Status false
+abbrev pub supply_reply : SupplyAnswer → Answer
+supply_reply answer = replied (supply_note answer.outcome) (message.ServiceDelivery answer.delivery)
+
 abbrev pub acknowledged_note : Bool → Note
 acknowledged_note true = note.Acknowledged
 acknowledged_note false = note.NotThis
 
--- the answer of a producer of this name, after a history. A DataSupplyRequest and a CheckStatusRequest are ignored yet
+-- the answer of a producer of this name, after a history
 unfoldable pub answer_to : (name : List ℕ) → History → Message → Answer
 answer_to name h (message.ServiceRequest r) = replied note.Asked (message.ServiceDelivery (response name (now_of h) (current h) r))
 answer_to name h (message.SubscriptionRequest r) = replied note.Subscribed (message.SubscriptionResponse (subscription_answer (now_of h) r (rows_of (table_of h))))
 answer_to name h (message.TerminateSubscriptionRequest r) = replied note.Ended (message.TerminateSubscriptionResponse (termination_answer (now_of h) r (rows_of (table_of h))))
+answer_to name h (message.DataSupplyRequest r) = supply_reply (supply_answer name (start_of h) (now_of h) r (rows_of (table_of h)))
 answer_to name h (message.DataReceivedAcknowledgement a) = noted (acknowledged_note (counts (start_of h) a (rows_of (table_of h))))
+answer_to name h (message.CheckStatusRequest r) = replied note.Checked (message.CheckStatusResponse (status_response name (now_of h) (started_of h) r))
 answer_to name h (message.ServiceDelivery d) = if has_round d then noted note.Ignored else fed_answer name h d
 answer_to name h other = noted note.Ignored

@@ -1,6 +1,7 @@
 // What is answered to a message that is taken.
 ghost use Rattle.std.specs.Prelude.{◌≡◌, Some, None};
 
+use siri_base::Place;
 use siri_messages::Message;
 use siri_responder::Fed;
 
@@ -13,10 +14,22 @@ pub enum Note {
     Subscribed,
     /// A TerminateSubscriptionRequest: the reply has a status for each subscription.
     Ended,
+    /// A DataSupplyRequest of the wanted part of a round that is to be fetched: the reply is the part.
+    Supplied,
+    /// A DataSupplyRequest of a subscription that isn't held, whose delivery isn't fetched, or of which no round is outstanding.
+    /// Nothing changed, and the reply has Status false.
+    NothingReady,
+    /// Any other DataSupplyRequest. Nothing changed, and the reply has Status false.
+    WrongPart {
+        /// The part that is wanted.
+        wanted: Place,
+    },
     /// A DataReceivedAcknowledgement of the wanted part. There is no reply.
     Acknowledged,
     /// Any other DataReceivedAcknowledgement. Nothing changed, and there is no reply.
     NotThis,
+    /// A CheckStatusRequest: the reply is the status of the producer.
+    Checked,
     /// A ServiceDelivery of no round, which is a feed: the reply acknowledges it.
     Fed(Fed),
     /// Any other message. Nothing changed, and there is no reply.

@@ -15,9 +15,9 @@
 //! its table is that of the lives of the subscriptions in it. An event is a `clock`, a `feed` or a `take`, and a `settle` after
 //! it.
 //!
-//! Stands on `siri_base`, `siri_messages`, `siri_subs`, `siri_responder`, `siri_courses`, `siri_take` and `siri_settle`; its
-//! contracts cite the histories and lives of `siri_model`, and its proofs what follows of them in `siri_model_laws`. It reads
-//! and writes no text, and knows no wire and no clock.
+//! Stands on `siri_base`, `siri_messages`, `siri_subs`, `siri_rounds`, `siri_replies`, `siri_responder`, `siri_courses`,
+//! `siri_take` and `siri_settle`; its contracts cite the histories and lives of `siri_model`, and its proofs what follows of
+//! them in `siri_model_laws`. It reads and writes no text, and knows no wire and no clock.
 #![tactic(auto)]
 
 mod answers;

@@ -120,7 +120,9 @@ impl Producer {
             Message::ServiceRequest(request) => self.take_service_request(request),
             Message::SubscriptionRequest(request) => self.take_subscriptions(request),
             Message::TerminateSubscriptionRequest(request) => self.take_terminations(request),
+            Message::DataSupplyRequest(request) => self.take_supply_request(request),
             Message::DataReceivedAcknowledgement(message) => Ok(self.take_acknowledgement(message)),
+            Message::CheckStatusRequest(request) => self.take_status_request(request),
             Message::ServiceDelivery(delivery) => self.take_delivery(delivery),
             _ => Ok(self.ignore()),
         }

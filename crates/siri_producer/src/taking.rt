@@ -4,18 +4,19 @@ ghost use Rattle.siri_messages.specs.declared.message.Message.{Message};
 ghost use Rattle.siri_messages.specs.declared.message.Message.TheVariants as message;
 ghost use Rattle.siri_messages.specs.Rounds.{has_round};
 ghost use Rattle.siri_model.specs.History.{Take};
+ghost use Rattle.siri_producer.specs.Answers as definition;
 ghost use Rattle.siri_producer.specs.Answers.{is_ignored};
 ghost use Rattle.siri_producer.specs.Known.{GoesOn, AnswerFor, RefusedAt};
 
 use crate::{Answer, Note, Producer};
 use siri_base::OutOfMemory;
 use siri_messages::{
-    DataReceivedAcknowledgement, Message, ServiceDelivery, ServiceRequest, SubscriptionRequest,
-    TerminateSubscriptionRequest,
+    CheckStatusRequest, DataReceivedAcknowledgement, DataSupplyRequest, Message, ServiceDelivery,
+    ServiceRequest, SubscriptionRequest, TerminateSubscriptionRequest,
 };
-use siri_replies::feed_acknowledgement;
-use siri_rounds::Taken;
-use siri_take::{acknowledge, subscribe, terminate};
+use siri_replies::{feed_acknowledgement, status_response};
+use siri_rounds::{SupplyError, Taken};
+use siri_take::{acknowledge, subscribe, supply, terminate};
 
 impl Producer {
     pub(crate) fn take_service_request(
@@ -66,6 +67,27 @@ impl Producer {
         ))
     }
 
+    pub(crate) fn take_supply_request(
+        &mut self,
+        request: &DataSupplyRequest,
+    ) -> Result<Answer, OutOfMemory>
+        ensures ok { OnOk result (GoesOn self.old self.new (Take (message.DataSupplyRequest request.now))) }
+        ensures answer { IfOk result (AnswerFor self.old (message.DataSupplyRequest request.now)) }
+        ensures err { OnErr result (RefusedAt self.old self.new (message.DataSupplyRequest request.now)) }
+        ensures name { self.new.responder.name ≡ self.old.responder.name }
+        ensures risen { self.old.responder.reads ≤ self.new.responder.reads }
+    {
+        let start = self.responder.start();
+        let now = self.responder.now();
+        let name = self.responder.name();
+        let answer = supply(self.alloc, &mut self.table, name, start, now, request)?;
+        self.is_settled = false;
+        Ok(Answer::replied(
+            supply_note(answer.outcome),
+            Message::ServiceDelivery(answer.delivery),
+        ))
+    }
+
     pub(crate) fn take_acknowledgement(
         &mut self,
         acknowledgement: &DataReceivedAcknowledgement,
@@ -87,6 +109,23 @@ impl Producer {
             Taken::Taken => Answer::noted(Note::Acknowledged),
             Taken::NotThis => Answer::noted(Note::NotThis),
         }
+    }
+
+    pub(crate) fn take_status_request(
+        &mut self,
+        request: &CheckStatusRequest,
+    ) -> Result<Answer, OutOfMemory>
+        ensures ok { OnOk result (GoesOn self.old self.new (Take (message.CheckStatusRequest request.now))) }
+        ensures answer { IfOk result (AnswerFor self.old (message.CheckStatusRequest request.now)) }
+        ensures err { OnErr result (RefusedAt self.old self.new (message.CheckStatusRequest request.now)) }
+        ensures name { self.new.responder.name ≡ self.old.responder.name }
+        ensures risen { self.old.responder.reads ≤ self.new.responder.reads }
+    {
+        let now = self.responder.now();
+        let started = self.responder.started();
+        let response = status_response(self.responder.name(), now, started, request)?;
+        self.is_settled = false;
+        Ok(Answer::replied(Note::Checked, Message::CheckStatusResponse(response)))
     }
 
     // A ServiceDelivery, which is a feed where it is of no round.
@@ -136,5 +175,16 @@ impl Producer {
     {
         self.is_settled = false;
         Answer::noted(Note::Ignored)
+    }
+}
+
+// What a request for a part is told.
+fn supply_note(outcome: Result<(), SupplyError>) -> Note
+    ensures { result ≡ definition.supply_note outcome }
+{
+    match outcome {
+        Ok(()) => Note::Supplied,
+        Err(SupplyError::NothingReady) => Note::NothingReady,
+        Err(SupplyError::WrongPart { wanted }) => Note::WrongPart { wanted },
     }
 }

@@ -13,7 +13,6 @@ unfoldable pub refusal_text : Refusal → List ℕ
 refusal_text refused.PastTermination = codes "PastTermination"
 refusal_text (refused.Superseded held) = codes "Superseded " ++ decimal held
 refusal_text refused.TableFull = codes "TableFull"
-refusal_text refused.NotYet = codes "NotYet"
 refusal_text refused.UnknownSubscription = codes "UnknownSubscription"
 refusal_text refused.NothingReady = codes "NothingReady"
 refusal_text (refused.WrongPart wanted) = (codes "WrongPart " ++ decimal wanted.round) ++ (codes " " ++ decimal wanted.part)

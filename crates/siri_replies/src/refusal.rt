@@ -21,8 +21,6 @@ pub enum Refusal {
     },
     /// As many subscriptions are held as may be.
     TableFull,
-    /// What is asked for isn't offered yet.
-    NotYet,
     /// The subscription isn't held under a smaller number.
     UnknownSubscription,
     /// No part is there to be fetched.
@@ -70,7 +68,6 @@ impl Refusal {
             Refusal::PastTermination => word(alloc, "PastTermination"),
             Refusal::Superseded { held } => numbered(alloc, "Superseded ", held),
             Refusal::TableFull => word(alloc, "TableFull"),
-            Refusal::NotYet => word(alloc, "NotYet"),
             Refusal::UnknownSubscription => word(alloc, "UnknownSubscription"),
             Refusal::NothingReady => word(alloc, "NothingReady"),
             Refusal::WrongPart { wanted } => wrong_part(alloc, wanted),

@@ -15,11 +15,10 @@ use std::rc::Rc;
 use std::test::Fail;
 
 // A refusal, and its ErrorText.
-const REFUSALS: [(Refusal, &str); 8] = [
+const REFUSALS: [(Refusal, &str); 7] = [
     (Refusal::PastTermination, "PastTermination"),
     (Refusal::Superseded { held: 5 }, "Superseded 5"),
     (Refusal::TableFull, "TableFull"),
-    (Refusal::NotYet, "NotYet"),
     (Refusal::UnknownSubscription, "UnknownSubscription"),
     (Refusal::NothingReady, "NothingReady"),
     (

@@ -1,13 +1,11 @@
 -- Subscriptions of one request that are accepted one after the other, by what was ready before the first of them.
-use Rattle.std.proofs.Common.{◌≡◌, ℕ, ◌<◌, ◌≤◌, List, [], ◌∷◌, length, map, fold, Bool, true, false, cond, Option, Some, None, Result, Ok, Err, option_map, refl, ap, ◌∙◌, sym, inl, inr}
-use Rattle.std.specs.Prelude.{◌⊎◌, ◌&&◌, ◌==◌, nat_lt, nat_le, find}
-use Rattle.std.specs.List.{filter, scan}
+use Rattle.std.proofs.Common.{◌≡◌, ℕ, ◌<◌, ◌≤◌, List, [], ◌∷◌, length, map, Bool, true, false, cond, Option, Some, None, Result, Ok, Err, refl, ap, ◌∙◌, sym, inl, inr}
+use Rattle.std.specs.Prelude.{◌⊎◌, ◌&&◌, ◌==◌, nat_lt, nat_le}
 use Rattle.std.specs.Cmp.Lexicographic.{bytes_decides}
 use Rattle.std.proofs.lemmas.Bool.{and_parts, eq-eqb, lt-ltb, le-ltb}
 use Rattle.siri_topic.specs.Agreement.{same_name}
 use Rattle.siri_topic.specs.declared.subscription.Subscription.{Subscription}
 use Rattle.siri_messages.specs.Asked.{Asked}
-use Rattle.siri_messages.specs.declared.subscriptions.ResponseStatus.{ResponseStatus}
 use Rattle.siri_subs.specs.declared.entry.Row.{Row}
 use Rattle.siri_subs.specs.declared.errors.Accepted.{Accepted}
 use Rattle.siri_subs.specs.declared.errors.Accepted.TheVariants as accepted_as
@@ -16,7 +14,6 @@ use Rattle.siri_subs.specs.declared.errors.AcceptError.TheVariants as refused_as
 use Rattle.siri_subs.specs.Table.{limit, answer, answer_of, after, accepted, is_of, number_of, put}
 use Rattle.siri_subs.specs.Mapped.{mapped_row}
 use Rattle.siri_subs.proofs.Mapped.{answer_mapped, accepted_mapped}
-use Rattle.siri_model.specs.Lives.{is_taken}
 use Rattle.siri_model.specs.Rows.{KeptLife, new_row, nothing_kept, row_with, rows_asked}
 use Rattle.siri_courses.specs.declared.course.Course.{Course}
 use Rattle.siri_courses.specs.Courses.{kept, kept_rows}
@@ -25,7 +22,7 @@ use Rattle.siri_replies.specs.Refusals.{not_accepted_as}
 use Rattle.siri_replies.specs.Responses.{accepted_status, refused_status}
 use Rattle.siri_take.specs.declared.prepared.Candidate.{Candidate}
 use Rattle.siri_take.specs.Requests.{termination_in, status_by, status_of, rows_with, statuses_of}
-use Rattle.siri_take.specs.Prepared.{asked_by, accept_status, accept_rows, refusal_by, refusal_of, candidate_of, prepared_of, candidate_status, taken_status, taken_rows, all_statuses, all_rows}
+use Rattle.siri_take.specs.Prepared.{asked_by, accept_status, accept_rows, refusal_by, refusal_of, candidate_of, candidate_status, all_statuses, all_rows}
 
 -- the number of each subscription is what it was, or this one
 abbrev pub Follows : ℕ → List (Row KeptLife) → List (Row KeptLife) → Type 0
@@ -86,11 +83,7 @@ follows_after old rows h (Err why) follows = follows
 
 module _ (now number : ℕ) (old : List (Row KeptLife)) where
   follows_with : (rows : List (Row KeptLife)) (asked : Asked) → Follows number old rows → Follows number old (rows_with now number rows asked)
-  follows_with rows asked follows = by (is_taken asked)
-    where
-      by : (b : Bool) → Follows number old (cond b (accepted now (new_row now number asked) rows) rows)
-      by true = follows_after old rows (new_row now number asked) (answer now (new_row now number asked) rows) follows
-      by false = follows
+  follows_with rows asked follows = follows_after old rows (new_row now number asked) (answer now (new_row now number asked) rows) follows
 
 -- ---- the one refusal that a subscription can get
 
@@ -134,46 +127,29 @@ status_same asked termination (Err refusal) now number old why =
     ap (refused_status asked.subscription.subscriber asked.subscription.identifier) (why refusal refl)
 
 module _ (now number : ℕ) (old : List (Row KeptLife)) where
-  ready_status : (rows : List (Row KeptLife)) (asked : Asked) → Follows number old rows → taken_status now number rows (prepared_of now number old asked) ≡ status_of now number rows asked
-  ready_status rows asked follows = by (is_taken asked) refl
-    where
-      by : (b : Bool) → is_taken asked ≡ b → taken_status now number rows (prepared_of now number old asked) ≡ status_of now number rows asked
-      by true is =
-          rw is
-          (status_same asked (termination_in asked.subscription.subscriber asked.subscription.identifier rows) (answer now (new_row now number asked) rows) now number old
-          (λ why. refusal_known (nat_le asked.subscription.termination now) (nat_le limit (length rows)) number (number_of asked.subscription.subscriber asked.subscription.identifier old) (number_of asked.subscription.subscriber asked.subscription.identifier rows) why (follows asked.subscription.subscriber asked.subscription.identifier)))
-      by false is = rw is refl
-
-  ready_rows : (rows : List (Row KeptLife)) (asked : Asked) → taken_rows now number rows (prepared_of now number old asked) ≡ rows_with now number rows asked
-  ready_rows rows asked = by (is_taken asked) refl
-    where
-      by : (b : Bool) → is_taken asked ≡ b → taken_rows now number rows (prepared_of now number old asked) ≡ rows_with now number rows asked
-      by true is = rw is refl
-      by false is = rw is refl
+  ready_status : (rows : List (Row KeptLife)) (asked : Asked) → Follows number old rows → accept_status now number rows (candidate_of now number old asked) ≡ status_of now number rows asked
+  ready_status rows asked follows =
+      let wanted = asked.subscription in
+      status_same asked (termination_in wanted.subscriber wanted.identifier rows) (answer now (new_row now number asked) rows) now number old
+      (λ why. refusal_known (nat_le wanted.termination now) (nat_le limit (length rows)) number (number_of wanted.subscriber wanted.identifier old) (number_of wanted.subscriber wanted.identifier rows) why (follows wanted.subscriber wanted.identifier))
 
   statuses_ready : (asked : List Asked) (rows : List (Row KeptLife)) → Follows number old rows
-      → all_statuses now number (map (prepared_of now number old) asked) rows ≡ statuses_of now number asked rows
+      → all_statuses now number (map (candidate_of now number old) asked) rows ≡ statuses_of now number asked rows
   statuses_ready [] rows follows = refl
   statuses_ready (x ∷ asked) rows follows =
-      let next = ready_rows rows x in
-      let rest = ap (all_statuses now number (map (prepared_of now number old) asked)) next ∙ statuses_ready asked (rows_with now number rows x) (follows_with now number old rows x follows) in
+      let rest = statuses_ready asked (rows_with now number rows x) (follows_with now number old rows x follows) in
       let here = ready_status rows x follows in
       λ j. here j ∷ rest j
 
-  rows_ready : (asked : List Asked) (rows : List (Row KeptLife)) → all_rows now number (map (prepared_of now number old) asked) rows ≡ rows_asked now number (filter is_taken asked) rows
+  rows_ready : (asked : List Asked) (rows : List (Row KeptLife)) → all_rows now number (map (candidate_of now number old) asked) rows ≡ rows_asked now number asked rows
   rows_ready [] rows = refl
-  rows_ready (x ∷ asked) rows = by (is_taken x) refl (rows_ready asked)
-    where
-      by : (b : Bool) → is_taken x ≡ b → ((later : List (Row KeptLife)) → all_rows now number (map (prepared_of now number old) asked) later ≡ rows_asked now number (filter is_taken asked) later)
-          → all_rows now number (map (prepared_of now number old) (x ∷ asked)) rows ≡ rows_asked now number (filter is_taken (x ∷ asked)) rows
-      by true is rest = rw is (rest (accepted now (new_row now number x) rows))
-      by false is rest = rw is (rest rows)
+  rows_ready (x ∷ asked) rows = rows_ready asked (accepted now (new_row now number x) rows)
 
 -- what a request is answered, and the rows after it
-pub answered : (now number : ℕ) (asked : List Asked) (rows : List (Row KeptLife)) → all_statuses now number (map (prepared_of now number rows) asked) rows ≡ statuses_of now number asked rows
+pub answered : (now number : ℕ) (asked : List Asked) (rows : List (Row KeptLife)) → all_statuses now number (map (candidate_of now number rows) asked) rows ≡ statuses_of now number asked rows
 answered now number asked rows = statuses_ready now number rows asked rows (λ s i. inl refl)
 
-pub rows_answered : (now number : ℕ) (asked : List Asked) (rows : List (Row KeptLife)) → all_rows now number (map (prepared_of now number rows) asked) rows ≡ rows_asked now number (filter is_taken asked) rows
+pub rows_answered : (now number : ℕ) (asked : List Asked) (rows : List (Row KeptLife)) → all_rows now number (map (candidate_of now number rows) asked) rows ≡ rows_asked now number asked rows
 rows_answered now number asked rows = rows_ready now number rows asked rows
 
 -- ---- one that the table is asked for

@@ -1,9 +1,8 @@
 -- The subscriptions of a request, list by list.
-use Rattle.std.proofs.Common.{◌≡◌, List, [], ◌∷◌, ◌++◌, map, refl, ap, ◌∙◌, append_assoc}
+use Rattle.std.proofs.Common.{◌≡◌, [], ◌++◌, map, append_assoc}
 use Rattle.std.proofs.lemmas.List.{append-nil}
 use Rattle.std.proofs.lemmas.Simd.{map-map}
-use Rattle.siri_topic.specs.declared.subscription.Subscription.{Subscription}
-use Rattle.siri_messages.specs.Asked.{Asked, asked_in, asked_with, subscriptions_in}
+use Rattle.siri_messages.specs.Asked.{Asked, asked_in, asked_with}
 use Rattle.siri_messages.specs.declared.subscriptions.SubscriptionRequest.{SubscriptionRequest}
 
 module _ {X : Type 0} (make : Asked → X) (r : SubscriptionRequest) where

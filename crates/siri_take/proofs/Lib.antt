@@ -1,4 +1,5 @@
 pub mod Kept
+pub mod Marked
 pub mod Acknowledged
 pub mod Ended
 pub mod Asked

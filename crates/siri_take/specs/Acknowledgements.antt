@@ -1,6 +1,6 @@
 -- Which acknowledgements count (EN 15531-2, DataReceivedAcknowledgement): Status is true, and the mark names the wanted part
 -- of a subscription that is held.
-use Rattle.std.specs.Prelude.{ℕ, List, find, Bool, true, false, ◌&&◌, Option, Some, None}
+use Rattle.std.specs.Prelude.{ℕ, List, find, Bool, true, false, ◌&&◌, Option, Some}
 use Rattle.std.specs.Option.{option_map_or}
 use Rattle.siri_messages.specs.declared.supplies.DataReceivedAcknowledgement.{DataReceivedAcknowledgement}
 use Rattle.siri_messages.specs.declared.supplies.Mark.{Mark}

@@ -3,3 +3,4 @@ pub mod Prepared
 pub mod Terminations
 pub mod Endings
 pub mod Acknowledgements
+pub mod Supplies

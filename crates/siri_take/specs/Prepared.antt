@@ -10,14 +10,11 @@ use Rattle.siri_subs.specs.declared.errors.Accepted.{Accepted}
 use Rattle.siri_subs.specs.declared.errors.Accepted.TheVariants as accepted_as
 use Rattle.siri_subs.specs.declared.errors.AcceptError.{AcceptError}
 use Rattle.siri_subs.specs.Table.{answer, accepted, number_of}
-use Rattle.siri_model.specs.Lives.{is_taken}
 use Rattle.siri_model.specs.Rows.{KeptLife, new_row}
 use Rattle.siri_replies.specs.declared.refusal.Refusal.{Refusal}
 use Rattle.siri_replies.specs.declared.refusal.Refusal.TheVariants as refused
 use Rattle.siri_replies.specs.Responses.{accepted_status, refused_status}
 use Rattle.siri_take.specs.declared.prepared.Candidate.{Candidate}
-use Rattle.siri_take.specs.declared.prepared.Prepared.{Prepared}
-use Rattle.siri_take.specs.declared.prepared.Prepared.TheVariants as prepared
 use Rattle.siri_take.specs.Requests.{termination_in}
 
 -- ---- before the first is accepted
@@ -31,7 +28,7 @@ refusal_by false number None = refused.TableFull
 abbrev pub refusal_of : (now number : ℕ) → List (Row KeptLife) → Subscription → Refusal
 refusal_of now number rows wanted = refusal_by (nat_le wanted.termination now) number (number_of wanted.subscriber wanted.identifier rows)
 
--- what is ready for one that is taken
+-- what is ready for one
 abbrev pub candidate_of : (now number : ℕ) → List (Row KeptLife) → Asked → Candidate
 candidate_of now number rows asked =
     let wanted = asked.subscription in
@@ -42,12 +39,6 @@ candidate_of now number rows asked =
       accepted = accepted_status wanted.subscriber wanted.identifier wanted.termination;
       refused = refused_status wanted.subscriber wanted.identifier (refusal_of now number rows wanted);
     }
-
--- what is ready for one
-abbrev pub prepared_of : (now number : ℕ) → List (Row KeptLife) → Asked → Prepared
-prepared_of now number rows asked =
-    if is_taken asked then prepared.Candidate (candidate_of now number rows asked)
-    else prepared.NotYet (refused_status asked.subscription.subscriber asked.subscription.identifier refused.NotYet)
 
 -- ---- one after the other
 
@@ -66,6 +57,7 @@ candidate_status (Err why) accepted refused held = refused
 abbrev pub asked_by : Candidate → Asked
 asked_by candidate = record { subscription = candidate.wanted; address = candidate.address; beat = candidate.beat }
 
+-- the status of one, and the rows after it
 abbrev pub accept_status : (now number : ℕ) → List (Row KeptLife) → Candidate → ResponseStatus
 accept_status now number rows candidate =
     candidate_status (answer now (new_row now number (asked_by candidate)) rows) candidate.accepted candidate.refused (termination_in candidate.wanted.subscriber candidate.wanted.identifier rows)
@@ -73,18 +65,9 @@ accept_status now number rows candidate =
 abbrev pub accept_rows : (now number : ℕ) → List (Row KeptLife) → Candidate → List (Row KeptLife)
 accept_rows now number rows candidate = accepted now (new_row now number (asked_by candidate)) rows
 
--- the status of one, and the rows after it
-abbrev pub taken_status : (now number : ℕ) → List (Row KeptLife) → Prepared → ResponseStatus
-taken_status now number rows (prepared.NotYet status) = status
-taken_status now number rows (prepared.Candidate candidate) = accept_status now number rows candidate
-
-abbrev pub taken_rows : (now number : ℕ) → List (Row KeptLife) → Prepared → List (Row KeptLife)
-taken_rows now number rows (prepared.NotYet status) = rows
-taken_rows now number rows (prepared.Candidate candidate) = accept_rows now number rows candidate
-
 -- the same of all
-abbrev pub all_statuses : (now number : ℕ) → List Prepared → List (Row KeptLife) → List ResponseStatus
-all_statuses now number all rows = scan (taken_rows now number) (taken_status now number) rows all
+abbrev pub all_statuses : (now number : ℕ) → List Candidate → List (Row KeptLife) → List ResponseStatus
+all_statuses now number all rows = scan (accept_rows now number) (accept_status now number) rows all
 
-abbrev pub all_rows : (now number : ℕ) → List Prepared → List (Row KeptLife) → List (Row KeptLife)
-all_rows now number all rows = fold (taken_rows now number) rows all
+abbrev pub all_rows : (now number : ℕ) → List Candidate → List (Row KeptLife) → List (Row KeptLife)
+all_rows now number all rows = fold (accept_rows now number) rows all

@@ -1,5 +1,5 @@
 -- What a request for subscriptions is answered, subscription by subscription (EN 15531-2, SubscriptionRequest).
-use Rattle.std.specs.Prelude.{ℕ, List, find, option_map, if◌then◌else◌, Option, Some, None, Result, Ok, Err}
+use Rattle.std.specs.Prelude.{ℕ, List, find, option_map, Option, Some, Result, Ok, Err}
 use Rattle.std.specs.List.{scan}
 use Rattle.siri_topic.specs.declared.subscription.Subscription.{Subscription}
 use Rattle.siri_messages.specs.Asked.{Asked, asked_in}
@@ -11,9 +11,7 @@ use Rattle.siri_subs.specs.declared.errors.Accepted.{Accepted}
 use Rattle.siri_subs.specs.declared.errors.Accepted.TheVariants as accepted_as
 use Rattle.siri_subs.specs.declared.errors.AcceptError.{AcceptError}
 use Rattle.siri_subs.specs.Table.{is_of, answer, accepted}
-use Rattle.siri_model.specs.Lives.{is_taken}
 use Rattle.siri_model.specs.Rows.{KeptLife, new_row}
-use Rattle.siri_replies.specs.declared.refusal.Refusal.TheVariants as refused
 use Rattle.siri_replies.specs.Refusals.{not_accepted_as}
 use Rattle.siri_replies.specs.Responses.{accepted_status, refused_status, subscription_response}
 
@@ -36,12 +34,11 @@ status_by (Err why) wanted held = refused_status wanted.subscriber wanted.identi
 abbrev pub status_of : (now number : ℕ) → List (Row KeptLife) → Asked → ResponseStatus
 status_of now number rows asked =
     let wanted = asked.subscription in
-    if is_taken asked then status_by (answer now (new_row now number asked) rows) wanted (termination_in wanted.subscriber wanted.identifier rows)
-    else refused_status wanted.subscriber wanted.identifier refused.NotYet
+    status_by (answer now (new_row now number asked) rows) wanted (termination_in wanted.subscriber wanted.identifier rows)
 
 -- the rows after it
 abbrev pub rows_with : (now number : ℕ) → List (Row KeptLife) → Asked → List (Row KeptLife)
-rows_with now number rows asked = if is_taken asked then accepted now (new_row now number asked) rows else rows
+rows_with now number rows asked = accepted now (new_row now number asked) rows
 
 -- the statuses of these, one after the other
 abbrev pub statuses_of : (now number : ℕ) → List Asked → List (Row KeptLife) → List ResponseStatus

@@ -14,15 +14,6 @@ use siri_subs::{Entry, Table};
 use siri_topic::Subscription;
 use std::alloc::Global;
 
-// What is ready for a subscription that is asked for.
-#[derive(Drop)]
-pub(crate) enum Prepared {
-    // It isn't taken yet; its status.
-    NotYet(ResponseStatus),
-    // It is taken.
-    Candidate(Candidate),
-}
-
 // A subscription that may be accepted: what is kept of it, and what may be said of it.
 #[derive(Drop)]
 pub(crate) struct Candidate {
@@ -41,19 +32,19 @@ pub(crate) fn prepare_all(
     table: &Table<Course>,
     now: Moment,
     request: &SubscriptionRequest,
-) -> Result<Vec<Prepared>, OutOfMemory>
-    ensures { IfOk result (λ prepared. prepared.items ≡ map (definition.prepared_of now request.now.message_identifier (kept_rows table.now)) (asked_in request.now)) }
+) -> Result<Vec<Candidate>, OutOfMemory>
+    ensures { IfOk result (λ candidates. candidates.items ≡ map (definition.candidate_of now request.now.message_identifier (kept_rows table.now)) (asked_in request.now)) }
 {
-    let mut prepared = Vec::new(alloc);
+    let mut candidates = Vec::new(alloc);
     for list in [
         &request.stop_monitoring_subscription_request,
         &request.estimated_timetable_subscription_request,
         &request.vehicle_monitoring_subscription_request,
         &request.situation_exchange_subscription_request,
     ] {
-        prepare_list(alloc, table, now, request, list.slice(), &mut prepared)?;
+        prepare_list(alloc, table, now, request, list.slice(), &mut candidates)?;
     }
-    Ok(prepared)
+    Ok(candidates)
 }
 
 // The same for some of them, behind what is ready.
@@ -63,13 +54,13 @@ fn prepare_list(
     now: Moment,
     request: &SubscriptionRequest,
     list: &[Subscription],
-    prepared: &mut Vec<Prepared>,
+    candidates: &mut Vec<Candidate>,
 ) -> Result<(), OutOfMemory>
-    ensures { OnOk result (prepared.new.items ≡ prepared.old.items ++ map (λ wanted. definition.prepared_of now request.now.message_identifier (kept_rows table.now) (asked_with request.now wanted)) list.now) }
+    ensures { OnOk result (candidates.new.items ≡ candidates.old.items ++ map (λ wanted. definition.candidate_of now request.now.message_identifier (kept_rows table.now) (asked_with request.now wanted)) list.now) }
 {
     for wanted in list {
         let next = prepare(alloc, table, now, request, wanted)?;
-        prepared.push(next)?;
+        candidates.push(next)?;
     }
     Ok(())
 }
@@ -81,24 +72,19 @@ fn prepare(
     now: Moment,
     request: &SubscriptionRequest,
     wanted: &Subscription,
-) -> Result<Prepared, OutOfMemory>
-    ensures { IfOk result (λ prepared. prepared ≡ definition.prepared_of now request.now.message_identifier (kept_rows table.now) (asked_with request.now wanted.now)) }
+) -> Result<Candidate, OutOfMemory>
+    ensures { IfOk result (λ candidate. candidate ≡ definition.candidate_of now request.now.message_identifier (kept_rows table.now) (asked_with request.now wanted.now)) }
 {
     let subscriber = &wanted.subscriber;
     let identifier = &wanted.identifier;
-    let beat = request.heartbeat_interval.unwrap_or(no_heartbeat());
-    if wanted.fetched || beat.ms() > 0 {
-        let status = refused_status(alloc, subscriber, identifier, Refusal::NotYet)?;
-        return Ok(Prepared::NotYet(status));
-    }
     let why = refusal(table, now, request.message_identifier, wanted);
-    Ok(Prepared::Candidate(Candidate {
+    Ok(Candidate {
         wanted: wanted.copy()?,
         address: request.consumer_address.copy()?,
-        beat,
+        beat: request.heartbeat_interval.unwrap_or(no_heartbeat()),
         accepted: accepted_status(subscriber, identifier, wanted.termination)?,
         refused: refused_status(alloc, subscriber, identifier, why)?,
-    }))
+    })
 }
 
 fn no_heartbeat() -> Span

@@ -1,14 +1,12 @@
 // SubscriptionRequest.
 ghost use Rattle.std.specs.Prelude.{◌≡◌, IfOk, OnOk, OnErr, Some, option_map};
-ghost use Rattle.std.specs.List.{filter};
 ghost use Rattle.siri_messages.specs.Asked.{asked_in};
-ghost use Rattle.siri_model.specs.Lives.{is_taken};
 ghost use Rattle.siri_model.specs.Rows.{rows_asked};
 ghost use Rattle.siri_courses.specs.Courses.{kept_rows};
 ghost use Rattle.siri_take.specs.Requests.{subscription_answer, termination_in};
 ghost use Rattle.siri_take.specs.Prepared as definition;
 
-use crate::prepared::{Candidate, Prepared, held, prepare_all};
+use crate::prepared::{Candidate, held, prepare_all};
 use siri_base::{List, Moment, OutOfMemory};
 use siri_courses::Course;
 use siri_messages::{ResponseStatus, SubscriptionRequest, SubscriptionResponse};
@@ -18,8 +16,7 @@ use siri_topic::Subscription;
 use std::alloc::Global;
 
 /// Takes a request for subscriptions at a moment, one after the other, and answers with a status for each, in the order Stop
-/// Monitoring, Estimated Timetable, Vehicle Monitoring, Situation Exchange. One that is to be fetched, or that asks for
-/// heartbeats, isn't taken yet: its ErrorText is `NotYet`. After want of memory the table is as it was.
+/// Monitoring, Estimated Timetable, Vehicle Monitoring, Situation Exchange. After want of memory the table is as it was.
 #[tactic(auto, unfolding(crate::specs::Requests::subscription_answer))]
 pub fn subscribe(
     alloc: Global,
@@ -28,13 +25,13 @@ pub fn subscribe(
     request: &SubscriptionRequest,
 ) -> Result<SubscriptionResponse, OutOfMemory>
     ensures answer { IfOk result (λ response. response ≡ subscription_answer now request.now (kept_rows table.old)) }
-    ensures rows { OnOk result (kept_rows table.new ≡ rows_asked now request.now.message_identifier (filter is_taken (asked_in request.now)) (kept_rows table.old)) }
+    ensures rows { OnOk result (kept_rows table.new ≡ rows_asked now request.now.message_identifier (asked_in request.now) (kept_rows table.old)) }
     ensures err { OnErr result (table.new ≡ table.old) }
 {
     let number = request.message_identifier;
     let text = number_text(alloc, number)?;
-    let prepared = prepare_all(alloc, table, now, request)?;
-    let statuses = accept_all(alloc, table, now, number, prepared)?;
+    let candidates = prepare_all(alloc, table, now, request)?;
+    let statuses = accept_all(alloc, table, now, number, candidates)?;
     Ok(subscription_response(now, text, statuses))
 }
 
@@ -44,34 +41,17 @@ fn accept_all(
     table: &mut Table<Course>,
     now: Moment,
     number: u64,
-    prepared: Vec<Prepared>,
+    candidates: Vec<Candidate>,
 ) -> Result<List<ResponseStatus>, OutOfMemory>
-    ensures ok { IfOk result (λ statuses. statuses ≡ definition.all_statuses now number prepared.items (kept_rows table.old)) }
-    ensures rows { OnOk result (kept_rows table.new ≡ definition.all_rows now number prepared.items (kept_rows table.old)) }
+    ensures ok { IfOk result (λ statuses. statuses ≡ definition.all_statuses now number candidates.items (kept_rows table.old)) }
+    ensures rows { OnOk result (kept_rows table.new ≡ definition.all_rows now number candidates.items (kept_rows table.old)) }
     ensures err { OnErr result (table.new ≡ table.old) }
 {
-    let mut statuses = Vec::with_capacity(alloc, prepared.len())?;
-    for prepared in prepared {
-        statuses.push_reserved(take(alloc, table, now, number, prepared));
+    let mut statuses = Vec::with_capacity(alloc, candidates.len())?;
+    for candidate in candidates {
+        statuses.push_reserved(accept(alloc, table, now, number, candidate));
     }
     Ok(List::of(statuses))
-}
-
-// Takes one, and says what became of it.
-fn take(
-    alloc: Global,
-    table: &mut Table<Course>,
-    now: Moment,
-    number: u64,
-    prepared: Prepared,
-) -> ResponseStatus
-    ensures status { result ≡ definition.taken_status now number (kept_rows table.old) prepared }
-    ensures rows { kept_rows table.new ≡ definition.taken_rows now number (kept_rows table.old) prepared }
-{
-    match prepared {
-        Prepared::NotYet(status) => status,
-        Prepared::Candidate(candidate) => accept(alloc, table, now, number, candidate),
-    }
 }
 
 // Accepts one, where the table does, and says what became of it.

@@ -2,7 +2,8 @@ use Rattle.std.proofs.Common.{sym, ap, ◌∙◌, option_map}
 use Rattle.siri_life.specs.Slot.{wants}
 use Rattle.siri_subs.specs.Lent.{entry_of}
 use Rattle.siri_courses.specs.declared.course.Course.{Course}
-use Rattle.siri_take.proofs.Acknowledged.{row_there, here_at, slot_here, none_counts, none_changes, other_counts, other_changes, own_counts, own_changes, is_own, other_number, other_start, isnt_taken, taken_by}
+use Rattle.siri_take.proofs.Marked.{row_there, here_at, slot_here, is_own, other_number, other_start}
+use Rattle.siri_take.proofs.Acknowledged.{none_counts, none_changes, other_counts, other_changes, own_counts, own_changes, isnt_taken, taken_by}
 use Rattle.siri_take.proofs.acknowledgements.acknowledge_part.Goals as goal
 
 pub returns-in_default-clause-taken : goal.returns-in_default-clause-taken

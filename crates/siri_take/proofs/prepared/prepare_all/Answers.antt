@@ -1,6 +1,6 @@
 use Rattle.std.proofs.Common.{◌≡◌, ◌∙◌, arith}
 use Rattle.siri_courses.specs.Courses.{kept_rows}
-use Rattle.siri_take.specs.Prepared.{prepared_of}
+use Rattle.siri_take.specs.Prepared.{candidate_of}
 use Rattle.siri_take.proofs.Asked.{of_lists}
 use Rattle.siri_take.proofs.prepared.prepare_all.Goals as goal
 
@@ -9,4 +9,4 @@ returns c =
     let r = c.args.request.now in
     let done : c.loop-list.list-index ≡ 4 = omega arith in
     let ready = rw done at c.loop-list.invariant in
-    ready ∙ of_lists (prepared_of c.args.now r.message_identifier (kept_rows c.args.table.now)) r
+    ready ∙ of_lists (candidate_of c.args.now r.message_identifier (kept_rows c.args.table.now)) r

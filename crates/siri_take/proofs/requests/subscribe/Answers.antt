@@ -13,10 +13,10 @@ returns-clause-answer c =
     let r = c.args.request.now in
     let rows = kept_rows c.args.table.now in
     c.subscription_response.ensures r.message_identifier c.in_ok-text.ensures
-    ∙ ap (subscription_response c.args.now r.message_identifier) (c.in_ok-statuses.ensures.ok ∙ (ap (λ l. all_statuses c.args.now r.message_identifier l rows) c.in_ok-prepared.ensures ∙ answered c.args.now r.message_identifier (asked_in r) rows))
+    ∙ ap (subscription_response c.args.now r.message_identifier) (c.in_ok-statuses.ensures.ok ∙ (ap (λ l. all_statuses c.args.now r.message_identifier l rows) c.in_ok-candidates.ensures ∙ answered c.args.now r.message_identifier (asked_in r) rows))
 
 pub returns-clause-rows : goal.returns-clause-rows
 returns-clause-rows c =
     let r = c.args.request.now in
     let rows = kept_rows c.args.table.now in
-    c.in_ok-statuses.ensures.rows ∙ (ap (λ l. all_rows c.args.now r.message_identifier l rows) c.in_ok-prepared.ensures ∙ rows_answered c.args.now r.message_identifier (asked_in r) rows)
+    c.in_ok-statuses.ensures.rows ∙ (ap (λ l. all_rows c.args.now r.message_identifier l rows) c.in_ok-candidates.ensures ∙ rows_answered c.args.now r.message_identifier (asked_in r) rows)

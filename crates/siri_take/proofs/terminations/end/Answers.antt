@@ -1,4 +1,4 @@
-use Rattle.std.proofs.Common.{sym, ap, ◌∙◌, true, false}
+use Rattle.std.proofs.Common.{true, false}
 use Rattle.siri_take.specs.Endings.{sayings_of}
 use Rattle.siri_take.proofs.Ended.{is_said, is_left}
 use Rattle.siri_take.proofs.terminations.end.Goals as goal

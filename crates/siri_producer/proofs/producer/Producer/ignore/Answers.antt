@@ -1,6 +1,5 @@
 use Rattle.std.proofs.Common.{false, ◌∙◌, subst}
 use Rattle.siri_model.specs.History.{Take}
-use Rattle.siri_producer.specs.declared.answers.Note.TheVariants as note
 use Rattle.siri_producer.specs.Known.{Known, GoesOn}
 use Rattle.siri_producer.specs.Standing.{known_of}
 use Rattle.siri_producer.proofs.Takes.{answer_ignored, goes_ignored, some_ignored}

@@ -1,4 +1,4 @@
-use Rattle.std.proofs.Common.{ap, sym, ◌∙◌}
+use Rattle.std.proofs.Common.{ap, ◌∙◌}
 use Rattle.siri_responder.proofs.Reached.{on_err}
 use Rattle.siri_producer.specs.Known.{Known}
 use Rattle.siri_producer.proofs.Takes.{answer_fed, feed_taken, refused_reply}

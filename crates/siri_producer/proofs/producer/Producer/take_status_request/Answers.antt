@@ -1,0 +1,30 @@
+use Rattle.std.proofs.Common.{false, ◌∙◌, subst}
+use Rattle.siri_messages.specs.declared.message.Message.TheVariants as message
+use Rattle.siri_model.specs.History.{Take}
+use Rattle.siri_producer.specs.declared.answers.Note.TheVariants as note
+use Rattle.siri_producer.specs.Answers.{replied}
+use Rattle.siri_producer.specs.Known.{Known, GoesOn, AnswerFor}
+use Rattle.siri_producer.specs.Standing.{known_of}
+use Rattle.siri_producer.proofs.Stands.{is_producer, went}
+use Rattle.siri_producer.proofs.Takes.{answer_checked, goes_checked}
+use Rattle.siri_producer.proofs.producer.Producer.take_status_request.Goals as goal
+
+pub invariant_of-self : goal.invariant_of-self
+invariant_of-self c =
+    let inside = c.self.inside in
+    let request = c.args.request.now in
+    is_producer inside.responder inside.table (went (known_of inside.responder inside.table inside.is_settled) (known_of inside.responder inside.table false) (Take (message.CheckStatusRequest request)) c.self.invariant.stands (goes_checked inside.responder inside.table inside.is_settled request))
+
+pub returns-clause-ok : goal.returns-clause-ok
+returns-clause-ok c =
+    let inside = c.self.inside in
+    let request = c.args.request.now in
+    subst (λ (k : Known). GoesOn k (known_of inside.responder inside.table false) (Take (message.CheckStatusRequest request))) c.self.view_is (goes_checked inside.responder inside.table inside.is_settled request)
+
+pub returns-clause-answer : goal.returns-clause-answer
+returns-clause-answer c = λ h s.
+    let inside = c.self.inside in
+    let request = c.args.request.now in
+    let response = c.in_ok-response.response in
+    c.replied.ensures ∙ subst (λ (k : Known). AnswerFor k (message.CheckStatusRequest request) (replied note.Checked (message.CheckStatusResponse response))) c.self.view_is
+    (answer_checked inside.responder inside.table inside.is_settled c.name.result.now c.now-now.result c.started-started.result request response c.name.ensures c.now-now.ensures c.started-started.ensures c.in_ok-response.ensures) h s
