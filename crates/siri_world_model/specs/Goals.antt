@@ -1,6 +1,6 @@
 -- What is told of a view: the goal of the round that it belongs to, by the lives of the start that sent it, and whether its
 -- subscription is quiet. No change is ever applied here.
-use Rattle.std.specs.Prelude.{ℕ, zero, suc, ◌==◌, List, [], Bool, false, Option, Some, None, slice_get}
+use Rattle.std.specs.Prelude.{◌≡◌, ℕ, zero, suc, ◌==◌, List, [], Bool, false, Option, Some, None, slice_get}
 use Rattle.siri_records.specs.Keyed.{Items}
 use Rattle.siri_change.specs.Parts.{Carried}
 use Rattle.siri_life.specs.Life.{Round}
@@ -8,7 +8,10 @@ use Rattle.siri_life.specs.Link.{Origin, rounds_of}
 use Rattle.siri_life.specs.Named.{Name, find, those}
 use Rattle.siri_model.specs.History.{History}
 use Rattle.siri_model.specs.Lives.{serving_of, quiet_number}
-use Rattle.siri_world.specs.World.{World, latest, start_at}
+use Rattle.siri_view.specs.Consuming.{Consuming}
+use Rattle.siri_view.specs.Kept.{KeptSubscription, kept_of}
+use Rattle.siri_world_model.specs.Consumers.{consumer_of}
+use Rattle.siri_world_model.specs.World.{World, latest, start_at}
 
 -- the rounds of the first acceptance of a subscription under a number, in the start of this number
 abbrev pub rounds_in : History → (subscriber identifier : Name) → (number start : ℕ) → List (Round Items Carried)
@@ -30,6 +33,12 @@ target_at rounds (suc before) = target_of (slice_get rounds before)
 abbrev pub goal : World → (subscriber identifier : Name) → Origin → Items
 goal world subscriber identifier origin =
     target_at (rounds_in (start_at origin.start world) subscriber identifier origin.number origin.start) origin.round
+
+-- what each consumer shows of each subscription that it holds is the goal of the round that its view belongs to
+abbrev pub ShowsGoals : World → Type 0
+ShowsGoals world =
+    (name identifier : Name) (consumer : Consuming) (kept : KeptSubscription) → consumer_of name world.consumers ≡ Some consumer
+    → kept_of identifier consumer.held ≡ Some kept → kept.view ≡ goal world consumer.name identifier kept.origin
 
 -- this number is the one
 abbrev pub is_number : Option ℕ → ℕ → Bool

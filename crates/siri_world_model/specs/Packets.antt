@@ -2,8 +2,8 @@
 use Rattle.std.specs.Prelude.{ℕ, zero, suc, List, [], ◌∷◌, map, codes, Option, Some, None, slice_get}
 use Rattle.siri_messages.specs.declared.message.Message.{Message}
 use Rattle.siri_settle.specs.declared.outs.Out.{Out}
-use Rattle.siri_world.specs.Lines as line
-use Rattle.siri_world.specs.Lines.{ToldLine}
+use Rattle.siri_world_model.specs.Lines as line
+use Rattle.siri_world_model.specs.Lines.{ToldLine}
 
 -- the name of the producer
 abbrev pub producer : List ℕ

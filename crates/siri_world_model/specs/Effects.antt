@@ -20,15 +20,15 @@ use Rattle.siri_view.specs.Sending.{check_request}
 use Rattle.siri_view.specs.declared.outcome.AskError.{AskError}
 use Rattle.siri_view.specs.declared.outcome.AskError.TheVariants as ask_error
 use Rattle.siri_view.specs.declared.outcome.Seen.{Seen}
-use Rattle.siri_world.specs.declared.event.Event.{Event}
-use Rattle.siri_world.specs.declared.event.Event.TheVariants as event
-use Rattle.siri_world.specs.declared.word.Word.TheVariants as word
-use Rattle.siri_world.specs.Lines as line
-use Rattle.siri_world.specs.Lines.{ToldLine}
-use Rattle.siri_world.specs.Packets.{SentPacket, ToProducer, ToConsumer, producer, packet_at, packets_out, reply_to, packets_from, packet_lines}
-use Rattle.siri_world.specs.Consumers.{consumer_of, consumer_or_new, with_consumer, all_clocked}
-use Rattle.siri_world.specs.World.{World, latest, goes_on}
-use Rattle.siri_world.specs.Goals.{goal, is_quiet}
+use Rattle.siri_world_model.specs.declared.event.Event.{Event}
+use Rattle.siri_world_model.specs.declared.event.Event.TheVariants as event
+use Rattle.siri_world_model.specs.declared.word.Word.TheVariants as word
+use Rattle.siri_world_model.specs.Lines as line
+use Rattle.siri_world_model.specs.Lines.{ToldLine}
+use Rattle.siri_world_model.specs.Packets.{SentPacket, ToProducer, ToConsumer, producer, packet_at, packets_out, reply_to, packets_from, packet_lines}
+use Rattle.siri_world_model.specs.Consumers.{consumer_of, consumer_or_new, with_consumer, all_clocked}
+use Rattle.siri_world_model.specs.World.{World, latest, goes_on}
+use Rattle.siri_world_model.specs.Goals.{goal, is_quiet}
 
 -- what is told of an event before its packets, its packets in the order sent, and the world after it but for them
 pub record Effect : Type 0 where

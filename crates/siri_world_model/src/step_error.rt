@@ -1,6 +1,6 @@
 // Why an event doesn't happen.
 ghost use Rattle.std.specs.Prelude.{◌≡◌};
-ghost use Rattle.siri_world.specs.declared.step_error.StepError.TheVariants.{OutOfMemory};
+ghost use Rattle.siri_world_model.specs.declared.step_error.StepError.TheVariants.{OutOfMemory};
 
 use siri_base::OutOfMemory;
 use thiserror::Error;

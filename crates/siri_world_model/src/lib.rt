@@ -1,5 +1,5 @@
-//! The world of a script: one producer, which starts anew now and then, up to sixteen consumers, and a network between them
-//! that keeps every packet that was ever sent (EN 15531-2).
+//! What a world is and what happens in it, as types and definitions: one producer, which starts anew now and then, up to
+//! sixteen consumers, and a network between them that keeps every packet that was ever sent (EN 15531-2).
 //!
 //! ```text
 //!     Start, Clock, Feed, Ask -----> the producer ----- settles, replies ------+
@@ -20,7 +20,7 @@
 //! items are the goal of the round that the view belongs to.
 //!
 //! Stands on `siri_base`, `siri_records`, `siri_topic`, `siri_messages`, `siri_life`, `siri_model`, `siri_producer` and
-//! `siri_view`. It has the types of events and lines, and the definitions of what an event does; no code yet that does it.
+//! `siri_view`. It has the types of events and lines, and the definitions of what an event does; `siri_world` has the code.
 #![tactic(auto)]
 
 mod event;

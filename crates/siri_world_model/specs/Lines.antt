@@ -1,4 +1,4 @@
--- A line as it is told: an item is told as it is, however it is shared.
+-- A line as it is told: a message of a packet and an item are told as they are, however they are shared.
 use Rattle.std.specs.Prelude.{ℕ, Bool, List, Option, map}
 use Rattle.siri_records.specs.declared.item.Item.{Item as AnItem}
 use Rattle.siri_messages.specs.declared.message.Message.{Message}
@@ -6,9 +6,9 @@ use Rattle.siri_responder.specs.declared.feeding.Fed.{Fed as Counts}
 use Rattle.siri_life.specs.Named.{Name}
 use Rattle.siri_view.specs.declared.outcome.AskError.{AskError}
 use Rattle.siri_view.specs.declared.outcome.Held.{Held}
-use Rattle.siri_world.specs.declared.line.Line.{Line}
-use Rattle.siri_world.specs.declared.line.Line.TheVariants as line
-use Rattle.siri_world.specs.declared.word.Word.{Word}
+use Rattle.siri_world_model.specs.declared.line.Line.{Line}
+use Rattle.siri_world_model.specs.declared.line.Line.TheVariants as line
+use Rattle.siri_world_model.specs.declared.word.Word.{Word}
 
 pub data ToldLine : Type 0 where
   Started : (number : ℕ) → ToldLine
@@ -26,7 +26,7 @@ abbrev pub told_line : Line → ToldLine
 told_line (line.Started number) = Started number
 told_line (line.Fed counts) = Fed counts
 told_line (line.Answer message) = Answer message
-told_line (line.Packet number to message) = Packet number to message
+told_line (line.Packet number to message) = Packet number to message.value
 told_line (line.Refused consumer error) = Refused consumer error
 told_line (line.Unknown consumer identifier) = Unknown consumer identifier
 told_line (line.Took receiver word) = Took receiver word

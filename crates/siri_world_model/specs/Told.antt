@@ -1,13 +1,13 @@
 -- What is told of an event, or why it doesn't happen, and the world after a list of events.
 use Rattle.std.specs.Prelude.{ℕ, ◌+◌, nat_le, nat_lt, List, length, fold, Bool, true, false, not, ◌&&◌, if◌then◌else◌, Option, Some, None, Result, Ok, Err}
-use Rattle.siri_world.specs.declared.event.Event.{Event}
-use Rattle.siri_world.specs.declared.event.Event.TheVariants as event
-use Rattle.siri_world.specs.declared.step_error.StepError.{StepError}
-use Rattle.siri_world.specs.declared.step_error.StepError.TheVariants as error
-use Rattle.siri_world.specs.Lines.{ToldLine}
-use Rattle.siri_world.specs.Consumers.{is_known}
-use Rattle.siri_world.specs.World.{World, nothing}
-use Rattle.siri_world.specs.Effects.{effect, all_lines, with_packets}
+use Rattle.siri_world_model.specs.declared.event.Event.{Event}
+use Rattle.siri_world_model.specs.declared.event.Event.TheVariants as event
+use Rattle.siri_world_model.specs.declared.step_error.StepError.{StepError}
+use Rattle.siri_world_model.specs.declared.step_error.StepError.TheVariants as error
+use Rattle.siri_world_model.specs.Lines.{ToldLine}
+use Rattle.siri_world_model.specs.Consumers.{is_known}
+use Rattle.siri_world_model.specs.World.{World, nothing}
+use Rattle.siri_world_model.specs.Effects.{effect, all_lines, with_packets}
 
 -- ---- limits
 

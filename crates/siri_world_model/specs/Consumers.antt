@@ -1,5 +1,5 @@
 -- The consumers of a world by their names, in order of first use.
-use Rattle.std.specs.Prelude.{ℕ, List, [], ◌∷◌, ◌++◌, map, Bool, if◌then◌else◌, Option, Some, None}
+use Rattle.std.specs.Prelude.{ℕ, List, [], ◌∷◌, map, Bool, if◌then◌else◌, Option, Some, None}
 use Rattle.std.specs.List.{list_any}
 use Rattle.siri_topic.specs.Agreement.{same_name}
 use Rattle.siri_life.specs.Named.{Name}
@@ -29,9 +29,9 @@ consumer_or_new moment name (Some consumer) = consumer
 
 -- in the place of the one of its name, or as the last
 abbrev pub with_consumer : Consuming → List Consuming → List Consuming
-with_consumer consumer consumers =
-    if is_known consumer.name consumers then map (λ other. if is_named consumer.name other then consumer else other) consumers
-    else consumers ++ consumer ∷ []
+with_consumer consumer [] = consumer ∷ []
+with_consumer consumer (other ∷ consumers) =
+    if is_named consumer.name other then consumer ∷ consumers else other ∷ with_consumer consumer consumers
 
 -- the moments of all become the later
 abbrev pub all_clocked : ℕ → List Consuming → List Consuming

@@ -17,11 +17,12 @@ pub enum Line {
     Fed(Fed),
     /// The direct response to what was asked, a ServiceDelivery.
     Answer(Message),
-    /// A packet was sent. It has a number, which counts from 1, and a receiver: `producer`, or a consumer.
+    /// A packet was sent. It has a number, which counts from 1, and a receiver: `producer`, or a consumer. The message is
+    /// shared with the network, which keeps it.
     Packet {
         number: u64,
         to: Name,
-        message: Message,
+        message: Rc<Message>,
     },
     /// A consumer doesn't ask: its numbers are used up (`Spent`), or it would hold more than 200 subscriptions (`TooMany`).
     Refused {

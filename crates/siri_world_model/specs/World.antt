@@ -3,7 +3,7 @@ use Rattle.std.specs.Prelude.{ℕ, zero, suc, List, [], ◌∷◌, ◌++◌, Non
 use Rattle.std.specs.List.{last_or}
 use Rattle.siri_model.specs.History.{History}
 use Rattle.siri_view.specs.Consuming.{Consuming}
-use Rattle.siri_world.specs.Packets.{SentPacket}
+use Rattle.siri_world_model.specs.Packets.{SentPacket}
 
 -- the greatest moment that was given, the history of each start, the packets that were sent, the consumers
 pub record World : Type 0 where
