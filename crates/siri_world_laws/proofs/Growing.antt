@@ -1,0 +1,138 @@
+-- Packets are kept for good, and so are consumers.
+use Rattle.std.proofs.Common.{◌≡◌, ℕ, Bool, true, false, cond, List, [], ◌∷◌, fold, Option, Some, None, refl, sym, ap, subst}
+use Rattle.std.specs.Prelude.{ℤ, nat_lt, option_map, slice_get, if◌then◌else◌}
+use Rattle.siri_topic.specs.declared.subscription.Subscription.{Subscription}
+use Rattle.siri_messages.specs.declared.message.Message.{Message}
+use Rattle.siri_life.specs.Named.{Name, same_name}
+use Rattle.siri_life_laws.proofs.Lists.{get_front}
+use Rattle.siri_view.specs.Consuming.{Consuming, greatest_number, after_terminate, clocked, termination_of}
+use Rattle.siri_view.specs.Kept.{KeptSubscription, kept_of}
+use Rattle.siri_view.specs.declared.outcome.AskError.{AskError}
+use Rattle.siri_view.specs.declared.outcome.AskError.TheVariants as ask_error
+use Rattle.siri_world_model.specs.declared.event.Event.{Event}
+use Rattle.siri_world_model.specs.declared.event.Event.TheVariants as event
+use Rattle.siri_world_model.specs.declared.step_error.StepError.{StepError}
+use Rattle.siri_world_model.specs.Consumers.{consumer_of, consumer_or_new, with_consumer, all_clocked}
+use Rattle.siri_world_model.specs.Effects as effects
+use Rattle.siri_world_model.specs.Effects.{Effect, effect, with_packets}
+use Rattle.siri_world_model.specs.Lines as line
+use Rattle.siri_world_model.specs.Lines.{ToldLine}
+use Rattle.siri_world_model.specs.Packets as packet
+use Rattle.siri_world_model.specs.Packets.{SentPacket, packet_at}
+use Rattle.siri_world_model.specs.Told.{after, after_if, refusal}
+use Rattle.siri_world_model.specs.World.{World}
+use Rattle.siri_world_laws.proofs.Known.{found_with, found_clocked}
+
+-- there is one
+abbrev pub IsThere : Option Consuming → Type 0
+IsThere None = ⊥
+IsThere (Some consumer) = Unit {0}
+
+-- a world has what another had: each packet at its place, and each consumer
+pub record Grows (new old : World) : Type 0 where
+  pub packets : (k : ℕ) (p : SentPacket) → slice_get old.packets k ≡ Some p → slice_get new.packets k ≡ Some p
+  pub consumers : (name : Name) → IsThere (consumer_of name old.consumers) → IsThere (consumer_of name new.consumers)
+
+-- what an event does leaves the packets as they were, but for those that it sends
+pub record Keeps (e : Effect) (old : World) : Type 0 where
+  pub packets : e.world.packets ≡ old.packets
+  pub consumers : (name : Name) → IsThere (consumer_of name old.consumers) → IsThere (consumer_of name e.world.consumers)
+
+keeps_grows : (e : Effect) (old : World) → Keeps e old → Grows (with_packets e) old
+keeps_grows e old keeps = record {
+  packets = λ k p there. get_front e.world.packets e.packets k p (subst (λ packets. slice_get packets k ≡ Some p) (sym keeps.packets) there);
+  consumers = keeps.consumers;
+}
+
+there_with : (c : Consuming) (name : Name) (cs : List Consuming) → IsThere (consumer_of name cs) → IsThere (consumer_of name (with_consumer c cs))
+there_with c name cs there = subst IsThere (sym (found_with c name cs)) (by (same_name name c.name))
+  where
+    by : (b : Bool) → IsThere (cond b (Some c) (consumer_of name cs))
+    by true = tt
+    by false = there
+
+there_clocked : (moment : ℕ) (name : Name) (cs : List Consuming) → IsThere (consumer_of name cs) → IsThere (consumer_of name (all_clocked moment cs))
+there_clocked moment name cs there = subst IsThere (sym (found_clocked moment name cs)) (by (consumer_of name cs) there)
+  where
+    by : (found : Option Consuming) → IsThere found → IsThere (option_map (λ c. clocked c moment) found)
+    by None there = there
+    by (Some c) there = tt
+
+module _ (world : World) where
+  same_keeps : (e : Effect) → e.world ≡ world → Keeps e world
+  same_keeps e same = record {
+    packets = ap (λ (w : World). w.packets) same;
+    consumers = λ name there. subst (λ (w : World). IsThere (consumer_of name w.consumers)) (sym same) there;
+  }
+
+  sent_keeps : (c : Consuming) (lines : List ToldLine) (messages : List Message) → Keeps (effects.sent_by world c lines messages) world
+  sent_keeps c lines messages = record { packets = refl; consumers = λ name there. there_with c name world.consumers there }
+
+  subscribe_keeps : (refused : Option AskError) (c : Consuming) (wanted : Subscription) (beat : ℤ) → Keeps (effects.subscribed_if refused world c wanted beat) world
+  subscribe_keeps (Some error) c wanted beat = record { packets = refl; consumers = λ name there. there_with c name world.consumers there }
+  subscribe_keeps None c wanted beat = record { packets = refl; consumers = λ name there. there_with _ name world.consumers there }
+
+  terminate_keeps : (name identifier : Name) (found : Option Consuming) → Keeps (effects.terminated world name identifier found) world
+  terminate_keeps name identifier None = same_keeps _ refl
+  terminate_keeps name identifier (Some c) = kept (kept_of identifier c.held)
+    where
+      spent : (b : Bool) → Keeps (if b then effects.tells world (line.Refused c.name ask_error.Spent ∷ []) else effects.sent_by world (after_terminate c identifier) [] (termination_of c identifier ∷ [])) world
+      spent true = same_keeps _ refl
+      spent false = record { packets = refl; consumers = λ name there. there_with _ name world.consumers there }
+
+      kept : (k : Option KeptSubscription) → Keeps (effects.terminated_if world c identifier k) world
+      kept None = same_keeps _ refl
+      kept (Some k) = spent (nat_lt greatest_number c.next_number)
+
+  check_keeps : (name : Name) (found : Option Consuming) → Keeps (effects.checked world name found) world
+  check_keeps name None = same_keeps _ refl
+  check_keeps name (Some c) = record { packets = refl; consumers = λ name there. there_with c name world.consumers there }
+
+  deliver_keeps : (number : ℕ) (found : Option SentPacket) → Keeps (effects.delivered world number found) world
+  deliver_keeps number None = same_keeps _ refl
+  deliver_keeps number (Some (packet.ToProducer sender m)) = record { packets = refl; consumers = λ name there. there }
+  deliver_keeps number (Some (packet.ToConsumer receiver m)) = by (consumer_of receiver world.consumers)
+    where
+      by : (found : Option Consuming) → Keeps (effects.taken_if world found m) world
+      by None = same_keeps _ refl
+      by (Some c) = record { packets = refl; consumers = λ name there. there_with _ name world.consumers there }
+
+  view_keeps : (name identifier : Name) (found : Option Consuming) → Keeps (effects.viewed world name identifier found) world
+  view_keeps name identifier None = same_keeps _ refl
+  view_keeps name identifier (Some c) = kept (kept_of identifier c.held)
+    where
+      kept : (k : Option KeptSubscription) → Keeps (effects.viewed_if world c identifier k) world
+      kept None = same_keeps _ refl
+      kept (Some k) = same_keeps _ refl
+
+  event_keeps : (e : Event) → Keeps (effect world e) world
+  unfolding effect
+  event_keeps (event.Start moment) = record { packets = refl; consumers = λ name there. there_clocked moment name world.consumers there }
+  event_keeps (event.Clock moment) = record { packets = refl; consumers = λ name there. there_clocked moment name world.consumers there }
+  event_keeps (event.Feed delivery) = record { packets = refl; consumers = λ name there. there }
+  event_keeps (event.Ask request) = record { packets = refl; consumers = λ name there. there }
+  event_keeps (event.Subscribe name wanted beat) =
+      let c = consumer_or_new world.moment name (consumer_of name world.consumers) in
+      subscribe_keeps (effects.ask_refusal c wanted) c wanted beat
+  event_keeps (event.Terminate name identifier) = terminate_keeps name identifier (consumer_of name world.consumers)
+  event_keeps (event.Status name) = check_keeps name (consumer_of name world.consumers)
+  event_keeps (event.Deliver number) = deliver_keeps number (packet_at number world.packets)
+  event_keeps (event.View name identifier) = view_keeps name identifier (consumer_of name world.consumers)
+
+  after_grows : (e : Event) → Grows (after world e) world
+  after_grows e = by (refusal world e)
+    where
+      by : (refused : Option StepError) → Grows (after_if refused world e) world
+      by (Some error) = record { packets = λ k p there. there; consumers = λ name there. there }
+      by None = keeps_grows (effect world e) world (event_keeps e)
+
+-- and so after many events
+pub all_grow : (world : World) (es : List Event) → Grows (fold after world es) world
+all_grow world [] = record { packets = λ k p there. there; consumers = λ name there. there }
+all_grow world (e ∷ es) =
+    let later = all_grow (after world e) es in
+    let next = after_grows world e in
+    record {
+      packets = λ k p there. later.packets k p (next.packets k p there);
+      consumers = λ name there. later.consumers name (next.consumers name there);
+    }

@@ -1,0 +1,70 @@
+-- What a view that is told shows, for whoever knows SIRI and not this code: where it is quiet, its items are those of a
+-- direct response at that moment, over all observations that were taken since the producer's latest start.
+use Rattle.std.specs.Prelude.{◌≡◌, ◌⊎◌, ℤ, List, [], ◌∷◌, ◌++◌, length, map, fold, Bool, true, Some, None}
+use Rattle.siri_records.specs.declared.item.Item.{Item as AnItem}
+use Rattle.siri_records.specs.Keyed.{Items, InOrder}
+use Rattle.siri_messages.specs.Asked.{Asked}
+use Rattle.siri_topic.specs.declared.topics.Topic.{Topic}
+use Rattle.siri_change.specs.Changes.{Meets}
+use Rattle.siri_life.specs.Named.{Name}
+use Rattle.siri_model.specs.Direct.{shown}
+use Rattle.siri_model.specs.History.{History, Start, Clock, Feed, entries_of, now_of, current}
+use Rattle.siri_view.specs.declared.outcome.Held.{Held}
+use Rattle.siri_world_model.specs.declared.event.Event.{Event}
+use Rattle.siri_world_model.specs.declared.event.Event.TheVariants as event
+use Rattle.siri_world_model.specs.Lines as line
+use Rattle.siri_world_model.specs.Lines.{ToldLine}
+use Rattle.siri_world_model.specs.Told.{refusal, world_after}
+use Rattle.siri_world_laws.specs.QuietViews.{asked_last, by_key}
+
+-- ---- what the producer knows of the world outside
+
+-- a start begins anew; then come the moments of its clock and its feeds
+abbrev pub observed_after : History → Event → History
+observed_after history (event.Start moment) = Start 1 moment ∷ []
+observed_after history (event.Clock moment) = history ++ Clock moment ∷ []
+observed_after history (event.Feed delivery) = history ++ Feed (entries_of delivery) ∷ []
+observed_after history other = history
+
+-- all moments and all observations since the latest start
+abbrev pub observed : List Event → History
+observed events = fold observed_after [] events
+
+-- the direct response to a topic after these events (EN 15531-2, request and response): what is current and shown to it at
+-- that moment, in order of key
+abbrev pub direct_response : List Event → Topic → Items
+direct_response events topic = shown (now_of (observed events)) (current (observed events)) topic
+
+-- ---- what is told of a view
+
+-- items are those of a direct response: they are in order of key, each key once; they have the keys of the response; and of each
+-- key the two items are near by the slack (ChangeBeforeUpdates)
+pub record AreDirect (slack : ℤ) (items : List AnItem) (response : Items) : Type 0 where
+  pub in_order : InOrder (by_key items)
+  pub meets : Meets slack (by_key items) response
+
+-- what is told is the line of the view, and its items. Where it is quiet, these are the items of the direct response to the topic
+-- of the subscription that the consumer asked for last
+pub record ShowsDirect (events : List Event) (consumer identifier : Name) (lines : List ToldLine) : Type 0 where
+  pub held : Held
+  pub items : List AnItem
+  pub quiet : Bool
+  pub says : lines ≡ line.View consumer identifier held (length items) quiet ∷ map line.Item items
+  pub asked : Asked
+  pub is_asked : asked_last events consumer identifier ≡ Some asked
+  pub is_direct : quiet ≡ true → AreDirect asked.subscription.slack items (direct_response events asked.subscription.topic)
+
+-- the consumer asked for no such subscription, or has ended it, and that is what is told
+pub record ShowsNone (events : List Event) (consumer identifier : Name) (lines : List ToldLine) : Type 0 where
+  pub is_asked : asked_last events consumer identifier ≡ None
+  pub says : lines ≡ line.Unknown consumer (Some identifier) ∷ []
+
+-- what is told of a view: that there is none, or the view
+abbrev pub TellsView : List Event → (consumer identifier : Name) → List ToldLine → Type 0
+TellsView events consumer identifier lines = ShowsNone events consumer identifier lines ⊎ ShowsDirect events consumer identifier lines
+
+-- ---- events
+
+-- none of them was refused
+abbrev pub AllHappen : List Event → Type 0
+AllHappen events = (before : List Event) (e : Event) (after : List Event) → events ≡ before ++ e ∷ after → refusal (world_after before) e ≡ None

@@ -1,0 +1,39 @@
+//! What holds of every world: each law is the contract of a function that does nothing when it is called.
+//!
+//! ```text
+//!     events --world_after--> a world: its producer's histories, its packets, its consumers
+//!                                |
+//!                                |  each packet is a letter of one subscription, or of none
+//!                                v
+//!                             a network: lives, what consumers keep, letters
+//!                                |
+//!                                +---> what a consumer's view is, and where it meets the direct response
+//!                                +---> what is said of a packet that comes again
+//!                                +---> what other subscriptions change of one: nothing
+//! ```
+//!
+//! A world is a network as `siri_life` has it, event by event: `specs/Letters.antt` says what each packet is about,
+//! `specs/Networks.antt` what a world is in the words of networks, `specs/Happenings.antt` what each event is there. So what
+//! `siri_life_laws` proves of networks holds of worlds; `specs/Claims.antt`, `QuietViews.antt` and `Views.antt` say it in the
+//! words of scripts, and `Apart.antt` of a producer's history. No law says that a packet comes: all of them hold where each
+//! one is lost.
+//!
+//! How it is proved: `proofs/Producer.antt` has what the producer's messages are as letters, `Consumers.antt` what the consumers'
+//! events do, `Steps.antt` every event, `Worlds.antt` all of them; `Goals.antt` that the lives of all starts tell the same
+//! rounds as the history of one; `Views`, `QuietLines`, `Parts` and `Apart` what follows; `Observed` that a producer knows what was
+//! observed since its latest start, and `Telling` what is told of a view.
+//!
+//! Stands on `siri_world_model`, which has the definitions of worlds, on `siri_model_laws` and on `siri_life_laws`.
+#![tactic(auto)]
+
+mod network_laws;
+mod packet_laws;
+mod producer_laws;
+mod told_laws;
+mod view_laws;
+
+pub use network_laws::worlds_are_networks;
+pub use packet_laws::{no_gap_is_shown, packets_carry_their_rounds, parts_are_taken_once};
+pub use producer_laws::{a_second_settle_changes_nothing, other_subscriptions_change_nothing};
+pub use told_laws::quiet_views_are_direct;
+pub use view_laws::{quiet_views_meet, views_are_goals};
