@@ -1,0 +1,7 @@
+pub mod Found
+pub mod Starts
+pub mod Producers
+pub mod Requests
+pub mod Deeds
+pub mod Asked
+pub mod Listed

@@ -1,0 +1,43 @@
+-- Inner words: cited by private functions alone. What the machine does in an event, as the effect of the event.
+use Rattle.std.specs.Prelude.{◌≡◌, ℕ, ◌<◌, if◌then◌else◌, Option, Some, None, IsSome}
+use Rattle.siri_world_model.specs.declared.event.Event.{Event}
+use Rattle.siri_world_model.specs.declared.event.Event.TheVariants as event
+use Rattle.siri_world_model.specs.declared.step_error.StepError.{StepError}
+use Rattle.siri_world_model.specs.declared.step_error.StepError.TheVariants as error
+use Rattle.siri_world_model.specs.Lines.{told_lines}
+use Rattle.siri_world_model.specs.World.{World}
+use Rattle.siri_world_model.specs.Effects.{Effect}
+use Rattle.siri_world_model.specs.Told.{is_early, passes_starts, passes_consumers}
+use Rattle.siri_world.specs.declared.happened.Happened.{Happened}
+use Rattle.siri_world.specs.Kept.{sent_packets}
+use Rattle.siri_world.specs.Known.{Known, Knows}
+
+-- the first refusal but for the packets
+abbrev pub first_refusal : World → Event → Option StepError
+first_refusal world event =
+    if is_early world event then Some error.NotStarted
+    else (if passes_starts world event then Some error.StartLimit
+    else (if passes_consumers world event then Some error.ConsumerLimit else None))
+
+-- a start is within its limit, and any other event comes after one
+abbrev pub CanHappen : Known → Event → Type 0
+CanHappen known (event.Start moment) = known.starts < 1000000
+CanHappen known other = IsSome known.producer
+
+-- with so many packets there are too many, or memory is wanting
+abbrev pub IsFull : StepError → ℕ → Type 0
+IsFull error.PacketLimit packets = 1000000 < packets
+IsFull error.OutOfMemory packets = Unit {0}
+IsFull error.NotStarted packets = ⊥
+IsFull error.StartLimit packets = ⊥
+IsFull error.ConsumerLimit packets = ⊥
+
+-- this was done: its lines are told, its packets are to be sent, and its world is known
+pub record Does (effect : Effect) (happened : Happened) (new : Known) : Type 0 where
+  pub lines : told_lines happened.lines ≡ effect.lines
+  pub packets : sent_packets happened.packets ≡ effect.packets
+  pub world : Knows new effect.world
+
+-- by any world that was known
+abbrev pub Happens : Known → Known → (World → Effect) → Happened → Type 0
+Happens old new effect happened = (world : World) → Knows old world → Does (effect world) happened new

@@ -1,0 +1,7 @@
+pub mod Known
+pub mod Refused
+pub mod Kept
+pub mod Places
+pub mod Asking
+pub mod Serving
+pub mod Doing

@@ -1,0 +1,164 @@
+// The consumers of a world.
+ghost use Rattle.std.specs.Prelude.{◌≡◌, ◌<◌, [], ◌∷◌, length, position, option_map, IfOk, OnOk};
+ghost use Rattle.siri_life.specs.Named as named;
+ghost use Rattle.siri_view.specs.Consuming.{Consuming, after_message, after_subscribe, after_terminate, request_for, seen_of, termination_of};
+ghost use Rattle.siri_world_model.specs.Consumers.{all_clocked, consumer_of, consumer_or_new, is_named, new_consumer, with_consumer};
+ghost use Rattle.siri_world_model.specs.Effects.{ask_refusal};
+ghost use Rattle.siri_world.specs.Asking.{Asks, termination_refusal};
+ghost use Rattle.siri_world.specs.Places.{IsAt, IsPlaceOf};
+
+use siri_base::{Copies, List, Moment, Name, OutOfMemory, Span};
+use siri_messages::Message;
+use siri_topic::Subscription;
+use siri_view::{AskError, Consumer, Seen};
+use std::alloc::Global;
+use std::marker::Model;
+
+// The most consumers that are made.
+pub(crate) const MOST_CONSUMERS: usize = 16;
+
+// Consumers in order of first use. Each is found by its name.
+#[derive(Drop)]
+pub(crate) struct Consumers {
+    list: Vec<Consumer>,
+}
+
+impl Model for Consumers {
+    ghost use Rattle.std.specs.Prelude.{List};
+    ghost use Rattle.siri_view.specs.Consuming.{Consuming};
+
+    ghost Value = { List Consuming };
+
+    ghost view = { λ c. c.list.items };
+}
+
+impl Consumers {
+    // None was made. It takes no memory.
+    pub(crate) fn new(alloc: Global) -> Consumers
+        ensures { result ≡ [] }
+    {
+        Consumers {
+            list: Vec::new(alloc),
+        }
+    }
+
+    // How many were made.
+    pub(crate) fn len(&self) -> usize
+        ensures { result ≡ length self.now }
+    {
+        self.list.len()
+    }
+
+    // The consumer of a name.
+    pub(crate) fn get(&self, name: &Name) -> Option<&Consumer>
+        ensures { option_map (λ consumer. consumer.now) result ≡ consumer_of name.now self.now }
+    {
+        match self.place_of(name) {
+            Some(place) => self.list.get(place),
+            None => None,
+        }
+    }
+
+    // Where the consumer of a name stands, counted from 0.
+    pub(crate) fn place_of(&self, name: &Name) -> Option<usize>
+        ensures { IsPlaceOf name.now self.now result }
+    {
+        self.position(name)
+    }
+
+    fn position(&self, name: &Name) -> Option<usize>
+        ensures { result ≡ position (is_named name.now) self.now }
+    {
+        self.list
+            .iter()
+            .position(|consumer| is_named(consumer, name))
+    }
+
+    // Where the consumer of a name stands, which is made where there is none.
+    pub(crate) fn place_or_new(
+        &mut self,
+        alloc: Global,
+        name: &Name,
+        moment: Moment,
+    ) -> Result<usize, OutOfMemory>
+        ensures place { IfOk result (λ place. IsAt name.now self.new place (consumer_or_new moment name.now (consumer_of name.now self.old))) }
+        ensures ok { OnOk result (self.new ≡ with_consumer (consumer_or_new moment name.now (consumer_of name.now self.old)) self.old) }
+    {
+        match self.place_of(name) {
+            Some(place) => Ok(place),
+            None => {
+                self.list.push(new_consumer(alloc, name, moment)?)?;
+                Ok(self.list.len() - 1)
+            }
+        }
+    }
+
+    // The moments of all become the later. It takes no memory.
+    pub(crate) fn clock(&mut self, now: Moment)
+        ensures { self.new ≡ all_clocked now self.old }
+    {
+        for consumer in self.list.iter_mut() {
+            consumer.clock(now);
+        }
+    }
+
+    // The consumer at a place asks for a subscription. After want of memory all is as before.
+    pub(crate) fn subscribe(
+        &mut self,
+        place: usize,
+        wanted: &Subscription,
+        beat: Span,
+    ) -> Result<Message, AskError>
+        requires { place < length self.old }
+        ensures { (name : named.Name) (c : Consuming) → IsAt name self.old place c
+            → Asks (ask_refusal c wanted.now) (request_for c (wanted.now ∷ []) beat) (after_subscribe c (wanted.now ∷ []) beat) self.old result self.new }
+    {
+        let wanted = list_of(*self.list.allocator(), wanted)?;
+        let consumer = &mut self.list[place];
+        consumer.subscribe(&wanted, beat)
+    }
+
+    // The consumer at a place ends what it holds. After want of memory all is as before.
+    pub(crate) fn terminate(&mut self, place: usize, identifier: &Name) -> Result<Message, AskError>
+        requires { place < length self.old }
+        ensures { (name : named.Name) (c : Consuming) → IsAt name self.old place c
+            → Asks (termination_refusal c identifier.now) (termination_of c identifier.now) (after_terminate c identifier.now) self.old result self.new }
+    {
+        let consumer = &mut self.list[place];
+        consumer.terminate(identifier)
+    }
+
+    // The consumer at a place takes a message.
+    pub(crate) fn take(&mut self, place: usize, message: &Message) -> Result<Seen, OutOfMemory>
+        requires { place < length self.old }
+        ensures seen { IfOk result (λ seen. (name : named.Name) (c : Consuming) → IsAt name self.old place c → seen ≡ seen_of c message.now) }
+        ensures ok { OnOk result ((name : named.Name) (c : Consuming) → IsAt name self.old place c → self.new ≡ with_consumer (after_message c message.now) self.old) }
+    {
+        let consumer = &mut self.list[place];
+        consumer.take(message)
+    }
+}
+
+fn is_named(consumer: &Consumer, name: &Name) -> bool
+    ensures { result ≡ is_named name.now consumer.now }
+{
+    consumer.name() == name
+}
+
+// A consumer at its first use.
+fn new_consumer(alloc: Global, name: &Name, moment: Moment) -> Result<Consumer, OutOfMemory>
+    ensures { IfOk result (λ consumer. consumer ≡ new_consumer name.now moment) }
+{
+    let mut consumer = Consumer::new(alloc, name.copy()?, None, 1)?;
+    consumer.clock(moment);
+    Ok(consumer)
+}
+
+// The list of one subscription.
+fn list_of(alloc: Global, wanted: &Subscription) -> Result<List<Subscription>, OutOfMemory>
+    ensures { IfOk result (λ list. list ≡ wanted.now ∷ []) }
+{
+    let mut list = List::new(alloc);
+    list.push(wanted.copy()?)?;
+    Ok(list)
+}
