@@ -1,0 +1,9 @@
+-- In order of reading: what the lines bring, one after the other; what a run leaves in its sink; what one line brings; what a
+-- run over lines writes; why lines are read no further. The words in `inner` are cited by private functions alone.
+pub mod RunResult
+pub mod Ends
+pub mod Stops
+pub mod Brings
+pub mod Reports
+pub mod Fronts
+pub mod inner

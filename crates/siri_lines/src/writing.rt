@@ -1,0 +1,21 @@
+// Writes whole texts.
+ghost use Rattle.std.specs.Prelude.{◌≡◌, ◌≤◌, OnOk, OnErr, IsErrOf};
+ghost use Rattle.std.specs.Io.KnownBytes.{Appends};
+ghost use Rattle.siri_base.specs.Causes.{HasOutsideCause};
+ghost use Rattle.siri_lines.specs.Ends.{AppendsFront};
+
+use siri_base::{OutsideError, Sink};
+
+/// Writes the whole text, in as many calls as it takes.
+pub fn write_text<K: Sink>(sink: &mut K, text: &[u8]) -> Result<(), OutsideError>
+    ensures ok { OnOk result (Appends (K.held sink.old) (K.held sink.new) text.now) }
+    ensures err { OnErr result (AppendsFront (K.held sink.old) (K.held sink.new) text.now) }
+    ensures cause { HasOutsideCause (K.faults sink.old) (K.faults sink.new) result }
+{
+    let mut rest = text;
+    while !rest.is_empty() {
+        let count = sink.write(rest)?;
+        rest = rest.split_at(count).1;
+    }
+    Ok(())
+}
