@@ -1,0 +1,35 @@
+// The command `replay`.
+ghost use Rattle.std.specs.Prelude.{◌≡◌};
+ghost use Rattle.siri_base.specs.Causes.{Rose};
+ghost use Rattle.siri_lines.specs.Ends.{ReadsAll};
+ghost use Rattle.siri_lines.specs.Reports.{Reports};
+ghost use Rattle.siri_lines.specs.Stops.{EndsReading};
+ghost use Rattle.siri_replay.specs.Report.{report};
+ghost use Rattle.siri_replay.specs.Views.{ReportsViews};
+
+use crate::script::Script;
+use siri_base::{Sink, Source, Status};
+use siri_lines::read_lines;
+use std::alloc::Global;
+
+/// The most lines that a script may have.
+const LINES: u64 = 1_000_000;
+
+/// Reads a script to its end, and writes its report as its events are complete.
+///
+/// `Script` at the first line that isn't of the grammar. `Limit` at the first that has more than 1,048,576 bytes, is the
+/// 1,000,001st, sends packet 1,000,001 or makes a 17th consumer. `ReadFault` and `WriteFault` only where the source or the
+/// sink failed, `OutOfMemory` wherever memory is asked for, otherwise `Done`.
+pub fn replay<S: Source, K: Sink>(alloc: Global, source: &mut S, sink: &mut K) -> Status
+    ensures report { Reports report (S.left source.old) (S.left source.new) (K.held sink.old) (K.held sink.new) result }
+    ensures views { ReportsViews (S.left source.old) (S.left source.new) (K.held sink.old) (K.held sink.new) result }
+    ensures all { ReadsAll (S.left source.new) result }
+    ensures read { result ≡ Status.ReadFault → Rose (S.faults source.old) (S.faults source.new) }
+    ensures write { result ≡ Status.WriteFault → Rose (K.faults sink.old) (K.faults sink.new) }
+    ensures ends { EndsReading result }
+{
+    match Script::new(alloc) {
+        Ok(mut script) => read_lines(alloc, LINES, &mut script, source, sink),
+        Err(_) => Status::OutOfMemory,
+    }
+}

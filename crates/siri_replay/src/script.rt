@@ -1,0 +1,75 @@
+// What takes the lines of a script.
+ghost use Rattle.std.specs.Prelude.{◌≡◌, ◌++◌, [], ◌∷◌, ◌||◌, IfOk, OnOk, Err};
+ghost use Rattle.siri_lines.specs.Brings.{Brings, StopCause};
+ghost use Rattle.siri_world_model.specs.Told.{is_start, told, world_after};
+ghost use Rattle.siri_replay.specs.Report.{World as Happened, by_told, event};
+ghost use Rattle.siri_replay.specs.inner.Standing.{Fits};
+
+use crate::report_line::write_lines;
+use crate::saying::line_said;
+use siri_base::{OutOfMemory, Sink};
+use siri_lines::{LineTaker, Stop};
+use siri_world::{Event, StepError, World};
+use std::alloc::Global;
+
+/// A script, as far as its lines were taken.
+#[derive(Drop)]
+pub struct Script {
+    alloc: Global,
+    world: World,
+    /// Whether a producer has started.
+    started: bool,
+}
+
+impl Script {
+    /// A script of which no line was taken.
+    pub fn new(alloc: Global) -> Result<Script, OutOfMemory>
+        ensures { IfOk result (λ script. Fits script []) }
+    {
+        Ok(Script {
+            alloc,
+            world: World::new(alloc)?,
+            started: false,
+        })
+    }
+
+    /// The event of the line of this number happens, and its lines are written.
+    fn happen<K: Sink>(&mut self, number: u64, event: &Event, sink: &mut K) -> Result<(), Stop>
+        ensures brings { (events : Happened) → Fits self.old events →
+            Brings Fits self.new (K.held sink.old) (K.held sink.new) result (by_told number events event.now (told (world_after events) event.now)) }
+        ensures cause { StopCause (K.faults sink.old) (K.faults sink.new) result }
+    {
+        match self.world.step(event) {
+            Ok(lines) => {
+                self.started = self.started || is_start(event);
+                write_lines(self.alloc, lines.slice(), sink)?;
+                Ok(())
+            }
+            Err(StepError::OutOfMemory) => Err(Stop::OutOfMemory),
+            Err(_) => Err(Stop::Limit { line: number }),
+        }
+    }
+}
+
+impl LineTaker for Script {
+    ghost World = { Happened };
+
+    ghost event = { event };
+
+    ghost fits = { Fits };
+
+    fn take_line<K: Sink>(&mut self, number: u64, line: &[u8], sink: &mut K) -> Result<(), Stop> {
+        match line_said(self.alloc, self.started, line) {
+            Ok(Some(event)) => self.happen(number, &event, sink),
+            Ok(None) => Ok(()),
+            Err(error) => Err(error.stop(number)),
+        }
+    }
+}
+
+/// Whether a producer starts.
+fn is_start(event: &Event) -> bool
+    ensures { result ≡ is_start event.now }
+{
+    matches!(event, Event::Start(_))
+}
