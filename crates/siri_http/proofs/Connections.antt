@@ -1,0 +1,202 @@
+-- Steps over the connection that is there, one after the other.
+use Rattle.std.proofs.Common.{zero, suc, ◌≡◌, ◌≤◌, ◌<◌, ◌+◌, ◌-◌, ℕ, List, [], ◌∷◌, ◌++◌, None, Some, Option, Bool, true, false, Result, Ok, Err, length, take, drop, refl, sym, ap, ◌∙◌, subst, append-nil, append_assoc, arith, length-append, cond, inl, inr, ◌⊎◌}
+use Rattle.std.proofs.lemmas.Bool.{le-leb, lt-leb, leb-true, leb-false, cases_lt}
+use Rattle.std.specs.Prelude.{nat_le}
+use Rattle.std.proofs.lemmas.List.{length-take-le, take_all}
+use Rattle.std.proofs.Math.Seq.{take-append-add, take-add}
+use Rattle.siri_base.specs.declared.errors.Failed.{Failed}
+use Rattle.siri_base.specs.Failures.{IsDue, Passes}
+use Rattle.siri_base.specs.OutsideCalls.{WhereTold}
+use Rattle.siri_base.specs.Wires.{Present, WireState, Reads, TakesBytes}
+use Rattle.siri_http.specs.declared.errors.HttpError.{HttpError}
+use Rattle.siri_http.specs.declared.errors.HttpError.TheVariants as http
+use Rattle.siri_http.specs.Connections.{passing, readable, cut_by, cut_of, OnConnection}
+use Rattle.siri_http.specs.inner.Reading.{Takes, Stops}
+
+-- ---- what is told
+
+pub told_map : (P Q : Present → Present → Type 0) (x y : Option Present) → ((a b : Present) → P a b → Q a b) → WhereTold x y P → WhereTold x y Q
+told_map P Q None y f p = tt
+told_map P Q (Some a) None f p = absurd p
+told_map P Q (Some a) (Some b) f p = f a b p
+
+told_then : (P Q R : Present → Present → Type 0) (x y z : Option Present) → ((a b c : Present) → P a b → Q b c → R a c) → WhereTold x y P → WhereTold y z Q → WhereTold x z R
+told_then P Q R None y z f p q = tt
+told_then P Q R (Some a) None z f p q = absurd p
+told_then P Q R (Some a) (Some b) None f p q = absurd q
+told_then P Q R (Some a) (Some b) (Some c) f p q = f a b c p q
+
+-- a step says less
+pub on_map : (P Q : Present → Present → Type 0) (x y : Option WireState) → ((a b : Present) → P a b → Q a b) → OnConnection P x y → OnConnection Q x y
+on_map P Q None y f p = tt
+on_map P Q (Some a) None f p = absurd p
+on_map P Q (Some a) (Some b) f p = record { present = told_map P Q a.present b.present f p.present; rest = p.rest }
+
+-- a step after a step
+pub on_then : (P Q R : Present → Present → Type 0) (x y z : Option WireState) → ((a b c : Present) → P a b → Q b c → R a c) → OnConnection P x y → OnConnection Q y z → OnConnection R x z
+on_then P Q R None y z f p q = tt
+on_then P Q R (Some a) None z f p q = absurd p
+on_then P Q R (Some a) (Some b) None f p q = absurd q
+on_then P Q R (Some a) (Some b) (Some c) f p q = record {
+  present = told_then P Q R a.present b.present c.present f p.present q.present;
+  rest = q.rest ∙ ap (λ (w : WireState). record w { present = c.present }) p.rest;
+}
+
+told_same : (P : Present → Present → Type 0) (x : Option Present) → ((a : Present) → P a a) → WhereTold x x P
+told_same P None f = tt
+told_same P (Some a) f = f a
+
+-- no step
+pub on_same : (P : Present → Present → Type 0) (x : Option WireState) → ((a : Present) → P a a) → OnConnection P x x
+on_same P None f = tt
+on_same P (Some a) f = record { present = told_same P a.present f; rest = refl }
+
+-- ---- failures by bytes
+
+pub passes_none : (f : List ℕ) → Passes f f 0
+passes_none [] = refl
+passes_none (b ∷ l) =
+    let same : b ≡ b - 0 = omega arith in
+    (omega arith, ap (λ k. k ∷ l) same)
+
+pub passes_more : (f g h : List ℕ) (n m : ℕ) → Passes f g n → Passes g h m → Passes f h (n + m)
+passes_more [] g h n m p q = subst (λ g. Passes g h m) p q
+passes_more (b ∷ l) g h n m p q =
+    let r : Passes ((b - n) ∷ l) h m = subst (λ g. Passes g h m) p.1 q in
+    let same : (b - n) - m ≡ b - (n + m) = omega (arith, p.0, r.0) in
+    (omega (arith, p.0, r.0), r.1 ∙ ap (λ k. k ∷ l) same)
+
+passing_more : (f g bytes rest : List ℕ) → Passes f g (length bytes) → passing f (bytes ++ rest) ≡ bytes ++ passing g rest
+passing_more [] g bytes rest p = rw p refl
+passing_more (b ∷ l) g bytes rest p =
+    let e : b ≡ length bytes + (b - length bytes) = omega (arith, p.0) in
+    ap (λ k. take k (bytes ++ rest)) e ∙ take-append-add bytes rest (b - length bytes) ∙ ap (λ g. bytes ++ passing g rest) (sym p.1)
+
+le_shift : (b n m : ℕ) → n ≤ b → nat_le b (n + m) ≡ nat_le (b - n) m
+le_shift b n m h = choose (nat_le (b - n) m) refl
+  where
+    choose : (t : Bool) → nat_le (b - n) m ≡ t → nat_le b (n + m) ≡ nat_le (b - n) m
+    choose true e = le-leb b (n + m) (omega (arith, h, leb-true _ _ e)) ∙ sym e
+    choose false e = lt-leb b (n + m) (omega (arith, h, leb-false _ _ e)) ∙ sym e
+
+cut_more : (f g bytes rest : List ℕ) → Passes f g (length bytes) → cut_by f (length (bytes ++ rest)) ≡ cut_by g (length rest)
+cut_more [] g bytes rest p = rw p refl
+cut_more (b ∷ l) g bytes rest p =
+    ap (λ t. cond t http.ReadFault http.Short) (ap (nat_le b) (length-append bytes rest) ∙ le_shift b (length bytes) (length rest) p.0) ∙ ap (λ g. cut_by g (length rest)) (sym p.1)
+
+-- ---- bytes that were taken
+
+pub takes_none : (a : Present) → Takes [] a a
+takes_none a = record { input = refl; fails = passes_none a.left.read_fails; unwritten = refl; written = refl }
+
+pub takes_more : (bytes more : List ℕ) (a b c : Present) → Takes bytes a b → Takes more b c → Takes (bytes ++ more) a c
+takes_more bytes more a b c p q = record {
+  input = p.input ∙ ap (λ l. bytes ++ l) q.input ∙ sym (append_assoc bytes more c.left.input);
+  fails = subst (Passes a.left.read_fails c.left.read_fails) (sym (length-append bytes more)) (passes_more _ _ _ _ _ p.fails q.fails);
+  unwritten = q.unwritten ∙ p.unwritten;
+  written = q.written ∙ p.written;
+}
+
+-- what can be read of a connection of which some was taken
+pub takes_readable : (bytes : List ℕ) (a b : Present) → Takes bytes a b → readable a.left ≡ bytes ++ readable b.left
+takes_readable bytes a b p = ap (passing a.left.read_fails) p.input ∙ passing_more _ _ bytes b.left.input p.fails
+
+pub takes_cut : (bytes : List ℕ) (a b : Present) → Takes bytes a b → cut_of a.left ≡ cut_of b.left
+takes_cut bytes a b p = ap (λ l. cut_by a.left.read_fails (length l)) p.input ∙ cut_more _ _ bytes b.left.input p.fails
+
+pub stops_more : (bytes more : List ℕ) (cut : HttpError) (a b c : Present) → Takes bytes a b → Stops more cut b c → Stops (bytes ++ more) cut a c
+stops_more bytes more cut a b c p q = record {
+  input = p.input ∙ ap (λ l. bytes ++ l) q.input ∙ sym (append_assoc bytes more c.left.input);
+  readable_is = takes_readable bytes a b p ∙ ap (λ l. bytes ++ l) q.readable_is;
+  cut_is = takes_cut bytes a b p ∙ q.cut_is;
+  known = q.known;
+  unwritten = q.unwritten ∙ p.unwritten;
+  written = q.written ∙ p.written;
+}
+
+-- ---- one read
+
+reads_as : {E : Type 0} (Q : Present → Present → Type 0) (x y : Option WireState) (r : Result ℕ E) (lent : List ℕ) → WhereTold x y (λ old new. Reads old new r lent) → ((a b : Present) → TakesBytes a b r lent → Q a b) → OnConnection Q x y
+reads_as Q None y r lent p f = tt
+reads_as Q (Some a) None r lent p f = absurd p
+reads_as Q (Some a) (Some b) r lent p f = record { present = told_map _ Q a.present b.present f p.present; rest = p.rest }
+
+some_taken : (n : ℕ) (lent : List ℕ) (a b : Present) → n ≤ length lent → TakesBytes {E = Failed} a b (Ok n) lent → Takes (take n lent) a b
+some_taken n lent a b h p = record {
+  input = p.bytes.0;
+  fails = subst (Passes a.left.read_fails b.left.read_fails) (sym (length-take-le n lent h)) p.fails.0;
+  unwritten = p.unwritten;
+  written = p.written;
+}
+
+-- a read gave bytes
+pub read_takes : (x y : Option WireState) (n : ℕ) (lent : List ℕ) → n ≤ length lent → WhereTold x y (λ old new. Reads {E = Failed} old new (Ok n) lent) → OnConnection (Takes (take n lent)) x y
+read_takes x y n lent h p = reads_as _ x y (Ok n) lent p (λ a b. some_taken n lent a b h)
+
+passing_nil : (f : List ℕ) → passing f [] ≡ []
+passing_nil [] = refl
+passing_nil (zero ∷ l) = refl
+passing_nil (suc b ∷ l) = refl
+
+cut_at_end : (f : List ℕ) (k : ℕ) → 0 < k → (IsDue f → k ≡ 0) → cut_by f 0 ≡ http.Short
+cut_at_end [] k some due = refl
+cut_at_end (b ∷ l) k some due = ap (λ t. cond t http.ReadFault http.Short) (lt-leb b 0 (choose (cases_lt 0 b)))
+  where
+    choose : (0 < b) ⊎ (b ≤ 0) → 0 < b
+    choose (inl h) = h
+    choose (inr h) = absurd (omega (arith, some, due (omega (arith, h))))
+
+end_reached : (lent : List ℕ) (a b : Present) → 0 < length lent → TakesBytes {E = Failed} a b (Ok 0) lent → Stops [] http.Short a b
+end_reached lent a b some p =
+    let none : a.left.input ≡ [] = p.bytes.0 ∙ p.bytes.1 refl some in
+    record {
+      input = p.bytes.0;
+      readable_is = ap (passing a.left.read_fails) none ∙ passing_nil a.left.read_fails;
+      cut_is = ap (λ l. cut_by a.left.read_fails (length l)) none ∙ cut_at_end a.left.read_fails (length lent) some p.fails.1;
+      known = refl;
+      unwritten = p.unwritten;
+      written = p.written;
+    }
+
+-- a read met the end
+pub read_ends : (x y : Option WireState) (lent : List ℕ) → 0 < length lent → WhereTold x y (λ old new. Reads {E = Failed} old new (Ok 0) lent) → OnConnection (Stops [] http.Short) x y
+read_ends x y lent some p = reads_as _ x y (Ok 0) lent p (λ a b. end_reached lent a b some)
+
+fault_came : {E : Type 0} (e : E) (lent : List ℕ) (a b : Present) → TakesBytes a b (Err e) lent → Stops [] http.ReadFault a b
+fault_came e lent a b p = record {
+  input = sym p.bytes;
+  readable_is = ap (λ f. passing f a.left.input) p.fails.0;
+  cut_is = ap (λ f. cut_by f (length a.left.input)) p.fails.0 ∙ ap (λ t. cond t http.ReadFault http.Short) (le-leb 0 (length a.left.input) (omega arith));
+  known = refl;
+  unwritten = p.unwritten;
+  written = p.written;
+}
+
+-- a read failed
+pub read_fails : {E : Type 0} (x y : Option WireState) (e : E) (lent : List ℕ) → WhereTold x y (λ old new. Reads old new (Err e) lent) → OnConnection (Stops [] http.ReadFault) x y
+read_fails x y e lent p = reads_as _ x y (Err e) lent p (λ a b. fault_came e lent a b)
+
+-- ---- a buffer that is filled
+
+-- the bytes that came before and those of a read
+pub taken_on : (f n : ℕ) (old new : List ℕ) → take f new ≡ take f old → take (f + n) new ≡ take f old ++ take n (drop f new)
+taken_on f n old new e = take-add f n new ∙ ap (λ l. l ++ take n (drop f new)) e
+
+-- the connection before any read
+pub took_none : (buffer : List ℕ) (x : Option WireState) → OnConnection (Takes (take 0 buffer)) x x
+took_none buffer x = on_same (Takes []) x takes_none
+
+-- a read after those before it
+pub took_more : (x y z : Option WireState) (f n : ℕ) (old new : List ℕ) → take f new ≡ take f old → OnConnection (Takes (take f old)) x y → OnConnection (Takes (take n (drop f new))) y z → OnConnection (Takes (take (f + n) new)) x z
+took_more x y z f n old new e p q =
+    subst (λ l. OnConnection (Takes l) x z) (sym (taken_on f n old new e))
+    (on_then (Takes (take f old)) (Takes (take n (drop f new))) (Takes (take f old ++ take n (drop f new))) x y z (takes_more (take f old) (take n (drop f new))) p q)
+
+-- a read that met the end or failed, after those before it
+pub took_stops : (x y z : Option WireState) (bytes : List ℕ) (e : HttpError) → OnConnection (Takes bytes) x y → OnConnection (Stops [] e) y z → OnConnection (Stops bytes e) x z
+took_stops x y z bytes e p q =
+    on_then (Takes bytes) (Stops [] e) (Stops bytes e) x y z (λ a b c r s. subst (λ l. Stops l e a c) (append-nil bytes) (stops_more bytes [] e a b c r s)) p q
+
+-- the whole buffer came
+pub took_all : (x y : Option WireState) (f : ℕ) (buffer : List ℕ) → length buffer ≤ f → OnConnection (Takes (take f buffer)) x y → OnConnection (Takes buffer) x y
+took_all x y f buffer h p = subst (λ l. OnConnection (Takes l) x y) (take_all f buffer h) p

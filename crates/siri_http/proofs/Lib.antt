@@ -1,0 +1,9 @@
+pub mod AddressTexts
+pub mod Connections
+pub mod FieldValues
+pub mod Fronts
+pub mod Lines
+pub mod Sending
+pub mod Numbers
+pub mod Saying
+pub mod Scans

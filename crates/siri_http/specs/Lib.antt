@@ -1,0 +1,12 @@
+-- In order of reading: the head text of an input; how long a body is; what a connection brings, and the messages that it
+-- brings; the texts that are written; addresses; when a call may answer that the wire failed. The words in `inner` are cited by
+-- private functions alone.
+pub mod Heads
+pub mod Bodies
+pub mod Connections
+pub mod Messages
+pub mod Parts
+pub mod Texts
+pub mod Addresses
+pub mod HttpCauses
+pub mod inner

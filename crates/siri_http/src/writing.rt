@@ -1,0 +1,143 @@
+// Writes requests and responses.
+ghost use Rattle.std.specs.Prelude.{◌≡◌, ◌++◌, length, IfOk, OnOk, true};
+ghost use Rattle.siri_http.specs.Connections.{OnConnection};
+ghost use Rattle.siri_http.specs.HttpCauses.{HasWriteCause};
+ghost use Rattle.siri_http.specs.Texts.{PutsText, head_end, is_written, phrase_of, request_text, response_text, type_of};
+
+use crate::{Address, HttpError};
+use http::StatusCode;
+use siri_base::{OutOfMemory, OutsideError, Wire, append, append_number};
+use std::alloc::Global;
+
+/// Writes the whole text, in as many calls as it takes.
+#[tactic(auto, using(crate::proofs::Sending::wrote_none, crate::proofs::Sending::wrote_more, crate::proofs::Sending::wrote_all, crate::proofs::Sending::wrote_fault, crate::proofs::Sending::wrote_front))]
+fn write_text<W: Wire>(wire: &mut W, text: &[u8]) -> Result<(), HttpError>
+    requires there { W.is_open wire.old }
+    ensures open { W.is_open wire.new }
+    ensures told { OnConnection (PutsText text.now result) (W.tells wire.old) (W.tells wire.new) }
+    ensures cause { HasWriteCause (W.faults wire.old) (W.faults wire.new) result }
+{
+    let mut rest = text;
+    while !rest.is_empty() {
+        match wire.write(rest) {
+            Ok(count) => rest = rest.split_at(count).1,
+            Err(OutsideError::Failed) => return Err(HttpError::WriteFault),
+            Err(OutsideError::OutOfMemory) => return Err(HttpError::OutOfMemory),
+        }
+    }
+    Ok(())
+}
+
+/// Puts the end of a head, and the body.
+fn append_body(alloc: Global, text: &mut Vec<u8>, body: &[u8]) -> Result<(), OutOfMemory>
+    ensures { OnOk result (text.new.items ≡ text.old.items ++ (head_end (length body.now) ++ body.now)) }
+{
+    append(text, b"Content-Length: ")?;
+    append_number(alloc, text, body.len() as u64)?;
+    append(text, b"\r\nConnection: close\r\n\r\n")?;
+    append(text, body)?;
+    Ok(())
+}
+
+/// The text of a request.
+fn request_text(alloc: Global, address: &Address, body: &[u8]) -> Result<Vec<u8>, OutOfMemory>
+    ensures { IfOk result (λ text. text.items ≡ request_text address.now.host address.now.path body.now) }
+{
+    let mut text = Vec::new(alloc);
+    append(&mut text, b"POST ")?;
+    append(&mut text, address.path.text().as_bytes())?;
+    append(&mut text, b" HTTP/1.1\r\nHost: ")?;
+    append(&mut text, address.host.text().as_bytes())?;
+    append(&mut text, b"\r\nContent-Type: application/json\r\n")?;
+    append_body(alloc, &mut text, body)?;
+    Ok(text)
+}
+
+/// The phrase of a status, which is empty where it has none.
+#[tactic(auto, unfolding(crate::specs::Texts::phrase_of))]
+fn phrase(code: StatusCode) -> &'static str
+    ensures { result.now ≡ phrase_of code }
+{
+    code.canonical_reason().unwrap_or("")
+}
+
+/// The type of a body.
+fn type_text(plain: bool) -> &'static [u8]
+    ensures { result.now ≡ type_of plain }
+{
+    if plain {
+        b"text/plain"
+    } else {
+        b"application/json"
+    }
+}
+
+/// The text of a response.
+fn response_text(
+    alloc: Global,
+    code: StatusCode,
+    plain: bool,
+    body: &[u8],
+) -> Result<Vec<u8>, OutOfMemory>
+    ensures { IfOk result (λ text. text.items ≡ response_text code plain body.now) }
+{
+    let mut text = Vec::new(alloc);
+    append(&mut text, b"HTTP/1.1 ")?;
+    append(&mut text, code.as_str().as_bytes())?;
+    append(&mut text, b" ")?;
+    append(&mut text, phrase(code).as_bytes())?;
+    append(&mut text, b"\r\nContent-Type: ")?;
+    append(&mut text, type_text(plain))?;
+    append(&mut text, b"\r\n")?;
+    append_body(alloc, &mut text, body)?;
+    Ok(text)
+}
+
+/// Writes a POST of a JSON body to an address. `WriteFault` comes only where the wire's count of faults rose.
+#[tactic(auto, using(crate::proofs::Sending::wrote_nothing))]
+pub fn write_request<W: Wire>(
+    alloc: Global,
+    wire: &mut W,
+    address: &Address,
+    body: &[u8],
+) -> Result<(), HttpError>
+    requires there { W.is_open wire.old }
+    ensures open { W.is_open wire.new }
+    ensures told { OnConnection (PutsText (request_text address.now.host address.now.path body.now) result) (W.tells wire.old) (W.tells wire.new) }
+    ensures cause { HasWriteCause (W.faults wire.old) (W.faults wire.new) result }
+{
+    let text = request_text(alloc, address, body)?;
+    write_text(wire, &text)
+}
+
+/// Writes a response of one of the statuses 200, 400, 405, 411, 413, 431 and 501, with a JSON body or a plain one.
+/// `WriteFault` comes only where the wire's count of faults rose.
+#[tactic(auto, using(crate::proofs::Sending::wrote_nothing))]
+pub fn write_response<W: Wire>(
+    alloc: Global,
+    wire: &mut W,
+    status: u16,
+    plain: bool,
+    body: &[u8],
+) -> Result<(), HttpError>
+    requires there { W.is_open wire.old }
+    requires status { is_written status ≡ true }
+    ensures open { W.is_open wire.new }
+    ensures told { OnConnection (PutsText (response_text status plain body.now) result) (W.tells wire.old) (W.tells wire.new) }
+    ensures cause { HasWriteCause (W.faults wire.old) (W.faults wire.new) result }
+{
+    let code = code_of(status);
+    let text = response_text(alloc, code, plain, body)?;
+    write_text(wire, &text)
+}
+
+/// The code of a status that is written.
+fn code_of(status: u16) -> StatusCode
+    requires { is_written status ≡ true }
+    ensures { result ≡ status }
+{
+    match StatusCode::from_u16(status) {
+        Ok(code) => code,
+        Err(_) => unreachable!(),
+    }
+}
