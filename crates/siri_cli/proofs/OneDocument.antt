@@ -12,8 +12,8 @@ use Rattle.siri_base.specs.declared.status.Status.TheVariants as status
 use Rattle.siri_messages.specs.declared.message.Message.{Message}
 use Rattle.siri_wire.specs.Documents.{message_of}
 use Rattle.siri_wire.proofs.Documents.{document_too_long}
-use Rattle.siri_cli.specs.RunResult.{RunResult}
-use Rattle.siri_cli.specs.Ends.{Bytes, Ends, AppendsFront, ReadsAll, is_cut}
+use Rattle.siri_lines.specs.RunResult.{RunResult}
+use Rattle.siri_lines.specs.Ends.{Bytes, Ends, AppendsFront, ReadsAll, is_cut}
 use Rattle.siri_cli.specs.inner.DocumentParts.{IsDocument, Tells}
 use Rattle.siri_cli.specs.OneDocument.{Answered, Answers, told_by, told_of}
 

@@ -9,9 +9,9 @@ use Rattle.siri_messages.specs.declared.message.Message.{Message}
 use Rattle.siri_messages.specs.Kinds.{kind_of}
 use Rattle.siri_wire.specs.Documents.{message_of}
 use Rattle.siri_wire.specs.Canonical.{canonical}
-use Rattle.siri_cli.specs.ReportLines.{line_feed}
-use Rattle.siri_cli.specs.Ends.{Bytes, Ends, AppendsFront, is_cut}
-use Rattle.siri_cli.specs.RunResult.{RunResult}
+use Rattle.siri_replay.specs.ReportLines.{line_feed}
+use Rattle.siri_lines.specs.Ends.{Bytes, Ends, AppendsFront, is_cut}
+use Rattle.siri_lines.specs.RunResult.{RunResult}
 
 -- `PATH: REASON`
 abbrev pub refusal_text : Refusal → List ℕ

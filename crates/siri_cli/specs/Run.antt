@@ -3,21 +3,7 @@ use Rattle.std.specs.Prelude.{Option, Some, None}
 use Rattle.siri_base.specs.declared.status.Status.{Status}
 use Rattle.siri_base.specs.declared.status.Status.TheVariants as status
 use Rattle.siri_cli.specs.declared.words.Command.{Command}
-use Rattle.siri_cli.specs.declared.words.Command.TheVariants.{Replay, Check, Convert}
-
--- the statuses that a script ends with, once it was read
-abbrev pub EndsScript : Status → Type 0
-EndsScript status.Done = Unit {0}
-EndsScript (status.Script n reason) = Unit {0}
-EndsScript (status.Limit n) = Unit {0}
-EndsScript status.OutOfMemory = Unit {0}
-EndsScript status.WriteFault = Unit {0}
-EndsScript other = ⊥
-
--- the statuses that `replay` may end with
-abbrev pub EndsReplay : Status → Type 0
-EndsReplay status.ReadFault = Unit {0}
-EndsReplay other = EndsScript other
+use Rattle.siri_cli.specs.declared.words.Command.TheVariants.{Replay, Check, Convert, Load}
 
 -- the statuses that a command over one document may end with
 abbrev pub EndsDocument : Status → Type 0
@@ -34,9 +20,20 @@ TakesDocument (Some Check) = Unit {0}
 TakesDocument (Some Convert) = Unit {0}
 TakesDocument other = ⊥
 
+-- the command reads nothing
+abbrev pub IsLoad : Option Command → Type 0
+IsLoad (Some (Load seed count)) = Unit {0}
+IsLoad other = ⊥
+
+-- it reads its input to the end, where it does its work
+abbrev pub ReadsInput : Option Command → Type 0
+ReadsInput (Some (Load seed count)) = ⊥
+ReadsInput other = Unit {0}
+
 -- the command has no use for the wire, the clock and the keeper of the start number
 abbrev pub UsesNone : Option Command → Type 0
 UsesNone None = Unit {0}
 UsesNone (Some Replay) = Unit {0}
 UsesNone (Some Check) = Unit {0}
 UsesNone (Some Convert) = Unit {0}
+UsesNone (Some (Load seed count)) = Unit {0}

@@ -1,26 +1,32 @@
 // The top call.
-ghost use Rattle.std.specs.Prelude.{◌≡◌, ◌↔◌, map, string_bytes, Some, None};
+ghost use Rattle.std.specs.Prelude.{◌≡◌, ◌↔◌, ℕ, map, string_bytes, Some, None};
 ghost use Rattle.siri_base.specs.Causes.{Rose};
-ghost use Rattle.siri_cli.specs.Ends.{ReadsAll};
+ghost use Rattle.siri_lines.specs.Ends.{ReadsAll};
 ghost use Rattle.siri_cli.specs.OneDocument.{Answers, check_text, convert_text};
-ghost use Rattle.siri_cli.specs.Reports.{Reports};
-ghost use Rattle.siri_cli.specs.Run.{EndsDocument, EndsReplay, TakesDocument, UsesNone};
-ghost use Rattle.siri_cli.specs.Report.{report};
+ghost use Rattle.siri_lines.specs.Reports.{Reports};
+ghost use Rattle.siri_lines.specs.Stops.{EndsReading};
+ghost use Rattle.siri_cli.specs.Run.{EndsDocument, IsLoad, ReadsInput, TakesDocument, UsesNone};
+ghost use Rattle.siri_load.specs.Load.{load_text};
+ghost use Rattle.siri_load.specs.Runs.{EndsLoad, Writes};
+ghost use Rattle.siri_replay.specs.Report.{report};
+ghost use Rattle.siri_replay.specs.Views.{ReportsViews};
 ghost use Rattle.siri_cli.specs.Commands.{command_of};
 
 use crate::check::Check;
 use crate::convert::Convert;
 use crate::document::answer_document;
-use crate::replay::replay;
 use crate::words::Command;
 use siri_base::{Clock, Keeper, Sink, Source, Status, Wire};
+use siri_load::load;
+use siri_replay::replay;
 use std::alloc::Global;
 
 /// Does what the words after the program's name say: `replay` reads a script and writes its report, `check` and
-/// `convert` read one document and write what is told of it.
+/// `convert` read one document and write what is told of it. A view that a report tells as `quiet` lists the items of a direct
+/// response at that moment over all observations since the producer's latest start, whatever packets were lost.
 ///
 /// `Usage` exactly where the words are no plain spelling of a command. `Refused` where the document of `check` or
-/// `convert` is refused. `Script` and `Limit` where a line of a script is refused, each with the number of that line.
+/// `convert` is refused. `Script` and `Limit` where a line of a script is refused or passes a limit, each with the number of that line.
 /// `ReadFault` and `WriteFault` only where the source or the sink failed, `OutOfMemory` wherever memory is asked for,
 /// otherwise `Done`. No command uses the wire, the clock and the keeper.
 pub fn run<S: Source, K: Sink, W: Wire, C: Clock, E: Keeper>(
@@ -35,13 +41,19 @@ pub fn run<S: Source, K: Sink, W: Wire, C: Clock, E: Keeper>(
     // What each command writes, and which status ends it.
     ensures replay { command_of (map string_bytes words.now) ≡ Some Command.Replay
         → Reports report (S.left source.old) (S.left source.new) (K.held sink.old) (K.held sink.new) result }
+    ensures views { command_of (map string_bytes words.now) ≡ Some Command.Replay
+        → ReportsViews (S.left source.old) (S.left source.new) (K.held sink.old) (K.held sink.new) result }
     ensures check { command_of (map string_bytes words.now) ≡ Some Command.Check
         → Answers check_text (S.left source.old) (S.left source.new) (K.held sink.old) (K.held sink.new) result }
     ensures convert { command_of (map string_bytes words.now) ≡ Some Command.Convert
         → Answers convert_text (S.left source.old) (S.left source.new) (K.held sink.old) (K.held sink.new) result }
 
+    ensures load { (seed count : ℕ) → command_of (map string_bytes words.now) ≡ Some (Command.Load seed count)
+        → Writes (load_text seed count) (K.held sink.old) (K.held sink.new) result }
+
     // What was read, and where nothing was done.
-    ensures all { ReadsAll (S.left source.new) result }
+    ensures all { ReadsInput (command_of (map string_bytes words.now)) → ReadsAll (S.left source.new) result }
+    ensures input { IsLoad (command_of (map string_bytes words.now)) → source.new ≡ source.old }
     ensures usage { (result ≡ Status.Usage) ↔ (command_of (map string_bytes words.now) ≡ None) }
     ensures nothing { result ≡ Status.Usage → (source.new ≡ source.old) × (sink.new ≡ sink.old) }
 
@@ -51,7 +63,9 @@ pub fn run<S: Source, K: Sink, W: Wire, C: Clock, E: Keeper>(
     ensures refused { result ≡ Status.Refused → TakesDocument (command_of (map string_bytes words.now)) }
     ensures document { TakesDocument (command_of (map string_bytes words.now)) → EndsDocument result }
     ensures unread { TakesDocument (command_of (map string_bytes words.now)) → result ≡ Status.ReadFault → sink.new ≡ sink.old }
-    ensures script { command_of (map string_bytes words.now) ≡ Some Command.Replay → EndsReplay result }
+    ensures script { command_of (map string_bytes words.now) ≡ Some Command.Replay → EndsReading result }
+
+    ensures made { IsLoad (command_of (map string_bytes words.now)) → EndsLoad result }
 
     // The rest of the outside.
     ensures unused { UsesNone (command_of (map string_bytes words.now))
@@ -62,5 +76,6 @@ pub fn run<S: Source, K: Sink, W: Wire, C: Clock, E: Keeper>(
         Some(Command::Replay) => replay(alloc, source, sink),
         Some(Command::Check) => answer_document::<Check, S, K>(alloc, source, sink),
         Some(Command::Convert) => answer_document::<Convert, S, K>(alloc, source, sink),
+        Some(Command::Load { seed, count }) => load(alloc, sink, seed, count),
     }
 }

@@ -4,15 +4,15 @@ ghost use Rattle.std.specs.Io.KnownBytes.{Consumes, IsAtEnd};
 ghost use Rattle.siri_base.specs.Causes.{Rose, HasOutsideCause};
 ghost use Rattle.siri_messages.specs.declared.message.Message.{Message as Msg};
 ghost use Rattle.siri_wire.specs.Documents.{Decodes, message_of};
-ghost use Rattle.siri_cli.specs.Ends.{ReadsAll};
+ghost use Rattle.siri_lines.specs.Ends.{ReadsAll};
 ghost use Rattle.siri_cli.specs.inner.DocumentParts.{IsDocument, Tells};
 ghost use Rattle.siri_cli.specs.OneDocument.{Answers, refused_told, told_by};
-ghost use Rattle.siri_cli.specs.ReportLines.{line_feed};
+ghost use Rattle.siri_replay.specs.ReportLines.{line_feed};
 ghost use Rattle.siri_cli.specs.Run.{EndsDocument};
 
-use crate::writing::write_text;
 use siri_base::{OutOfMemory, OutsideError, Sink, Source, Status, append};
 use siri_json::MAX_DOCUMENT;
+use siri_lines::write_text;
 use siri_messages::Message;
 use siri_wire::{DecodeError, Refusal, decode};
 use std::alloc::Global;
@@ -42,7 +42,7 @@ struct Answer {
 }
 
 impl Model for Answer {
-    ghost use Rattle.siri_cli.specs.RunResult.{RunResult};
+    ghost use Rattle.siri_lines.specs.RunResult.{RunResult};
     ghost use Rattle.siri_cli.specs.inner.DocumentParts.{status_where};
 
     ghost Value = { RunResult };

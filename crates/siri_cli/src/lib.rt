@@ -4,28 +4,23 @@
 //! which status ends the run.
 //!
 //! ```text
-//! words -> Command           source -> pieces -> lines -> word, argument -> event -> lines of the report -> sink
-//!          (words.rt)        (replay.rt, script.rt)  (lines.rt, arguments.rt)  (event.rt)  (report_line.rt)
+//! words -> Command           source -> replay -> sink
+//!          (words.rt)                  (siri_replay)
 //!
 //!                            source -> document -> message or refusal -> answer -> sink
 //!                            (document.rt)         (check.rt, convert.rt)
+//!
+//!                                      load   -> sink
+//!                                      (siri_load)
 //! ```
 //!
-//! The reader of lines knows nothing of what a line says; what a line says knows nothing of how it came.
+//! Stands on `siri_replay` and `siri_load` for scripts, on `siri_wire` for documents, and on `siri_lines` for what a run leaves in its sink.
 #![tactic(auto)]
 
-mod arguments;
 mod check;
 mod command;
 mod convert;
 mod document;
-mod event;
-mod lines;
-mod replay;
-mod report_line;
-mod script;
-mod script_end;
 mod words;
-mod writing;
 
 pub use command::run;

@@ -15,4 +15,6 @@ mod items;
 #[cfg(test)]
 mod replay;
 #[cfg(test)]
+mod rounds;
+#[cfg(test)]
 mod running;

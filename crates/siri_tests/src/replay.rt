@@ -138,8 +138,16 @@ const REFUSED: [(&[&str], &str, &str); 18] = [
     ),
     (&["clok\n"], "", "siri: line 1: BadWord"),
     (&["view c1 S\n"], "", "siri: line 1: NotStarted"),
-    (&[EIGHT, "view\n"], "started 1\n", "siri: line 2: NotYet"),
-    (&[EIGHT, EIGHT], "started 1\n", "siri: line 2: NotYet"),
+    (
+        &[EIGHT, "view c1\n"],
+        "started 1\n",
+        "siri: line 2: BadArgument",
+    ),
+    (
+        &[EIGHT, "terminate producer S\n"],
+        "started 1\n",
+        "siri: line 2: BadArgument",
+    ),
     (
         &[EIGHT, "clock\n"],
         "started 1\n",

@@ -3,8 +3,8 @@ use Rattle.std.specs.Prelude.{◌≤◌, ◌<◌, ℕ, List, length, Bool, true,
 use Rattle.std.specs.Io.KnownBytes.{Consumes, IsAtEnd}
 use Rattle.siri_base.specs.declared.status.Status.{Status}
 use Rattle.siri_base.specs.declared.status.Status.TheVariants as status
-use Rattle.siri_cli.specs.Ends.{Bytes, Ends, AppendsFront, is_cut}
-use Rattle.siri_cli.specs.RunResult.{RunResult}
+use Rattle.siri_lines.specs.Ends.{Bytes, Ends, AppendsFront, is_cut}
+use Rattle.siri_lines.specs.RunResult.{RunResult}
 
 -- the status where a document is refused, and where it isn't
 abbrev pub status_where : Bool → Status

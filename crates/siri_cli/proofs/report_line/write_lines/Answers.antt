@@ -1,5 +1,0 @@
-use Rattle.siri_cli.proofs.ReportLines.{on_err, lines_cut}
-use Rattle.siri_cli.proofs.report_line.write_lines.Goals as goal
-
-pub returns-in_err-write-clause-err : goal.returns-in_err-write-clause-err
-returns-in_err-write-clause-err g c = on_err c.from_residual.result (lines_cut _ _ _ c.args.lines.now c.loop-line.line-index c.line-item.result c.loop-line-test.true c.line-item.is c.loop-line.invariant.written c.in_err-write.ensures.err)
