@@ -2,8 +2,9 @@
 """Makes an input of the benchmark: `make.py lines N` is a script of N lines that are passed over, `make.py visits N`
 one with N visits fed in four lines and asked for once, `make.py delivery N` a ServiceDelivery of N visits with the rows
 that feeds have, about 600 bytes each, and `make.py stops N A` a script that feeds N such visits, 200 to a stop and 100 to a
-line, and asks A times for those of a stop; `make.py sorted N A` the same with visits that come in order of their keys. It
-goes to standard output."""
+line, and asks A times for those of a stop; `make.py sorted N A` the same with visits that come in order of their keys;
+`make.py subscribed N S C` a script of N such visits, 100 to a stop, of S subscriptions to one stop each, and of C changes of one
+visit each, in which every packet is delivered in order. It goes to standard output."""
 import json
 import sys
 
@@ -104,4 +105,34 @@ def in_order(count, asks):
     stops(count, asks, in_order=True)
 
 
-{"lines": lines, "visits": visits, "delivery": delivery, "stops": stops, "sorted": in_order}[sys.argv[1]](*map(int, sys.argv[2:]))
+def subscribed(count, subscriptions, changes):
+    """Every packet is delivered as soon as it is sent: a request, its response, the first round and its acknowledgement; and
+    of each change the round and its acknowledgement."""
+    print("start 2024-05-01T04:00:00Z")
+    number_of_stops = count // 100
+    visits = sorted((realistic_visit(number, number_of_stops) for number in range(count)), key=by_key)
+    for first in range(0, count, 100):
+        put("feed", {"ServiceDelivery": {"StopMonitoringDelivery": [{"MonitoredStopVisit": visits[first : first + 100]}]}})
+    sent = 0
+
+    def deliver(packets):
+        nonlocal sent
+        for _ in range(packets):
+            sent += 1
+            print("deliver", sent)
+    for number in range(subscriptions):
+        wanted = {"SubscriptionIdentifier": "s%d" % number, "InitialTerminationTime": "2024-05-31T00:00:00Z"}
+        wanted["StopMonitoringRequest"] = {"MonitoringRef": stop_name(number % number_of_stops)}
+        print("subscribe c%d" % (number % 16), json.dumps({"StopMonitoringSubscriptionRequest": wanted}, separators=(",", ":")))
+        deliver(4)
+    for change in range(changes):
+        place = change % subscriptions % number_of_stops * 100 + change // subscriptions % 100
+        visit = visits[place]
+        # (half a second, which no visit has before)
+        expected = clock(6 * 3600 + change * 61 % (16 * 3600)).replace("+", ".5+")
+        visit["MonitoredVehicleJourney"]["MonitoredCall"]["ExpectedDepartureTime"] = expected
+        put("feed", {"ServiceDelivery": {"StopMonitoringDelivery": [{"MonitoredStopVisit": [visit]}]}})
+        deliver(2)
+
+
+{"lines": lines, "visits": visits, "delivery": delivery, "stops": stops, "sorted": in_order, "subscribed": subscribed}[sys.argv[1]](*map(int, sys.argv[2:]))

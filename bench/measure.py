@@ -8,6 +8,7 @@ import sys
 
 RUNS = 5
 PHASE_RUNS = 15
+SLOW_RUNS = 2
 JSON = """
 import json, sys
 for line in sys.stdin:
@@ -124,55 +125,59 @@ def producer(program, yardstick, folder):
         print(row % (name, "%.1f" % ours, "%.1f" % theirs, "%.2f" % (ours / theirs)))
 
 
-VIEWS = [2_000, 20_000]
-ROUNDS = 2_000
+# Visits, subscriptions, changes.
+LOADS = [(2_000, 20, 2_000), (20_000, 20, 200), (20_000, 200, 20)]
 
-
-# The bytes that `siri convert` writes of such a visit, in the mean.
-CANONICAL = 592
-
-
-def consumer(program, folder):
-    """What a round of one change takes of a consumer whose view has 2,000 visits and 20,000, each as the difference between
-    2,000 such rounds and none; and the peak of its memory, less that of one visit, beside the canonical texts of the visits."""
-    path = os.path.join(folder, "consumer")
-    open(path, "w").close()
-    sizes = [(visits, rounds) for visits in VIEWS for rounds in (0, ROUNDS)]
-    runs = [[run_once([program, "view", str(visits), str(rounds)], path) for visits, rounds in sizes] for _ in range(PHASE_RUNS)]
-    bare = max(run_once([program, "view", "1", "0"], path)[1] for _ in range(RUNS))
-    row = "%-20s %10s %12s %16s %8s"
-    print(row % ("view", "us a round", "bytes/visit", "canonical bytes", "ratio"))
-    for place, visits in enumerate(VIEWS):
-        before, after = [min(run[2 * place + more][0] for run in runs) for more in range(2)]
-        peak = max(run[2 * place + more][1] for run in runs for more in range(2))
-        held = (peak - bare) * 1e6 / visits
-        figures = ("%.1f" % ((after - before) / ROUNDS * 1e6), "%.0f" % held, "%.0f" % CANONICAL, "%.2f" % (held / CANONICAL))
-        print(row % (("%d visits" % visits,) + figures))
-
-
-LOADS = [(20_000, 0, 2_000), (2_000, 20, 2_000), (20_000, 20, 200), (20_000, 200, 20)]
+# Reads and writes each document of a script and of its report.
+DOCUMENTS = """
+import json, sys
+for line in sys.stdin:
+    place = line.find("{")
+    if place >= 0:
+        sys.stdout.write(json.dumps(json.loads(line[place:]), separators=(",", ":")) + "\\n")
+"""
 
 
 def subscriptions(program, folder):
-    """What a change of one visit takes of a producer, by the visits that it holds and its subscriptions to 100 of them each: it
-    is fed, settled, sent, acknowledged and settled again, as the difference between so many changes and none; and the peak of
-    its memory, less that of the visits alone, for each visit that is shown to a subscription."""
-    path = os.path.join(folder, "subscriptions")
-    open(path, "w").close()
+    """What a change of one visit takes, by the visits and the subscriptions: it is fed, settled, sent, taken, acknowledged and settled
+    again, as the difference between so many changes and none, beside python's json over the documents of the changes; and memory:
+    of a visit that is shown to a subscription, which stands in the producer's and in the consumer's view and in a packet, and of
+    the two packets of a change."""
+    def path(visits, wanted, changes):
+        return os.path.join(folder, "subscribed.%d.%d.%d" % (visits, wanted, changes))
 
-    def run(*load):
-        return run_once([program, "producer"] + [str(number) for number in load], path)
-    row = "%8s %14s %9s %12s %20s"
-    print(row % ("visits", "subscriptions", "changes", "ms a change", "bytes a shown visit"))
+    def with_report(script):
+        with open(script + ".documents", "wb") as both:
+            for part in (script, script + ".output"):
+                with open(part, "rb") as source:
+                    both.write(source.read())
+        return script + ".documents"
+    replay, reads_json = [program, "replay"], [sys.executable, "-S", "-c", DOCUMENTS]
+    row = "%8s %14s %9s %12s %18s %8s %20s %15s"
+    print(row % ("visits", "subscriptions", "changes", "ms a change", "ms python's json", "ratio", "bytes a shown visit", "bytes a packet"))
     for visits, wanted, changes in LOADS:
-        runs = [[run(visits, wanted, number) for number in (0, changes)] for _ in range(RUNS)]
-        before, after = [min(run[more][0] for run in runs) for more in range(2)]
-        milliseconds = (after - before) / changes * 1e3
-        held = ""
-        if wanted > 0:
-            bare = min(run(visits, 0, 0)[1] for _ in range(RUNS))
-            held = "%.0f" % ((max(run[0][1] for run in runs) - bare) * 1e6 / (wanted * 100))
-        print(row % (visits, wanted, changes, "%.3f" % milliseconds, held))
+        scripts = [path(visits, 0, 0), path(visits, wanted, 0), path(visits, wanted, changes)]
+        runs = [[run_once(replay, script) for script in scripts] for _ in range(SLOW_RUNS)]
+        beside = [[run_once(reads_json, with_report(script)) for script in scripts[1:]] for _ in range(SLOW_RUNS)]
+        before, after = [min(run[place][0] for run in runs) for place in (1, 2)]
+        least, most = [min(run[place][0] for run in beside) for place in (0, 1)]
+        bare, subscribed, changed = [max(run[place][1] for run in runs) for place in range(3)]
+        ours, theirs = [(later - first) / changes * 1e3 for first, later in ((before, after), (least, most))]
+        held = (subscribed - bare) * 1e6 / (wanted * 100)
+        packet = (changed - subscribed) * 1e6 / (2 * changes)
+        print(row % (visits, wanted, changes, "%.3f" % ours, "%.3f" % theirs, "%.1f" % (ours / theirs), "%.0f" % held, "%.0f" % packet))
+
+
+def load(program, folder):
+    """`siri load`: a large random network of four subscriptions, at three sizes."""
+    path = os.path.join(folder, "load")
+    open(path, "w").close()
+    row = "%-8s %9s %12s %9s"
+    print(row % ("load", "seconds", "us an event", "peak MB"))
+    for count in (2_000, 5_000, 20_000):
+        runs = [run_once([program, "load", "7", str(count)], path) for _ in range(SLOW_RUNS)]
+        seconds, peak = min(run[0] for run in runs), max(run[1] for run in runs)
+        print(row % (count, "%.2f" % seconds, "%.0f" % (seconds / count * 1e6), "%.1f" % peak))
 
 
 def main(crates, yardstick, folder):
@@ -185,10 +190,9 @@ def main(crates, yardstick, folder):
     print()
     producer(siri, yardstick, folder)
     print()
-    rounds = os.path.join(crates, "siri_round_speed/out/siri_round_speed")
-    consumer(rounds, folder)
+    subscriptions(siri, folder)
     print()
-    subscriptions(rounds, folder)
+    load(siri, folder)
 
 
 main(*sys.argv[1:])

@@ -9,14 +9,13 @@
 #   cargo and Debian's package librust-serde-json-dev;
 # - `siri replay` of 20,000 live visits and 100 asks that show 200 of them each, beside the same program, which keeps the
 #   visits as trees: time and memory of a fed visit and time of an ask, as differences of runs;
-# - a consumer whose view has 20,000 visits, and one with 2,000: time of a round of one change and memory, as differences of
-#   runs of `siri_round_speed`, with no yardstick but the canonical texts of the visits;
-# - a producer with 20,000 live visits of 200 stops and a subscription to each stop, and with fewer of both: time of a change of
-#   one visit that is settled, sent and acknowledged, and memory, in the same way and with no yardstick.
+# - `siri replay` of visits, subscriptions and changes of one visit in which every packet is delivered, beside python's json over
+#   the documents of the changes: time of a change and memory, as differences of runs;
+# - `siri load` at three sizes, with no yardstick.
 set -eu
 here=$(dirname -- "$(readlink -f -- "${BASH_SOURCE[0]}")")
 "$here/../siri" build
-for program in siri_speed siri_round_speed; do (cd "$here/../crates/$program" && rt run >/dev/null); done
+(cd "$here/../crates/siri_speed" && rt run >/dev/null)
 (cd "$here/yardstick" && cargo build --release --offline --quiet)
 
 inputs=$(mktemp -d)
@@ -27,6 +26,10 @@ python3 "$here/make.py" delivery 8000 >"$inputs/delivery.8000"
 python3 "$here/make.py" stops 10000 0 >"$inputs/stops.10000.0"
 for asks in 0 100; do python3 "$here/make.py" stops 20000 "$asks" >"$inputs/stops.20000.$asks"; done
 for size in 10000 20000; do python3 "$here/make.py" sorted "$size" 0 >"$inputs/sorted.$size.0"; done
+for load in "2000 0 0" "2000 20 0" "2000 20 2000" "20000 0 0" "20000 20 0" "20000 20 200" "20000 200 0" "20000 200 20"; do
+  # (each word of a load is an argument, and a part of the file's name)
+  python3 "$here/make.py" subscribed $load >"$inputs/subscribed.${load// /.}"
+done
 
 echo "commit $(git -C "$here" rev-parse --short HEAD); $(nproc) cores, load $(cut -d' ' -f1 /proc/loadavg); $(rt version)"
 python3 "$here/measure.py" "$here/../crates" "$here/yardstick/target/release/yardstick" "$inputs"
