@@ -1,0 +1,56 @@
+// The adapters over TCP, the system's clock and the file of the start number.
+use siri_base::{Clock, Keeper, Name, Wire};
+use siri_system::{FileKeeper, SystemClock, TcpWire};
+use std::fs;
+
+/// Where the test listens. The connection is made before it is accepted, so one thread serves both ends.
+const ADDRESS: &str = "127.0.0.1:47113";
+
+#[test]
+fn bytes_go_both_ways_over_tcp(rt: HostRuntime) {
+    let address = Name::new(rt.alloc(), ADDRESS).expect(&rt, "a name");
+    let mut server = TcpWire::new(rt);
+    let mut client = TcpWire::new(rt);
+    assert!(rt; server.accept().is_err());
+    assert!(rt; client.dial(&address).is_err());
+    server.listen(&address).expect(&rt, "a listener");
+    client.dial(&address).expect(&rt, "a connection");
+    server.accept().expect(&rt, "a connection");
+    let mut told = [0u8; 8];
+    assert_eq!(rt; client.write(b"asked").expect(&rt, "a write"), 5);
+    assert_eq!(rt; server.read(&mut told).expect(&rt, "a read"), 5);
+    assert_eq!(rt; told[..5], *b"asked".as_slice());
+    assert_eq!(rt; server.write(b"told").expect(&rt, "a write"), 4);
+    server.hang_up();
+    assert_eq!(rt; client.read(&mut told).expect(&rt, "a read"), 4);
+    assert_eq!(rt; told[..4], *b"told".as_slice());
+    assert_eq!(rt; client.read(&mut told).expect(&rt, "the end"), 0);
+}
+
+#[test]
+fn the_clock_stands_after_its_making(rt: HostRuntime) {
+    let mut clock = SystemClock::new(rt);
+    let first = clock.now().expect(&rt, "a moment");
+    let second = clock.now().expect(&rt, "a moment");
+    assert!(rt; first.ms() > 1_700_000_000_000);
+    assert!(rt; second.ms() - first.ms() < 60_000);
+}
+
+#[test]
+fn the_number_rises_from_start_to_start(rt: HostRuntime) {
+    let mut keeper = FileKeeper::new(rt);
+    for (kept, given) in [
+        ("", None),
+        ("7", None),
+        ("x\n", None),
+        ("99999999999\n", None),
+        ("7\n", Some(8)),
+        ("007\n", Some(8)),
+    ] {
+        fs::write(&rt, "siri-start", kept).expect(&rt, "a file");
+        assert_eq!(rt; keeper.raise().ok(), given);
+    }
+    assert_eq!(rt; FileKeeper::new(rt).raise().ok(), Some(9));
+    fs::remove_file(&rt, "siri-start").expect(&rt, "no file");
+    assert_eq!(rt; keeper.raise().ok(), Some(1));
+}
