@@ -1,5 +1,5 @@
 // A part of a round: its delivery, its notification, and the answer where it isn't supplied.
-ghost use Rattle.std.specs.Prelude.{◌≡◌, IfOk};
+ghost use Rattle.std.specs.Prelude.{◌≡◌, ◌++◌, IfOk, OnOk};
 ghost use Rattle.siri_change.specs.Parts.{carried};
 ghost use Rattle.siri_rounds.specs.Wanted.{part_sent};
 ghost use Rattle.siri_replies.specs.Parts as definition;
@@ -26,12 +26,14 @@ pub fn part_delivery(
 ) -> Result<ServiceDelivery, OutOfMemory>
     ensures { IfOk result (λ delivery. delivery ≡ definition.part_delivery producer.now wanted.now number start (part_sent part.now)) }
 {
+    let producer = producer.copy()?;
+    let request = number_text(alloc, number)?;
     let functional = part_functional(alloc, wanted, start, part)?;
     let mut delivery = ServiceDelivery {
         response_timestamp: Some(part.moment),
-        producer_ref: Some(producer.copy()?),
+        producer_ref: Some(producer),
         response_message_identifier: None,
-        request_message_ref: Some(number_text(alloc, number)?),
+        request_message_ref: Some(request),
         status: true,
         error_condition: None,
         more_data: part.more,
@@ -40,13 +42,30 @@ pub fn part_delivery(
         vehicle_monitoring_delivery: List::new(alloc),
         situation_exchange_delivery: List::new(alloc),
     };
-    match &wanted.topic {
+    put_functional(&mut delivery, &wanted.topic, functional)?;
+    Ok(delivery)
+}
+
+// Puts a functional delivery at the end of the list of its topic's service.
+fn put_functional(
+    delivery: &mut ServiceDelivery,
+    topic: &Topic,
+    functional: FunctionalDelivery,
+) -> Result<(), OutOfMemory>
+    ensures { OnOk result (delivery.new ≡ record delivery.old {
+        stop_monitoring_delivery = delivery.old.stop_monitoring_delivery ++ definition.in_stop_monitoring topic.now functional;
+        estimated_timetable_delivery = delivery.old.estimated_timetable_delivery ++ definition.in_estimated_timetable topic.now functional;
+        vehicle_monitoring_delivery = delivery.old.vehicle_monitoring_delivery ++ definition.in_vehicle_monitoring topic.now functional;
+        situation_exchange_delivery = delivery.old.situation_exchange_delivery ++ definition.in_situation_exchange topic.now functional;
+    }) }
+{
+    match topic {
         Topic::Stop(_) => delivery.stop_monitoring_delivery.push(functional)?,
         Topic::Timetable(_) => delivery.estimated_timetable_delivery.push(functional)?,
         Topic::Vehicle(_) => delivery.vehicle_monitoring_delivery.push(functional)?,
         Topic::Situation(_) => delivery.situation_exchange_delivery.push(functional)?,
     }
-    Ok(delivery)
+    Ok(())
 }
 
 // The functional delivery of a part.

@@ -78,12 +78,13 @@ fn prepare(
     let subscriber = &wanted.subscriber;
     let identifier = &wanted.identifier;
     let why = refusal(table, now, request.message_identifier, wanted);
+    // (the subscription is copied last: to let it go is dear to prove on each path)
     Ok(Candidate {
-        wanted: wanted.copy()?,
-        address: request.consumer_address.copy()?,
         beat: request.heartbeat_interval.unwrap_or(no_heartbeat()),
+        address: request.consumer_address.copy()?,
         accepted: accepted_status(subscriber, identifier, wanted.termination)?,
         refused: refused_status(alloc, subscriber, identifier, why)?,
+        wanted: wanted.copy()?,
     })
 }
 
