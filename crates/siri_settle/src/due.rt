@@ -6,6 +6,7 @@ ghost use Rattle.siri_model.specs.Rows.{is_heartbeat_due};
 ghost use Rattle.siri_settle.specs.Due.{course_after, IsDue, IsFound};
 ghost use Rattle.siri_settle.specs.Openings.{CanOpen};
 ghost use Rattle.siri_settle.specs.Sends as definition;
+ghost use Rattle.siri_settle.specs.Sends.{outs_with};
 
 use crate::outs::push_out;
 use crate::{Finding, Out, look, message_due, move_on};
@@ -40,15 +41,42 @@ pub(crate) fn find_due(
     ensures risen { responder.old.reads ≤ responder.new.reads }
 {
     let finding = look_at(alloc, responder, entry)?;
-    let part = part_due(alloc, responder, entry, &finding)?;
-    let heartbeat = heartbeat_due(responder, entry)?;
-    let has_heartbeat = heartbeat.is_some();
-    push_out(outs, entry, part)?;
-    push_out(outs, entry, heartbeat)?;
+    push_part(alloc, responder, entry, &finding, outs)?;
+    let has_heartbeat = push_heartbeat(responder, entry, outs)?;
     Ok(Due {
         finding,
         has_heartbeat,
     })
+}
+
+// Puts the message of the wanted part at the end, where one is due.
+fn push_part(
+    alloc: Global,
+    responder: &Responder,
+    entry: &Entry<'_, Course>,
+    finding: &Finding,
+    outs: &mut List<Out>,
+) -> Result<(), OutOfMemory>
+    requires { IsFound responder.now.moment responder.now.held (entry_of entry.now) finding.now }
+    ensures { OnOk result (outs.new ≡ outs.old ++ outs_with (kept_row (entry_of entry.now)) (definition.part_due (definition.at_of responder.now) responder.now.held (kept_row (entry_of entry.now)))) }
+{
+    let part = part_due(alloc, responder, entry, finding)?;
+    push_out(outs, entry, part)
+}
+
+// Puts a heartbeat at the end, where one is due, and tells whether one is.
+fn push_heartbeat(
+    responder: &Responder,
+    entry: &Entry<'_, Course>,
+    outs: &mut List<Out>,
+) -> Result<bool, OutOfMemory>
+    ensures outs { OnOk result (outs.new ≡ outs.old ++ outs_with (kept_row (entry_of entry.now)) (definition.heartbeat_due (definition.at_of responder.now) (kept_row (entry_of entry.now)))) }
+    ensures due { IfOk result (λ is_due. is_due ≡ is_heartbeat_due responder.now.moment (kept_row (entry_of entry.now))) }
+{
+    let heartbeat = heartbeat_due(responder, entry)?;
+    let is_due = heartbeat.is_some();
+    push_out(outs, entry, heartbeat)?;
+    Ok(is_due)
 }
 
 // Looks at a subscription, unless a round of it is outstanding.

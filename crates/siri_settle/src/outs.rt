@@ -1,5 +1,5 @@
 // What is sent.
-ghost use Rattle.std.specs.Prelude.{◌≡◌, ◌++◌, IfOk, OnOk};
+ghost use Rattle.std.specs.Prelude.{◌≡◌, ◌++◌, Ok, IfOk, OnOk};
 ghost use Rattle.std.specs.Option.{option_copied};
 ghost use Rattle.siri_subs.specs.Lent.{entry_of};
 ghost use Rattle.siri_courses.specs.Courses.{kept_row};
@@ -37,11 +37,28 @@ pub(crate) fn push_out(
 fn out_of(entry: &Entry<'_, Course>, message: Message) -> Result<Out, OutOfMemory>
     ensures { IfOk result (λ out. out ≡ out_of (kept_row (entry_of entry.now)) message) }
 {
+    let ((to, address), message) = beside(addressee(entry), message)?;
     Ok(Out {
-        to: entry.wanted.subscriber.copy()?,
-        address: copy_of(entry.address)?,
+        to,
+        address,
         message,
     })
+}
+
+// To whom and where a message of a subscription is sent.
+fn addressee(entry: &Entry<'_, Course>) -> Result<(Name, Option<Name>), OutOfMemory>
+    ensures { IfOk result (λ addressee. addressee ≡ (entry.now.wanted.now.subscriber, option_copied entry.now.address)) }
+{
+    Ok((entry.wanted.subscriber.copy()?, copy_of(entry.address)?))
+}
+
+// What was made, and a value beside it. Where nothing could be made, the value is let go here, in a proof for all types: that a
+// message goes is dear to prove.
+fn beside<A: Drop, B: Drop>(made: Result<A, OutOfMemory>, value: B) -> Result<(A, B), OutOfMemory>
+    ensures made { IfOk result (λ both. made ≡ Ok both.0) }
+    ensures value { IfOk result (λ both. value ≡ both.1) }
+{
+    Ok((made?, value))
 }
 
 // A copy of an address, where there is one.
