@@ -1,5 +1,5 @@
 // The consumer.
-ghost use Rattle.std.specs.Prelude.{◌≡◌, ◌≢◌, ◌↔◌, ◌<◌, ◌≤◌, ◌+◌, ◌^◌, [], length, suc, fold, Some, None, is_none, option_map, slice_get, IfOk, OnOk, OnErr, IsErrOf};
+ghost use Rattle.std.specs.Prelude.{◌≡◌, ◌≢◌, ◌↔◌, ◌<◌, ◌≤◌, ◌+◌, ◌^◌, [], length, suc, fold, Some, None, is_none, option_map, slice_get, Ok, IfOk, OnOk, OnErr, IsErr, IsErrOf};
 ghost use Rattle.std.specs.List.Sorted.{IsStrictlySortedBy};
 ghost use Rattle.std.specs.Map.{keys_of};
 ghost use Rattle.siri_view.specs.Consuming as definition;
@@ -117,13 +117,8 @@ impl Consumer {
             asked.slice(),
             beat,
         )?;
-        match self.hold(asked, beat) {
-            Ok(()) => Ok(request),
-            Err(OutOfMemory) => {
-                discard_message(request);
-                Err(AskError::OutOfMemory)
-            }
-        }
+        let ((), request) = beside(self.hold(asked, beat), request)?;
+        Ok(request)
     }
 
     // Subscriptions are held under the next number, which is used.
@@ -240,4 +235,12 @@ fn the_first_moment() -> Moment
     }
 }
 
-fn discard_message(_message: Message) {}
+// What was made, and a value beside it. Where nothing could be made, the value is let go here, in a proof for all types: that a
+// message goes is dear to prove.
+fn beside<A: Drop, B: Drop>(made: Result<A, OutOfMemory>, value: B) -> Result<(A, B), OutOfMemory>
+    ensures made { IfOk result (λ both. made ≡ Ok both.0) }
+    ensures value { IfOk result (λ both. value ≡ both.1) }
+    ensures err { OnErr result (IsErr made) }
+{
+    Ok((made?, value))
+}
