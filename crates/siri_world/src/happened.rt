@@ -6,7 +6,7 @@ ghost use Rattle.siri_world_model.specs.Lines.{told_line, told_lines};
 ghost use Rattle.siri_world_model.specs.Packets as definition;
 ghost use Rattle.siri_world.specs.Kept.{sent_packets};
 
-use crate::packets::{Packet, packet_from, packet_to};
+use crate::packets::{Packet, packet_for, packet_from};
 use siri_base::{Copies, List, Name, OutOfMemory};
 use siri_messages::Message;
 use siri_world_model::Line;
@@ -103,7 +103,7 @@ pub(crate) fn reply_to(
 {
     let mut packets = List::new(alloc);
     if let Some(message) = reply {
-        packets.push(packet_to(alloc, receiver.copy()?, message)?)?;
+        packets.push(packet_for(alloc, receiver, message)?)?;
     }
     Ok(packets)
 }

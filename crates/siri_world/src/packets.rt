@@ -164,6 +164,21 @@ pub(crate) fn packet_to(
     Ok(Packet::ToConsumer { receiver, message })
 }
 
+// The same for a borrowed name, which is copied once the message is shared.
+pub(crate) fn packet_for(
+    alloc: Global,
+    receiver: &Name,
+    message: Message,
+) -> Result<Packet, OutOfMemory>
+    ensures { IfOk result (λ packet. sent_packet packet ≡ ToConsumer receiver.now message) }
+{
+    let message = Rc::new(alloc, message)?;
+    Ok(Packet::ToConsumer {
+        receiver: receiver.copy()?,
+        message,
+    })
+}
+
 // The producer's name.
 pub(crate) fn producer_name(alloc: Global) -> Result<Name, OutOfMemory>
     ensures { IfOk result (λ name. name ≡ codes "producer") }
