@@ -235,8 +235,7 @@ fn the_first_moment() -> Moment
     }
 }
 
-// What was made, and a value beside it. Where nothing could be made, the value is let go here, in a proof for all types: that a
-// message goes is dear to prove.
+// What was made, and a value beside it. Where nothing could be made, the value is let go here, in a proof for all types.
 fn beside<A: Drop, B: Drop>(made: Result<A, OutOfMemory>, value: B) -> Result<(A, B), OutOfMemory>
     ensures made { IfOk result (λ both. made ≡ Ok both.0) }
     ensures value { IfOk result (λ both. value ≡ both.1) }

@@ -100,7 +100,7 @@ impl Holdings {
         match find(&self.entries, identifier) {
             Ok(at) => take_at(&mut self.entries, at, alloc, mark, more, part),
             Err(_) => {
-                discard_part(part);
+                drop(part);
                 Ok(())
             }
         }
@@ -139,7 +139,7 @@ impl Holdings {
         ensures { self.new ≡ without_kept identifier.now self.old }
     {
         match find(&self.entries, identifier) {
-            Ok(at) => discard(self.entries.remove(at)),
+            Ok(at) => drop(self.entries.remove(at)),
             Err(_) => {}
         }
     }
@@ -174,7 +174,7 @@ fn ask_for(
 {
     match find(entries, &identifier) {
         Ok(at) => {
-            discard_name(identifier);
+            drop(identifier);
             ask_at(alloc, entries, at, number, asked);
         }
         Err(at) => {
@@ -215,11 +215,3 @@ fn take_at(
     let entry = &mut entries[at];
     entry.1.take(alloc, mark, more, part)
 }
-
-// Each of these lets one value go and does nothing else.
-
-fn discard(_entry: Entry) {}
-
-fn discard_part(_part: Part) {}
-
-fn discard_name(_identifier: Name) {}

@@ -100,7 +100,7 @@ impl Consumer {
                 replies,
             }),
             Err(OutOfMemory) => {
-                discard_replies(replies);
+                drop(replies);
                 Err(OutOfMemory)
             }
         }
@@ -207,5 +207,3 @@ fn told_of_part(mark: Numbers, more: bool) -> Outcome
         Outcome::Applied { round: mark.round }
     }
 }
-
-fn discard_replies(_replies: List<Message>) {}
