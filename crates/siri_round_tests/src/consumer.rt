@@ -224,12 +224,17 @@ fn buffer_400(consumer: &mut Consumer, alloc: Global) -> Result<(), Fail> {
     Ok(())
 }
 
+fn part_401(consumer: &mut Consumer, alloc: Global) -> Result<String, Fail> {
+    buffer_400(consumer, alloc)?;
+    part_told(consumer, alloc, Way::Last, (1, 1, 1, 401), "")
+}
+
 #[test]
 fn part_401_is_overlong(rt: HostRuntime) -> Result<(), Fail> {
     let mut consumer = subscribed(rt.alloc())?;
-    buffer_400(&mut consumer, rt.alloc())?;
-    let told = part_told(&mut consumer, rt.alloc(), Way::Last, (1, 1, 1, 401), "")?;
-    assert_eq!(rt; told.as_str(), "Overlong, replies 0, view 0 0 0");
+    let told = part_401(&mut consumer, rt.alloc());
+    drop(consumer);
+    assert_eq!(rt; told?.as_str(), "Overlong, replies 0, view 0 0 0");
     Ok(())
 }
 
@@ -253,29 +258,43 @@ fn question_told(consumer: &mut Consumer, alloc: Global) -> Result<String, Fail>
 fn other_messages_are_no_parts(rt: HostRuntime) -> Result<(), Fail> {
     let mut consumer = subscribed(rt.alloc())?;
     let noted = told(&mut consumer, rt.alloc(), heartbeat())?;
+    let foreign = question_told(&mut consumer, rt.alloc());
+    drop(consumer);
     assert_eq!(rt; noted.as_str(), "Noted, replies 0, view 0 0 0");
-    let foreign = question_told(&mut consumer, rt.alloc())?;
-    assert_eq!(rt; foreign.as_str(), "NotForMe, replies 0, view 0 0 0");
+    assert_eq!(rt; foreign?.as_str(), "NotForMe, replies 0, view 0 0 0");
     Ok(())
+}
+
+// What comes of three requests to end a subscription: of one that isn't held, of one that is, and once more of that.
+fn ends(
+    consumer: &mut Consumer,
+    alloc: Global,
+) -> Result<(&'static str, &'static str, &'static str), Fail> {
+    let other = end(consumer, alloc, "T")?;
+    let held = end(consumer, alloc, "S")?;
+    Ok((other, held, end(consumer, alloc, "S")?))
 }
 
 #[test]
 fn what_is_held_can_end(rt: HostRuntime) -> Result<(), Fail> {
     let mut consumer = subscribed(rt.alloc())?;
-    assert_eq!(rt; end(&mut consumer, rt.alloc(), "T")?, "NotHeld");
-    assert_eq!(rt;
-        end(&mut consumer, rt.alloc(), "S")?,
-        "TerminateSubscriptionRequest"
-    );
-    assert_eq!(rt; end(&mut consumer, rt.alloc(), "S")?, "NotHeld");
+    let ends = ends(&mut consumer, rt.alloc());
+    drop(consumer);
+    let (other, held, ended) = ends?;
+    assert_eq!(rt; other, "NotHeld");
+    assert_eq!(rt; held, "TerminateSubscriptionRequest");
+    assert_eq!(rt; ended, "NotHeld");
     Ok(())
 }
 
 #[test]
 fn numbers_have_an_end(rt: HostRuntime) -> Result<(), Fail> {
     let mut consumer = new(rt.alloc(), 999_999_999_999_999_999)?;
-    assert_eq!(rt; ask(&mut consumer, rt.alloc(), "S")?, "SubscriptionRequest");
-    assert_eq!(rt; ask(&mut consumer, rt.alloc(), "S")?, "Spent");
+    let last = ask(&mut consumer, rt.alloc(), "S")?;
+    let none_left = ask(&mut consumer, rt.alloc(), "S");
+    drop(consumer);
+    assert_eq!(rt; last, "SubscriptionRequest");
+    assert_eq!(rt; none_left?, "Spent");
     Ok(())
 }
 
@@ -287,13 +306,26 @@ fn ask_for_200(consumer: &mut Consumer, alloc: Global) -> Result<(), Fail> {
     Ok(())
 }
 
+// How many are held after 200 were asked for, and what comes of one more and of one of them again.
+fn ask_for_more(
+    consumer: &mut Consumer,
+    alloc: Global,
+) -> Result<(usize, &'static str, &'static str), Fail> {
+    ask_for_200(consumer, alloc)?;
+    let held = consumer.len();
+    let another = ask(consumer, alloc, "S")?;
+    Ok((held, another, ask(consumer, alloc, "7")?))
+}
+
 #[test]
 fn two_hundred_are_held(rt: HostRuntime) -> Result<(), Fail> {
     let mut consumer = new(rt.alloc(), 1)?;
-    ask_for_200(&mut consumer, rt.alloc())?;
-    assert_eq!(rt; consumer.len(), 200);
-    assert_eq!(rt; ask(&mut consumer, rt.alloc(), "S")?, "TooMany");
-    assert_eq!(rt; ask(&mut consumer, rt.alloc(), "7")?, "SubscriptionRequest");
+    let asked = ask_for_more(&mut consumer, rt.alloc());
+    drop(consumer);
+    let (held, another, again) = asked?;
+    assert_eq!(rt; held, 200);
+    assert_eq!(rt; another, "TooMany");
+    assert_eq!(rt; again, "SubscriptionRequest");
     Ok(())
 }
 

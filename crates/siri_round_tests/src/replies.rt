@@ -130,8 +130,10 @@ fn answered(alloc: Global) -> Result<(bool, bool), Fail> {
     let producer = Name::new(alloc, "producer")?;
     let now = moment(100)?;
     let refused = refused_supply(alloc, &producer, now, SupplyError::NothingReady)?;
-    let fed = feed_acknowledgement(alloc, &producer, now, &refused, 0)?;
-    Ok((refused.status, fed.status))
+    let status = refused.status;
+    let fed = feed_acknowledgement(alloc, &producer, now, &refused, 0);
+    drop(refused);
+    Ok((status, fed?.status))
 }
 
 // The status of a producer that is asked for it, and that of its heartbeat.
