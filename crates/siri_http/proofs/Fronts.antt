@@ -1,6 +1,6 @@
 -- What was read of a connection is the message that it brings.
-use Rattle.std.proofs.Common.{◌≡◌, ◌≤◌, ◌<◌, ◌+◌, ◌-◌, ℕ, List, [], ◌∷◌, ◌++◌, None, Some, Option, Bool, true, false, Result, Ok, Err, length, take, drop, refl, sym, ap, ◌∙◌, subst, append-nil, append_assoc, arith, length-append, length-drop, length-take-le, take-append-drop, inl, inr, ◌⊎◌}
-use Rattle.std.specs.Prelude.{⊤, min, MatchBool, nat_le, nat_lt, cond, slice_range}
+use Rattle.std.proofs.Common.{◌≡◌, ◌≤◌, ◌<◌, ◌+◌, ◌-◌, ℕ, List, [], ◌∷◌, ◌++◌, None, Some, Option, Bool, true, false, Result, Ok, Err, length, take, drop, refl, sym, ap, ap₂, ◌∙◌, subst, append-nil, append_assoc, arith, length-append, length-drop, length-take-le, take-append-drop, inl, inr, ◌⊎◌}
+use Rattle.std.specs.Prelude.{⊤, min, MatchBool, nat_le, nat_lt, cond, option_map, slice_range}
 use Rattle.std.proofs.lemmas.Bool.{le-leb, lt-leb, cases_lt}
 use Rattle.std.proofs.lemmas.List.{take_all, take_at, take-append-le, drop-append-le}
 use Rattle.std.proofs.Math.Seq.{take-append-add}
@@ -9,11 +9,13 @@ use Rattle.siri_http.specs.declared.errors.HttpError.{HttpError}
 use Rattle.siri_http.specs.declared.errors.HttpError.TheVariants as http
 use Rattle.siri_http.specs.declared.scan.HeadText.{HeadText}
 use Rattle.siri_http.specs.declared.scan.Scan.{Scan}
-use Rattle.siri_http.specs.Heads.{head_from, fresh, head_text}
+use Rattle.siri_http.specs.Heads.{head_text, full_lines}
+use Rattle.siri_http.specs.inner.Scanning.{head_from, fresh}
 use Rattle.siri_http.specs.Connections.{readable, cut_of, OnConnection}
 use Rattle.siri_http.specs.Messages.{Head, IsHead, text_says, body_in, told_with, message, message_by, message_after, Brings, ReadsMessage, is_memory}
 use Rattle.siri_http.specs.inner.Reading.{Takes, Stops, HasHead, HasNoHead, SaysSo, LacksBody, HasBody}
 use Rattle.siri_http.proofs.Lines.{cut_text}
+use Rattle.siri_http.proofs.HeadTexts.{head_text_is, full_is}
 use Rattle.siri_http.proofs.Connections.{on_map, on_then, on_same, takes_none, takes_more, takes_readable, stops_more, took_stops, taken_on}
 
 pub unless : (b : Bool) (P : Type 0) → P → MatchBool b ⊤ P
@@ -30,20 +32,28 @@ unless_both false P Q R f p q = f p q
 
 -- ---- the head text of what can be read
 
-head_text_is : (input : List ℕ) → head_text input ≡ head_from fresh (take 16384 input)
-unfolding head_text
-head_text_is input = refl
+-- what the scan finds in some bytes, as a text
+abbrev text_in : List ℕ → Option (List ℕ)
+text_in bytes = option_map (λ (text : HeadText). take text.len bytes) (head_from fresh bytes)
 
-head_at : (bytes rest : List ℕ) (text : HeadText) → HasHead bytes text → head_text (bytes ++ rest) ≡ Some text
+pub head_at : (bytes rest : List ℕ) (text : HeadText) → HasHead bytes text → head_text (bytes ++ rest) ≡ Some (take text.len bytes)
 head_at bytes rest text h =
     let e : 16384 ≡ length bytes + (16384 - length bytes) = omega (arith, h.bound) in
-    head_text_is (bytes ++ rest) ∙ ap (λ k. head_from fresh (take k (bytes ++ rest))) e ∙ ap (head_from fresh) (take-append-add bytes rest (16384 - length bytes)) ∙ h.found (take (16384 - length bytes) rest)
+    let more = take (16384 - length bytes) rest in
+    head_text_is (bytes ++ rest) ∙ ap (λ k. text_in (take k (bytes ++ rest))) e ∙ ap text_in (take-append-add bytes rest (16384 - length bytes)) ∙ ap (option_map (λ (text : HeadText). take text.len (bytes ++ more))) (h.found more) ∙ ap Some (take-append-le text.len bytes more h.within)
+
+-- how many of its lines aren't empty, and how long it is
+head_full : (bytes : List ℕ) (text : HeadText) → HasHead bytes text → full_lines (take text.len bytes) ≡ text.full
+head_full bytes text h = sym (full_is bytes text (ap (head_from fresh) (sym (append-nil bytes)) ∙ h.found []))
+
+head_len : (bytes : List ℕ) (text : HeadText) → HasHead bytes text → length (take text.len bytes) ≡ text.len
+head_len bytes text h = length-take-le text.len bytes h.within
 
 no_head_short : (bytes : List ℕ) → length bytes ≤ 16384 → head_from fresh bytes ≡ None → head_text bytes ≡ None
-no_head_short bytes h e = head_text_is bytes ∙ ap (head_from fresh) (take_all 16384 bytes h) ∙ e
+no_head_short bytes h e = head_text_is bytes ∙ ap text_in (take_all 16384 bytes h) ∙ ap (option_map (λ (text : HeadText). take text.len bytes)) e
 
 no_head_long : (bytes rest : List ℕ) → length bytes ≡ 16384 → head_from fresh bytes ≡ None → head_text (bytes ++ rest) ≡ None
-no_head_long bytes rest h e = head_text_is (bytes ++ rest) ∙ ap (head_from fresh) (take_at bytes rest 16384 h) ∙ e
+no_head_long bytes rest h e = head_text_is (bytes ++ rest) ∙ ap text_in (take_at bytes rest 16384 h) ∙ ap (option_map (λ (text : HeadText). take text.len bytes)) e
 
 -- the connection stopped before a head text came
 stops_no_head : (bytes : List ℕ) (e : HttpError) (a b : Present) → Stops bytes e a b → length bytes < 16384 → head_from fresh bytes ≡ None → HasNoHead e a b
@@ -180,7 +190,7 @@ message_is head cut input = refl
 none_brings : {T : Type 0} (Says : List ℕ → Option (Head T) → Type 0) (e : HttpError) (a : Present) → head_text (readable a.left) ≡ None → e ≡ cond (nat_le 16384 (length (readable a.left))) http.HeadTooLong (cut_of a.left) → Brings Says a.left (Err e)
 none_brings Says e a none reason = record {
   head = None;
-  is_head = subst (λ t. IsHead Says t (readable a.left) None) (sym none) tt;
+  is_head = subst (λ t. IsHead Says t None) (sym none) tt;
   message_is = ap Err reason ∙ sym (message_is None (cut_of a.left) (readable a.left) ∙ ap (λ t. message_by t None (cut_of a.left) (readable a.left)) none);
 }
 
@@ -195,19 +205,18 @@ no_head Says e x y p = on_map (HasNoHead e) (ReadsMessage Says (Err e)) x y (λ 
 
 -- the head text of what can be read, and what it says
 module _ {T : Type 0} (Says : List ℕ → Option (Head T) → Type 0) (bytes : List ℕ) (text : HeadText) (h : HasHead bytes text) where
-  head_is : (head : Option (Head T)) (rest : List ℕ) → MatchBool (nat_lt 65 text.full) ⊤ (Says (take text.len bytes) head) → IsHead Says (head_text (bytes ++ rest)) (bytes ++ rest) head
+  head_is : (head : Option (Head T)) (rest : List ℕ) → MatchBool (nat_lt 65 text.full) ⊤ (Says (take text.len bytes) head) → IsHead Says (head_text (bytes ++ rest)) head
   head_is head rest s =
-      subst (λ t. IsHead Says t (bytes ++ rest) head) (sym (head_at bytes rest text h))
-      (subst (λ l. MatchBool (nat_lt 65 text.full) ⊤ (Says l head)) (sym (take-append-le text.len bytes rest h.within)) s)
+      subst (λ t. IsHead Says t head) (sym (head_at bytes rest text h)) (subst (λ n. MatchBool (nat_lt 65 n) ⊤ (Says (take text.len bytes) head)) (sym (head_full bytes text h)) s)
 
   after_is : (head : Option (Head T)) (cut : HttpError) (rest : List ℕ) (says : Result (T × ℕ) HttpError) → says ≡ text_says text.full head → message head cut (bytes ++ rest) ≡ message_after text.len says cut (bytes ++ rest)
   after_is head cut rest says e =
-      message_is head cut (bytes ++ rest) ∙ ap (λ t. message_by t head cut (bytes ++ rest)) (head_at bytes rest text h) ∙ ap (λ s. message_after text.len s cut (bytes ++ rest)) (sym e)
+      message_is head cut (bytes ++ rest) ∙ ap (λ t. message_by t head cut (bytes ++ rest)) (head_at bytes rest text h) ∙ ap₂ (λ len full. message_after len (text_says full head) cut (bytes ++ rest)) (head_len bytes text h) (head_full bytes text h) ∙ ap (λ s. message_after text.len s cut (bytes ++ rest)) (sym e)
 
   brings_as : (a : Present) (rest : List ℕ) (head : Option (Head T)) (says : Result (T × ℕ) HttpError) (result : Result (T × List ℕ) HttpError) → readable a.left ≡ bytes ++ rest → MatchBool (nat_lt 65 text.full) ⊤ (Says (take text.len bytes) head) → says ≡ text_says text.full head → result ≡ message_after text.len says (cut_of a.left) (bytes ++ rest) → Brings Says a.left result
   brings_as a rest head says result r s e m = record {
     head = head;
-    is_head = subst (λ l. IsHead Says (head_text l) l head) (sym r) (head_is head rest s);
+    is_head = subst (λ l. IsHead Says (head_text l) head) (sym r) (head_is head rest s);
     message_is = m ∙ sym (ap (message head (cut_of a.left)) r ∙ after_is head (cut_of a.left) rest says e);
   }
 

@@ -2,6 +2,7 @@ pub mod AddressTexts
 pub mod Connections
 pub mod FieldValues
 pub mod Fronts
+pub mod HeadTexts
 pub mod Lines
 pub mod Sending
 pub mod Numbers

@@ -10,15 +10,15 @@ use Rattle.siri_http.specs.declared.scan.Line.{Line}
 use Rattle.siri_http.specs.declared.scan.Line.TheVariants as line
 use Rattle.siri_http.specs.declared.scan.Scan.{Scan}
 use Rattle.siri_http.specs.declared.scan.HeadText.{HeadText}
-use Rattle.siri_http.specs.Heads.{line_after, ends_head, after_byte, head_from, fresh}
+use Rattle.siri_http.specs.inner.Scanning.{line_after, ends_head, after_byte, head_from, fresh}
 
 -- ---- bytes that end no line
 
-abbrev Plain : List ℕ → Type 0
+abbrev pub Plain : List ℕ → Type 0
 Plain [] = ⊤
 Plain (b ∷ bytes) = ((b == 10) ≡ false) × Plain bytes
 
-plain_append : (xs ys : List ℕ) → Plain xs → Plain ys → Plain (xs ++ ys)
+pub plain_append : (xs ys : List ℕ) → Plain xs → Plain ys → Plain (xs ++ ys)
 plain_append [] ys p q = q
 plain_append (x ∷ xs) ys p q = (p.0, plain_append xs ys p.1 q)
 
@@ -83,7 +83,7 @@ text_end : (n k : ℕ) (e : LineEnd) (rest : List ℕ) → Goes n k line.Text (p
 text_end n k lf rest = (n + 1, text_feed n k rest)
 text_end n k crlf rest = (n + 1 + 1, inner_byte n k line.Text 13 (10 ∷ rest) refl ∙ text_feed (n + 1) k rest)
 
-second_byte : (t : Bool) (b : ℕ) → line_after (cond t line.Return line.Text) b ≡ line.Text
+pub second_byte : (t : Bool) (b : ℕ) → line_after (cond t line.Return line.Text) b ≡ line.Text
 second_byte true b = refl
 second_byte false b = refl
 

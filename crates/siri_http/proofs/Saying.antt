@@ -12,7 +12,7 @@ use Rattle.httparse.specs.Borrowed.{HoldsRequest, HoldsResponse, HoldsSomeReques
 use Rattle.httparse.proofs.GrammarLemmas.{print_request-append, request_unique, response_unique}
 use Rattle.siri_http.specs.declared.errors.HttpError.{HttpError}
 use Rattle.siri_http.specs.declared.errors.HttpError.TheVariants as http
-use Rattle.siri_http.specs.Heads.{head_from, fresh}
+use Rattle.siri_http.specs.inner.Scanning.{head_from, fresh}
 use Rattle.siri_http.specs.Bodies.{body_length}
 use Rattle.siri_http.specs.Messages.{Head, RequestLine, head_of_request, head_of_response, IsRequest, IsResponse, is_post, told_with, head_says, UnlessMemory, is_memory}
 use Rattle.siri_http.specs.declared.request.Asked.{Asked}

@@ -4,7 +4,7 @@ use Rattle.std.specs.Prelude.{cond, is_some}
 use Rattle.std.proofs.lemmas.Bool.{false≢true}
 use Rattle.siri_http.specs.declared.scan.Scan.{Scan}
 use Rattle.siri_http.specs.declared.scan.HeadText.{HeadText}
-use Rattle.siri_http.specs.Heads.{ends_head, after_byte, head_from}
+use Rattle.siri_http.specs.inner.Scanning.{ends_head, after_byte, head_from}
 
 none_picked : {A X : Type 0} (t : Bool) (a : A) (x y : X) → cond t (Some a) None ≡ None → cond t x y ≡ y
 none_picked true a x y e = absurd (false≢true (sym (ap is_some e)))

@@ -1,48 +1,36 @@
 -- The head text of an input (RFC 9112, sections 2.1 and 2.2).
-use Rattle.std.specs.Prelude.{ℕ, ◌+◌, Bool, true, false, ◌&&◌, nat_lt, ◌==◌, List, [], ◌∷◌, take, Option, None, Some, if◌then◌else◌}
-use Rattle.siri_http.specs.declared.scan.Line.{Line}
-use Rattle.siri_http.specs.declared.scan.Line.TheVariants as line
-use Rattle.siri_http.specs.declared.scan.Scan.{Scan}
-use Rattle.siri_http.specs.declared.scan.HeadText.{HeadText}
+use Rattle.std.specs.Prelude.{ℕ, Bool, false, ◌&&◌, ◌||◌, not, nat_lt, ◌==◌, bytes_eq, List, [], ◌∷◌, length, take, map, Option, if◌then◌else◌}
+use Rattle.std.specs.List.{filter, find, onto_first}
 
--- a line ends with LF, and is empty where nothing or only a CR stands before it
-abbrev pub is_empty : Line → Bool
-is_empty line.Nothing = true
-is_empty line.Return = true
-is_empty line.Text = false
+-- a text in its lines: each goes up to its LF, and the last up to the end of the text where no LF ends it
+abbrev pub lines : List ℕ → List (List ℕ)
+lines [] = []
+lines (byte ∷ text) = if byte == 10 then (byte ∷ []) ∷ lines text else onto_first byte (lines text)
 
--- the line that has begun, with one more byte of it
-abbrev pub line_after : Line → ℕ → Line
-line_after line.Nothing byte = if byte == 13 then line.Return else line.Text
-line_after line.Return byte = line.Text
-line_after line.Text byte = line.Text
+-- a line is empty where nothing or only a CR stands before its LF
+abbrev pub is_empty : List ℕ → Bool
+is_empty line = bytes_eq line (10 ∷ []) || bytes_eq line (13 ∷ 10 ∷ [])
 
--- a byte ends the head text where it ends an empty line, and a line that isn't empty came before
-unfoldable pub ends_head : Scan → ℕ → Bool
-ends_head at byte = (byte == 10) && (is_empty at.line && nat_lt 0 at.full)
+-- how many lines of a text aren't empty
+unfoldable pub full_lines : List ℕ → ℕ
+full_lines text = length (filter (λ line. not (is_empty line)) (lines text))
 
--- how many lines that aren't empty have ended, where one more has
-abbrev pub full_after : Scan → ℕ
-full_after at = if is_empty at.line then at.full else at.full + 1
+-- the last of these lines is empty
+abbrev pub ends_empty : List (List ℕ) → Bool
+ends_empty [] = false
+ends_empty (line ∷ []) = is_empty line
+ends_empty (line ∷ next ∷ more) = ends_empty (next ∷ more)
 
--- the text with one more byte, which doesn't end the head text
-unfoldable pub after_byte : Scan → ℕ → Scan
-after_byte at byte =
-    if byte == 10
-    then record { len = at.len + 1; full = full_after at; line = line.Nothing }
-    else record { len = at.len + 1; full = at.full; line = line_after at.line byte }
+-- a text ends with an empty line, and some line before that isn't empty
+abbrev pub ends_head : List ℕ → Bool
+ends_head text = ends_empty (lines text) && nat_lt 0 (full_lines text)
 
--- the head text that ends first in these bytes, which follow what came so far
-abbrev pub head_from : Scan → List ℕ → Option HeadText
-head_from at [] = None
-head_from at (byte ∷ bytes) =
-    if ends_head at byte then Some (record { len = at.len + 1; full = at.full }) else head_from (after_byte at byte) bytes
-
--- nothing came yet
-abbrev pub fresh : Scan
-fresh = record { len = 0; full = 0; line = line.Nothing }
+-- the fronts of a text that have a byte at least, from the shortest one on
+abbrev pub fronts : List ℕ → List (List ℕ)
+fronts [] = []
+fronts (byte ∷ text) = (byte ∷ []) ∷ map (λ front. byte ∷ front) (fronts text)
 
 -- The head text: the shortest front of the input that ends with an empty line which comes after a line that isn't. It
 -- has 16,384 bytes at most.
-unfoldable pub head_text : List ℕ → Option HeadText
-head_text input = head_from fresh (take 16384 input)
+unfoldable pub head_text : List ℕ → Option (List ℕ)
+head_text input = find ends_head (fronts (take 16384 input))

@@ -5,8 +5,7 @@ use Rattle.httparse.specs.Spans.{name_and_value}
 use Rattle.siri_base.specs.Wires.{Connection, Present}
 use Rattle.siri_http.specs.declared.errors.HttpError.{HttpError}
 use Rattle.siri_http.specs.declared.errors.HttpError.TheVariants as http
-use Rattle.siri_http.specs.declared.scan.HeadText.{HeadText}
-use Rattle.siri_http.specs.Heads.{head_text}
+use Rattle.siri_http.specs.Heads.{head_text, full_lines}
 use Rattle.siri_http.specs.Bodies.{Named, body_length}
 use Rattle.siri_http.specs.Connections.{readable, cut_of}
 
@@ -70,9 +69,9 @@ message_after len (Err e) cut input = Err e
 message_after len (Ok says) cut input = told_with says.0 (body_in len says.1 cut input)
 
 -- the message by its head text, where there is one
-abbrev pub message_by : {T : Type 0} → Option HeadText → Option (Head T) → HttpError → List ℕ → Result (T × List ℕ) HttpError
+abbrev pub message_by : {T : Type 0} → Option (List ℕ) → Option (Head T) → HttpError → List ℕ → Result (T × List ℕ) HttpError
 message_by None head cut input = Err (if nat_le 16384 (length input) then http.HeadTooLong else cut)
-message_by (Some text) head cut input = message_after text.len (text_says text.full head) cut input
+message_by (Some text) head cut input = message_after (length text) (text_says (full_lines text) head) cut input
 
 -- The message that an input brings whose head text is this head, or why it is refused. `cut` is what comes where more is wanted than
 -- the input has.
@@ -80,14 +79,14 @@ unfoldable pub message : {T : Type 0} → Option (Head T) → HttpError → List
 message head cut input = message_by (head_text input) head cut input
 
 -- the head text is this head, where it has no more lines than a head may have
-abbrev pub IsHead : {T : Type 0} → (List ℕ → Option (Head T) → Type 0) → Option HeadText → List ℕ → Option (Head T) → Type 0
-IsHead Says None input head = ⊤
-IsHead Says (Some text) input head = MatchBool (nat_lt 65 text.full) ⊤ (Says (take text.len input) head)
+abbrev pub IsHead : {T : Type 0} → (List ℕ → Option (Head T) → Type 0) → Option (List ℕ) → Option (Head T) → Type 0
+IsHead Says None head = ⊤
+IsHead Says (Some text) head = MatchBool (nat_lt 65 (full_lines text)) ⊤ (Says text head)
 
 -- a connection brings this message
 pub record Brings {T : Type 0} (Says : List ℕ → Option (Head T) → Type 0) (connection : Connection) (result : Result (T × List ℕ) HttpError) : Type 0 where
   pub head : Option (Head T)
-  pub is_head : IsHead Says (head_text (readable connection)) (readable connection) head
+  pub is_head : IsHead Says (head_text (readable connection)) head
   pub message_is : result ≡ message head (cut_of connection) (readable connection)
 
 abbrev pub is_memory : HttpError → Bool

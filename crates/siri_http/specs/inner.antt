@@ -2,3 +2,4 @@ pub mod Asked
 pub mod Faults
 pub mod Found
 pub mod Reading
+pub mod Scanning

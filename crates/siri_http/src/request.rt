@@ -3,13 +3,13 @@ ghost use Rattle.std.specs.Prelude.{◌≡◌, ◌≤◌, length, map, false, So
 ghost use Rattle.httparse.specs.Borrowed.{header_parts};
 ghost use Rattle.siri_http.specs.Bodies.{body_length};
 ghost use Rattle.siri_http.specs.Connections.{OnConnection};
-ghost use Rattle.siri_http.specs.Heads.{head_from, fresh};
 ghost use Rattle.siri_http.specs.HttpCauses.{HasReadCause};
 ghost use Rattle.siri_http.specs.Messages.{IsRequest, ReadsMessage, UnlessMemory, is_post, told_with};
 ghost use Rattle.siri_http.specs.Parts.{request_parts};
 ghost use Rattle.siri_http.specs.inner.Asked.{asked_parts};
 ghost use Rattle.siri_http.specs.inner.Faults.{is_fault};
 ghost use Rattle.siri_http.specs.inner.Reading.{SaysSo};
+ghost use Rattle.siri_http.specs.inner.Scanning.{head_from, fresh};
 
 use crate::HttpError;
 use crate::fields::{FIELD_LIMIT, body_length};

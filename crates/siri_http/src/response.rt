@@ -1,13 +1,13 @@
 // Responses, as a client reads them.
 ghost use Rattle.std.specs.Prelude.{◌≡◌, ◌≤◌, length, false, Some, IfErr};
 ghost use Rattle.siri_http.specs.Connections.{OnConnection};
-ghost use Rattle.siri_http.specs.Heads.{head_from, fresh};
 ghost use Rattle.siri_http.specs.HttpCauses.{HasReadCause};
 ghost use Rattle.siri_http.specs.Messages.{IsResponse, ReadsMessage};
 ghost use Rattle.siri_http.specs.Parts.{response_parts};
 ghost use Rattle.siri_http.specs.inner.Asked.{answered_parts};
 ghost use Rattle.siri_http.specs.inner.Faults.{is_fault};
 ghost use Rattle.siri_http.specs.inner.Reading.{SaysSo};
+ghost use Rattle.siri_http.specs.inner.Scanning.{head_from, fresh};
 
 use crate::HttpError;
 use crate::fields::{FIELD_LIMIT, body_length};

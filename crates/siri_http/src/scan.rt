@@ -1,6 +1,6 @@
 // Where a head text ends.
 ghost use Rattle.std.specs.Prelude.{◌≡◌, ◌≤◌, ◌+◌, ◌++◌, ℕ, List, length, IfSome, IfNone, IsNone, Some, None, if◌then◌else◌};
-ghost use Rattle.siri_http.specs.Heads.{is_empty, line_after, ends_head, after_byte, head_from, fresh};
+ghost use Rattle.siri_http.specs.inner.Scanning.{is_empty, line_after, ends_head, after_byte, head_from, fresh};
 
 /// What came of the line that has begun.
 #[derive(Clone, Copy, Debug)]
@@ -65,7 +65,7 @@ impl Scan {
     }
 
     /// Takes the next byte, and gives the head text where it ends with it.
-    #[tactic(auto, unfolding(crate::specs::Heads::ends_head, crate::specs::Heads::after_byte))]
+    #[tactic(auto, unfolding(crate::specs::inner::Scanning::ends_head, crate::specs::inner::Scanning::after_byte))]
     fn take(&mut self, byte: u8) -> Option<HeadText>
         requires some { self.old.full ≤ self.old.len }
         requires bound { self.old.len + 1 ≤ 16384 }

@@ -5,9 +5,10 @@ use Rattle.siri_base.specs.Wires.{Present}
 use Rattle.siri_http.specs.declared.errors.HttpError.{HttpError}
 use Rattle.siri_http.specs.declared.errors.HttpError.TheVariants as http
 use Rattle.siri_http.specs.declared.scan.HeadText.{HeadText}
-use Rattle.siri_http.specs.Heads.{head_text, head_from, fresh}
+use Rattle.siri_http.specs.Heads.{head_text}
 use Rattle.siri_http.specs.Connections.{readable, cut_of}
 use Rattle.siri_http.specs.Messages.{Head, UnlessMemory, is_memory, text_says}
+use Rattle.siri_http.specs.inner.Scanning.{head_from, fresh}
 
 -- these bytes were taken from a connection
 pub record Takes (bytes : List ℕ) (before after : Present) : Type 0 where

@@ -1,6 +1,6 @@
 use Rattle.std.proofs.Common.{◌≡◌, ◌<◌, ◌∙◌, [], None, ap, sym, append-nil, arith, length, length-take-le, take}
 use Rattle.std.proofs.lemmas.Result.{err_from_is_err_and}
-use Rattle.siri_http.specs.Heads.{head_from, fresh}
+use Rattle.siri_http.specs.inner.Scanning.{head_from, fresh}
 use Rattle.siri_http.proofs.Connections.{took_more}
 use Rattle.siri_http.proofs.Fronts.{stops_before_head, head_too_long, head_found, scan_len, scan_took, scan_same}
 use Rattle.siri_http.proofs.connection.find_head.Goals as goal

@@ -1,6 +1,6 @@
 use Rattle.std.proofs.Common.{◌≡◌, ◌≤◌, ◌-◌, ◌++◌, ℕ, List, length, take}
 use Rattle.siri_http.specs.Connections.{OnConnection}
-use Rattle.siri_http.specs.Heads.{head_from, fresh}
+use Rattle.siri_http.specs.inner.Scanning.{head_from, fresh}
 use Rattle.siri_http.specs.inner.Reading.{Takes}
 use Rattle.siri_http.proofs.connection.find_head.Given as goal
 

@@ -1,5 +1,5 @@
 use Rattle.std.proofs.Common.{◌≡◌, ◌≤◌, ◌+◌, ◌++◌, ℕ, List, length}
-use Rattle.siri_http.specs.Heads.{head_from}
+use Rattle.siri_http.specs.inner.Scanning.{head_from}
 use Rattle.siri_http.proofs.scan.Scan.advance.Given as goal
 
 abbrev pub invariant-loop-piece : goal.invariant-loop-piece
