@@ -1,21 +1,22 @@
 -- What was read of a connection is the message that it brings.
 use Rattle.std.proofs.Common.{◌≡◌, ◌≤◌, ◌<◌, ◌+◌, ◌-◌, ℕ, List, [], ◌∷◌, ◌++◌, None, Some, Option, Bool, true, false, Result, Ok, Err, length, take, drop, refl, sym, ap, ap₂, ◌∙◌, subst, append-nil, append_assoc, arith, length-append, length-drop, length-take-le, take-append-drop, inl, inr, ◌⊎◌}
-use Rattle.std.specs.Prelude.{⊤, min, MatchBool, nat_le, nat_lt, cond, option_map, slice_range}
-use Rattle.std.proofs.lemmas.Bool.{le-leb, lt-leb, cases_lt}
+use Rattle.std.specs.Prelude.{⊤, min, max, MatchBool, nat_le, nat_lt, cond, slice_range}
+use Rattle.std.proofs.lemmas.Bool.{le-leb, lt-leb, cases_lt, false≢true}
 use Rattle.std.proofs.lemmas.List.{take_all, take_at, take-append-le, drop-append-le}
-use Rattle.std.proofs.Math.Seq.{take-append-add}
-use Rattle.siri_base.specs.Wires.{Present, WireState}
+use Rattle.siri_base.specs.Wires.{Connection, Present, WireState}
 use Rattle.siri_http.specs.declared.errors.HttpError.{HttpError}
 use Rattle.siri_http.specs.declared.errors.HttpError.TheVariants as http
 use Rattle.siri_http.specs.declared.scan.HeadText.{HeadText}
 use Rattle.siri_http.specs.declared.scan.Scan.{Scan}
-use Rattle.siri_http.specs.Heads.{head_text, full_lines}
+use Rattle.siri_http.specs.Heads.{head_text}
 use Rattle.siri_http.specs.inner.Scanning.{head_from, fresh}
 use Rattle.siri_http.specs.Connections.{readable, cut_of, OnConnection}
-use Rattle.siri_http.specs.Messages.{Head, IsHead, text_says, body_in, told_with, message, message_by, message_after, Brings, ReadsMessage, is_memory}
+use Rattle.siri_http.specs.Messages.{Head, IsHead, text_says, body_in, told_with, message, message_by, message_after, Brings, ReadsMessage, Decides, IfCut, is_memory, is_cut, end_by, message_end}
+use Rattle.siri_http.specs.inner.Faults.{is_fault}
 use Rattle.siri_http.specs.inner.Reading.{Takes, Stops, HasHead, HasNoHead, SaysSo, LacksBody, HasBody}
 use Rattle.siri_http.proofs.Lines.{cut_text}
-use Rattle.siri_http.proofs.HeadTexts.{head_text_is, full_is}
+use Rattle.siri_http.proofs.HeadTexts.{head_at, head_full, head_len, no_head_short, no_head_long}
+use Rattle.siri_http.proofs.Alone.{cut_known, message_is, alone}
 use Rattle.siri_http.proofs.Connections.{on_map, on_then, on_same, takes_none, takes_more, takes_readable, stops_more, took_stops, taken_on}
 
 pub unless : (b : Bool) (P : Type 0) → P → MatchBool b ⊤ P
@@ -30,36 +31,18 @@ unless_both : (b : Bool) (P Q R : Type 0) → (P → Q → R) → MatchBool b �
 unless_both true P Q R f p q = tt
 unless_both false P Q R f p q = f p q
 
--- ---- the head text of what can be read
+-- ---- no head text
 
--- what the scan finds in some bytes, as a text
-abbrev text_in : List ℕ → Option (List ℕ)
-text_in bytes = option_map (λ (text : HeadText). take text.len bytes) (head_from fresh bytes)
-
-pub head_at : (bytes rest : List ℕ) (text : HeadText) → HasHead bytes text → head_text (bytes ++ rest) ≡ Some (take text.len bytes)
-head_at bytes rest text h =
-    let e : 16384 ≡ length bytes + (16384 - length bytes) = omega (arith, h.bound) in
-    let more = take (16384 - length bytes) rest in
-    head_text_is (bytes ++ rest) ∙ ap (λ k. text_in (take k (bytes ++ rest))) e ∙ ap text_in (take-append-add bytes rest (16384 - length bytes)) ∙ ap (option_map (λ (text : HeadText). take text.len (bytes ++ more))) (h.found more) ∙ ap Some (take-append-le text.len bytes more h.within)
-
--- how many of its lines aren't empty, and how long it is
-head_full : (bytes : List ℕ) (text : HeadText) → HasHead bytes text → full_lines (take text.len bytes) ≡ text.full
-head_full bytes text h = sym (full_is bytes text (ap (head_from fresh) (sym (append-nil bytes)) ∙ h.found []))
-
-head_len : (bytes : List ℕ) (text : HeadText) → HasHead bytes text → length (take text.len bytes) ≡ text.len
-head_len bytes text h = length-take-le text.len bytes h.within
-
-no_head_short : (bytes : List ℕ) → length bytes ≤ 16384 → head_from fresh bytes ≡ None → head_text bytes ≡ None
-no_head_short bytes h e = head_text_is bytes ∙ ap text_in (take_all 16384 bytes h) ∙ ap (option_map (λ (text : HeadText). take text.len bytes)) e
-
-no_head_long : (bytes rest : List ℕ) → length bytes ≡ 16384 → head_from fresh bytes ≡ None → head_text (bytes ++ rest) ≡ None
-no_head_long bytes rest h e = head_text_is (bytes ++ rest) ∙ ap text_in (take_at bytes rest 16384 h) ∙ ap (option_map (λ (text : HeadText). take text.len bytes)) e
+stops_cut : (bytes : List ℕ) (e : HttpError) (a b : Present) → Stops bytes e a b → is_cut e ≡ true
+stops_cut bytes e a b s = ap is_cut (sym s.cut_is) ∙ cut_known a.left.read_fails (length a.left.input)
 
 -- the connection stopped before a head text came
 stops_no_head : (bytes : List ℕ) (e : HttpError) (a b : Present) → Stops bytes e a b → length bytes < 16384 → head_from fresh bytes ≡ None → HasNoHead e a b
 stops_no_head bytes e a b s h none = record {
   taken = bytes;
   input = s.input;
+  reach = subst (λ t. MatchBool t (bytes ≡ readable a.left) (length bytes ≤ 16384)) (sym (stops_cut bytes e a b s)) (sym s.readable_is);
+  needed = unless (is_memory e) _ (subst (λ t. MatchBool t ⊤ (16384 ≤ length bytes)) (sym (stops_cut bytes e a b s)) tt);
   unwritten = s.unwritten;
   written = s.written;
   none = unless (is_memory e) _ (ap head_text s.readable_is ∙ no_head_short bytes (omega (arith, h)) none);
@@ -77,6 +60,8 @@ too_long bytes a b h none t =
     record {
       taken = bytes;
       input = t.input;
+      reach = omega (arith, h);
+      needed = omega (arith, h);
       unwritten = t.unwritten;
       written = t.written;
       none = ap head_text e ∙ no_head_long bytes (readable b.left) h none;
@@ -119,16 +104,18 @@ head_found f n old new before text k h room same within found = record {
   found = λ rest. ap (head_from fresh) (came_as f n old new rest k) ∙ same (slice_range new f (f + n) ++ rest) ∙ found rest;
 }
 
--- no memory for a head
-no_memory : (bytes : List ℕ) (a b : Present) → Takes bytes a b → HasNoHead http.OutOfMemory a b
-no_memory bytes a b t = record { taken = bytes; input = t.input; unwritten = t.unwritten; written = t.written; none = tt; reason = tt }
-
-pub head_no_memory : (bytes : List ℕ) (x y : Option WireState) → OnConnection (Takes bytes) x y → OnConnection (HasNoHead http.OutOfMemory) x y
-head_no_memory bytes x y p = on_map (Takes bytes) (HasNoHead http.OutOfMemory) x y (no_memory bytes) p
-
 -- no memory before anything was read
 pub head_not_begun : (x : Option WireState) → OnConnection (HasNoHead http.OutOfMemory) x x
-head_not_begun x = on_same (HasNoHead http.OutOfMemory) x (λ a. no_memory [] a a (takes_none a))
+head_not_begun x = on_same (HasNoHead http.OutOfMemory) x (λ a. record {
+  taken = [];
+  input = refl;
+  reach = omega arith;
+  needed = tt;
+  unwritten = refl;
+  written = refl;
+  none = tt;
+  reason = tt;
+})
 
 -- ---- a body
 
@@ -163,7 +150,7 @@ has_body : (came more : List ℕ) (count here : ℕ) (a b : Present) → here �
 has_body came more count here a b h m t = record {
   more = more;
   takes = t;
-  whole = omega (arith, h, m, length-append came more);
+  exact = omega (arith, h, m);
   body_is = body_parts came more count here h m;
 }
 
@@ -183,9 +170,27 @@ body_filled came lent count here x y h n k p =
 
 -- ---- messages
 
-message_is : {T : Type 0} (head : Option (Head T)) (cut : HttpError) (input : List ℕ) → message head cut input ≡ message_by (head_text input) head cut input
-unfolding message
-message_is head cut input = refl
+memory_not_cut : (e : HttpError) → is_memory e ≡ true → is_cut e ≡ false
+memory_not_cut http.OutOfMemory m = refl
+memory_not_cut other m = absurd (false≢true m)
+
+not_cut : (e : HttpError) → is_fault e ≡ false → is_cut e ≡ false
+not_cut http.Short f = absurd (false≢true (sym f))
+not_cut http.ReadFault f = absurd (false≢true (sym f))
+not_cut other f = refl
+
+-- a refusal that the bytes up to the message's end decide
+decided_by : {T : Type 0} (Says : List ℕ → Option (Head T) → Type 0) (c : Connection) (e : HttpError) (taken : ℕ) → MatchBool (is_memory e) ⊤ (Brings Says c (Err e)) → MatchBool (is_memory e) ⊤ (MatchBool (is_cut e) ⊤ (end_by {T = T} (head_text (readable c)) (Err e) ≤ taken)) → MatchBool (is_memory e) ⊤ (MatchBool (is_cut e) ⊤ (Decides Says c (Err e) (end_by {T = T} (head_text (readable c)) (Err e)) taken))
+decided_by {T = T} Says c e taken b n = choose (is_memory e) (is_cut e) refl b n
+  where
+    choose : (m k : Bool) → is_cut e ≡ k → MatchBool m ⊤ (Brings Says c (Err e)) → MatchBool m ⊤ (MatchBool k ⊤ (end_by {T = T} (head_text (readable c)) (Err e) ≤ taken)) → MatchBool m ⊤ (MatchBool k ⊤ (Decides Says c (Err e) (end_by {T = T} (head_text (readable c)) (Err e)) taken))
+    choose true k is b n = tt
+    choose false true is b n = tt
+    choose false false is b n = record { needed = n; alone = alone Says c (Err e) b (subst (λ t. MatchBool t ⊥ ⊤) (sym is) tt) }
+
+cut_or_map : (b : Bool) (P Q R : Type 0) → (Q → R) → MatchBool b P Q → MatchBool b P R
+cut_or_map true P Q R f p = p
+cut_or_map false P Q R f p = f p
 
 none_brings : {T : Type 0} (Says : List ℕ → Option (Head T) → Type 0) (e : HttpError) (a : Present) → head_text (readable a.left) ≡ None → e ≡ cond (nat_le 16384 (length (readable a.left))) http.HeadTooLong (cut_of a.left) → Brings Says a.left (Err e)
 none_brings Says e a none reason = record {
@@ -195,13 +200,20 @@ none_brings Says e a none reason = record {
 }
 
 pub no_head : {T : Type 0} (Says : List ℕ → Option (Head T) → Type 0) (e : HttpError) (x y : Option WireState) → OnConnection (HasNoHead e) x y → OnConnection (ReadsMessage Says (Err e)) x y
-no_head Says e x y p = on_map (HasNoHead e) (ReadsMessage Says (Err e)) x y (λ a b n. record {
-  taken = n.taken;
-  input = n.input;
-  unwritten = n.unwritten;
-  written = n.written;
-  brings = unless_both (is_memory e) _ _ _ (none_brings Says e a) n.none n.reason;
-}) p
+no_head {T = T} Says e x y p = on_map (HasNoHead e) (ReadsMessage Says (Err e)) x y none p
+  where
+    none : (a b : Present) → HasNoHead e a b → ReadsMessage Says (Err e) a b
+    none a b n =
+        let brings = unless_both (is_memory e) _ _ _ (none_brings Says e a) n.none n.reason in
+        record {
+          taken = n.taken;
+          input = n.input;
+          reach = cut_or_map (is_cut e) _ _ _ (λ few. omega (arith, few)) n.reach;
+          unwritten = n.unwritten;
+          written = n.written;
+          brings = brings;
+          decided = decided_by Says a.left e (length n.taken) brings (unless_both (is_memory e) _ _ _ (λ no_head needed. unless_map (is_cut e) _ _ (λ all. subst (λ t. end_by {T = T} t (Err e) ≤ length n.taken) (sym no_head) all) needed) n.none n.needed);
+        }
 
 -- the head text of what can be read, and what it says
 module _ {T : Type 0} (Says : List ℕ → Option (Head T) → Type 0) (bytes : List ℕ) (text : HeadText) (h : HasHead bytes text) where
@@ -220,18 +232,26 @@ module _ {T : Type 0} (Says : List ℕ → Option (Head T) → Type 0) (bytes : 
     message_is = m ∙ sym (ap (message head (cut_of a.left)) r ∙ after_is head (cut_of a.left) rest says e);
   }
 
-  -- the head is refused
-  refused : (e : HttpError) (a b : Present) → SaysSo Says (take text.len bytes) text.full (Err e) → Takes bytes a b → ReadsMessage Says (Err e) a b
-  refused e a b s t = record {
-    taken = bytes;
-    input = t.input;
-    unwritten = t.unwritten;
-    written = t.written;
-    brings = unless_both (is_memory e) _ _ _ (λ says is. brings_as a (readable b.left) s.head (Err e) (Err e) (takes_readable bytes a b t) says is refl) s.says s.result_is;
-  }
+  text_of : (a : Present) (rest : List ℕ) → readable a.left ≡ bytes ++ rest → head_text (readable a.left) ≡ Some (take text.len bytes)
+  text_of a rest r = ap head_text r ∙ head_at bytes rest text h
 
-  pub head_refused : (e : HttpError) (x y : Option WireState) → SaysSo Says (take text.len bytes) text.full (Err e) → OnConnection (Takes bytes) x y → OnConnection (ReadsMessage Says (Err e)) x y
-  head_refused e x y s p = on_map (Takes bytes) (ReadsMessage Says (Err e)) x y (λ a b. refused e a b s) p
+  -- the head is refused
+  refused : (e : HttpError) (a b : Present) → is_fault e ≡ false → SaysSo Says (take text.len bytes) text.full (Err e) → Takes bytes a b → ReadsMessage Says (Err e) a b
+  refused e a b f s t =
+      let brings = unless_both (is_memory e) _ _ _ (λ says is. brings_as a (readable b.left) s.head (Err e) (Err e) (takes_readable bytes a b t) says is refl) s.says s.result_is in
+      let found = text_of a (readable b.left) (takes_readable bytes a b t) in
+      record {
+        taken = bytes;
+        input = t.input;
+        reach = subst (λ t. MatchBool t (bytes ≡ readable a.left) (length bytes ≤ max 16384 (end_by {T = T} (head_text (readable a.left)) (Err e)))) (sym (not_cut e f)) (omega (arith, h.bound));
+        unwritten = t.unwritten;
+        written = t.written;
+        brings = brings;
+        decided = decided_by Says a.left e (length bytes) brings (unless (is_memory e) _ (unless (is_cut e) _ (subst (λ t. end_by {T = T} t (Err e) ≤ length bytes) (sym found) (omega (arith, head_len bytes text h, h.within)))));
+      }
+
+  pub head_refused : (e : HttpError) (x y : Option WireState) → is_fault e ≡ false → SaysSo Says (take text.len bytes) text.full (Err e) → OnConnection (Takes bytes) x y → OnConnection (ReadsMessage Says (Err e)) x y
+  head_refused e x y f s p = on_map (Takes bytes) (ReadsMessage Says (Err e)) x y (λ a b. refused e a b f s) p
 
   -- the body isn't whole
   cut_off : (told : T) (count : ℕ) (e : HttpError) (a b c : Present) → SaysSo Says (take text.len bytes) text.full (Ok (told, count)) → Takes bytes a b → LacksBody (count - length (drop text.len bytes)) e b c → ReadsMessage Says (Err e) a c
@@ -241,9 +261,11 @@ module _ {T : Type 0} (Says : List ℕ → Option (Head T) → Type 0) (bytes : 
       choose true is n = record {
         taken = bytes ++ [];
         input = (takes_more bytes [] a b c t n).input;
+        reach = subst (λ t. MatchBool t (bytes ++ [] ≡ readable a.left) (length (bytes ++ []) ≤ max 16384 (end_by {T = T} (head_text (readable a.left)) (Err e)))) (sym (memory_not_cut e is)) (omega (arith, h.bound, length-append bytes []));
         unwritten = n.unwritten ∙ t.unwritten;
         written = n.written ∙ t.written;
         brings = subst (λ m. MatchBool m ⊤ (Brings Says a.left (Err e))) (sym is) tt;
+        decided = subst (λ m. MatchBool m ⊤ (IfCut {A = T × List ℕ} (Err e) ⊤ (Decides Says a.left (Err e) (message_end {T = T} (Err e) (readable a.left)) (length (bytes ++ []))))) (sym is) tt;
       }
       choose false is n =
           let more = n.0 in
@@ -254,8 +276,10 @@ module _ {T : Type 0} (Says : List ℕ → Option (Head T) → Type 0) (bytes : 
           record {
             taken = bytes ++ more;
             input = all.input;
+            reach = subst (λ t. MatchBool t (bytes ++ more ≡ readable a.left) (length (bytes ++ more) ≤ max 16384 (end_by {T = T} (head_text (readable a.left)) (Err e)))) (sym (stops_cut (bytes ++ more) e a c all)) (sym all.readable_is);
             unwritten = all.unwritten;
             written = all.written;
+            decided = unless (is_memory e) _ (subst (λ t. MatchBool t ⊤ (Decides Says a.left (Err e) (message_end {T = T} (Err e) (readable a.left)) (length (bytes ++ more)))) (sym (stops_cut (bytes ++ more) e a c all)) tt);
             brings = subst (λ m. MatchBool m ⊤ (Brings Says a.left (Err e))) (sym is) (brings_as a more s.head (Ok (told, count)) (Err e) all.readable_is s.says s.result_is (sym (ap (told_with told) body)));
           }
 
@@ -268,18 +292,29 @@ module _ {T : Type 0} (Says : List ℕ → Option (Head T) → Type 0) (bytes : 
       let all = takes_more bytes n.more a b c t n.takes in
       let rest = n.more ++ readable c.left in
       let input : readable a.left ≡ bytes ++ rest = takes_readable (bytes ++ n.more) a c all ∙ append_assoc bytes n.more (readable c.left) in
-      let fits : text.len + count ≤ length (bytes ++ rest) = omega (arith, n.whole, h.within, length-append bytes rest, length-append n.more (readable c.left), length-append (drop text.len bytes) n.more, length-drop text.len bytes) in
       let came = drop text.len bytes in
+      let fills : count ≤ length (came ++ n.more) = omega (arith, n.exact, length-append came n.more) in
+      let fits : text.len + count ≤ length (bytes ++ rest) = omega (arith, n.exact, h.within, length-append bytes rest, length-append n.more (readable c.left), length-append (drop text.len bytes) n.more, length-drop text.len bytes) in
       let cut : take count (drop text.len (bytes ++ rest)) ≡ body =
-      ap (take count) (drop-append-le text.len bytes rest h.within ∙ sym (append_assoc came n.more (readable c.left))) ∙ take-append-le count (came ++ n.more) (readable c.left) n.whole ∙ sym n.body_is in
+      ap (take count) (drop-append-le text.len bytes rest h.within ∙ sym (append_assoc came n.more (readable c.left))) ∙ take-append-le count (came ++ n.more) (readable c.left) fills ∙ sym n.body_is in
       let is : body_in text.len count (cut_of a.left) (bytes ++ rest) ≡ Ok body =
       ap (λ t. cond t (Ok (take count (drop text.len (bytes ++ rest)))) (Err (cut_of a.left))) (le-leb (text.len + count) (length (bytes ++ rest)) fits) ∙ ap Ok cut in
+      let size : length body ≡ count = ap length n.body_is ∙ length-take-le count (came ++ n.more) fills in
+      let end : message_end (Ok (told, body)) (readable a.left) ≡ text.len + count = ap (λ t. end_by {T = T} t (Ok (told, body))) (text_of a rest input) ∙ ap₂ (λ n m. n + m) (head_len bytes text h) size in
+      let taken : length (bytes ++ n.more) ≡ length bytes + length n.more = length-append bytes n.more in
+      let left : length came ≡ length bytes - text.len = length-drop text.len bytes in
+      let brings = brings_as a rest s.head (Ok (told, count)) (Ok (told, body)) input s.says s.result_is (sym (ap (told_with told) is)) in
       record {
         taken = bytes ++ n.more;
         input = all.input;
+        reach = subst (λ end. length (bytes ++ n.more) ≤ max 16384 end) (sym end) (omega (arith, taken, left, n.exact, h.within, h.bound));
         unwritten = all.unwritten;
         written = all.written;
-        brings = brings_as a rest s.head (Ok (told, count)) (Ok (told, body)) input s.says s.result_is (sym (ap (told_with told) is));
+        brings = brings;
+        decided = record {
+          needed = subst (λ end. end ≤ length (bytes ++ n.more)) (sym end) (omega (arith, taken, left, n.exact, h.within));
+          alone = alone Says a.left (Ok (told, body)) brings tt;
+        };
       }
 
   pub body_whole : (told : T) (count : ℕ) (body : List ℕ) (x y z : Option WireState) → SaysSo Says (take text.len bytes) text.full (Ok (told, count)) → OnConnection (Takes bytes) x y → OnConnection (HasBody (drop text.len bytes) count body) y z → OnConnection (ReadsMessage Says (Ok (told, body))) x z

@@ -1,9 +1,9 @@
 -- The scan finds the head text: a state of it stands for the lines that came.
-use Rattle.std.proofs.Common.{◌≡◌, ◌≤◌, ◌<◌, ◌+◌, ◌-◌, ℕ, List, [], ◌∷◌, ◌++◌, None, Some, Option, Bool, true, false, length, take, drop, map, refl, sym, ap, ap₂, ◌∙◌, subst, append-nil, append_assoc, arith, length-append, length-take-le, take-append-drop}
+use Rattle.std.proofs.Common.{◌≡◌, ◌≤◌, ◌+◌, ◌-◌, ℕ, List, [], ◌∷◌, ◌++◌, None, Some, Option, Bool, true, false, length, take, drop, map, refl, sym, ap, ap₂, ◌∙◌, subst, append-nil, append_assoc, arith, length-append, length-take-le, take-append-drop}
 use Rattle.std.specs.Prelude.{◌==◌, ◌&&◌, ◌||◌, not, nat_lt, cond, is_some, unwrap_or, option_map, bytes_eq}
 use Rattle.std.specs.List.{filter, find, onto_first}
 use Rattle.std.proofs.lemmas.Bool.{and_left, and_parts, eqb-true, false≢true}
-use Rattle.std.proofs.lemmas.List.{take_all, take-append-le}
+use Rattle.std.proofs.lemmas.List.{length-take, take_all, take_at, take-append-le, take-take}
 use Rattle.std.proofs.lemmas.List.Elements.{filter-append}
 use Rattle.std.proofs.Math.Bool.{and-false}
 use Rattle.std.proofs.Math.Seq.{take-append-add}
@@ -13,7 +13,8 @@ use Rattle.siri_http.specs.declared.scan.Scan.{Scan}
 use Rattle.siri_http.specs.declared.scan.HeadText.{HeadText}
 use Rattle.siri_http.specs.Heads.{lines, is_empty, full_lines, ends_empty, ends_head, fronts, head_text}
 use Rattle.siri_http.specs.inner.Scanning as scan
-use Rattle.siri_http.proofs.Lines.{Plain, plain_append, second_byte}
+use Rattle.siri_http.specs.inner.Reading.{HasHead}
+use Rattle.siri_http.proofs.Lines.{Plain, plain_append, second_byte, text_cut}
 
 -- ---- lines
 
@@ -252,3 +253,86 @@ head_text_is input = sym (same_fronts (fronts (take 16384 input))) ∙ (finds sc
 -- The scan counts the lines of a head text that aren't empty.
 pub full_is : (bytes : List ℕ) (head : HeadText) → scan.head_from scan.fresh bytes ≡ Some head → head.full ≡ full_lines (take head.len bytes)
 full_is bytes head e = (finds scan.fresh [] bytes nothing_came).full head e
+
+-- ---- the head text of what can be read
+
+-- what the scan finds in some bytes, as a text
+abbrev text_in : List ℕ → Option (List ℕ)
+text_in bytes = option_map (λ (text : HeadText). take text.len bytes) (scan.head_from scan.fresh bytes)
+
+pub head_at : (bytes rest : List ℕ) (text : HeadText) → HasHead bytes text → head_text (bytes ++ rest) ≡ Some (take text.len bytes)
+head_at bytes rest text h =
+    let e : 16384 ≡ length bytes + (16384 - length bytes) = omega (arith, h.bound) in
+    let more = take (16384 - length bytes) rest in
+    head_text_is (bytes ++ rest) ∙ ap (λ k. text_in (take k (bytes ++ rest))) e ∙ ap text_in (take-append-add bytes rest (16384 - length bytes)) ∙ ap (option_map (λ (text : HeadText). take text.len (bytes ++ more))) (h.found more) ∙ ap Some (take-append-le text.len bytes more h.within)
+
+-- how many of its lines aren't empty, and how long it is
+pub head_full : (bytes : List ℕ) (text : HeadText) → HasHead bytes text → full_lines (take text.len bytes) ≡ text.full
+head_full bytes text h = sym (full_is bytes text (ap (scan.head_from scan.fresh) (sym (append-nil bytes)) ∙ h.found []))
+
+pub head_len : (bytes : List ℕ) (text : HeadText) → HasHead bytes text → length (take text.len bytes) ≡ text.len
+head_len bytes text h = length-take-le text.len bytes h.within
+
+pub no_head_short : (bytes : List ℕ) → length bytes ≤ 16384 → scan.head_from scan.fresh bytes ≡ None → head_text bytes ≡ None
+no_head_short bytes h e = head_text_is bytes ∙ ap text_in (take_all 16384 bytes h) ∙ ap (option_map (λ (text : HeadText). take text.len bytes)) e
+
+pub no_head_long : (bytes rest : List ℕ) → length bytes ≡ 16384 → scan.head_from scan.fresh bytes ≡ None → head_text (bytes ++ rest) ≡ None
+no_head_long bytes rest h e = head_text_is (bytes ++ rest) ∙ ap text_in (take_at bytes rest 16384 h) ∙ ap (option_map (λ (text : HeadText). take text.len bytes)) e
+
+-- ---- what decides a head text
+
+kept : {A : Type 0} (t : Bool) (found x y r : Option A) → (x ≡ r → y ≡ r) → cond t found x ≡ r → cond t found y ≡ r
+kept true found x y r f e = e
+kept false found x y r f e = f e
+
+-- what the scan found stays, whatever follows
+stays : (s : Scan) (bytes rest : List ℕ) (head : HeadText) → scan.head_from s bytes ≡ Some head → scan.head_from s (bytes ++ rest) ≡ Some head
+stays s [] rest head e = absurd (false≢true (ap is_some e))
+stays s (b ∷ bytes) rest head e =
+    kept (scan.ends_head s b) (Some (record { len = s.len + 1; full = s.full })) (scan.head_from (scan.after_byte s b) bytes) (scan.head_from (scan.after_byte s b) (bytes ++ rest)) (Some head) (stays (scan.after_byte s b) bytes rest head) e
+
+-- a head text is a front of the input, and the scan finds it there whatever follows
+record IsFound (input text : List ℕ) : Type 0 where
+  head : HeadText
+  front : text ≡ take (length text) input
+  has : HasHead text head
+  whole : take head.len text ≡ text
+
+is_found : (input text : List ℕ) → head_text input ≡ Some text → IsFound input text
+is_found input text e = choose (scan.head_from scan.fresh (take 16384 input)) refl
+  where
+    found : (head : HeadText) → scan.head_from scan.fresh (take 16384 input) ≡ Some head → text ≡ take head.len (take 16384 input) → IsFound input text
+    found head s is =
+        let cut = text_cut scan.fresh (take 16384 input) head s in
+        let same : head.len ≡ cut.0 = omega (arith, cut.1) in
+        let few : length (take 16384 input) ≤ 16384 = omega (arith, length-take 16384 input) in
+        let len : length text ≡ head.len = ap length is ∙ length-take-le head.len (take 16384 input) (omega (arith, same, cut.2)) in
+        let short : head.len ≤ 16384 = omega (arith, few, same, cut.2) in
+        let all : take head.len text ≡ text = take_all head.len text (omega (arith, len)) in
+        let there : scan.head_from scan.fresh text ≡ Some head = ap (scan.head_from scan.fresh) (is ∙ ap (λ n. take n (take 16384 input)) same) ∙ cut.3 in
+        record {
+          head = head;
+          front = is ∙ take-take head.len 16384 input short ∙ ap (λ n. take n input) (sym len);
+          has = record {
+            bound = omega (arith, len, short);
+            within = omega (arith, len);
+            found = λ rest. stays scan.fresh text rest head there;
+          };
+          whole = all;
+        }
+
+    choose : (o : Option HeadText) → scan.head_from scan.fresh (take 16384 input) ≡ o → IsFound input text
+    choose None s = absurd (false≢true (ap is_some (sym (ap (option_map (λ (head : HeadText). take head.len (take 16384 input))) s) ∙ sym (head_text_is input) ∙ e)))
+    choose (Some head) s =
+        let is : Some (take head.len (take 16384 input)) ≡ Some text = sym (ap (option_map (λ (head : HeadText). take head.len (take 16384 input))) s) ∙ sym (head_text_is input) ∙ e in
+        found head s (sym (ap (λ o. unwrap_or o (take head.len (take 16384 input))) is))
+
+-- an input that begins with the same bytes has the same head text
+pub head_again : (input other text : List ℕ) → head_text input ≡ Some text → take (length text) other ≡ take (length text) input → head_text other ≡ Some text
+head_again input other text e same =
+    let it = is_found input text e in
+    let parts : other ≡ text ++ drop (length text) other = sym (take-append-drop (length text) other) ∙ ap (λ l. l ++ drop (length text) other) (same ∙ sym it.front) in
+    ap head_text parts ∙ head_at text (drop (length text) other) it.head it.has ∙ ap Some it.whole
+
+pub no_head_again : (input other : List ℕ) → head_text input ≡ None → take 16384 other ≡ take 16384 input → head_text other ≡ None
+no_head_again input other e same = head_text_is other ∙ ap text_in same ∙ sym (head_text_is input) ∙ e

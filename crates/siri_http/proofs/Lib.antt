@@ -1,4 +1,5 @@
 pub mod AddressTexts
+pub mod Alone
 pub mod Connections
 pub mod FieldValues
 pub mod Fronts

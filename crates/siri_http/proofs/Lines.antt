@@ -200,7 +200,8 @@ after_len : (s : Scan) (b : ℕ) → (after_byte s b).len ≡ s.len + 1
 unfolding after_byte
 after_len s b = cond_len (b == 10) _ _ (s.len + 1) refl refl
 
-text_cut : (s : Scan) (bytes : List ℕ) (head : HeadText) → head_from s bytes ≡ Some head → (count : ℕ) × (head.len ≡ s.len + count) × (count ≤ length bytes) × (head_from s (take count bytes) ≡ Some head)
+-- a head text is found in a front of the bytes that came
+pub text_cut : (s : Scan) (bytes : List ℕ) (head : HeadText) → head_from s bytes ≡ Some head → (count : ℕ) × (head.len ≡ s.len + count) × (count ≤ length bytes) × (head_from s (take count bytes) ≡ Some head)
 text_cut s [] head e = absurd (false≢true (ap is_some e))
 text_cut s (b ∷ bytes) head e = choose (ends_head s b) refl (λ next. text_cut (after_byte s b) bytes head next)
   where

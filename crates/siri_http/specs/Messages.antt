@@ -1,5 +1,5 @@
 -- Requests and responses, as a connection brings them (RFC 9112).
-use Rattle.std.specs.Prelude.{◌≡◌, ⊤, ℕ, ◌+◌, Bool, true, false, MatchBool, nat_le, nat_lt, List, [], ◌++◌, length, take, drop, map, bytes_eq, codes, Option, None, Some, Result, Ok, Err, if◌then◌else◌}
+use Rattle.std.specs.Prelude.{◌≡◌, ⊤, ℕ, ◌+◌, ◌≤◌, max, Bool, true, false, MatchBool, nat_le, nat_lt, List, [], ◌++◌, length, take, drop, map, bytes_eq, codes, Option, None, Some, Result, Ok, Err, if◌then◌else◌}
 use Rattle.httparse.specs.Grammar.{RequestHead, ReadsRequest, ResponseHead, ReadsResponse, status_code}
 use Rattle.httparse.specs.Spans.{name_and_value}
 use Rattle.siri_base.specs.Wires.{Connection, Present}
@@ -98,11 +98,41 @@ abbrev pub UnlessMemory : {A : Type 0} → Result A HttpError → Type 0 → Typ
 UnlessMemory (Ok a) P = P
 UnlessMemory (Err e) P = MatchBool (is_memory e) ⊤ P
 
--- A message was read of a connection, and what is to be written to it stays. What was taken beyond the message, as far as the wire
--- gave it at once, is let go.
+-- the input ended too early, or could not be read on
+abbrev pub is_cut : HttpError → Bool
+is_cut http.Short = true
+is_cut http.ReadFault = true
+is_cut other = false
+
+-- one thing holds where the input was cut off, and the other elsewhere
+abbrev pub IfCut : {A : Type 0} → Result A HttpError → Type 0 → Type 0 → Type 0
+IfCut (Ok a) P Q = Q
+IfCut (Err e) P Q = MatchBool (is_cut e) P Q
+
+-- where the bytes end by which an input with this head text is answered so
+abbrev pub end_by : {T : Type 0} → Option (List ℕ) → Result (T × List ℕ) HttpError → ℕ
+end_by None result = 16384
+end_by (Some text) (Err e) = length text
+end_by (Some text) (Ok message) = length text + length message.1
+
+-- Where the bytes end by which an input is answered so: with the body, with the head text where that is refused, and with the first
+-- 16,384 bytes where they hold none.
+abbrev pub message_end : {T : Type 0} → Result (T × List ℕ) HttpError → List ℕ → ℕ
+message_end result input = end_by (head_text input) result
+
+-- the first bytes of a connection are taken and decide the answer, whatever comes after them and wherever that is cut off
+pub record Decides {T : Type 0} (Says : List ℕ → Option (Head T) → Type 0) (connection : Connection) (result : Result (T × List ℕ) HttpError) (count taken : ℕ) : Type 0 where
+  pub needed : count ≤ taken
+  pub alone : (other : Connection) → take count (readable other) ≡ take count (readable connection) → Brings Says other result
+
+-- A message was read of a connection, and what is to be written to it stays. All that can be read was taken where that was cut off.
+-- Else the message was taken, and bytes beyond it only as far as the first 16,384 of the input go: a longer message is taken by its
+-- exact length.
 pub record ReadsMessage {T : Type 0} (Says : List ℕ → Option (Head T) → Type 0) (result : Result (T × List ℕ) HttpError) (before after : Present) : Type 0 where
   pub taken : List ℕ
   pub input : before.left.input ≡ taken ++ after.left.input
+  pub reach : IfCut result (taken ≡ readable before.left) (length taken ≤ max 16384 (message_end result (readable before.left)))
   pub unwritten : after.left.write_fails ≡ before.left.write_fails
   pub written : after.written ≡ before.written
   pub brings : UnlessMemory result (Brings Says before.left result)
+  pub decided : UnlessMemory result (IfCut result ⊤ (Decides Says before.left result (message_end result (readable before.left)) (length taken)))

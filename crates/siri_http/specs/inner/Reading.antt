@@ -1,5 +1,5 @@
 -- Inner words: how far a message was read.
-use Rattle.std.specs.Prelude.{◌≡◌, ⊤, ℕ, ◌≤◌, ◌<◌, false, MatchBool, nat_le, nat_lt, List, [], ◌++◌, length, take, Option, None, Some, Result, if◌then◌else◌}
+use Rattle.std.specs.Prelude.{◌≡◌, ⊤, ℕ, ◌-◌, ◌≤◌, ◌<◌, false, MatchBool, nat_le, nat_lt, List, [], ◌++◌, length, take, Option, None, Some, Result, if◌then◌else◌}
 use Rattle.siri_base.specs.Failures.{Passes}
 use Rattle.siri_base.specs.Wires.{Present}
 use Rattle.siri_http.specs.declared.errors.HttpError.{HttpError}
@@ -7,7 +7,7 @@ use Rattle.siri_http.specs.declared.errors.HttpError.TheVariants as http
 use Rattle.siri_http.specs.declared.scan.HeadText.{HeadText}
 use Rattle.siri_http.specs.Heads.{head_text}
 use Rattle.siri_http.specs.Connections.{readable, cut_of}
-use Rattle.siri_http.specs.Messages.{Head, UnlessMemory, is_memory, text_says}
+use Rattle.siri_http.specs.Messages.{Head, UnlessMemory, is_memory, is_cut, text_says}
 use Rattle.siri_http.specs.inner.Scanning.{head_from, fresh}
 
 -- these bytes were taken from a connection
@@ -30,6 +30,8 @@ pub record Stops (bytes : List ℕ) (cut : HttpError) (before after : Present) :
 pub record HasNoHead (e : HttpError) (before after : Present) : Type 0 where
   pub taken : List ℕ
   pub input : before.left.input ≡ taken ++ after.left.input
+  pub reach : MatchBool (is_cut e) (taken ≡ readable before.left) (length taken ≤ 16384)
+  pub needed : MatchBool (is_memory e) ⊤ (MatchBool (is_cut e) ⊤ (16384 ≤ length taken))
   pub unwritten : after.left.write_fails ≡ before.left.write_fails
   pub written : after.written ≡ before.written
   pub none : MatchBool (is_memory e) ⊤ (head_text (readable before.left) ≡ None)
@@ -52,9 +54,9 @@ abbrev pub LacksBody : ℕ → HttpError → Present → Present → Type 0
 LacksBody room e before after =
     MatchBool (is_memory e) (Takes [] before after) ((bytes : List ℕ) × Stops bytes e before after × (length bytes < room))
 
--- the body: what came of it with the head, and bytes that were taken after that
+-- the body: what came of it with the head, and just as many bytes as it has beyond that
 pub record HasBody (came : List ℕ) (count : ℕ) (body : List ℕ) (before after : Present) : Type 0 where
   pub more : List ℕ
   pub takes : Takes more before after
-  pub whole : count ≤ length (came ++ more)
+  pub exact : length more ≡ count - length came
   pub body_is : body ≡ take count (came ++ more)

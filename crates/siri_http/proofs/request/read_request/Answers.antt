@@ -22,7 +22,7 @@ returns-in_err-asked-clause-told g c =
     let cut : c.split_at.result.0.now ≡ take front.head.len front.bytes.items = search rules in
     let p = err_from_is_err_and c.from_residual-in_err-asked.result c.from_residual-in_err-asked.ensures.1 in
     let says = subst (λ t. SaysSo IsRequest t front.head.full (Err c.in_err-asked.field-0.0)) cut c.in_err-asked.ensures.says in
-    rw (p.1, p.2) (head_refused IsRequest front.bytes.items front.head c.in_ok-front.ensures.head c.in_err-asked.field-0.0 _ _ says c.in_ok-front.ensures.bytes)
+    rw (p.1, p.2) (head_refused IsRequest front.bytes.items front.head c.in_ok-front.ensures.head c.in_err-asked.field-0.0 _ _ c.in_err-asked.ensures.known says c.in_ok-front.ensures.bytes)
 
 pub returns-in_err-body-clause-told : goal.returns-in_err-body-clause-told
 returns-in_err-body-clause-told g c =
