@@ -3,6 +3,7 @@ pub mod Alone
 pub mod Connections
 pub mod FieldValues
 pub mod Fronts
+pub mod HeadExamples
 pub mod HeadTexts
 pub mod Lines
 pub mod Sending
