@@ -1,0 +1,33 @@
+use Rattle.std.proofs.Common.{◌≡◌, ◌-◌, suc, ◌∙◌, List, [], ◌++◌, ◌∷◌, length, arith}
+use Rattle.siri_settle.specs.declared.outs.Out.{Out}
+use Rattle.siri_ends.specs.Sending.{SendsSome}
+use Rattle.siri_ends.proofs.Sends.{comes_next, comes_last, comes_full, comes_short, none_left, on_err, whole_stop}
+use Rattle.siri_ends.proofs.sending.send_out.Goals as goal
+
+pub returns-in_default-clause-ok : goal.returns-in_default-clause-ok
+returns-in_default-clause-ok g c =
+    let none : c.loop-left.queue.items ≡ [] = none_left c.loop-left.queue.items (c.in_default.ensures.items ∙ c.in_default.ensures.rest) in
+    let one : c.loop-left.left ≡ suc (c.loop-left.left - 1) = omega (arith, c.loop-left-test.true) in
+    comes_last c.args.outs c.loop-left.queue.items _ _ c.loop-left.left (c.loop-left.left - 1) c.loop-left.invariant none one
+
+pub loop-left-preserved : goal.loop-left-preserved
+loop-left-preserved g c =
+    let one : c.loop-left.left ≡ suc (c.loop-left.left - 1) = omega (arith, c.loop-left-test.true) in
+    comes_next c.args.outs c.loop-left.queue.items c.append_outs.new.queue.items _ _ _ c.loop-left.left (c.loop-left.left - 1) c.in-Some.out c.pop_front.new.self.items c.in_ok-more.more c.loop-left.invariant c.in-Some.ensures.items one c.in_ok-more.ensures.ok c.in_ok-append_outs.ensures
+
+pub returns-clause-ok : goal.returns-clause-ok
+returns-clause-ok g c =
+    let none : c.loop-left.left ≡ 0 = omega (arith, c.loop-left-test.false) in
+    rw (c.count_unsent.ensures, c.len.ensures, c.loop-left.queue.ok.0) (comes_full c.args.outs c.loop-left.queue.items _ _ c.loop-left.left c.loop-left.invariant none)
+
+pub returns-in_err-more-clause-err : goal.returns-in_err-more-clause-err
+returns-in_err-more-clause-err g c =
+    let one : c.loop-left.left ≡ suc (c.loop-left.left - 1) = omega (arith, c.loop-left-test.true) in
+    on_err c.from_residual.result (SendsSome c.args.outs c.args.producer.now (g.W.Wire.tells c.args.wire.now) (g.W.Wire.tells c.send_next.new.wire))
+    (comes_short c.args.outs c.loop-left.queue.items _ _ c.loop-left.left (c.loop-left.left - 1) c.in-Some.out c.pop_front.new.self.items _ c.loop-left.invariant c.in-Some.ensures.items one c.in_err-more.ensures.err)
+
+pub returns-in_err-append_outs-clause-err : goal.returns-in_err-append_outs-clause-err
+returns-in_err-append_outs-clause-err g c =
+    let one : c.loop-left.left ≡ suc (c.loop-left.left - 1) = omega (arith, c.loop-left-test.true) in
+    on_err c.from_residual-in_err-append_outs.result (SendsSome c.args.outs c.args.producer.now (g.W.Wire.tells c.args.wire.now) (g.W.Wire.tells c.send_next.new.wire))
+    (comes_short c.args.outs c.loop-left.queue.items _ _ c.loop-left.left (c.loop-left.left - 1) c.in-Some.out c.pop_front.new.self.items _ c.loop-left.invariant c.in-Some.ensures.items one (whole_stop c.in-Some.out c.in_ok-more.more _ _ c.in_ok-more.ensures.ok))

@@ -1,0 +1,61 @@
+-- What an accepted connection is answered (EN 15531-2 for the messages, RFC 9110 for the statuses).
+use Rattle.std.specs.Prelude.{ℕ, Bool, true, false, List, [], ◌∷◌, ◌++◌, codes, Option, None, Some, Result, Ok, Err}
+use Rattle.siri_base.specs.Words.{reason_name}
+use Rattle.siri_json.specs.Paths.{path_text}
+use Rattle.siri_tables.specs.Refusals.{Refusal}
+use Rattle.siri_messages.specs.declared.message.Message.{Message}
+use Rattle.siri_model.specs.History.{History, Take, Settle}
+use Rattle.siri_producer.specs.Answers.{answer_to}
+use Rattle.siri_wire.specs.Canonical.{canonical}
+use Rattle.siri_wire.specs.Documents.{message_of}
+use Rattle.siri_exchange.specs.Requests.{status_of, name_of}
+use Rattle.siri_exchange.specs.declared.asked.Asked.{Asked}
+use Rattle.siri_exchange.specs.declared.asked.Asked.TheVariants as asked
+use Rattle.siri_ends.specs.declared.response.Response.{Response}
+
+-- a refusal is told as a line of plain text
+abbrev pub refusing : ℕ → List ℕ → Response
+refusing status reason = record { status = status; plain = true; body = reason ++ 10 ∷ [] }
+
+-- `PATH: REASON`
+abbrev pub refusal_text : Refusal → List ℕ
+refusal_text refusal = path_text refusal.path ++ (codes ": " ++ reason_name refusal.reason)
+
+-- a reply is its canonical document; without a reply the body is empty
+abbrev pub reply_body : Option Message → List ℕ
+reply_body None = []
+reply_body (Some message) = canonical message
+
+abbrev pub replying : Option Message → Response
+replying reply = record { status = 200; plain = false; body = reply_body reply }
+
+-- what a POST of a document is answered by a producer of this name, after a history
+abbrev pub document_response : (name : List ℕ) → History → Result Message Refusal → Response
+document_response name h (Ok message) = replying (answer_to name h message).reply
+document_response name h (Err refusal) = refusing 400 (refusal_text refusal)
+
+-- what a connection is answered; nothing where its request didn't come whole
+unfoldable pub response_to : (name : List ℕ) → History → Asked → Option Response
+response_to name h (asked.Posted body) = Some (document_response name h (message_of body))
+response_to name h (asked.Refused bad) = Some (refusing (status_of bad) (name_of bad))
+response_to name h asked.Short = None
+response_to name h asked.Failed = None
+
+-- the message of a document
+abbrev pub message_in : Result Message Refusal → Option Message
+message_in (Ok message) = Some message
+message_in (Err refusal) = None
+
+-- the message that a connection brings: that of a POST whose body is a document
+unfoldable pub message_asked : Asked → Option Message
+message_asked (asked.Posted body) = message_in (message_of body)
+message_asked other = None
+
+-- a message is taken, where there is one
+abbrev pub taking : Option Message → History
+taking None = []
+taking (Some message) = Take message ∷ []
+
+-- the steps of a producer in a turn: a message is taken, where there is one, and then it settles
+abbrev pub turn_steps : Option Message → History
+turn_steps message = taking message ++ Settle ∷ []

@@ -1,0 +1,88 @@
+-- Messages that are sent out, one after the other (EN 15531-2, deliveries, notifications and their acknowledgements).
+use Rattle.std.specs.Prelude.{◌≡◌, ◌⊎◌, ℕ, zero, suc, List, [], ◌∷◌, ◌++◌, length, Option, None, Some, Result, Ok, Err}
+use Rattle.siri_base.specs.Wires.{WireState}
+use Rattle.siri_base.specs.OutsideCalls.{WhereTold}
+use Rattle.siri_http.specs.Addresses.{address_of}
+use Rattle.siri_tables.specs.Refusals.{Refusal}
+use Rattle.siri_messages.specs.declared.message.Message.{Message}
+use Rattle.siri_messages.specs.declared.message.Message.TheVariants as message
+use Rattle.siri_model.specs.History.{History, Take, Settle}
+use Rattle.siri_producer.specs.Known.{Known, StandsFor}
+use Rattle.siri_producer.specs.Sends.{sends}
+use Rattle.siri_settle.specs.declared.outs.Out.{Out}
+use Rattle.siri_wire.specs.Canonical.{canonical}
+use Rattle.siri_wire.specs.Documents.{message_of}
+use Rattle.siri_exchange.specs.Causes.{HasSentCause}
+use Rattle.siri_exchange.specs.Posts.{Posts}
+use Rattle.siri_exchange.specs.Tallies.{with_unsent}
+use Rattle.siri_exchange.specs.declared.posting.Sent.{Sent}
+use Rattle.siri_exchange.specs.declared.posting.Sent.TheVariants as sent
+use Rattle.siri_exchange.specs.declared.tally.Tally.{Tally}
+use Rattle.siri_ends.specs.Responses.{message_in, turn_steps}
+use Rattle.siri_ends.specs.At.{At}
+
+-- the host and path of an address, where a message has one that is one
+abbrev pub target_of : Option (List ℕ) → Option (List ℕ × List ℕ)
+target_of None = None
+target_of (Some address) = address_of address
+
+-- a message that acknowledges what was sent
+abbrev pub acknowledging : Message → Option Message
+acknowledging (message.DataReceivedAcknowledgement a) = Some (message.DataReceivedAcknowledgement a)
+acknowledging other = None
+
+abbrev pub acknowledging_in : Option Message → Option Message
+acknowledging_in None = None
+acknowledging_in (Some message) = acknowledging message
+
+-- the acknowledgement that a response brings: the DataReceivedAcknowledgement in the body of a 200
+unfoldable pub acknowledgement : Sent → Option Message
+acknowledgement (sent.Accepted body) = acknowledging_in (message_in (message_of body))
+acknowledgement other = None
+
+-- the steps after a message was sent: an acknowledgement is taken and settled
+abbrev pub steps_after : Option Message → History
+steps_after None = []
+steps_after (Some message) = turn_steps (Some message)
+
+-- what an acknowledgement settles is sent too
+abbrev pub sends_after : (name : List ℕ) → History → Option Message → List Out
+sends_after name h None = []
+sends_after name h (Some message) = sends name (h ++ Take message ∷ [])
+
+-- a message that wasn't answered with status 200 is unsent
+abbrev pub tally_after : Sent → Tally → Tally
+tally_after (sent.Accepted body) tally = tally
+tally_after other tally = with_unsent 1 tally
+
+-- one message is sent: its canonical document goes to its address, and this became of it
+pub record SendsOne (out : Out) (outcome : Sent) (at next : At) : Type 0 where
+  pub told : WhereTold at.wire next.wire (Posts (target_of out.address) (canonical out.message) (Some outcome))
+  pub cause : HasSentCause at.faults next.faults (Some outcome)
+  pub history : next.history ≡ at.history ++ steps_after (acknowledgement outcome)
+  pub tally : next.tally ≡ tally_after outcome at.tally
+
+-- Messages are sent in their order, and what an acknowledgement settles joins the end. Of more than so many the rest are unsent.
+unfoldable pub SendsOut : (name : List ℕ) → ℕ → List Out → At → At → Type 0
+SendsOut name zero outs at end = end ≡ record at { tally = with_unsent (length outs) at.tally }
+SendsOut name (suc limit) [] at end = end ≡ at
+SendsOut name (suc limit) (out ∷ rest) at end =
+    (outcome : Sent) × (next : At) × SendsOne out outcome at next
+    × SendsOut name limit (rest ++ sends_after name at.history (acknowledgement outcome)) next end
+
+-- the messages of one turn: at most 100,000 are sent
+abbrev pub SendsAll : List Out → (name : List ℕ) → At → At → Type 0
+SendsAll outs name at end = SendsOut name 100000 outs at end
+
+-- Where memory was wanting, the first of these sends were made, and of the next one the first steps, which `Posts` tells.
+unfoldable pub FirstSends : (name : List ℕ) → ℕ → List Out → History → (before after : Option WireState) → Type 0
+FirstSends name zero outs h before after = after ≡ before
+FirstSends name (suc limit) [] h before after = after ≡ before
+FirstSends name (suc limit) (out ∷ rest) h before after =
+    WhereTold before after (Posts (target_of out.address) (canonical out.message) None)
+    ⊎ ((outcome : Sent) × (next : Option WireState) × WhereTold before next (Posts (target_of out.address) (canonical out.message) (Some outcome))
+    × FirstSends name limit (rest ++ sends_after name h (acknowledgement outcome)) (h ++ steps_after (acknowledgement outcome)) next after)
+
+-- the first sends of one turn, whatever history the producer stood for before them
+abbrev pub SendsSome : List Out → Known → (before after : Option WireState) → Type 0
+SendsSome outs producer before after = (h : History) → StandsFor producer h → FirstSends producer.responder.name 100000 outs h before after

@@ -1,0 +1,159 @@
+// Sends messages to where they are for.
+ghost use Rattle.std.specs.Prelude.{◌≡◌, ◌++◌, [], IfOk, OnOk, OnErr, length, option_map, Some};
+ghost use Rattle.siri_base.specs.OutsideCalls.{WhereTold};
+ghost use Rattle.siri_model.specs.History.{History, Take};
+ghost use Rattle.siri_producer.specs.Known.{StandsFor};
+ghost use Rattle.siri_producer.specs.Sends.{sends};
+ghost use Rattle.siri_wire.specs.Canonical.{canonical};
+ghost use Rattle.siri_wire.specs.Documents.{message_of};
+ghost use Rattle.siri_exchange.specs.Causes.{HasSentCause, outcome};
+ghost use Rattle.siri_exchange.specs.Posts.{Posts};
+ghost use Rattle.siri_ends.specs.Responses.{message_in, turn_steps};
+ghost use Rattle.siri_ends.specs.At.{Goes, end_of};
+ghost use Rattle.siri_ends.specs.Sending.{SendsAll, SendsSome, acknowledging, acknowledging_in, sends_after, steps_after, target_of};
+ghost use Rattle.siri_ends.specs.Turns.{Hears, SendsNext, StopsAt};
+
+use crate::Tally;
+use siri_base::{List, OutOfMemory, Wire};
+use siri_exchange::{Sent, post};
+use siri_messages::Message;
+use siri_producer::{Out, Producer};
+use siri_wire::{DecodeError, decode, encode};
+use std::alloc::Global;
+use std::collections::VecDeque;
+
+/// The most messages that are sent in one turn.
+const SEND_LIMIT: u64 = 100_000;
+
+/// Takes an acknowledgement and settles it, and gives what that sends.
+fn settle_acknowledgement(
+    producer: &mut Producer,
+    message: &Message,
+) -> Result<List<Out>, OutOfMemory>
+    ensures { IfOk result (λ outs. Hears producer.old producer.new (Some message.now) outs) }
+{
+    producer.take(message)?;
+    let outs = producer.settle()?;
+    Ok(outs)
+}
+
+/// Takes a message that was answered, where it is an acknowledgement.
+#[tactic(auto, using(crate::proofs::Sends::hears_nothing))]
+fn hear_message(
+    alloc: Global,
+    producer: &mut Producer,
+    message: &Message,
+) -> Result<List<Out>, OutOfMemory>
+    ensures { IfOk result (λ outs. Hears producer.old producer.new (acknowledging message.now) outs) }
+{
+    match message {
+        Message::DataReceivedAcknowledgement(_) => settle_acknowledgement(producer, message),
+        _ => Ok(List::new(alloc)),
+    }
+}
+
+/// Takes the message of a document that was answered, where it is an acknowledgement.
+#[tactic(auto, using(crate::proofs::Sends::hears_nothing))]
+fn hear_document(
+    alloc: Global,
+    producer: &mut Producer,
+    document: &[u8],
+) -> Result<List<Out>, OutOfMemory>
+    ensures { IfOk result (λ outs. Hears producer.old producer.new (acknowledging_in (message_in (message_of document.now))) outs) }
+{
+    match decode(alloc, document) {
+        Ok(message) => hear_message(alloc, producer, &message),
+        Err(DecodeError::Refused(_)) => Ok(List::new(alloc)),
+        Err(DecodeError::OutOfMemory) => Err(OutOfMemory),
+    }
+}
+
+/// Sends a message to its address, where it has one.
+#[tactic(auto, using(crate::proofs::Sends::posts_nothing))]
+fn post_out<W: Wire>(alloc: Global, wire: &mut W, out: &Out) -> Result<Sent, OutOfMemory>
+    ensures told { IfOk result (λ sent. WhereTold (W.tells wire.old) (W.tells wire.new) (Posts (target_of out.now.address) (canonical out.now.message) (Some sent))) }
+    ensures err { OnErr result (WhereTold (W.tells wire.old) (W.tells wire.new) (Posts (target_of out.now.address) (canonical out.now.message) None)) }
+    ensures cause { HasSentCause (W.faults wire.old) (W.faults wire.new) (outcome result) }
+{
+    match &out.address {
+        Some(address) => {
+            let document = encode(alloc, &out.message)?;
+            post(alloc, wire, address, &document)
+        }
+        None => Ok(Sent::Refused),
+    }
+}
+
+/// Sends one message, and gives what an acknowledgement of it settles.
+#[tactic(auto, using(crate::proofs::Sends::hears_nothing), unfolding(crate::specs::Sending::acknowledgement))]
+fn send_one<W: Wire>(
+    alloc: Global,
+    wire: &mut W,
+    out: &Out,
+    producer: &mut Producer,
+    tally: &mut Tally,
+) -> Result<List<Out>, OutOfMemory>
+    ensures ok { IfOk result (λ more. SendsNext out.now more (end_of producer.old tally.old (W.tells wire.old) (W.faults wire.old)) (end_of producer.new tally.new (W.tells wire.new) (W.faults wire.new))) }
+    ensures err { OnErr result (StopsAt out.now (W.tells wire.old) (W.tells wire.new)) }
+{
+    match post_out(alloc, wire, out)? {
+        Sent::Accepted(body) => {
+            let more = hear_document(alloc, producer, body.slice())?;
+            Ok(more)
+        }
+        Sent::Refused | Sent::Failed => {
+            tally.count_unsent(1);
+            Ok(List::new(alloc))
+        }
+    }
+}
+
+/// The same of a message that is handed over.
+fn send_next<W: Wire>(
+    alloc: Global,
+    wire: &mut W,
+    out: Out,
+    producer: &mut Producer,
+    tally: &mut Tally,
+) -> Result<List<Out>, OutOfMemory>
+    ensures ok { IfOk result (λ more. SendsNext out more (end_of producer.old tally.old (W.tells wire.old) (W.faults wire.old)) (end_of producer.new tally.new (W.tells wire.new) (W.faults wire.new))) }
+    ensures err { OnErr result (StopsAt out (W.tells wire.old) (W.tells wire.new)) }
+{
+    send_one(alloc, wire, &out, producer, tally)
+}
+
+/// Puts messages at the end of those that are to be sent.
+fn append_outs(queue: &mut VecDeque<Out>, outs: List<Out>) -> Result<(), OutOfMemory>
+    ensures { OnOk result (queue.new.items ≡ queue.old.items ++ outs) }
+{
+    let mut more = VecDeque::from(outs.into_vec());
+    Ok(queue.append(&mut more)?)
+}
+
+/// Sends messages in their order: each is dialled, written, its response read, and the connection hung up. A
+/// DataReceivedAcknowledgement in a response of status 200 is taken and settled, and what that sends joins the end. After
+/// 100,000 sends the rest are counted as unsent, as is each message that has no address, or one that is none, that the wire
+/// failed, or whose response was refused or of another status than 200.
+pub fn send_out<W: Wire>(
+    alloc: Global,
+    wire: &mut W,
+    outs: List<Out>,
+    producer: &mut Producer,
+    tally: &mut Tally,
+) -> Result<(), OutOfMemory>
+    ensures ok { OnOk result (Goes (SendsAll outs) (end_of producer.old tally.old (W.tells wire.old) (W.faults wire.old)) (end_of producer.new tally.new (W.tells wire.new) (W.faults wire.new))) }
+    ensures err { OnErr result (SendsSome outs producer.old (W.tells wire.old) (W.tells wire.new)) }
+{
+    let mut queue = VecDeque::from(outs.into_vec());
+    let mut left = SEND_LIMIT;
+    while left > 0 {
+        let Some(out) = queue.pop_front() else {
+            return Ok(());
+        };
+        let more = send_next(alloc, wire, out, producer, tally)?;
+        append_outs(&mut queue, more)?;
+        left -= 1;
+    }
+    tally.count_unsent(queue.len() as u64);
+    Ok(())
+}
