@@ -30,6 +30,3 @@ pub use errors::HttpError;
 pub use request::{HttpRequest, read_request};
 pub use response::{HttpResponse, read_response};
 pub use writing::{write_request, write_response};
-
-#[cfg(test)]
-mod tests;

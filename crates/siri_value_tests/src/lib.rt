@@ -9,7 +9,7 @@
 //! where there is memory, at a concrete type where it is generic, and that definitions mean what the rows say. A row is one
 //! run of a function that makes its values and lets them go.
 //!
-//! Stands on the crates from `siri_base` to `siri_store`, `siri_change` and `siri_subs`, and on `siri_system`. It has no code of its own outside of tests.
+//! Stands on the crates from `siri_base` to `siri_store`, `siri_change` and `siri_subs`. It has no code of its own outside of tests.
 #![tactic(auto)]
 
 #[cfg(test)]
@@ -24,8 +24,6 @@ mod outside;
 mod stores;
 #[cfg(test)]
 mod subscriptions;
-#[cfg(test)]
-mod system;
 #[cfg(test)]
 mod times;
 #[cfg(test)]

@@ -1,5 +1,9 @@
-use super::*;
+// Requests and responses over connections in memory.
 use siri_base::{InMemoryWire, Name, Wire};
+use siri_http::{
+    HttpError, HttpRequest, read_address, read_request, read_response, write_request,
+    write_response,
+};
 
 /// What a connection with this input is asked, as `METHOD TARGET BODY`.
 fn asked(rt: &HostRuntime, input: &[u8]) -> Result<HttpRequest, HttpError> {
