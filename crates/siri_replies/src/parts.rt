@@ -53,10 +53,10 @@ fn put_functional(
     functional: FunctionalDelivery,
 ) -> Result<(), OutOfMemory>
     ensures { OnOk result (delivery.new ≡ record delivery.old {
-        stop_monitoring_delivery = delivery.old.stop_monitoring_delivery ++ definition.in_stop_monitoring topic.now functional;
-        estimated_timetable_delivery = delivery.old.estimated_timetable_delivery ++ definition.in_estimated_timetable topic.now functional;
-        vehicle_monitoring_delivery = delivery.old.vehicle_monitoring_delivery ++ definition.in_vehicle_monitoring topic.now functional;
-        situation_exchange_delivery = delivery.old.situation_exchange_delivery ++ definition.in_situation_exchange topic.now functional;
+      stop_monitoring_delivery = delivery.old.stop_monitoring_delivery ++ definition.in_stop_monitoring topic.now functional;
+      estimated_timetable_delivery = delivery.old.estimated_timetable_delivery ++ definition.in_estimated_timetable topic.now functional;
+      vehicle_monitoring_delivery = delivery.old.vehicle_monitoring_delivery ++ definition.in_vehicle_monitoring topic.now functional;
+      situation_exchange_delivery = delivery.old.situation_exchange_delivery ++ definition.in_situation_exchange topic.now functional;
     }) }
 {
     match topic {
