@@ -1,0 +1,119 @@
+//! The text of a document as it grows, token by token.
+
+ghost use Rattle.std.specs.Prelude.{◌≡◌, List, [], ◌∷◌, ◌++◌, decimal, OnOk, IsUtf8};
+ghost use Rattle.json.specs.Print.{print};
+ghost use Rattle.json.specs.Token.{begin_object, end_object, begin_array, end_array, key, string, number, boolean};
+
+use json::Writer;
+use siri_base::OutOfMemory;
+use std::alloc::Global;
+use std::marker::Model;
+
+/// A text of JSON that is written token by token, compact: it puts the commas, the colons and the escapes itself. Contracts see it as
+/// the list of the tokens that were written. What nests is its caller's. After want of memory it is of no more use.
+#[derive(Drop)]
+pub struct Output {
+    alloc: Global,
+    writer: Writer,
+}
+
+impl Model for Output {
+    ghost use Rattle.std.specs.Prelude.{◌≡◌, List, []};
+    ghost use Rattle.json.specs.Token.{Token, tokens_code};
+
+    ghost Value = { List Token };
+
+    ghost coded = { tokens_code };
+
+    ghost view = { λ o. o.writer.tokens };
+
+    ghost invariant = { λ o. o.writer.before ≡ [] };
+}
+
+impl Output {
+    /// The text of nothing. It takes no memory.
+    pub fn new(alloc: Global) -> Self
+        ensures { result ≡ [] }
+    {
+        Output {
+            alloc,
+            writer: Writer::new(Vec::new(alloc)),
+        }
+    }
+
+    /// Where its memory comes from.
+    pub fn alloc(&self) -> Global {
+        self.alloc
+    }
+
+    /// Begins an object.
+    pub fn begin_object(&mut self) -> Result<(), OutOfMemory>
+        ensures { OnOk result (self.new ≡ self.old ++ begin_object ∷ []) }
+    {
+        Ok(self.writer.begin_object()?)
+    }
+
+    /// Ends an object.
+    pub fn end_object(&mut self) -> Result<(), OutOfMemory>
+        ensures { OnOk result (self.new ≡ self.old ++ end_object ∷ []) }
+    {
+        Ok(self.writer.end_object()?)
+    }
+
+    /// Begins a list.
+    pub fn begin_list(&mut self) -> Result<(), OutOfMemory>
+        ensures { OnOk result (self.new ≡ self.old ++ begin_array ∷ []) }
+    {
+        Ok(self.writer.begin_array()?)
+    }
+
+    /// Ends a list.
+    pub fn end_list(&mut self) -> Result<(), OutOfMemory>
+        ensures { OnOk result (self.new ≡ self.old ++ end_array ∷ []) }
+    {
+        Ok(self.writer.end_array()?)
+    }
+
+    /// The name of a member, whose value is what is written next.
+    pub fn key(&mut self, name: &str) -> Result<(), OutOfMemory>
+        ensures { OnOk result (self.new ≡ self.old ++ key name.now ∷ []) }
+    {
+        Ok(self.writer.key(name)?)
+    }
+
+    /// A text.
+    pub fn text(&mut self, text: &str) -> Result<(), OutOfMemory>
+        ensures { OnOk result (self.new ≡ self.old ++ string text.now ∷ []) }
+    {
+        Ok(self.writer.string(text)?)
+    }
+
+    /// A number, in decimal digits.
+    pub fn number(&mut self, count: u64) -> Result<(), OutOfMemory>
+        ensures { OnOk result (self.new ≡ self.old ++ number (decimal count) ∷ []) }
+    {
+        Ok(self.writer.u64(count)?)
+    }
+
+    /// A number as a text of its decimal digits.
+    pub fn number_text(&mut self, count: u64) -> Result<(), OutOfMemory>
+        ensures { OnOk result (self.new ≡ self.old ++ string (decimal count) ∷ []) }
+    {
+        Ok(self.writer.quoted_u64(count)?)
+    }
+
+    /// `true` or `false`.
+    pub fn flag(&mut self, flag: bool) -> Result<(), OutOfMemory>
+        ensures { OnOk result (self.new ≡ self.old ++ boolean flag ∷ []) }
+    {
+        Ok(self.writer.boolean(flag)?)
+    }
+
+    /// The text of the tokens that were written.
+    pub fn into_text(self) -> Vec<u8>
+        ensures text { result.items ≡ print self }
+        ensures utf8 { IsUtf8 result.items }
+    {
+        self.writer.into_inner()
+    }
+}
