@@ -32,7 +32,7 @@ def run_once(command, path):
         return seconds, int(kilobytes.read()) * 1024 / 1e6
 
 
-PHASES = ["bytes", "tree", "items", "spelled", "text"]
+PHASES = ["bytes", "tree", "items", "text"]
 
 
 def replay_beside_yardsticks(program, folder):

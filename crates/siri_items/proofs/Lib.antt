@@ -1,5 +1,6 @@
 pub mod BackTables
 pub mod CanonicalTables
+pub mod InOrder
 pub mod ProperTables
 pub mod ReadImpliesSpells
 pub mod SpellsImpliesRead

@@ -157,6 +157,10 @@ rows_of_journey j =
 unfoldable pub written_journey : Journey → Data
 written_journey j = row_object (rows_of_journey j)
 
+-- a journey that carries a RecordedAtTime itself, where one is handed in
+unfoldable pub written_timed_journey : Option ℕ → Journey → Data
+written_timed_journey recorded_at_time j = row_object ((RECORDED_AT_TIME.now, option_and_then written_moment recorded_at_time) ∷ rows_of_journey j)
+
 -- ---- situations
 
 -- ValidityPeriod

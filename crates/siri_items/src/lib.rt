@@ -3,7 +3,7 @@
 //!
 //! ```text
 //!     tree --read_item---> item, or PATH: REASON      a table each, a row an element:
-//!     tree <--write_item-- item
+//!     text <--write_item-- item
 //!                                                     Visit      MonitoredStopVisit       EN 15531-3
 //!                                                     Journey    EstimatedVehicleJourney  EN 15531-3
 //!                                                     Vehicle    VehicleActivity          EN 15531-3
@@ -46,3 +46,4 @@ pub use read_situation::SituationTable;
 pub use read_vehicle::VehicleTable;
 pub use read_visit::VisitTable;
 pub use write::write_item;
+pub use write_journey::write_timed_journey;

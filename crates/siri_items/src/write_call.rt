@@ -1,47 +1,62 @@
 //! Writing calls at stops, locations and how a journey is named.
 
-ghost use Rattle.std.specs.Prelude.{◌≡◌, Option, Some, None, IfOk, OnOk, option_map, option_and_then};
+ghost use Rattle.std.specs.Prelude.{◌≡◌, ◌++◌, Option, OnOk, option_and_then};
 ghost use Rattle.serde_json.specs.Data.{Data};
-ghost use Rattle.serde_json.specs.View.{view, members_view};
-ghost use Rattle.siri_tables.specs.Writing.{put_row};
-ghost use Rattle.siri_items.specs.declared.names.TheConstants.{FRAMED_VEHICLE_JOURNEY_REF, DATED_VEHICLE_JOURNEY_REF};
-ghost use Rattle.siri_items.specs.Written.{written_call, call_writing, written_location, written_framed_ref, written_dated, written_calls};
+ghost use Rattle.siri_json.specs.Tokens.{tokens_of};
+ghost use Rattle.siri_tables.specs.Appended.{row_tokens};
+ghost use Rattle.siri_tables.specs.Writing.{row_object, written_text};
+ghost use Rattle.siri_tables.proofs.Sorted.{any_written};
+ghost use Rattle.siri_items.specs.declared.names.TheConstants.{FRAMED_VEHICLE_JOURNEY_REF, DATED_VEHICLE_JOURNEY_REF, VEHICLE_LOCATION};
+ghost use Rattle.siri_items.specs.Written.{written_call, call_writing, rows_of_location, written_location, written_framed_ref, written_dated, written_calls};
 
 use crate::names;
-use crate::read_call::{LocationRule, StopCallTable};
-use serde_json::Value;
+use crate::read_call::StopCallTable;
 use siri_base::{List, Name, OutOfMemory};
+use siri_json::Output;
 use siri_records::{StopCall, VehicleLocation};
 use siri_tables::rules::{DecimalRule, FlagRule, MomentRule, NameRule, NumberRule, TextRule};
-use siri_tables::writing::{Members, Written};
-use std::alloc::Global;
+use siri_tables::writing::{Written, list_inside, optional, required};
 
-#[tactic(auto, unfolding(crate::specs::Written::written_call))]
-fn call_value(alloc: Global, call: &StopCall) -> Result<Value, OutOfMemory>
-    ensures { IfOk result (λ value. view value ≡ written_call call.now) }
+#[tactic(auto, using(crate::proofs::InOrder::call_in_order))]
+fn write_call(out: &mut Output, call: &StopCall) -> Result<(), OutOfMemory>
+    ensures { OnOk result (out.new ≡ out.old ++ tokens_of (written_call call.now)) }
 {
-    let mut members = Members::new(alloc);
-    members.put_optional::<NameRule>(names::STOP_POINT_REF, &call.stop_point_ref)?;
-    members.put_optional::<NumberRule>(names::ORDER, &call.order)?;
-    members.put_optional::<TextRule>(names::STOP_POINT_NAME, &call.stop_point_name)?;
-    members.put_optional::<FlagRule>(names::VEHICLE_AT_STOP, &call.vehicle_at_stop)?;
-    members.put_optional::<MomentRule>(names::AIMED_ARRIVAL_TIME, &call.aimed_arrival_time)?;
-    members.put_optional::<MomentRule>(names::EXPECTED_ARRIVAL_TIME, &call.expected_arrival_time)?;
-    members.put_optional::<MomentRule>(names::ACTUAL_ARRIVAL_TIME, &call.actual_arrival_time)?;
-    members.put_optional::<TextRule>(names::ARRIVAL_STATUS, &call.arrival_status)?;
-    members.put_optional::<TextRule>(names::ARRIVAL_PLATFORM_NAME, &call.arrival_platform_name)?;
-    members.put_optional::<MomentRule>(names::AIMED_DEPARTURE_TIME, &call.aimed_departure_time)?;
-    members.put_optional::<MomentRule>(
-        names::EXPECTED_DEPARTURE_TIME,
-        &call.expected_departure_time,
+    out.begin_object()?;
+    optional::<MomentRule>(out, names::ACTUAL_ARRIVAL_TIME, &call.actual_arrival_time)?;
+    optional::<MomentRule>(
+        out,
+        names::ACTUAL_DEPARTURE_TIME,
+        &call.actual_departure_time,
     )?;
-    members.put_optional::<MomentRule>(names::ACTUAL_DEPARTURE_TIME, &call.actual_departure_time)?;
-    members.put_optional::<TextRule>(names::DEPARTURE_STATUS, &call.departure_status)?;
-    members.put_optional::<TextRule>(
+    optional::<MomentRule>(out, names::AIMED_ARRIVAL_TIME, &call.aimed_arrival_time)?;
+    optional::<MomentRule>(out, names::AIMED_DEPARTURE_TIME, &call.aimed_departure_time)?;
+    optional::<TextRule>(
+        out,
+        names::ARRIVAL_PLATFORM_NAME,
+        &call.arrival_platform_name,
+    )?;
+    optional::<TextRule>(out, names::ARRIVAL_STATUS, &call.arrival_status)?;
+    optional::<TextRule>(
+        out,
         names::DEPARTURE_PLATFORM_NAME,
         &call.departure_platform_name,
     )?;
-    Ok(members.object())
+    optional::<TextRule>(out, names::DEPARTURE_STATUS, &call.departure_status)?;
+    optional::<MomentRule>(
+        out,
+        names::EXPECTED_ARRIVAL_TIME,
+        &call.expected_arrival_time,
+    )?;
+    optional::<MomentRule>(
+        out,
+        names::EXPECTED_DEPARTURE_TIME,
+        &call.expected_departure_time,
+    )?;
+    optional::<NumberRule>(out, names::ORDER, &call.order)?;
+    optional::<TextRule>(out, names::STOP_POINT_NAME, &call.stop_point_name)?;
+    optional::<NameRule>(out, names::STOP_POINT_REF, &call.stop_point_ref)?;
+    optional::<FlagRule>(out, names::VEHICLE_AT_STOP, &call.vehicle_at_stop)?;
+    out.end_object()
 }
 
 impl Written for StopCallTable {
@@ -49,66 +64,113 @@ impl Written for StopCallTable {
 
     ghost writing = { call_writing };
 
-    fn write(alloc: Global, call: &StopCall) -> Result<Option<Value>, OutOfMemory> {
-        Ok(Some(call_value(alloc, call)?))
+    fn write(out: &mut Output, call: &StopCall) -> Result<(), OutOfMemory> {
+        write_call(out, call)
     }
 }
 
-impl Written for LocationRule {
-    type Of = VehicleLocation;
-
-    ghost writing = { written_location };
-
-    #[tactic(auto, unfolding(crate::specs::Written::written_location))]
-    fn write(alloc: Global, location: &VehicleLocation) -> Result<Option<Value>, OutOfMemory> {
-        let mut members = Members::new(alloc);
-        members.put_optional::<DecimalRule>(names::LONGITUDE, &location.longitude)?;
-        members.put_optional::<DecimalRule>(names::LATITUDE, &location.latitude)?;
-        Ok(members.object_unless_empty())
-    }
-}
-
-#[tactic(auto, unfolding(crate::specs::Written::written_framed_ref))]
-fn framed_ref(alloc: Global, frame: &Name, dated: Option<Value>) -> Result<Value, OutOfMemory>
-    ensures { IfOk result (λ value. Some (view value) ≡ written_framed_ref (Some frame.now) (option_map view dated)) }
+fn has_rows(location: &VehicleLocation) -> bool
+    ensures { result ≡ any_written (rows_of_location location.now) }
 {
-    let mut members = Members::new(alloc);
-    members.put_required::<NameRule>(names::DATA_FRAME_REF, frame)?;
-    members.put(names::DATED_VEHICLE_JOURNEY_REF, dated)?;
-    Ok(members.object())
+    location.longitude.is_some() || location.latitude.is_some()
 }
 
-/// Writes how a journey is named: as an object where there is a data frame, otherwise by itself.
-#[tactic(auto, unfolding(crate::specs::Written::written_framed_ref, crate::specs::Written::written_dated))]
-pub fn put_journey_ref(
-    alloc: Global,
-    members: &mut Members,
-    frame: &Option<Name>,
-    dated: Option<Value>,
-) -> Result<(), OutOfMemory>
-    ensures { OnOk result (members_view members.new.map.entries
-        ≡ put_row DATED_VEHICLE_JOURNEY_REF.now (written_dated frame.now (option_map view dated))
-        (put_row FRAMED_VEHICLE_JOURNEY_REF.now (written_framed_ref frame.now (option_map view dated)) (members_view members.old.map.entries))) }
+#[tactic(auto, using(crate::proofs::InOrder::location_in_order))]
+fn write_location(out: &mut Output, location: &VehicleLocation) -> Result<(), OutOfMemory>
+    ensures { OnOk result (out.new ≡ out.old ++ tokens_of (row_object (rows_of_location location.now))) }
+{
+    out.begin_object()?;
+    optional::<DecimalRule>(out, names::LATITUDE, &location.latitude)?;
+    optional::<DecimalRule>(out, names::LONGITUDE, &location.longitude)?;
+    out.end_object()
+}
+
+/// Writes the row of a location, which is left out where it has no rows.
+#[tactic(auto, using(crate::proofs::InOrder::location_left_out, crate::proofs::InOrder::location_written))]
+pub fn location_row(out: &mut Output, location: &Option<VehicleLocation>) -> Result<(), OutOfMemory>
+    ensures { OnOk result (out.new ≡ out.old ++ row_tokens VEHICLE_LOCATION.now (option_and_then written_location location.now)) }
+{
+    let Some(location) = location else {
+        return Ok(());
+    };
+    if !has_rows(location) {
+        return Ok(());
+    }
+    out.key(names::VEHICLE_LOCATION)?;
+    write_location(out, location)
+}
+
+/// Writes the row of how a journey is named where there is a data frame.
+#[tactic(auto, using(crate::proofs::InOrder::framed_in_order), unfolding(crate::specs::Written::written_framed_ref))]
+pub fn framed_row(out: &mut Output, frame: &Option<Name>, dated: &Name) -> Result<(), OutOfMemory>
+    ensures { OnOk result (out.new ≡ out.old ++ row_tokens FRAMED_VEHICLE_JOURNEY_REF.now (written_framed_ref frame.now (written_text dated.now))) }
+{
+    let Some(frame) = frame else {
+        return Ok(());
+    };
+    out.key(names::FRAMED_VEHICLE_JOURNEY_REF)?;
+    out.begin_object()?;
+    required::<NameRule>(out, names::DATA_FRAME_REF, frame)?;
+    required::<NameRule>(out, names::DATED_VEHICLE_JOURNEY_REF, dated)?;
+    out.end_object()
+}
+
+/// Writes the row of how a journey is named where there is no data frame.
+#[tactic(auto, unfolding(crate::specs::Written::written_dated))]
+pub fn dated_row(out: &mut Output, frame: &Option<Name>, dated: &Name) -> Result<(), OutOfMemory>
+    ensures { OnOk result (out.new ≡ out.old ++ row_tokens DATED_VEHICLE_JOURNEY_REF.now (written_dated frame.now (written_text dated.now))) }
 {
     match frame {
-        Some(frame) => {
-            let journey_ref = framed_ref(alloc, frame, dated)?;
-            members.put(names::FRAMED_VEHICLE_JOURNEY_REF, Some(journey_ref))
-        }
-        None => members.put(names::DATED_VEHICLE_JOURNEY_REF, dated),
+        Some(_) => Ok(()),
+        None => required::<NameRule>(out, names::DATED_VEHICLE_JOURNEY_REF, dated),
     }
 }
 
-/// Calls inside an object of their own, which is left out where there are none.
-#[tactic(auto, unfolding(crate::specs::Written::written_calls))]
-pub fn calls_value(
-    alloc: Global,
-    key: &str,
-    calls: &List<StopCall>,
-) -> Result<Option<Value>, OutOfMemory>
-    ensures { IfOk result (λ value. option_map view value ≡ written_calls key.now calls.now) }
+/// As [`framed_row`], of a journey that may have no name of its own.
+#[tactic(auto, using(crate::proofs::InOrder::framed_in_order), unfolding(crate::specs::Written::written_framed_ref))]
+pub fn optional_framed_row(
+    out: &mut Output,
+    frame: &Option<Name>,
+    dated: &Option<Name>,
+) -> Result<(), OutOfMemory>
+    ensures { OnOk result (out.new ≡ out.old
+        ++ row_tokens FRAMED_VEHICLE_JOURNEY_REF.now (written_framed_ref frame.now (option_and_then written_text dated.now))) }
 {
-    let mut members = Members::new(alloc);
-    members.list::<StopCallTable>(key, calls)?;
-    Ok(members.object_unless_empty())
+    let Some(frame) = frame else {
+        return Ok(());
+    };
+    out.key(names::FRAMED_VEHICLE_JOURNEY_REF)?;
+    out.begin_object()?;
+    required::<NameRule>(out, names::DATA_FRAME_REF, frame)?;
+    optional::<NameRule>(out, names::DATED_VEHICLE_JOURNEY_REF, dated)?;
+    out.end_object()
+}
+
+/// As [`dated_row`], of a journey that may have no name of its own.
+#[tactic(auto, unfolding(crate::specs::Written::written_dated))]
+pub fn optional_dated_row(
+    out: &mut Output,
+    frame: &Option<Name>,
+    dated: &Option<Name>,
+) -> Result<(), OutOfMemory>
+    ensures { OnOk result (out.new ≡ out.old
+        ++ row_tokens DATED_VEHICLE_JOURNEY_REF.now (written_dated frame.now (option_and_then written_text dated.now))) }
+{
+    match frame {
+        Some(_) => Ok(()),
+        None => optional::<NameRule>(out, names::DATED_VEHICLE_JOURNEY_REF, dated),
+    }
+}
+
+/// Writes the row of calls inside an object of their own, which is left out where there are none.
+#[tactic(auto, unfolding(crate::specs::Written::written_calls))]
+pub fn calls_row(
+    out: &mut Output,
+    outer: &str,
+    name: &str,
+    calls: &List<StopCall>,
+) -> Result<(), OutOfMemory>
+    ensures { OnOk result (out.new ≡ out.old ++ row_tokens outer.now (written_calls name.now calls.now)) }
+{
+    list_inside::<StopCallTable>(out, outer, name, calls)
 }

@@ -1,114 +1,195 @@
 //! Writing visits, vehicle activities and journeys.
 
-ghost use Rattle.std.specs.Prelude.{◌≡◌, Option, Some, None, IfOk, OnOk, option_map, option_and_then};
+ghost use Rattle.std.specs.Prelude.{◌≡◌, ◌++◌, Option, Some, OnOk, option_and_then};
 ghost use Rattle.serde_json.specs.Data.{Data};
-ghost use Rattle.serde_json.specs.View.{view};
-ghost use Rattle.siri_items.specs.Written.{written_visit_journey, written_visit, written_vehicle_journey, written_vehicle, written_journey};
+ghost use Rattle.siri_json.specs.Tokens.{tokens_of};
+ghost use Rattle.siri_tables.specs.Appended.{row_tokens};
+ghost use Rattle.siri_items.specs.Written.{written_visit_journey, written_visit, written_vehicle_journey, written_vehicle, written_timed_journey};
 
 use crate::names;
-use crate::read_call::{LocationRule, StopCallTable};
-use crate::write_call::{calls_value, put_journey_ref};
-use serde_json::Value;
-use siri_base::OutOfMemory;
+use crate::read_call::StopCallTable;
+use crate::write_call::{
+    calls_row, dated_row, framed_row, location_row, optional_dated_row, optional_framed_row,
+};
+use siri_base::{Moment, OutOfMemory};
+use siri_json::Output;
 use siri_records::{Journey, Vehicle, VehicleJourney, Visit, VisitJourney};
 use siri_tables::rules::{FlagRule, MomentRule, NameRule, SpanRule, TextRule};
-use siri_tables::writing::{Members, Written, write_some};
-use std::alloc::Global;
+use siri_tables::writing::{Written, optional, required};
 
-#[tactic(auto, unfolding(crate::specs::Written::written_visit_journey))]
-fn visit_journey(alloc: Global, journey: &VisitJourney) -> Result<Value, OutOfMemory>
-    ensures { IfOk result (λ value. view value ≡ written_visit_journey journey.now) }
+#[tactic(auto, using(crate::proofs::InOrder::visit_journey_in_order))]
+fn write_visit_journey(out: &mut Output, journey: &VisitJourney) -> Result<(), OutOfMemory>
+    ensures { OnOk result (out.new ≡ out.old ++ tokens_of (written_visit_journey journey.now)) }
 {
-    let mut members = Members::new(alloc);
-    members.put_optional::<NameRule>(names::LINE_REF, &journey.line_ref)?;
-    members.put_optional::<NameRule>(names::DIRECTION_REF, &journey.direction_ref)?;
-    let dated = write_some::<NameRule>(alloc, &journey.dated_vehicle_journey_ref)?;
-    put_journey_ref(alloc, &mut members, &journey.data_frame_ref, dated)?;
-    members.put_optional::<TextRule>(names::PUBLISHED_LINE_NAME, &journey.published_line_name)?;
-    members.put_optional::<NameRule>(names::OPERATOR_REF, &journey.operator_ref)?;
-    members.put_optional::<NameRule>(names::DESTINATION_REF, &journey.destination_ref)?;
-    members.put_optional::<TextRule>(names::DESTINATION_NAME, &journey.destination_name)?;
-    members.put_optional::<NameRule>(names::VEHICLE_REF, &journey.vehicle_ref)?;
-    members.put_optional::<FlagRule>(names::MONITORED, &journey.monitored)?;
-    members.put_optional::<TextRule>(names::OCCUPANCY, &journey.occupancy)?;
-    members.put_optional::<SpanRule>(names::DELAY, &journey.delay)?;
-    members.put_optional::<LocationRule>(names::VEHICLE_LOCATION, &journey.vehicle_location)?;
-    members.put_required::<StopCallTable>(names::MONITORED_CALL, &journey.monitored_call)?;
-    Ok(members.object())
+    out.begin_object()?;
+    optional_dated_row(
+        out,
+        &journey.data_frame_ref,
+        &journey.dated_vehicle_journey_ref,
+    )?;
+    optional::<SpanRule>(out, names::DELAY, &journey.delay)?;
+    optional::<TextRule>(out, names::DESTINATION_NAME, &journey.destination_name)?;
+    optional::<NameRule>(out, names::DESTINATION_REF, &journey.destination_ref)?;
+    optional::<NameRule>(out, names::DIRECTION_REF, &journey.direction_ref)?;
+    optional_framed_row(
+        out,
+        &journey.data_frame_ref,
+        &journey.dated_vehicle_journey_ref,
+    )?;
+    optional::<NameRule>(out, names::LINE_REF, &journey.line_ref)?;
+    optional::<FlagRule>(out, names::MONITORED, &journey.monitored)?;
+    required::<StopCallTable>(out, names::MONITORED_CALL, &journey.monitored_call)?;
+    optional::<TextRule>(out, names::OCCUPANCY, &journey.occupancy)?;
+    optional::<NameRule>(out, names::OPERATOR_REF, &journey.operator_ref)?;
+    optional::<TextRule>(
+        out,
+        names::PUBLISHED_LINE_NAME,
+        &journey.published_line_name,
+    )?;
+    location_row(out, &journey.vehicle_location)?;
+    optional::<NameRule>(out, names::VEHICLE_REF, &journey.vehicle_ref)?;
+    out.end_object()
 }
 
-/// The tree of a visit.
-#[tactic(auto, unfolding(crate::specs::Written::written_visit))]
-pub fn visit_value(alloc: Global, visit: &Visit) -> Result<Value, OutOfMemory>
-    ensures { IfOk result (λ value. view value ≡ written_visit visit.now) }
-{
-    let mut members = Members::new(alloc);
-    members.put_optional::<MomentRule>(names::RECORDED_AT_TIME, &visit.recorded_at_time)?;
-    members.put_required::<NameRule>(names::ITEM_IDENTIFIER, &visit.item_identifier)?;
-    members.put_required::<NameRule>(names::MONITORING_REF, &visit.monitoring_ref)?;
-    let journey = visit_journey(alloc, &visit.monitored_vehicle_journey)?;
-    members.put(names::MONITORED_VEHICLE_JOURNEY, Some(journey))?;
-    Ok(members.object())
+struct VisitJourneyWriting;
+
+impl Written for VisitJourneyWriting {
+    type Of = VisitJourney;
+
+    ghost writing = { λ journey. Some (written_visit_journey journey) };
+
+    fn write(out: &mut Output, journey: &VisitJourney) -> Result<(), OutOfMemory> {
+        write_visit_journey(out, journey)
+    }
 }
 
-#[tactic(auto, unfolding(crate::specs::Written::written_vehicle_journey))]
-fn vehicle_journey(alloc: Global, journey: &VehicleJourney) -> Result<Value, OutOfMemory>
-    ensures { IfOk result (λ value. view value ≡ written_vehicle_journey journey.now) }
+/// Writes a visit.
+#[tactic(auto, using(crate::proofs::InOrder::visit_in_order))]
+pub fn write_visit(out: &mut Output, visit: &Visit) -> Result<(), OutOfMemory>
+    ensures { OnOk result (out.new ≡ out.old ++ tokens_of (written_visit visit.now)) }
 {
-    let mut members = Members::new(alloc);
-    members.put_optional::<NameRule>(names::LINE_REF, &journey.line_ref)?;
-    members.put_optional::<NameRule>(names::DIRECTION_REF, &journey.direction_ref)?;
-    let dated = write_some::<NameRule>(alloc, &journey.dated_vehicle_journey_ref)?;
-    put_journey_ref(alloc, &mut members, &journey.data_frame_ref, dated)?;
-    members.put_optional::<TextRule>(names::PUBLISHED_LINE_NAME, &journey.published_line_name)?;
-    members.put_optional::<NameRule>(names::OPERATOR_REF, &journey.operator_ref)?;
-    members.put_optional::<NameRule>(names::DESTINATION_REF, &journey.destination_ref)?;
-    members.put_optional::<TextRule>(names::DESTINATION_NAME, &journey.destination_name)?;
-    members.put_required::<NameRule>(names::VEHICLE_REF, &journey.vehicle_ref)?;
-    members.put_optional::<FlagRule>(names::MONITORED, &journey.monitored)?;
-    members.put_optional::<TextRule>(names::OCCUPANCY, &journey.occupancy)?;
-    members.put_optional::<SpanRule>(names::DELAY, &journey.delay)?;
-    members.put_optional::<LocationRule>(names::VEHICLE_LOCATION, &journey.vehicle_location)?;
-    members.put_optional::<StopCallTable>(names::MONITORED_CALL, &journey.monitored_call)?;
-    Ok(members.object())
+    out.begin_object()?;
+    required::<NameRule>(out, names::ITEM_IDENTIFIER, &visit.item_identifier)?;
+    required::<VisitJourneyWriting>(
+        out,
+        names::MONITORED_VEHICLE_JOURNEY,
+        &visit.monitored_vehicle_journey,
+    )?;
+    required::<NameRule>(out, names::MONITORING_REF, &visit.monitoring_ref)?;
+    optional::<MomentRule>(out, names::RECORDED_AT_TIME, &visit.recorded_at_time)?;
+    out.end_object()
 }
 
-/// The tree of a vehicle activity.
-#[tactic(auto, unfolding(crate::specs::Written::written_vehicle))]
-pub fn vehicle_value(alloc: Global, vehicle: &Vehicle) -> Result<Value, OutOfMemory>
-    ensures { IfOk result (λ value. view value ≡ written_vehicle vehicle.now) }
+#[tactic(auto, using(crate::proofs::InOrder::vehicle_journey_in_order))]
+fn write_vehicle_journey(out: &mut Output, journey: &VehicleJourney) -> Result<(), OutOfMemory>
+    ensures { OnOk result (out.new ≡ out.old ++ tokens_of (written_vehicle_journey journey.now)) }
 {
-    let mut members = Members::new(alloc);
-    members.put_optional::<MomentRule>(names::RECORDED_AT_TIME, &vehicle.recorded_at_time)?;
-    members.put_optional::<NameRule>(names::ITEM_IDENTIFIER, &vehicle.item_identifier)?;
-    members.put_optional::<MomentRule>(names::VALID_UNTIL_TIME, &vehicle.valid_until_time)?;
-    let journey = vehicle_journey(alloc, &vehicle.monitored_vehicle_journey)?;
-    members.put(names::MONITORED_VEHICLE_JOURNEY, Some(journey))?;
-    Ok(members.object())
+    out.begin_object()?;
+    optional_dated_row(
+        out,
+        &journey.data_frame_ref,
+        &journey.dated_vehicle_journey_ref,
+    )?;
+    optional::<SpanRule>(out, names::DELAY, &journey.delay)?;
+    optional::<TextRule>(out, names::DESTINATION_NAME, &journey.destination_name)?;
+    optional::<NameRule>(out, names::DESTINATION_REF, &journey.destination_ref)?;
+    optional::<NameRule>(out, names::DIRECTION_REF, &journey.direction_ref)?;
+    optional_framed_row(
+        out,
+        &journey.data_frame_ref,
+        &journey.dated_vehicle_journey_ref,
+    )?;
+    optional::<NameRule>(out, names::LINE_REF, &journey.line_ref)?;
+    optional::<FlagRule>(out, names::MONITORED, &journey.monitored)?;
+    optional::<StopCallTable>(out, names::MONITORED_CALL, &journey.monitored_call)?;
+    optional::<TextRule>(out, names::OCCUPANCY, &journey.occupancy)?;
+    optional::<NameRule>(out, names::OPERATOR_REF, &journey.operator_ref)?;
+    optional::<TextRule>(
+        out,
+        names::PUBLISHED_LINE_NAME,
+        &journey.published_line_name,
+    )?;
+    location_row(out, &journey.vehicle_location)?;
+    required::<NameRule>(out, names::VEHICLE_REF, &journey.vehicle_ref)?;
+    out.end_object()
 }
 
-/// The tree of a journey, without its RecordedAtTime, which its frame carries.
-#[tactic(auto, unfolding(crate::specs::Written::written_journey))]
-pub fn journey_value(alloc: Global, journey: &Journey) -> Result<Value, OutOfMemory>
-    ensures { IfOk result (λ value. view value ≡ written_journey journey.now) }
+struct VehicleJourneyWriting;
+
+impl Written for VehicleJourneyWriting {
+    type Of = VehicleJourney;
+
+    ghost writing = { λ journey. Some (written_vehicle_journey journey) };
+
+    fn write(out: &mut Output, journey: &VehicleJourney) -> Result<(), OutOfMemory> {
+        write_vehicle_journey(out, journey)
+    }
+}
+
+/// Writes a vehicle activity.
+#[tactic(auto, using(crate::proofs::InOrder::vehicle_in_order))]
+pub fn write_vehicle(out: &mut Output, vehicle: &Vehicle) -> Result<(), OutOfMemory>
+    ensures { OnOk result (out.new ≡ out.old ++ tokens_of (written_vehicle vehicle.now)) }
 {
-    let mut members = Members::new(alloc);
-    members.put_required::<NameRule>(names::LINE_REF, &journey.line_ref)?;
-    members.put_optional::<NameRule>(names::DIRECTION_REF, &journey.direction_ref)?;
-    let dated = NameRule::write(alloc, &journey.dated_vehicle_journey_ref)?;
-    put_journey_ref(alloc, &mut members, &journey.data_frame_ref, dated)?;
-    members.put_optional::<FlagRule>(names::CANCELLATION, &journey.cancellation)?;
-    members.put_optional::<TextRule>(names::PUBLISHED_LINE_NAME, &journey.published_line_name)?;
-    members.put_optional::<NameRule>(names::OPERATOR_REF, &journey.operator_ref)?;
-    members.put_optional::<NameRule>(names::DESTINATION_REF, &journey.destination_ref)?;
-    members.put_optional::<TextRule>(names::DESTINATION_NAME, &journey.destination_name)?;
-    members.put_optional::<NameRule>(names::VEHICLE_REF, &journey.vehicle_ref)?;
-    members.put_optional::<FlagRule>(names::MONITORED, &journey.monitored)?;
-    members.put_optional::<TextRule>(names::OCCUPANCY, &journey.occupancy)?;
-    members.put_optional::<SpanRule>(names::DELAY, &journey.delay)?;
-    let recorded = calls_value(alloc, names::RECORDED_CALL, &journey.recorded_calls)?;
-    members.put(names::RECORDED_CALLS, recorded)?;
-    let estimated = calls_value(alloc, names::ESTIMATED_CALL, &journey.estimated_calls)?;
-    members.put(names::ESTIMATED_CALLS, estimated)?;
-    Ok(members.object())
+    out.begin_object()?;
+    optional::<NameRule>(out, names::ITEM_IDENTIFIER, &vehicle.item_identifier)?;
+    required::<VehicleJourneyWriting>(
+        out,
+        names::MONITORED_VEHICLE_JOURNEY,
+        &vehicle.monitored_vehicle_journey,
+    )?;
+    optional::<MomentRule>(out, names::RECORDED_AT_TIME, &vehicle.recorded_at_time)?;
+    optional::<MomentRule>(out, names::VALID_UNTIL_TIME, &vehicle.valid_until_time)?;
+    out.end_object()
+}
+
+/// Writes a journey, with a RecordedAtTime where one is handed in: in a delivery its frame carries the journey's.
+#[tactic(auto, using(crate::proofs::InOrder::journey_in_order))]
+pub fn write_timed_journey(
+    out: &mut Output,
+    journey: &Journey,
+    recorded_at_time: &Option<Moment>,
+) -> Result<(), OutOfMemory>
+    ensures { OnOk result (out.new ≡ out.old ++ tokens_of (written_timed_journey recorded_at_time.now journey.now)) }
+{
+    out.begin_object()?;
+    optional::<FlagRule>(out, names::CANCELLATION, &journey.cancellation)?;
+    dated_row(
+        out,
+        &journey.data_frame_ref,
+        &journey.dated_vehicle_journey_ref,
+    )?;
+    optional::<SpanRule>(out, names::DELAY, &journey.delay)?;
+    optional::<TextRule>(out, names::DESTINATION_NAME, &journey.destination_name)?;
+    optional::<NameRule>(out, names::DESTINATION_REF, &journey.destination_ref)?;
+    optional::<NameRule>(out, names::DIRECTION_REF, &journey.direction_ref)?;
+    calls_row(
+        out,
+        names::ESTIMATED_CALLS,
+        names::ESTIMATED_CALL,
+        &journey.estimated_calls,
+    )?;
+    framed_row(
+        out,
+        &journey.data_frame_ref,
+        &journey.dated_vehicle_journey_ref,
+    )?;
+    required::<NameRule>(out, names::LINE_REF, &journey.line_ref)?;
+    optional::<FlagRule>(out, names::MONITORED, &journey.monitored)?;
+    optional::<TextRule>(out, names::OCCUPANCY, &journey.occupancy)?;
+    optional::<NameRule>(out, names::OPERATOR_REF, &journey.operator_ref)?;
+    optional::<TextRule>(
+        out,
+        names::PUBLISHED_LINE_NAME,
+        &journey.published_line_name,
+    )?;
+    optional::<MomentRule>(out, names::RECORDED_AT_TIME, recorded_at_time)?;
+    calls_row(
+        out,
+        names::RECORDED_CALLS,
+        names::RECORDED_CALL,
+        &journey.recorded_calls,
+    )?;
+    optional::<NameRule>(out, names::VEHICLE_REF, &journey.vehicle_ref)?;
+    out.end_object()
 }

@@ -1,21 +1,22 @@
 //! Writing situations.
 
-ghost use Rattle.std.specs.Prelude.{◌≡◌, Option, Some, None, IfOk, OnOk, option_map, option_and_then};
+ghost use Rattle.std.specs.Prelude.{◌≡◌, ◌∷◌, ◌++◌, Option, Some, OnOk, option_and_then};
 ghost use Rattle.serde_json.specs.Data.{Data};
-ghost use Rattle.serde_json.specs.View.{view};
-ghost use Rattle.std.specs.Prelude.{map, drop, ◌++◌};
-ghost use Rattle.std.specs.List.{filter_map};
-ghost use Rattle.siri_tables.specs.Writing.{array_unless_empty, written_list};
-ghost use Rattle.siri_tables.specs.Writing.{written_name};
-ghost use Rattle.siri_items.specs.Written.{written_period, written_names, written_network, written_networks, written_affects, written_situation};
+ghost use Rattle.siri_json.specs.Tokens.{tokens_of};
+ghost use Rattle.siri_tables.specs.Appended.{row_tokens, Appends};
+ghost use Rattle.siri_tables.specs.Writing.{row_object, written_list, written_name};
+ghost use Rattle.siri_tables.proofs.Sorted.{any_written};
+ghost use Rattle.siri_items.specs.declared.names.TheConstants.{AFFECTED_OPERATOR, AFFECTED_STOP_POINT, AFFECTS, LINE_REF, NETWORKS, OPERATORS, OPERATOR_REF, STOP_POINTS, STOP_POINT_REF};
+ghost use Rattle.siri_items.specs.Written.{rows_of_period, written_period, written_names, written_networks, rows_of_affects, written_affects, written_situation};
 
 use crate::names;
-use serde_json::Value;
 use siri_base::{List, Name, OutOfMemory};
+use siri_json::Output;
 use siri_records::{Period, Situation};
 use siri_tables::rules::{MomentRule, NameRule, TextRule};
-use siri_tables::writing::{Members, Written, array_unless_empty};
-use std::alloc::Global;
+use siri_tables::writing::{
+    Written, list, list_inside, name_inside, object_of_list, optional, required,
+};
 
 struct PeriodRule;
 
@@ -25,108 +26,153 @@ impl Written for PeriodRule {
     ghost writing = { written_period };
 
     #[tactic(auto, unfolding(crate::specs::Written::written_period))]
-    fn write(alloc: Global, period: &Period) -> Result<Option<Value>, OutOfMemory> {
-        let mut members = Members::new(alloc);
-        members.put_required::<MomentRule>(names::START_TIME, &period.start_time)?;
-        members.put_optional::<MomentRule>(names::END_TIME, &period.end_time)?;
-        Ok(Some(members.object()))
+    fn write(out: &mut Output, period: &Period) -> Result<(), OutOfMemory> {
+        write_period(out, period)
     }
 }
 
-#[tactic(auto, unfolding(siri_tables::specs::Writing::written_name))]
-fn name_value(alloc: Global, inner: &str, name: &Name) -> Result<Value, OutOfMemory>
-    ensures { IfOk result (λ value. Some (view value) ≡ written_name inner.now name.now) }
+#[tactic(auto, using(crate::proofs::InOrder::period_in_order))]
+fn write_period(out: &mut Output, period: &Period) -> Result<(), OutOfMemory>
+    ensures { OnOk result (out.new ≡ out.old ++ tokens_of (row_object (rows_of_period period.now))) }
 {
-    let mut members = Members::new(alloc);
-    members.put_required::<NameRule>(inner, name)?;
-    Ok(members.object())
+    out.begin_object()?;
+    optional::<MomentRule>(out, names::END_TIME, &period.end_time)?;
+    required::<MomentRule>(out, names::START_TIME, &period.start_time)?;
+    out.end_object()
 }
 
-fn name_list(alloc: Global, inner: &str, names: &[Name]) -> Result<Vec<Value>, OutOfMemory>
-    ensures { IfOk result (λ list. map view list.items ≡ filter_map (written_name inner.now) names.now) }
-{
-    let mut entries = Vec::new(alloc);
-    for name in names {
-        entries.push(name_value(alloc, inner, name)?)?;
-    }
-    Ok(entries)
-}
+/// An operator, in an object of its own.
+struct AffectedOperator;
 
-/// Names in a list inside an object, which is left out where there are none.
-#[tactic(auto, unfolding(crate::specs::Written::written_names, siri_tables::specs::Writing::written_list))]
-fn names_value(
-    alloc: Global,
-    key: &str,
-    inner: &str,
-    names: &List<Name>,
-) -> Result<Option<Value>, OutOfMemory>
-    ensures { IfOk result (λ value. option_map view value ≡ written_names key.now inner.now names.now) }
-{
-    let mut members = Members::new(alloc);
-    let list = array_unless_empty(name_list(alloc, inner, names.slice())?);
-    members.put(key, list)?;
-    Ok(members.object_unless_empty())
-}
+impl Written for AffectedOperator {
+    type Of = Name;
 
-#[tactic(auto, unfolding(crate::specs::Written::written_networks, crate::specs::Written::written_network))]
-fn networks_value(alloc: Global, lines: &List<Name>) -> Result<Option<Value>, OutOfMemory>
-    ensures { IfOk result (λ value. option_map view value ≡ written_networks lines.now) }
-{
-    let network = names_value(alloc, names::AFFECTED_LINE, names::LINE_REF, lines)?;
-    match network {
-        Some(network) => {
-            let mut list = Vec::new(alloc);
-            list.push(network)?;
-            let mut members = Members::new(alloc);
-            members.put(names::AFFECTED_NETWORK, Some(Value::Array(list)))?;
-            Ok(Some(members.object()))
-        }
-        None => Ok(None),
+    ghost writing = { written_name OPERATOR_REF.now };
+
+    fn write(out: &mut Output, name: &Name) -> Result<(), OutOfMemory> {
+        name_inside(out, names::OPERATOR_REF, name)
     }
 }
 
-#[tactic(auto, unfolding(crate::specs::Written::written_affects))]
-fn affects_value(alloc: Global, situation: &Situation) -> Result<Option<Value>, OutOfMemory>
-    ensures { IfOk result (λ value. option_map view value
-        ≡ written_affects situation.now.affected_operators situation.now.affected_lines situation.now.affected_stop_points) }
+/// A line, in an object of its own.
+struct AffectedLine;
+
+impl Written for AffectedLine {
+    type Of = Name;
+
+    ghost writing = { written_name LINE_REF.now };
+
+    fn write(out: &mut Output, name: &Name) -> Result<(), OutOfMemory> {
+        name_inside(out, names::LINE_REF, name)
+    }
+}
+
+/// A stop point, in an object of its own.
+struct AffectedStopPoint;
+
+impl Written for AffectedStopPoint {
+    type Of = Name;
+
+    ghost writing = { written_name STOP_POINT_REF.now };
+
+    fn write(out: &mut Output, name: &Name) -> Result<(), OutOfMemory> {
+        name_inside(out, names::STOP_POINT_REF, name)
+    }
+}
+
+#[tactic(auto, using(crate::proofs::InOrder::network_written), unfolding(crate::specs::Written::written_networks, crate::specs::Written::written_names))]
+fn filled_networks_row(out: &mut Output, first: &Name, rest: &[Name]) -> Result<(), OutOfMemory>
+    ensures { OnOk result (out.new ≡ out.old ++ row_tokens NETWORKS.now (written_networks (first.now ∷ rest.now))) }
 {
-    let mut members = Members::new(alloc);
-    let operators = names_value(
-        alloc,
-        names::AFFECTED_OPERATOR,
-        names::OPERATOR_REF,
-        &situation.affected_operators,
-    )?;
-    members.put(names::OPERATORS, operators)?;
-    let networks = networks_value(alloc, &situation.affected_lines)?;
-    members.put(names::NETWORKS, networks)?;
-    let stop_points = names_value(
-        alloc,
+    out.key(names::NETWORKS)?;
+    out.begin_object()?;
+    out.key(names::AFFECTED_NETWORK)?;
+    out.begin_list()?;
+    object_of_list::<AffectedLine>(out, names::AFFECTED_LINE, first, rest)?;
+    out.end_list()?;
+    out.end_object()
+}
+
+#[tactic(auto, using(crate::proofs::InOrder::no_networks))]
+fn networks_row(out: &mut Output, lines: &List<Name>) -> Result<(), OutOfMemory>
+    ensures { OnOk result (out.new ≡ out.old ++ row_tokens NETWORKS.now (written_networks lines.now)) }
+{
+    match lines.slice().split_first() {
+        Some((first, rest)) => filled_networks_row(out, first, rest),
+        None => Ok(()),
+    }
+}
+
+#[tactic(auto, unfolding(crate::specs::Written::written_names))]
+fn operators_row(out: &mut Output, operators: &List<Name>) -> Result<(), OutOfMemory>
+    ensures { OnOk result (out.new ≡ out.old
+        ++ row_tokens OPERATORS.now (written_names AFFECTED_OPERATOR.now OPERATOR_REF.now operators.now)) }
+{
+    list_inside::<AffectedOperator>(out, names::OPERATORS, names::AFFECTED_OPERATOR, operators)
+}
+
+#[tactic(auto, unfolding(crate::specs::Written::written_names))]
+fn stop_points_row(out: &mut Output, stop_points: &List<Name>) -> Result<(), OutOfMemory>
+    ensures { OnOk result (out.new ≡ out.old
+        ++ row_tokens STOP_POINTS.now (written_names AFFECTED_STOP_POINT.now STOP_POINT_REF.now stop_points.now)) }
+{
+    list_inside::<AffectedStopPoint>(
+        out,
+        names::STOP_POINTS,
         names::AFFECTED_STOP_POINT,
-        names::STOP_POINT_REF,
-        &situation.affected_stop_points,
-    )?;
-    members.put(names::STOP_POINTS, stop_points)?;
-    Ok(members.object_unless_empty())
+        stop_points,
+    )
 }
 
-/// The tree of a situation.
-#[tactic(auto, unfolding(crate::specs::Written::written_situation))]
-pub fn situation_value(alloc: Global, situation: &Situation) -> Result<Value, OutOfMemory>
-    ensures { IfOk result (λ value. view value ≡ written_situation situation.now) }
+#[tactic(auto, using(crate::proofs::InOrder::names_there, crate::proofs::InOrder::networks_there))]
+fn affects_any(situation: &Situation) -> bool
+    ensures { result ≡ any_written (rows_of_affects situation.now.affected_operators situation.now.affected_lines situation.now.affected_stop_points) }
 {
-    let mut members = Members::new(alloc);
-    members.put_optional::<MomentRule>(names::CREATION_TIME, &situation.creation_time)?;
-    members.put_optional::<NameRule>(names::PARTICIPANT_REF, &situation.participant_ref)?;
-    members.put_required::<NameRule>(names::SITUATION_NUMBER, &situation.situation_number)?;
-    members.put_optional::<NameRule>(names::VERSION, &situation.version)?;
-    members.put_optional::<MomentRule>(names::VERSIONED_AT_TIME, &situation.versioned_at_time)?;
-    members.put_optional::<TextRule>(names::PROGRESS, &situation.progress)?;
-    members.list::<PeriodRule>(names::VALIDITY_PERIOD, &situation.validity_period)?;
-    members.put_optional::<TextRule>(names::SEVERITY, &situation.severity)?;
-    members.put_optional::<TextRule>(names::SUMMARY, &situation.summary)?;
-    members.put_optional::<TextRule>(names::DESCRIPTION, &situation.description)?;
-    let affects = affects_value(alloc, situation)?;
-    members.put(names::AFFECTS, affects)?;
-    Ok(members.object())
+    situation.affected_operators.len() > 0
+        || situation.affected_lines.len() > 0
+        || situation.affected_stop_points.len() > 0
+}
+
+#[tactic(auto, using(crate::proofs::InOrder::affects_in_order))]
+fn write_affects(out: &mut Output, situation: &Situation) -> Result<(), OutOfMemory>
+    ensures { OnOk result (out.new ≡ out.old
+        ++ tokens_of (row_object (rows_of_affects situation.now.affected_operators situation.now.affected_lines situation.now.affected_stop_points))) }
+{
+    out.begin_object()?;
+    networks_row(out, &situation.affected_lines)?;
+    operators_row(out, &situation.affected_operators)?;
+    stop_points_row(out, &situation.affected_stop_points)?;
+    out.end_object()
+}
+
+#[tactic(auto, using(crate::proofs::InOrder::affects_left_out, crate::proofs::InOrder::affects_written))]
+fn affects_row(out: &mut Output, situation: &Situation) -> Result<(), OutOfMemory>
+    ensures { OnOk result (out.new ≡ out.old ++ row_tokens AFFECTS.now
+        (written_affects situation.now.affected_operators situation.now.affected_lines situation.now.affected_stop_points)) }
+{
+    if !affects_any(situation) {
+        return Ok(());
+    }
+    out.key(names::AFFECTS)?;
+    write_affects(out, situation)
+}
+
+/// Writes a situation.
+#[tactic(auto, using(crate::proofs::InOrder::situation_in_order))]
+pub fn write_situation(out: &mut Output, situation: &Situation) -> Result<(), OutOfMemory>
+    ensures { OnOk result (out.new ≡ out.old ++ tokens_of (written_situation situation.now)) }
+{
+    out.begin_object()?;
+    affects_row(out, situation)?;
+    optional::<MomentRule>(out, names::CREATION_TIME, &situation.creation_time)?;
+    optional::<TextRule>(out, names::DESCRIPTION, &situation.description)?;
+    optional::<NameRule>(out, names::PARTICIPANT_REF, &situation.participant_ref)?;
+    optional::<TextRule>(out, names::PROGRESS, &situation.progress)?;
+    optional::<TextRule>(out, names::SEVERITY, &situation.severity)?;
+    required::<NameRule>(out, names::SITUATION_NUMBER, &situation.situation_number)?;
+    optional::<TextRule>(out, names::SUMMARY, &situation.summary)?;
+    list::<PeriodRule>(out, names::VALIDITY_PERIOD, &situation.validity_period)?;
+    optional::<NameRule>(out, names::VERSION, &situation.version)?;
+    optional::<MomentRule>(out, names::VERSIONED_AT_TIME, &situation.versioned_at_time)?;
+    out.end_object()
 }

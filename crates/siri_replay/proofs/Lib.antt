@@ -1,5 +1,5 @@
 pub mod Texts
-pub mod NoFloats
+pub mod ItemTexts
 pub mod ReportLines
 pub mod Steps
 pub mod Shown

@@ -8,17 +8,14 @@
 //! | `bytes` | the document is read into memory |
 //! | `tree` | its tree is read |
 //! | `items` | the visits of its StopMonitoringDelivery are read from the tree |
-//! | `spelled` | each is written into a tree |
-//! | `text` | the texts of those trees are written |
+//! | `text` | their texts are written |
 //!
 //! It prints how many bytes, items or bytes of text it made. With no word it prints nothing.
 #![tactic(auto)]
 
 use siri_base::OutOfMemory;
 use siri_items::{read_item, write_item};
-use siri_json::{
-    Path, Scratch, Tree, TreeError, Value, entry_at, entry_list, member, read_tree, write_tree,
-};
+use siri_json::{Output, Path, Scratch, Tree, TreeError, entry_at, entry_list, member, read_tree};
 use siri_records::{Item, Service};
 use siri_tables::TableError;
 use std::alloc::{AllocError, AllocFailed, Global};
@@ -107,15 +104,7 @@ fn made(alloc: Global, document: Vec<u8>, phase: &str) -> Result<usize, Stopped>
     if phase == "items" {
         return Ok(items.len());
     }
-    let trees = trees_of(alloc, &items)?;
-    if phase == "spelled" {
-        return Ok(trees.len());
-    }
-    let mut bytes = 0usize;
-    for tree in trees.iter() {
-        bytes = bytes.saturating_add(write_tree(alloc, tree)?.len());
-    }
-    Ok(bytes)
+    text_len(alloc, &items)
 }
 
 /// The visits of the first StopMonitoringDelivery.
@@ -134,10 +123,11 @@ fn items_of(alloc: Global, visits: &[Tree<'_>]) -> Result<Vec<Item>, Stopped> {
     Ok(items)
 }
 
-fn trees_of(alloc: Global, items: &[Item]) -> Result<Vec<Value>, Stopped> {
-    let mut trees = Vec::new(alloc);
+/// How many bytes the texts of these items have, one after another.
+fn text_len(alloc: Global, items: &[Item]) -> Result<usize, Stopped> {
+    let mut out = Output::new(alloc);
     for item in items {
-        trees.push(write_item(alloc, item)?)?;
+        write_item(&mut out, item)?;
     }
-    Ok(trees)
+    Ok(out.into_text().len())
 }

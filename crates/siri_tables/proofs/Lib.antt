@@ -1,3 +1,4 @@
+pub mod Appended
 pub mod Ascii
 pub mod Back
 pub mod BackLists
@@ -9,4 +10,5 @@ pub mod Entries
 pub mod Nonempty
 pub mod ProperParts
 pub mod RowSpells
+pub mod Sorted
 pub mod Steps

@@ -3,4 +3,5 @@ pub mod Scalars
 pub mod Rules
 pub mod Spelling
 pub mod Writing
+pub mod Appended
 pub mod Proper

@@ -1,187 +1,135 @@
-//! How values and rows are written into trees: the rules of [`crate::rules`], the other way round.
+//! How values and rows are written: the rules of [`crate::rules`], the other way round. What is written stands behind what was
+//! written before. The rows of an object are written in byte order of their names, which is seldom the order of its table.
 
-ghost use Rattle.std.specs.Prelude.{◌≡◌, Option, Some, None, IfOk, OnOk, option_map, option_and_then, map};
+ghost use Rattle.std.specs.Prelude.{◌≡◌, [], ◌∷◌, ◌++◌, Option, OnOk, option_and_then};
 ghost use Rattle.std.specs.List.{filter_map};
-ghost use Rattle.serde_json.specs.Data.{Data, string, object, no_members};
-ghost use Rattle.serde_json.specs.View.{view, members_view};
-ghost use Rattle.siri_tables.specs.Writing.{put_row, object_unless_empty, array_unless_empty, written_list, written_text, written_flag, written_number, written_moment, written_span, written_decimal, decimal_text};
-ghost use Rattle.siri_time.specs.MomentText.{moment_text};
-ghost use Rattle.siri_time.specs.SpanText.{span_text};
+ghost use Rattle.serde_json.specs.Data.{Data, no_members};
+ghost use Rattle.siri_tables.specs.Appended.{row_tokens, entries_tokens, Appends, AppendsRow};
+ghost use Rattle.siri_tables.specs.Writing.{with_rows, object_unless_empty, written_list, written_text, written_flag, written_number, written_moment, written_span, written_decimal, decimal_text, written_name};
+ghost use Rattle.json.specs.Token.{string};
 
 use crate::rules::{DecimalRule, FlagRule, MomentRule, NameRule, NumberRule, SpanRule, TextRule};
 use crate::scalars;
-use serde_json::{Map, Value};
 use siri_base::{List, Moment, Name, OutOfMemory, Span, Text};
+use siri_json::Output;
 use siri_time::{write_moment, write_span, written_moment_is_ascii, written_span_is_ascii};
-use std::alloc::Global;
 
-/// How a value is written.
+/// How a value is written that is never left out.
 pub trait Written {
     type Of;
 
-    /// What a value is written as, and nothing where it is left out.
+    /// What a value is written as. It is something of every value.
     ghost writing: { Self.Of → Option Data };
 
-    fn write(alloc: Global, value: &Self::Of) -> Result<Option<Value>, OutOfMemory>
-        ensures { IfOk result (λ written. option_map view written ≡ writing value.now) };
+    fn write(out: &mut Output, value: &Self::Of) -> Result<(), OutOfMemory>
+        ensures { OnOk result (Appends (writing value.now) out.old out.new) };
 }
 
-/// The members of an object that is written row by row, in byte order of their names, and where its memory comes from.
-#[derive(Drop)]
-pub struct Members {
-    pub alloc: Global,
-    pub map: Map<String, Value>,
+/// Writes the row of a value that is there.
+pub fn required<R: Written>(out: &mut Output, name: &str, value: &R::Of) -> Result<(), OutOfMemory>
+    ensures { OnOk result (out.new ≡ out.old ++ row_tokens name.now (R.writing value.now)) }
+{
+    out.key(name)?;
+    R::write(out, value)
 }
 
-impl Members {
-    /// No members.
-    pub fn new(alloc: Global) -> Members
-        ensures { members_view result.map.entries ≡ no_members }
-    {
-        Members {
-            alloc,
-            map: Map::new(alloc),
-        }
-    }
-
-    /// Puts a member of that name, where there is one: in the place of its like, which the rows of one table never have.
-    pub fn put(&mut self, key: &str, made: Option<Value>) -> Result<(), OutOfMemory>
-        ensures { OnOk result (members_view self.new.map.entries ≡ put_row key.now (option_map view made) (members_view self.old.map.entries)) }
-    {
-        if let Some(value) = made {
-            serde_json::put(&mut self.map, self.alloc, key, value)?;
-        }
-        Ok(())
-    }
-
-    /// Puts the row of a value that is there, where it is written at all.
-    pub fn put_required<R: Written>(&mut self, key: &str, value: &R::Of) -> Result<(), OutOfMemory>
-        ensures { OnOk result (members_view self.new.map.entries ≡ put_row key.now (R.writing value.now) (members_view self.old.map.entries)) }
-    {
-        let made = R::write(self.alloc, value)?;
-        self.put(key, made)
-    }
-
-    /// Puts the row of a value that may be absent: it is left out where there is none.
-    pub fn put_optional<R: Written>(
-        &mut self,
-        key: &str,
-        value: &Option<R::Of>,
-    ) -> Result<(), OutOfMemory>
-        ensures { OnOk result (members_view self.new.map.entries ≡ put_row key.now (option_and_then R.writing value.now) (members_view self.old.map.entries)) }
-    {
-        let made = write_some::<R>(self.alloc, value)?;
-        self.put(key, made)
-    }
-
-    /// Puts the row of a list, entry by entry; it is left out where it would be empty.
-    #[tactic(auto, unfolding(crate::specs::Writing::written_list))]
-    pub fn list<R: Written>(&mut self, key: &str, values: &List<R::Of>) -> Result<(), OutOfMemory>
-        ensures { OnOk result (members_view self.new.map.entries ≡ put_row key.now (written_list R.writing values.now) (members_view self.old.map.entries)) }
-    {
-        let entries = entries_of::<R>(self.alloc, values.slice())?;
-        self.put(key, array_unless_empty(entries))
-    }
-
-    /// The object.
-    pub fn object(self) -> Value
-        ensures { view result ≡ object (members_view self.map.entries) }
-    {
-        Value::Object(self.map)
-    }
-
-    /// The object, which is left out where it would be empty.
-    pub fn object_unless_empty(self) -> Option<Value>
-        ensures { option_map view result ≡ object_unless_empty (members_view self.map.entries) }
-    {
-        unless_empty(self.map)
-    }
-}
-
-/// What a value that may be absent is written as.
-pub fn write_some<R: Written>(
-    alloc: Global,
+/// Writes the row of a value that may be absent: it is left out where there is none.
+pub fn optional<R: Written>(
+    out: &mut Output,
+    name: &str,
     value: &Option<R::Of>,
-) -> Result<Option<Value>, OutOfMemory>
-    ensures { IfOk result (λ written. option_map view written ≡ option_and_then R.writing value.now) }
+) -> Result<(), OutOfMemory>
+    ensures { OnOk result (out.new ≡ out.old ++ row_tokens name.now (option_and_then R.writing value.now)) }
 {
     match value {
-        Some(value) => R::write(alloc, value),
-        None => Ok(None),
+        Some(value) => required::<R>(out, name, value),
+        None => Ok(()),
     }
 }
 
-fn entries_of<R: Written>(alloc: Global, values: &[R::Of]) -> Result<Vec<Value>, OutOfMemory>
-    ensures { IfOk result (λ entries. map view entries.items ≡ filter_map R.writing values.now) }
+/// Writes the row of a list, entry by entry; it is left out where it would be empty.
+#[tactic(auto, using(crate::proofs::Appended::row_is), unfolding(crate::specs::Writing::written_list))]
+pub fn list<R: Written>(
+    out: &mut Output,
+    name: &str,
+    values: &List<R::Of>,
+) -> Result<(), OutOfMemory>
+    ensures { OnOk result (out.new ≡ out.old ++ row_tokens name.now (written_list R.writing values.now)) }
 {
-    let mut entries = Vec::new(alloc);
+    match values.slice().split_first() {
+        Some((first, rest)) => filled_list::<R>(out, name, first, rest),
+        None => Ok(()),
+    }
+}
+
+/// Writes the row of an object whose one row is a list; it is left out where the list would be empty.
+#[tactic(auto, using(crate::proofs::Appended::row_appended), unfolding(crate::specs::Writing::written_list))]
+pub fn list_inside<R: Written>(
+    out: &mut Output,
+    outer: &str,
+    name: &str,
+    values: &List<R::Of>,
+) -> Result<(), OutOfMemory>
+    ensures { OnOk result (out.new ≡ out.old ++ row_tokens outer.now
+        (object_unless_empty (with_rows no_members ((name.now, written_list R.writing values.now) ∷ [])))) }
+{
+    let Some((first, rest)) = values.slice().split_first() else {
+        return Ok(());
+    };
+    out.key(outer)?;
+    object_of_list::<R>(out, name, first, rest)
+}
+
+/// Writes an object whose one row is a list that has entries.
+#[tactic(auto, using(crate::proofs::Appended::object_appended))]
+pub fn object_of_list<R: Written>(
+    out: &mut Output,
+    name: &str,
+    first: &R::Of,
+    rest: &[R::Of],
+) -> Result<(), OutOfMemory>
+    ensures { OnOk result (Appends (object_unless_empty (with_rows no_members
+        ((name.now, written_list R.writing (first.now ∷ rest.now)) ∷ []))) out.old out.new) }
+{
+    out.begin_object()?;
+    filled_list::<R>(out, name, first, rest)?;
+    out.end_object()
+}
+
+#[tactic(auto, using(crate::proofs::Appended::list_appended), unfolding(crate::specs::Writing::written_list))]
+fn filled_list<R: Written>(
+    out: &mut Output,
+    name: &str,
+    first: &R::Of,
+    rest: &[R::Of],
+) -> Result<(), OutOfMemory>
+    ensures { OnOk result (AppendsRow name.now (written_list R.writing (first.now ∷ rest.now)) out.old out.new) }
+{
+    out.key(name)?;
+    out.begin_list()?;
+    R::write(out, first)?;
+    entries::<R>(out, rest)?;
+    out.end_list()
+}
+
+#[tactic(auto, using(crate::proofs::Appended::entry_appended))]
+fn entries<R: Written>(out: &mut Output, values: &[R::Of]) -> Result<(), OutOfMemory>
+    ensures { OnOk result (out.new ≡ out.old ++ entries_tokens (filter_map R.writing values.now)) }
+{
     for value in values {
-        if let Some(entry) = R::write(alloc, value)? {
-            entries.push(entry)?;
-        }
+        R::write(out, value)?;
     }
-    Ok(entries)
+    Ok(())
 }
 
-fn unless_empty(members: Map<String, Value>) -> Option<Value>
-    ensures { option_map view result ≡ object_unless_empty (members_view members.entries) }
+/// Writes a name in an object of its own.
+#[tactic(auto, using(crate::proofs::Appended::name_in_order), unfolding(crate::specs::Writing::written_name))]
+pub fn name_inside(out: &mut Output, inner: &str, name: &Name) -> Result<(), OutOfMemory>
+    ensures { OnOk result (Appends (written_name inner.now name.now) out.old out.new) }
 {
-    if members.is_empty() {
-        None
-    } else {
-        Some(Value::Object(members))
-    }
-}
-
-/// A list, which is left out where it would be empty.
-pub fn array_unless_empty(entries: Vec<Value>) -> Option<Value>
-    ensures { option_map view result ≡ array_unless_empty (map view entries.items) }
-{
-    if entries.is_empty() {
-        None
-    } else {
-        Some(Value::Array(entries))
-    }
-}
-
-fn text_value(alloc: Global, text: &str) -> Result<Value, OutOfMemory>
-    ensures { IfOk result (λ value. view value ≡ string text.now) }
-{
-    Ok(Value::String(String::from_str(alloc, text)?))
-}
-
-fn moment_value(alloc: Global, moment: Moment) -> Result<Value, OutOfMemory>
-    ensures { IfOk result (λ value. view value ≡ string (moment_text moment)) }
-{
-    let mut buffer = [0u8; 24];
-    let length = write_moment(moment, &mut buffer);
-    written_moment_is_ascii(moment);
-    match std::str::from_utf8(&buffer[..length]) {
-        Ok(text) => text_value(alloc, text),
-        Err(_) => unreachable!(),
-    }
-}
-
-fn span_value(alloc: Global, span: Span) -> Result<Value, OutOfMemory>
-    ensures { IfOk result (λ value. view value ≡ string (span_text span)) }
-{
-    let mut buffer = [0u8; 32];
-    let length = write_span(span, &mut buffer);
-    written_span_is_ascii(span);
-    match std::str::from_utf8(&buffer[..length]) {
-        Ok(text) => text_value(alloc, text),
-        Err(_) => unreachable!(),
-    }
-}
-
-fn decimal_value(alloc: Global, units: i64) -> Result<Value, OutOfMemory>
-    ensures { IfOk result (λ value. view value ≡ string (decimal_text units)) }
-{
-    let text = scalars::decimal_text(alloc, units)?;
-    match std::str::from_utf8(&text) {
-        Ok(text) => text_value(alloc, text),
-        Err(_) => unreachable!(),
-    }
+    out.begin_object()?;
+    required::<NameRule>(out, inner, name)?;
+    out.end_object()
 }
 
 impl Written for NameRule {
@@ -189,8 +137,8 @@ impl Written for NameRule {
 
     ghost writing = { written_text };
 
-    fn write(alloc: Global, name: &Name) -> Result<Option<Value>, OutOfMemory> {
-        Ok(Some(text_value(alloc, name.text())?))
+    fn write(out: &mut Output, name: &Name) -> Result<(), OutOfMemory> {
+        out.text(name.text())
     }
 }
 
@@ -199,8 +147,8 @@ impl Written for TextRule {
 
     ghost writing = { written_text };
 
-    fn write(alloc: Global, text: &Text) -> Result<Option<Value>, OutOfMemory> {
-        Ok(Some(text_value(alloc, text.text())?))
+    fn write(out: &mut Output, text: &Text) -> Result<(), OutOfMemory> {
+        out.text(text.text())
     }
 }
 
@@ -209,8 +157,8 @@ impl Written for FlagRule {
 
     ghost writing = { written_flag };
 
-    fn write(_alloc: Global, flag: &bool) -> Result<Option<Value>, OutOfMemory> {
-        Ok(Some(Value::Bool(*flag)))
+    fn write(out: &mut Output, flag: &bool) -> Result<(), OutOfMemory> {
+        out.flag(*flag)
     }
 }
 
@@ -219,8 +167,8 @@ impl Written for NumberRule {
 
     ghost writing = { written_number };
 
-    fn write(_alloc: Global, number: &u64) -> Result<Option<Value>, OutOfMemory> {
-        Ok(Some(Value::from(*number)))
+    fn write(out: &mut Output, number: &u64) -> Result<(), OutOfMemory> {
+        out.number(*number)
     }
 }
 
@@ -229,8 +177,14 @@ impl Written for MomentRule {
 
     ghost writing = { written_moment };
 
-    fn write(alloc: Global, moment: &Moment) -> Result<Option<Value>, OutOfMemory> {
-        Ok(Some(moment_value(alloc, *moment)?))
+    fn write(out: &mut Output, moment: &Moment) -> Result<(), OutOfMemory> {
+        let mut buffer = [0u8; 24];
+        let length = write_moment(*moment, &mut buffer);
+        written_moment_is_ascii(*moment);
+        match std::str::from_utf8(&buffer[..length]) {
+            Ok(text) => out.text(text),
+            Err(_) => unreachable!(),
+        }
     }
 }
 
@@ -239,8 +193,14 @@ impl Written for SpanRule {
 
     ghost writing = { written_span };
 
-    fn write(alloc: Global, span: &Span) -> Result<Option<Value>, OutOfMemory> {
-        Ok(Some(span_value(alloc, *span)?))
+    fn write(out: &mut Output, span: &Span) -> Result<(), OutOfMemory> {
+        let mut buffer = [0u8; 32];
+        let length = write_span(*span, &mut buffer);
+        written_span_is_ascii(*span);
+        match std::str::from_utf8(&buffer[..length]) {
+            Ok(text) => out.text(text),
+            Err(_) => unreachable!(),
+        }
     }
 }
 
@@ -249,7 +209,17 @@ impl Written for DecimalRule {
 
     ghost writing = { written_decimal };
 
-    fn write(alloc: Global, units: &i64) -> Result<Option<Value>, OutOfMemory> {
-        Ok(Some(decimal_value(alloc, *units)?))
+    fn write(out: &mut Output, units: &i64) -> Result<(), OutOfMemory> {
+        decimal(out, *units)
+    }
+}
+
+fn decimal(out: &mut Output, units: i64) -> Result<(), OutOfMemory>
+    ensures { OnOk result (out.new ≡ out.old ++ string (decimal_text units) ∷ []) }
+{
+    let text = scalars::decimal_text(out.alloc(), units)?;
+    match std::str::from_utf8(&text) {
+        Ok(text) => out.text(text),
+        Err(_) => unreachable!(),
     }
 }

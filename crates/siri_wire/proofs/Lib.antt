@@ -1,9 +1,2 @@
-pub mod NoFloat
-pub mod NoFloatItems
-pub mod NoFloatValues
-pub mod NoFloatTopics
-pub mod NoFloatDeliveries
-pub mod NoFloatSubscriptions
-pub mod NoFloatRequests
-pub mod NoFloatMessages
 pub mod Documents
+pub mod InOrder

@@ -1,58 +1,57 @@
 //! Writing documents.
 
-ghost use Rattle.std.specs.Prelude.{◌≡◌, IfOk};
-ghost use Rattle.serde_json.specs.View.{view};
+ghost use Rattle.std.specs.Prelude.{◌≡◌, ◌++◌, IfOk, OnOk};
+ghost use Rattle.siri_json.specs.Tokens.{tokens_of};
 ghost use Rattle.siri_wire.specs.Canonical.{written_body, written_message, canonical};
 
 use crate::names;
-use crate::write_deliveries::service_delivery_value;
+use crate::write_deliveries::write_service_delivery;
 use crate::write_requests::{
-    data_ready_value, ready_acknowledgement_value, received_value, service_request_value,
-    supply_value,
+    write_data_ready, write_ready_acknowledgement, write_received, write_service_request,
+    write_supply,
 };
-use crate::write_statuses::{check_status_value, heartbeat_value, status_response_value};
+use crate::write_statuses::{write_check_status, write_heartbeat, write_status_response};
 use crate::write_subscriptions::{
-    subscription_request_value, subscription_response_value, termination_response_value,
-    termination_value,
+    write_subscription_request, write_subscription_response, write_termination,
+    write_termination_response,
 };
-use serde_json::Value;
 use siri_base::OutOfMemory;
-use siri_json::write_tree;
+use siri_json::Output;
 use siri_messages::Message;
-use siri_tables::writing::Members;
 use std::alloc::Global;
 
 #[tactic(auto, unfolding(crate::specs::Canonical::written_body))]
-fn body_value(alloc: Global, message: &Message) -> Result<Value, OutOfMemory>
-    ensures { IfOk result (λ value. view value ≡ written_body message.now) }
+fn write_body(out: &mut Output, message: &Message) -> Result<(), OutOfMemory>
+    ensures { OnOk result (out.new ≡ out.old ++ tokens_of (written_body message.now)) }
 {
     match message {
-        Message::ServiceRequest(m) => service_request_value(alloc, m),
-        Message::ServiceDelivery(m) => service_delivery_value(alloc, m),
-        Message::SubscriptionRequest(m) => subscription_request_value(alloc, m),
-        Message::SubscriptionResponse(m) => subscription_response_value(alloc, m),
-        Message::TerminateSubscriptionRequest(m) => termination_value(alloc, m),
-        Message::TerminateSubscriptionResponse(m) => termination_response_value(alloc, m),
-        Message::DataReadyNotification(m) => data_ready_value(alloc, m),
-        Message::DataReadyAcknowledgement(m) => ready_acknowledgement_value(alloc, m),
-        Message::DataSupplyRequest(m) => supply_value(alloc, m),
-        Message::DataReceivedAcknowledgement(m) => received_value(alloc, m),
-        Message::CheckStatusRequest(m) => check_status_value(alloc, m),
-        Message::CheckStatusResponse(m) => status_response_value(alloc, m),
-        Message::HeartbeatNotification(m) => heartbeat_value(alloc, m),
+        Message::ServiceRequest(m) => write_service_request(out, m),
+        Message::ServiceDelivery(m) => write_service_delivery(out, m),
+        Message::SubscriptionRequest(m) => write_subscription_request(out, m),
+        Message::SubscriptionResponse(m) => write_subscription_response(out, m),
+        Message::TerminateSubscriptionRequest(m) => write_termination(out, m),
+        Message::TerminateSubscriptionResponse(m) => write_termination_response(out, m),
+        Message::DataReadyNotification(m) => write_data_ready(out, m),
+        Message::DataReadyAcknowledgement(m) => write_ready_acknowledgement(out, m),
+        Message::DataSupplyRequest(m) => write_supply(out, m),
+        Message::DataReceivedAcknowledgement(m) => write_received(out, m),
+        Message::CheckStatusRequest(m) => write_check_status(out, m),
+        Message::CheckStatusResponse(m) => write_status_response(out, m),
+        Message::HeartbeatNotification(m) => write_heartbeat(out, m),
     }
 }
 
-#[tactic(auto, unfolding(crate::specs::Canonical::written_message))]
-fn message_value(alloc: Global, message: &Message) -> Result<Value, OutOfMemory>
-    ensures { IfOk result (λ value. view value ≡ written_message message.now) }
+#[tactic(auto, using(crate::proofs::InOrder::message_in_order))]
+fn write_message(out: &mut Output, message: &Message) -> Result<(), OutOfMemory>
+    ensures { OnOk result (out.new ≡ out.old ++ tokens_of (written_message message.now)) }
 {
-    let body = body_value(alloc, message)?;
-    let mut named = Members::new(alloc);
-    named.put(message.kind(), Some(body))?;
-    let mut document = Members::new(alloc);
-    document.put(names::SIRI, Some(named.object()))?;
-    Ok(document.object())
+    out.begin_object()?;
+    out.key(names::SIRI)?;
+    out.begin_object()?;
+    out.key(message.kind())?;
+    write_body(out, message)?;
+    out.end_object()?;
+    out.end_object()
 }
 
 /// The document that says a message, in its one text: compact, members in byte order of their names. Texts, moments,
@@ -60,10 +59,11 @@ fn message_value(alloc: Global, message: &Message) -> Result<Value, OutOfMemory>
 /// always a string; lists are lists. What is absent isn't written, nor a list or an object that need not be there and
 /// would be empty. Each journey stands in an EstimatedJourneyVersionFrame of its own, which carries its RecordedAtTime.
 /// Topics, items and removals of another service than their list's are written by the tables of their own service.
-#[tactic(auto, using(crate::proofs::NoFloatMessages::message_no_float), unfolding(crate::specs::Canonical::canonical))]
+#[tactic(auto, using(crate::proofs::InOrder::message_said))]
 pub fn encode(alloc: Global, message: &Message) -> Result<Vec<u8>, OutOfMemory>
     ensures { IfOk result (λ text. text.items ≡ canonical message.now) }
 {
-    let tree = message_value(alloc, message)?;
-    write_tree(alloc, &tree)
+    let mut out = Output::new(alloc);
+    write_message(&mut out, message)?;
+    Ok(out.into_text())
 }

@@ -2,7 +2,7 @@
 //!
 //! ```text
 //!   bytes --siri_json::read_tree--> tree --message--> Message      decode
-//!   bytes <-siri_json::write_tree-- tree <-written--- Message      encode
+//!   bytes <-siri_json::Output <-written--- Message      encode
 //! ```
 //!
 //! Each message is a table (EN 15531-2); topics, functional deliveries, subscriptions and marks are tables inside them. The

@@ -1,65 +1,84 @@
 //! Writing deliveries.
 
-ghost use Rattle.std.specs.Prelude.{◌≡◌, [], Option, IfOk, OnOk, option_map, option_and_then};
-ghost use Rattle.serde_json.specs.Data.{Data, no_members};
-ghost use Rattle.serde_json.specs.View.{view, members_view};
-ghost use Rattle.siri_tables.specs.Writing.{with_rows};
-ghost use Rattle.siri_wire.specs.WrittenDeliveries.{written_situations, rows_of_place, written_place, written_removed, rows_of_delivery, written_stop_delivery, written_timetable_delivery, written_vehicle_delivery, written_situation_delivery, written_service_delivery};
+ghost use Rattle.std.specs.Prelude.{◌≡◌, [], ◌∷◌, ◌++◌, Option, OnOk, option_and_then};
+ghost use Rattle.serde_json.specs.Data.{Data};
+ghost use Rattle.siri_json.specs.Tokens.{tokens_of};
+ghost use Rattle.siri_tables.specs.Appended.{row_tokens, Appends};
+ghost use Rattle.siri_tables.specs.Writing.{row_object, written_list};
+ghost use Rattle.siri_tables.proofs.Sorted.{any_written};
+ghost use Rattle.siri_wire.specs.declared.names.TheConstants.{EXTENSIONS, REMOVED, SITUATIONS};
+ghost use Rattle.siri_wire.specs.WrittenDeliveries.{written_situations, rows_of_place, written_place, written_removal, written_removed, written_stop_delivery, written_timetable_delivery, written_vehicle_delivery, written_situation_delivery, written_service_delivery};
 
 use crate::names;
 use crate::write_entries::{FrameWriting, ItemWriting, RemovalWriting};
-use crate::write_values::{ErrorWriting, where_true};
-use serde_json::Value;
+use crate::write_values::{ErrorWriting, true_row};
 use siri_base::{List, OutOfMemory};
+use siri_json::Output;
 use siri_messages::{FunctionalDelivery, ServiceDelivery};
 use siri_records::Item;
 use siri_tables::rules::{FlagRule, MomentRule, NameRule, NumberRule};
-use siri_tables::writing::{Members, Written};
-use std::alloc::Global;
+use siri_tables::writing::{Written, list, list_inside, optional, required};
 
-fn place_members(alloc: Global, delivery: &FunctionalDelivery) -> Result<Members, OutOfMemory>
-    ensures { IfOk result (λ members. members_view members.map.entries ≡ with_rows no_members (rows_of_place delivery.now [])) }
+fn has_place(delivery: &FunctionalDelivery) -> bool
+    ensures { result ≡ any_written (rows_of_place delivery.now []) }
 {
-    let mut members = Members::new(alloc);
-    members.put_optional::<NumberRule>(names::START, &delivery.start)?;
-    members.put_optional::<NumberRule>(names::ROUND, &delivery.round)?;
-    members.put_optional::<NumberRule>(names::PART, &delivery.part)?;
-    Ok(members)
+    delivery.start.is_some() || delivery.round.is_some() || delivery.part.is_some()
 }
 
-#[tactic(auto, unfolding(crate::specs::WrittenDeliveries::written_place))]
-fn place_value(alloc: Global, delivery: &FunctionalDelivery) -> Result<Option<Value>, OutOfMemory>
-    ensures { IfOk result (λ value. option_map view value ≡ written_place delivery.now) }
+#[tactic(auto, using(crate::proofs::InOrder::place_in_order))]
+fn write_place(out: &mut Output, delivery: &FunctionalDelivery) -> Result<(), OutOfMemory>
+    ensures { OnOk result (out.new ≡ out.old ++ tokens_of (row_object (rows_of_place delivery.now []))) }
 {
-    let members = place_members(alloc, delivery)?;
-    Ok(members.object_unless_empty())
+    out.begin_object()?;
+    optional::<NumberRule>(out, names::PART, &delivery.part)?;
+    optional::<NumberRule>(out, names::ROUND, &delivery.round)?;
+    optional::<NumberRule>(out, names::START, &delivery.start)?;
+    out.end_object()
 }
 
-#[tactic(auto, unfolding(crate::specs::WrittenDeliveries::written_removed))]
-fn removed_value(alloc: Global, delivery: &FunctionalDelivery) -> Result<Option<Value>, OutOfMemory>
-    ensures { IfOk result (λ value. option_map view value ≡ written_removed delivery.now) }
+#[tactic(auto, using(crate::proofs::InOrder::place_left_out, crate::proofs::InOrder::place_written))]
+fn place_row(out: &mut Output, delivery: &FunctionalDelivery) -> Result<(), OutOfMemory>
+    ensures { OnOk result (out.new ≡ out.old ++ row_tokens EXTENSIONS.now (written_place delivery.now)) }
 {
-    let mut members = place_members(alloc, delivery)?;
-    members.list::<RemovalWriting>(names::REMOVED, &delivery.removals)?;
-    Ok(members.object_unless_empty())
+    if !has_place(delivery) {
+        return Ok(());
+    }
+    out.key(names::EXTENSIONS)?;
+    write_place(out, delivery)
 }
 
-fn delivery_members(
-    alloc: Global,
-    delivery: &FunctionalDelivery,
-    extensions: Option<Value>,
-) -> Result<Members, OutOfMemory>
-    ensures { IfOk result (λ members. members_view members.map.entries
-        ≡ with_rows no_members (rows_of_delivery delivery.now (option_map view extensions) [])) }
+#[tactic(auto, using(crate::proofs::InOrder::any_removed))]
+fn has_removed(delivery: &FunctionalDelivery) -> bool
+    ensures { result ≡ any_written (rows_of_place delivery.now ((REMOVED.now, written_list written_removal delivery.now.removals) ∷ [])) }
 {
-    let mut members = Members::new(alloc);
-    members.put_optional::<MomentRule>(names::RESPONSE_TIMESTAMP, &delivery.response_timestamp)?;
-    members.put_optional::<NameRule>(names::SUBSCRIBER_REF, &delivery.subscriber_ref)?;
-    members.put_optional::<NameRule>(names::SUBSCRIPTION_REF, &delivery.subscription_ref)?;
-    members.put_required::<FlagRule>(names::STATUS, &delivery.status)?;
-    members.put_optional::<ErrorWriting>(names::ERROR_CONDITION, &delivery.error_condition)?;
-    members.put(names::EXTENSIONS, extensions)?;
-    Ok(members)
+    delivery.start.is_some()
+        || delivery.round.is_some()
+        || delivery.part.is_some()
+        || delivery.removals.len() > 0
+}
+
+#[tactic(auto, using(crate::proofs::InOrder::removed_in_order))]
+fn write_removed(out: &mut Output, delivery: &FunctionalDelivery) -> Result<(), OutOfMemory>
+    ensures { OnOk result (out.new ≡ out.old
+        ++ tokens_of (row_object (rows_of_place delivery.now ((REMOVED.now, written_list written_removal delivery.now.removals) ∷ [])))) }
+{
+    out.begin_object()?;
+    optional::<NumberRule>(out, names::PART, &delivery.part)?;
+    list::<RemovalWriting>(out, names::REMOVED, &delivery.removals)?;
+    optional::<NumberRule>(out, names::ROUND, &delivery.round)?;
+    optional::<NumberRule>(out, names::START, &delivery.start)?;
+    out.end_object()
+}
+
+#[tactic(auto, using(crate::proofs::InOrder::removed_left_out, crate::proofs::InOrder::removed_written))]
+fn removed_row(out: &mut Output, delivery: &FunctionalDelivery) -> Result<(), OutOfMemory>
+    ensures { OnOk result (out.new ≡ out.old ++ row_tokens EXTENSIONS.now (written_removed delivery.now)) }
+{
+    if !has_removed(delivery) {
+        return Ok(());
+    }
+    out.key(names::EXTENSIONS)?;
+    write_removed(out, delivery)
 }
 
 struct StopDeliveryWriting;
@@ -69,16 +88,22 @@ impl Written for StopDeliveryWriting {
 
     ghost writing = { written_stop_delivery };
 
-    #[tactic(auto, unfolding(crate::specs::WrittenDeliveries::written_stop_delivery))]
-    fn write(alloc: Global, delivery: &FunctionalDelivery) -> Result<Option<Value>, OutOfMemory> {
-        let place = place_value(alloc, delivery)?;
-        let mut members = delivery_members(alloc, delivery, place)?;
-        members.list::<ItemWriting>(names::MONITORED_STOP_VISIT, &delivery.items)?;
-        members.list::<RemovalWriting>(
+    #[tactic(auto, using(crate::proofs::InOrder::stop_delivery_in_order), unfolding(crate::specs::WrittenDeliveries::written_stop_delivery))]
+    fn write(out: &mut Output, delivery: &FunctionalDelivery) -> Result<(), OutOfMemory> {
+        out.begin_object()?;
+        optional::<ErrorWriting>(out, names::ERROR_CONDITION, &delivery.error_condition)?;
+        place_row(out, delivery)?;
+        list::<ItemWriting>(out, names::MONITORED_STOP_VISIT, &delivery.items)?;
+        list::<RemovalWriting>(
+            out,
             names::MONITORED_STOP_VISIT_CANCELLATION,
             &delivery.removals,
         )?;
-        Ok(Some(members.object()))
+        optional::<MomentRule>(out, names::RESPONSE_TIMESTAMP, &delivery.response_timestamp)?;
+        required::<FlagRule>(out, names::STATUS, &delivery.status)?;
+        optional::<NameRule>(out, names::SUBSCRIBER_REF, &delivery.subscriber_ref)?;
+        optional::<NameRule>(out, names::SUBSCRIPTION_REF, &delivery.subscription_ref)?;
+        out.end_object()
     }
 }
 
@@ -89,12 +114,17 @@ impl Written for TimetableDeliveryWriting {
 
     ghost writing = { written_timetable_delivery };
 
-    #[tactic(auto, unfolding(crate::specs::WrittenDeliveries::written_timetable_delivery))]
-    fn write(alloc: Global, delivery: &FunctionalDelivery) -> Result<Option<Value>, OutOfMemory> {
-        let removed = removed_value(alloc, delivery)?;
-        let mut members = delivery_members(alloc, delivery, removed)?;
-        members.list::<FrameWriting>(names::ESTIMATED_JOURNEY_VERSION_FRAME, &delivery.items)?;
-        Ok(Some(members.object()))
+    #[tactic(auto, using(crate::proofs::InOrder::timetable_delivery_in_order), unfolding(crate::specs::WrittenDeliveries::written_timetable_delivery))]
+    fn write(out: &mut Output, delivery: &FunctionalDelivery) -> Result<(), OutOfMemory> {
+        out.begin_object()?;
+        optional::<ErrorWriting>(out, names::ERROR_CONDITION, &delivery.error_condition)?;
+        list::<FrameWriting>(out, names::ESTIMATED_JOURNEY_VERSION_FRAME, &delivery.items)?;
+        removed_row(out, delivery)?;
+        optional::<MomentRule>(out, names::RESPONSE_TIMESTAMP, &delivery.response_timestamp)?;
+        required::<FlagRule>(out, names::STATUS, &delivery.status)?;
+        optional::<NameRule>(out, names::SUBSCRIBER_REF, &delivery.subscriber_ref)?;
+        optional::<NameRule>(out, names::SUBSCRIPTION_REF, &delivery.subscription_ref)?;
+        out.end_object()
     }
 }
 
@@ -105,23 +135,30 @@ impl Written for VehicleDeliveryWriting {
 
     ghost writing = { written_vehicle_delivery };
 
-    #[tactic(auto, unfolding(crate::specs::WrittenDeliveries::written_vehicle_delivery))]
-    fn write(alloc: Global, delivery: &FunctionalDelivery) -> Result<Option<Value>, OutOfMemory> {
-        let place = place_value(alloc, delivery)?;
-        let mut members = delivery_members(alloc, delivery, place)?;
-        members.list::<ItemWriting>(names::VEHICLE_ACTIVITY, &delivery.items)?;
-        members.list::<RemovalWriting>(names::VEHICLE_ACTIVITY_CANCELLATION, &delivery.removals)?;
-        Ok(Some(members.object()))
+    #[tactic(auto, using(crate::proofs::InOrder::vehicle_delivery_in_order), unfolding(crate::specs::WrittenDeliveries::written_vehicle_delivery))]
+    fn write(out: &mut Output, delivery: &FunctionalDelivery) -> Result<(), OutOfMemory> {
+        out.begin_object()?;
+        optional::<ErrorWriting>(out, names::ERROR_CONDITION, &delivery.error_condition)?;
+        place_row(out, delivery)?;
+        optional::<MomentRule>(out, names::RESPONSE_TIMESTAMP, &delivery.response_timestamp)?;
+        required::<FlagRule>(out, names::STATUS, &delivery.status)?;
+        optional::<NameRule>(out, names::SUBSCRIBER_REF, &delivery.subscriber_ref)?;
+        optional::<NameRule>(out, names::SUBSCRIPTION_REF, &delivery.subscription_ref)?;
+        list::<ItemWriting>(out, names::VEHICLE_ACTIVITY, &delivery.items)?;
+        list::<RemovalWriting>(
+            out,
+            names::VEHICLE_ACTIVITY_CANCELLATION,
+            &delivery.removals,
+        )?;
+        out.end_object()
     }
 }
 
 #[tactic(auto, unfolding(crate::specs::WrittenDeliveries::written_situations))]
-fn situations_value(alloc: Global, items: &List<Item>) -> Result<Option<Value>, OutOfMemory>
-    ensures { IfOk result (λ value. option_map view value ≡ written_situations items.now) }
+fn situations_row(out: &mut Output, items: &List<Item>) -> Result<(), OutOfMemory>
+    ensures { OnOk result (out.new ≡ out.old ++ row_tokens SITUATIONS.now (written_situations items.now)) }
 {
-    let mut members = Members::new(alloc);
-    members.list::<ItemWriting>(names::PT_SITUATION_ELEMENT, items)?;
-    Ok(members.object_unless_empty())
+    list_inside::<ItemWriting>(out, names::SITUATIONS, names::PT_SITUATION_ELEMENT, items)
 }
 
 struct SituationDeliveryWriting;
@@ -131,50 +168,63 @@ impl Written for SituationDeliveryWriting {
 
     ghost writing = { written_situation_delivery };
 
-    #[tactic(auto, unfolding(crate::specs::WrittenDeliveries::written_situation_delivery))]
-    fn write(alloc: Global, delivery: &FunctionalDelivery) -> Result<Option<Value>, OutOfMemory> {
-        let removed = removed_value(alloc, delivery)?;
-        let mut members = delivery_members(alloc, delivery, removed)?;
-        let situations = situations_value(alloc, &delivery.items)?;
-        members.put(names::SITUATIONS, situations)?;
-        Ok(Some(members.object()))
+    #[tactic(auto, using(crate::proofs::InOrder::situation_delivery_in_order), unfolding(crate::specs::WrittenDeliveries::written_situation_delivery))]
+    fn write(out: &mut Output, delivery: &FunctionalDelivery) -> Result<(), OutOfMemory> {
+        out.begin_object()?;
+        optional::<ErrorWriting>(out, names::ERROR_CONDITION, &delivery.error_condition)?;
+        removed_row(out, delivery)?;
+        optional::<MomentRule>(out, names::RESPONSE_TIMESTAMP, &delivery.response_timestamp)?;
+        situations_row(out, &delivery.items)?;
+        required::<FlagRule>(out, names::STATUS, &delivery.status)?;
+        optional::<NameRule>(out, names::SUBSCRIBER_REF, &delivery.subscriber_ref)?;
+        optional::<NameRule>(out, names::SUBSCRIPTION_REF, &delivery.subscription_ref)?;
+        out.end_object()
     }
 }
 
 /// The object of a ServiceDelivery.
-#[tactic(auto, unfolding(crate::specs::WrittenDeliveries::written_service_delivery))]
-pub fn service_delivery_value(
-    alloc: Global,
+#[tactic(auto, using(crate::proofs::InOrder::service_delivery_in_order))]
+pub fn write_service_delivery(
+    out: &mut Output,
     delivery: &ServiceDelivery,
-) -> Result<Value, OutOfMemory>
-    ensures { IfOk result (λ value. view value ≡ written_service_delivery delivery.now) }
+) -> Result<(), OutOfMemory>
+    ensures { OnOk result (out.new ≡ out.old ++ tokens_of (written_service_delivery delivery.now)) }
 {
-    let mut members = Members::new(alloc);
-    members.put_optional::<MomentRule>(names::RESPONSE_TIMESTAMP, &delivery.response_timestamp)?;
-    members.put_optional::<NameRule>(names::PRODUCER_REF, &delivery.producer_ref)?;
-    members.put_optional::<NameRule>(
-        names::RESPONSE_MESSAGE_IDENTIFIER,
-        &delivery.response_message_identifier,
-    )?;
-    members.put_optional::<NameRule>(names::REQUEST_MESSAGE_REF, &delivery.request_message_ref)?;
-    members.put_required::<FlagRule>(names::STATUS, &delivery.status)?;
-    members.put_optional::<ErrorWriting>(names::ERROR_CONDITION, &delivery.error_condition)?;
-    members.put(names::MORE_DATA, where_true(delivery.more_data))?;
-    members.list::<StopDeliveryWriting>(
-        names::STOP_MONITORING_DELIVERY,
-        &delivery.stop_monitoring_delivery,
-    )?;
-    members.list::<TimetableDeliveryWriting>(
+    out.begin_object()?;
+    optional::<ErrorWriting>(out, names::ERROR_CONDITION, &delivery.error_condition)?;
+    list::<TimetableDeliveryWriting>(
+        out,
         names::ESTIMATED_TIMETABLE_DELIVERY,
         &delivery.estimated_timetable_delivery,
     )?;
-    members.list::<VehicleDeliveryWriting>(
-        names::VEHICLE_MONITORING_DELIVERY,
-        &delivery.vehicle_monitoring_delivery,
+    true_row(out, names::MORE_DATA, delivery.more_data)?;
+    optional::<NameRule>(out, names::PRODUCER_REF, &delivery.producer_ref)?;
+    optional::<NameRule>(
+        out,
+        names::REQUEST_MESSAGE_REF,
+        &delivery.request_message_ref,
     )?;
-    members.list::<SituationDeliveryWriting>(
+    optional::<NameRule>(
+        out,
+        names::RESPONSE_MESSAGE_IDENTIFIER,
+        &delivery.response_message_identifier,
+    )?;
+    optional::<MomentRule>(out, names::RESPONSE_TIMESTAMP, &delivery.response_timestamp)?;
+    list::<SituationDeliveryWriting>(
+        out,
         names::SITUATION_EXCHANGE_DELIVERY,
         &delivery.situation_exchange_delivery,
     )?;
-    Ok(members.object())
+    required::<FlagRule>(out, names::STATUS, &delivery.status)?;
+    list::<StopDeliveryWriting>(
+        out,
+        names::STOP_MONITORING_DELIVERY,
+        &delivery.stop_monitoring_delivery,
+    )?;
+    list::<VehicleDeliveryWriting>(
+        out,
+        names::VEHICLE_MONITORING_DELIVERY,
+        &delivery.vehicle_monitoring_delivery,
+    )?;
+    out.end_object()
 }

@@ -1,18 +1,21 @@
 //! Writing the entries of functional deliveries: items, the frames of journeys, and removals.
 
-ghost use Rattle.std.specs.Prelude.{◌≡◌, Some, Option, IfOk, option_map, option_and_then};
+ghost use Rattle.std.specs.Prelude.{◌≡◌, [], ◌∷◌, ◌++◌, Some, Option, OnOk, option_and_then};
 ghost use Rattle.serde_json.specs.Data.{Data};
-ghost use Rattle.serde_json.specs.View.{view};
-ghost use Rattle.siri_wire.specs.WrittenDeliveries.{item_writing, frame_time, written_frame, written_removal};
+ghost use Rattle.siri_json.specs.Tokens.{tokens_of};
+ghost use Rattle.siri_tables.specs.Appended.{row_tokens, Appends};
+ghost use Rattle.siri_tables.specs.Writing.{row_object, array_unless_empty};
+ghost use Rattle.siri_items.specs.Written.{written_item};
+ghost use Rattle.siri_wire.specs.declared.names.TheConstants.{ESTIMATED_VEHICLE_JOURNEY};
+ghost use Rattle.siri_wire.specs.WrittenDeliveries.{item_writing, frame_time, written_frame, rows_of_removal, written_removal};
 
 use crate::names;
-use serde_json::Value;
 use siri_base::{Moment, Name, OutOfMemory};
 use siri_items::{names as item_names, write_item};
+use siri_json::Output;
 use siri_records::{Item, Key};
 use siri_tables::rules::{MomentRule, NameRule};
-use siri_tables::writing::{Members, Written};
-use std::alloc::Global;
+use siri_tables::writing::{Written, optional, required};
 
 /// An item in a list of items, by the table of its service.
 pub struct ItemWriting;
@@ -22,8 +25,8 @@ impl Written for ItemWriting {
 
     ghost writing = { item_writing };
 
-    fn write(alloc: Global, item: &Item) -> Result<Option<Value>, OutOfMemory> {
-        Ok(Some(write_item(alloc, item)?))
+    fn write(out: &mut Output, item: &Item) -> Result<(), OutOfMemory> {
+        write_item(out, item)
     }
 }
 
@@ -36,6 +39,16 @@ fn frame_time(item: &Item) -> Option<Moment>
     }
 }
 
+#[tactic(auto, using(crate::proofs::InOrder::journey_row_is))]
+fn journey_row(out: &mut Output, item: &Item) -> Result<(), OutOfMemory>
+    ensures { OnOk result (out.new ≡ out.old ++ row_tokens ESTIMATED_VEHICLE_JOURNEY.now (array_unless_empty (written_item item.now ∷ []))) }
+{
+    out.key(names::ESTIMATED_VEHICLE_JOURNEY)?;
+    out.begin_list()?;
+    write_item(out, item)?;
+    out.end_list()
+}
+
 /// A journey in an EstimatedJourneyVersionFrame of its own, which carries the journey's RecordedAtTime.
 pub struct FrameWriting;
 
@@ -44,69 +57,64 @@ impl Written for FrameWriting {
 
     ghost writing = { written_frame };
 
-    #[tactic(auto, unfolding(crate::specs::WrittenDeliveries::written_frame))]
-    fn write(alloc: Global, item: &Item) -> Result<Option<Value>, OutOfMemory> {
-        let mut journeys = Vec::new(alloc);
-        journeys.push(write_item(alloc, item)?)?;
-        let mut members = Members::new(alloc);
-        members.put_optional::<MomentRule>(item_names::RECORDED_AT_TIME, &frame_time(item))?;
-        members.put(
-            names::ESTIMATED_VEHICLE_JOURNEY,
-            Some(Value::Array(journeys)),
-        )?;
-        Ok(Some(members.object()))
+    #[tactic(auto, using(crate::proofs::InOrder::frame_in_order), unfolding(crate::specs::WrittenDeliveries::written_frame))]
+    fn write(out: &mut Output, item: &Item) -> Result<(), OutOfMemory> {
+        out.begin_object()?;
+        journey_row(out, item)?;
+        optional::<MomentRule>(out, item_names::RECORDED_AT_TIME, &frame_time(item))?;
+        out.end_object()
     }
 }
 
-#[tactic(auto, unfolding(crate::specs::WrittenDeliveries::written_removal))]
-fn removed_visit(alloc: Global, monitoring: &Name, item: &Name) -> Result<Value, OutOfMemory>
-    ensures { IfOk result (λ value. Some (view value) ≡ written_removal (Key.Visit monitoring.now item.now)) }
+#[tactic(auto, using(crate::proofs::InOrder::removed_visit_in_order))]
+fn removed_visit(out: &mut Output, monitoring: &Name, item: &Name) -> Result<(), OutOfMemory>
+    ensures { OnOk result (out.new ≡ out.old ++ tokens_of (row_object (rows_of_removal (Key.Visit monitoring.now item.now)))) }
 {
-    let mut members = Members::new(alloc);
-    members.put_required::<NameRule>(names::ITEM_REF, item)?;
-    members.put_required::<NameRule>(item_names::MONITORING_REF, monitoring)?;
-    Ok(members.object())
+    out.begin_object()?;
+    required::<NameRule>(out, names::ITEM_REF, item)?;
+    required::<NameRule>(out, item_names::MONITORING_REF, monitoring)?;
+    out.end_object()
 }
 
-#[tactic(auto, unfolding(crate::specs::WrittenDeliveries::written_removal))]
+#[tactic(auto, using(crate::proofs::InOrder::removed_journey_in_order))]
 fn removed_journey(
-    alloc: Global,
+    out: &mut Output,
     line: &Name,
     direction: &Option<Name>,
     frame: &Option<Name>,
     journey: &Name,
-) -> Result<Value, OutOfMemory>
-    ensures { IfOk result (λ value. Some (view value) ≡ written_removal (Key.Journey line.now direction.now frame.now journey.now)) }
+) -> Result<(), OutOfMemory>
+    ensures { OnOk result (out.new ≡ out.old ++ tokens_of (row_object (rows_of_removal (Key.Journey line.now direction.now frame.now journey.now)))) }
 {
-    let mut members = Members::new(alloc);
-    members.put_required::<NameRule>(item_names::LINE_REF, line)?;
-    members.put_optional::<NameRule>(item_names::DIRECTION_REF, direction)?;
-    members.put_optional::<NameRule>(item_names::DATA_FRAME_REF, frame)?;
-    members.put_required::<NameRule>(item_names::DATED_VEHICLE_JOURNEY_REF, journey)?;
-    Ok(members.object())
+    out.begin_object()?;
+    optional::<NameRule>(out, item_names::DATA_FRAME_REF, frame)?;
+    required::<NameRule>(out, item_names::DATED_VEHICLE_JOURNEY_REF, journey)?;
+    optional::<NameRule>(out, item_names::DIRECTION_REF, direction)?;
+    required::<NameRule>(out, item_names::LINE_REF, line)?;
+    out.end_object()
 }
 
-#[tactic(auto, unfolding(crate::specs::WrittenDeliveries::written_removal))]
-fn removed_vehicle(alloc: Global, vehicle: &Name) -> Result<Value, OutOfMemory>
-    ensures { IfOk result (λ value. Some (view value) ≡ written_removal (Key.Vehicle vehicle.now)) }
+#[tactic(auto, using(crate::proofs::InOrder::removed_vehicle_in_order))]
+fn removed_vehicle(out: &mut Output, vehicle: &Name) -> Result<(), OutOfMemory>
+    ensures { OnOk result (out.new ≡ out.old ++ tokens_of (row_object (rows_of_removal (Key.Vehicle vehicle.now)))) }
 {
-    let mut members = Members::new(alloc);
-    members.put_required::<NameRule>(names::ITEM_REF, vehicle)?;
-    Ok(members.object())
+    out.begin_object()?;
+    required::<NameRule>(out, names::ITEM_REF, vehicle)?;
+    out.end_object()
 }
 
-#[tactic(auto, unfolding(crate::specs::WrittenDeliveries::written_removal))]
+#[tactic(auto, using(crate::proofs::InOrder::removed_situation_in_order))]
 fn removed_situation(
-    alloc: Global,
+    out: &mut Output,
     participant: &Option<Name>,
     number: &Name,
-) -> Result<Value, OutOfMemory>
-    ensures { IfOk result (λ value. Some (view value) ≡ written_removal (Key.Situation participant.now number.now)) }
+) -> Result<(), OutOfMemory>
+    ensures { OnOk result (out.new ≡ out.old ++ tokens_of (row_object (rows_of_removal (Key.Situation participant.now number.now)))) }
 {
-    let mut members = Members::new(alloc);
-    members.put_optional::<NameRule>(item_names::PARTICIPANT_REF, participant)?;
-    members.put_required::<NameRule>(item_names::SITUATION_NUMBER, number)?;
-    Ok(members.object())
+    out.begin_object()?;
+    optional::<NameRule>(out, item_names::PARTICIPANT_REF, participant)?;
+    required::<NameRule>(out, item_names::SITUATION_NUMBER, number)?;
+    out.end_object()
 }
 
 /// What was removed, by the table of its service.
@@ -117,21 +125,21 @@ impl Written for RemovalWriting {
 
     ghost writing = { written_removal };
 
-    fn write(alloc: Global, key: &Key) -> Result<Option<Value>, OutOfMemory> {
-        let value = match key {
-            Key::Visit { monitoring, item } => removed_visit(alloc, monitoring, item)?,
+    #[tactic(auto, unfolding(crate::specs::WrittenDeliveries::written_removal))]
+    fn write(out: &mut Output, key: &Key) -> Result<(), OutOfMemory> {
+        match key {
+            Key::Visit { monitoring, item } => removed_visit(out, monitoring, item),
             Key::Journey {
                 line,
                 direction,
                 frame,
                 journey,
-            } => removed_journey(alloc, line, direction, frame, journey)?,
-            Key::Vehicle { vehicle } => removed_vehicle(alloc, vehicle)?,
+            } => removed_journey(out, line, direction, frame, journey),
+            Key::Vehicle { vehicle } => removed_vehicle(out, vehicle),
             Key::Situation {
                 participant,
                 number,
-            } => removed_situation(alloc, participant, number)?,
-        };
-        Ok(Some(value))
+            } => removed_situation(out, participant, number),
+        }
     }
 }

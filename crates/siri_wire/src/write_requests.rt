@@ -1,117 +1,131 @@
 //! Writing requests that are answered at once, and how rounds are fetched and acknowledged.
 
-ghost use Rattle.std.specs.Prelude.{◌≡◌, Option, IfOk, option_map, option_and_then};
-ghost use Rattle.serde_json.specs.Data.{Data};
-ghost use Rattle.serde_json.specs.View.{view};
+ghost use Rattle.std.specs.Prelude.{◌≡◌, ◌++◌, Option, OnOk, option_and_then};
+ghost use Rattle.siri_json.specs.Tokens.{tokens_of};
+ghost use Rattle.siri_tables.specs.Appended.{row_tokens};
 ghost use Rattle.siri_wire.specs.WrittenRequests.{written_service_request, written_data_ready, written_ready_acknowledgement, written_supply, written_received};
 
 use crate::names;
 use crate::write_topics::TopicWriting;
-use crate::write_values::{ErrorWriting, MarkWriting, where_true};
-use serde_json::Value;
+use crate::write_values::{ErrorWriting, MarkWriting, true_row};
 use siri_base::OutOfMemory;
+use siri_json::Output;
 use siri_messages::{
     DataReadyAcknowledgement, DataReadyNotification, DataReceivedAcknowledgement,
     DataSupplyRequest, ServiceRequest,
 };
 use siri_tables::rules::{FlagRule, MomentRule, NameRule};
-use siri_tables::writing::Members;
-use std::alloc::Global;
+use siri_tables::writing::{list, optional, required};
 
 /// The object of a ServiceRequest.
-#[tactic(auto, unfolding(crate::specs::WrittenRequests::written_service_request))]
-pub fn service_request_value(alloc: Global, request: &ServiceRequest) -> Result<Value, OutOfMemory>
-    ensures { IfOk result (λ value. view value ≡ written_service_request request.now) }
+#[tactic(auto, using(crate::proofs::InOrder::service_request_in_order))]
+pub fn write_service_request(out: &mut Output, request: &ServiceRequest) -> Result<(), OutOfMemory>
+    ensures { OnOk result (out.new ≡ out.old ++ tokens_of (written_service_request request.now)) }
 {
-    let mut members = Members::new(alloc);
-    members.put_optional::<MomentRule>(names::REQUEST_TIMESTAMP, &request.request_timestamp)?;
-    members.put_optional::<NameRule>(names::REQUESTOR_REF, &request.requestor_ref)?;
-    members.put_optional::<NameRule>(names::MESSAGE_IDENTIFIER, &request.message_identifier)?;
-    members.list::<TopicWriting>(
-        names::STOP_MONITORING_REQUEST,
-        &request.stop_monitoring_request,
-    )?;
-    members.list::<TopicWriting>(
+    out.begin_object()?;
+    list::<TopicWriting>(
+        out,
         names::ESTIMATED_TIMETABLE_REQUEST,
         &request.estimated_timetable_request,
     )?;
-    members.list::<TopicWriting>(
-        names::VEHICLE_MONITORING_REQUEST,
-        &request.vehicle_monitoring_request,
-    )?;
-    members.list::<TopicWriting>(
+    optional::<NameRule>(out, names::MESSAGE_IDENTIFIER, &request.message_identifier)?;
+    optional::<MomentRule>(out, names::REQUEST_TIMESTAMP, &request.request_timestamp)?;
+    optional::<NameRule>(out, names::REQUESTOR_REF, &request.requestor_ref)?;
+    list::<TopicWriting>(
+        out,
         names::SITUATION_EXCHANGE_REQUEST,
         &request.situation_exchange_request,
     )?;
-    Ok(members.object())
+    list::<TopicWriting>(
+        out,
+        names::STOP_MONITORING_REQUEST,
+        &request.stop_monitoring_request,
+    )?;
+    list::<TopicWriting>(
+        out,
+        names::VEHICLE_MONITORING_REQUEST,
+        &request.vehicle_monitoring_request,
+    )?;
+    out.end_object()
 }
 
 /// The object of a DataReadyNotification.
-#[tactic(auto, unfolding(crate::specs::WrittenRequests::written_data_ready))]
-pub fn data_ready_value(
-    alloc: Global,
+#[tactic(auto, using(crate::proofs::InOrder::data_ready_in_order))]
+pub fn write_data_ready(
+    out: &mut Output,
     notification: &DataReadyNotification,
-) -> Result<Value, OutOfMemory>
-    ensures { IfOk result (λ value. view value ≡ written_data_ready notification.now) }
+) -> Result<(), OutOfMemory>
+    ensures { OnOk result (out.new ≡ out.old ++ tokens_of (written_data_ready notification.now)) }
 {
-    let mut members = Members::new(alloc);
-    members.put_optional::<MomentRule>(names::REQUEST_TIMESTAMP, &notification.request_timestamp)?;
-    members.put_optional::<NameRule>(names::PRODUCER_REF, &notification.producer_ref)?;
-    members.put_required::<MarkWriting>(names::EXTENSIONS, &notification.extensions)?;
-    Ok(members.object())
+    out.begin_object()?;
+    required::<MarkWriting>(out, names::EXTENSIONS, &notification.extensions)?;
+    optional::<NameRule>(out, names::PRODUCER_REF, &notification.producer_ref)?;
+    optional::<MomentRule>(
+        out,
+        names::REQUEST_TIMESTAMP,
+        &notification.request_timestamp,
+    )?;
+    out.end_object()
 }
 
 /// The object of a DataReadyAcknowledgement.
-#[tactic(auto, unfolding(crate::specs::WrittenRequests::written_ready_acknowledgement))]
-pub fn ready_acknowledgement_value(
-    alloc: Global,
+#[tactic(auto, using(crate::proofs::InOrder::ready_acknowledgement_in_order))]
+pub fn write_ready_acknowledgement(
+    out: &mut Output,
     acknowledgement: &DataReadyAcknowledgement,
-) -> Result<Value, OutOfMemory>
-    ensures { IfOk result (λ value. view value ≡ written_ready_acknowledgement acknowledgement.now) }
+) -> Result<(), OutOfMemory>
+    ensures { OnOk result (out.new ≡ out.old ++ tokens_of (written_ready_acknowledgement acknowledgement.now)) }
 {
-    let mut members = Members::new(alloc);
-    members.put_optional::<MomentRule>(
+    out.begin_object()?;
+    optional::<NameRule>(out, names::CONSUMER_REF, &acknowledgement.consumer_ref)?;
+    optional::<MomentRule>(
+        out,
         names::RESPONSE_TIMESTAMP,
         &acknowledgement.response_timestamp,
     )?;
-    members.put_optional::<NameRule>(names::CONSUMER_REF, &acknowledgement.consumer_ref)?;
-    members.put_required::<FlagRule>(names::STATUS, &acknowledgement.status)?;
-    Ok(members.object())
+    required::<FlagRule>(out, names::STATUS, &acknowledgement.status)?;
+    out.end_object()
 }
 
 /// The object of a DataSupplyRequest.
-#[tactic(auto, unfolding(crate::specs::WrittenRequests::written_supply))]
-pub fn supply_value(alloc: Global, request: &DataSupplyRequest) -> Result<Value, OutOfMemory>
-    ensures { IfOk result (λ value. view value ≡ written_supply request.now) }
+#[tactic(auto, using(crate::proofs::InOrder::supply_in_order))]
+pub fn write_supply(out: &mut Output, request: &DataSupplyRequest) -> Result<(), OutOfMemory>
+    ensures { OnOk result (out.new ≡ out.old ++ tokens_of (written_supply request.now)) }
 {
-    let mut members = Members::new(alloc);
-    members.put_optional::<MomentRule>(names::REQUEST_TIMESTAMP, &request.request_timestamp)?;
-    members.put_required::<NameRule>(names::CONSUMER_REF, &request.consumer_ref)?;
-    members.put(names::ALL_DATA, where_true(request.all_data))?;
-    members.put_required::<MarkWriting>(names::EXTENSIONS, &request.extensions)?;
-    Ok(members.object())
+    out.begin_object()?;
+    true_row(out, names::ALL_DATA, request.all_data)?;
+    required::<NameRule>(out, names::CONSUMER_REF, &request.consumer_ref)?;
+    required::<MarkWriting>(out, names::EXTENSIONS, &request.extensions)?;
+    optional::<MomentRule>(out, names::REQUEST_TIMESTAMP, &request.request_timestamp)?;
+    out.end_object()
 }
 
 /// The object of a DataReceivedAcknowledgement.
-#[tactic(auto, unfolding(crate::specs::WrittenRequests::written_received))]
-pub fn received_value(
-    alloc: Global,
+#[tactic(auto, using(crate::proofs::InOrder::received_in_order))]
+pub fn write_received(
+    out: &mut Output,
     acknowledgement: &DataReceivedAcknowledgement,
-) -> Result<Value, OutOfMemory>
-    ensures { IfOk result (λ value. view value ≡ written_received acknowledgement.now) }
+) -> Result<(), OutOfMemory>
+    ensures { OnOk result (out.new ≡ out.old ++ tokens_of (written_received acknowledgement.now)) }
 {
-    let mut members = Members::new(alloc);
-    members.put_optional::<MomentRule>(
-        names::RESPONSE_TIMESTAMP,
-        &acknowledgement.response_timestamp,
+    out.begin_object()?;
+    optional::<NameRule>(out, names::CONSUMER_REF, &acknowledgement.consumer_ref)?;
+    optional::<ErrorWriting>(
+        out,
+        names::ERROR_CONDITION,
+        &acknowledgement.error_condition,
     )?;
-    members.put_optional::<NameRule>(names::CONSUMER_REF, &acknowledgement.consumer_ref)?;
-    members.put_optional::<NameRule>(
+    optional::<MarkWriting>(out, names::EXTENSIONS, &acknowledgement.extensions)?;
+    optional::<NameRule>(
+        out,
         names::REQUEST_MESSAGE_REF,
         &acknowledgement.request_message_ref,
     )?;
-    members.put_required::<FlagRule>(names::STATUS, &acknowledgement.status)?;
-    members.put_optional::<ErrorWriting>(names::ERROR_CONDITION, &acknowledgement.error_condition)?;
-    members.put_optional::<MarkWriting>(names::EXTENSIONS, &acknowledgement.extensions)?;
-    Ok(members.object())
+    optional::<MomentRule>(
+        out,
+        names::RESPONSE_TIMESTAMP,
+        &acknowledgement.response_timestamp,
+    )?;
+    required::<FlagRule>(out, names::STATUS, &acknowledgement.status)?;
+    out.end_object()
 }

@@ -1,58 +1,37 @@
 //! Writing the messages that begin and end subscriptions.
 
-ghost use Rattle.std.specs.Prelude.{◌≡◌, None, Option, IfOk, option_map, option_and_then};
+ghost use Rattle.std.specs.Prelude.{◌≡◌, ◌++◌, None, Option, OnOk, option_and_then};
 ghost use Rattle.serde_json.specs.Data.{Data};
-ghost use Rattle.serde_json.specs.View.{view};
-ghost use Rattle.siri_wire.specs.WrittenSubscriptions.{written_method, written_subscription, written_stop_subscription, written_timetable_subscription, written_vehicle_subscription, written_situation_subscription, written_context, written_subscription_request, written_response_status, written_subscription_response, written_termination, written_termination_status, written_termination_response};
+ghost use Rattle.siri_json.specs.Tokens.{tokens_of};
+ghost use Rattle.siri_tables.specs.Appended.{row_tokens, Appends};
+ghost use Rattle.siri_wire.specs.declared.names.TheConstants.{EXTENSIONS, SUBSCRIPTION_CONTEXT};
+ghost use Rattle.siri_wire.specs.WrittenSubscriptions.{written_method, written_stop_subscription, written_timetable_subscription, written_vehicle_subscription, written_situation_subscription, written_context, written_subscription_request, written_response_status, written_subscription_response, written_termination, written_termination_status, written_termination_response};
 
 use crate::names;
 use crate::write_topics::TopicWriting;
 use crate::write_values::{ErrorWriting, IdentifierWriting};
-use serde_json::Value;
 use siri_base::{OutOfMemory, Span};
+use siri_json::Output;
 use siri_messages::{
     ResponseStatus, SubscriptionRequest, SubscriptionResponse, TerminateSubscriptionRequest,
     TerminateSubscriptionResponse, TerminationResponseStatus,
 };
 use siri_tables::rules::{FlagRule, MomentRule, NameRule, SpanRule};
-use siri_tables::writing::{Members, Written};
+use siri_tables::writing::{Written, list, optional, required};
 use siri_topic::Subscription;
-use std::alloc::Global;
 
-#[tactic(auto, unfolding(crate::specs::WrittenSubscriptions::written_method))]
-fn method_value(alloc: Global, fetched: bool) -> Result<Option<Value>, OutOfMemory>
-    ensures { IfOk result (λ value. option_map view value ≡ written_method fetched) }
+#[tactic(auto, using(crate::proofs::InOrder::method_in_order, crate::proofs::InOrder::method_left_out))]
+fn method_row(out: &mut Output, fetched: bool) -> Result<(), OutOfMemory>
+    ensures { OnOk result (out.new ≡ out.old ++ row_tokens EXTENSIONS.now (written_method fetched)) }
 {
     if !fetched {
-        return Ok(None);
+        return Ok(());
     }
-    let method = Value::String(String::from_str(alloc, "fetched")?);
-    let mut members = Members::new(alloc);
-    members.put(names::DELIVERY_METHOD, Some(method))?;
-    Ok(Some(members.object()))
-}
-
-/// A subscription whose topic stands under the name of its service's request. `slack` is its ChangeBeforeUpdates,
-/// where the service has it.
-#[tactic(auto, unfolding(crate::specs::WrittenSubscriptions::written_subscription))]
-fn subscription_value(
-    alloc: Global,
-    request: &str,
-    slack: Option<Value>,
-    subscription: &Subscription,
-) -> Result<Value, OutOfMemory>
-    ensures { IfOk result (λ value. view value ≡ written_subscription request.now (option_map view slack) subscription.now) }
-{
-    let mut members = Members::new(alloc);
-    members.put_required::<NameRule>(names::SUBSCRIBER_REF, &subscription.subscriber)?;
-    members.put_required::<NameRule>(names::SUBSCRIPTION_IDENTIFIER, &subscription.identifier)?;
-    members.put_required::<MomentRule>(names::INITIAL_TERMINATION_TIME, &subscription.termination)?;
-    members.put_required::<TopicWriting>(request, &subscription.topic)?;
-    members.put_required::<FlagRule>(names::INCREMENTAL_UPDATES, &subscription.incremental)?;
-    members.put(names::CHANGE_BEFORE_UPDATES, slack)?;
-    let method = method_value(alloc, subscription.fetched)?;
-    members.put(names::EXTENSIONS, method)?;
-    Ok(members.object())
+    out.key(names::EXTENSIONS)?;
+    out.begin_object()?;
+    out.key(names::DELIVERY_METHOD)?;
+    out.text("fetched")?;
+    out.end_object()
 }
 
 struct StopSubscriptionWriting;
@@ -62,11 +41,17 @@ impl Written for StopSubscriptionWriting {
 
     ghost writing = { written_stop_subscription };
 
-    #[tactic(auto, unfolding(crate::specs::WrittenSubscriptions::written_stop_subscription))]
-    fn write(alloc: Global, wanted: &Subscription) -> Result<Option<Value>, OutOfMemory> {
-        let slack = SpanRule::write(alloc, &wanted.slack)?;
-        let value = subscription_value(alloc, names::STOP_MONITORING_REQUEST, slack, wanted)?;
-        Ok(Some(value))
+    #[tactic(auto, using(crate::proofs::InOrder::stop_subscription_in_order), unfolding(crate::specs::WrittenSubscriptions::written_stop_subscription, crate::specs::WrittenSubscriptions::written_subscription))]
+    fn write(out: &mut Output, wanted: &Subscription) -> Result<(), OutOfMemory> {
+        out.begin_object()?;
+        required::<SpanRule>(out, names::CHANGE_BEFORE_UPDATES, &wanted.slack)?;
+        method_row(out, wanted.fetched)?;
+        required::<FlagRule>(out, names::INCREMENTAL_UPDATES, &wanted.incremental)?;
+        required::<MomentRule>(out, names::INITIAL_TERMINATION_TIME, &wanted.termination)?;
+        required::<TopicWriting>(out, names::STOP_MONITORING_REQUEST, &wanted.topic)?;
+        required::<NameRule>(out, names::SUBSCRIBER_REF, &wanted.subscriber)?;
+        required::<NameRule>(out, names::SUBSCRIPTION_IDENTIFIER, &wanted.identifier)?;
+        out.end_object()
     }
 }
 
@@ -77,11 +62,17 @@ impl Written for TimetableSubscriptionWriting {
 
     ghost writing = { written_timetable_subscription };
 
-    #[tactic(auto, unfolding(crate::specs::WrittenSubscriptions::written_timetable_subscription))]
-    fn write(alloc: Global, wanted: &Subscription) -> Result<Option<Value>, OutOfMemory> {
-        let slack = SpanRule::write(alloc, &wanted.slack)?;
-        let value = subscription_value(alloc, names::ESTIMATED_TIMETABLE_REQUEST, slack, wanted)?;
-        Ok(Some(value))
+    #[tactic(auto, using(crate::proofs::InOrder::timetable_subscription_in_order), unfolding(crate::specs::WrittenSubscriptions::written_timetable_subscription, crate::specs::WrittenSubscriptions::written_subscription))]
+    fn write(out: &mut Output, wanted: &Subscription) -> Result<(), OutOfMemory> {
+        out.begin_object()?;
+        required::<SpanRule>(out, names::CHANGE_BEFORE_UPDATES, &wanted.slack)?;
+        required::<TopicWriting>(out, names::ESTIMATED_TIMETABLE_REQUEST, &wanted.topic)?;
+        method_row(out, wanted.fetched)?;
+        required::<FlagRule>(out, names::INCREMENTAL_UPDATES, &wanted.incremental)?;
+        required::<MomentRule>(out, names::INITIAL_TERMINATION_TIME, &wanted.termination)?;
+        required::<NameRule>(out, names::SUBSCRIBER_REF, &wanted.subscriber)?;
+        required::<NameRule>(out, names::SUBSCRIPTION_IDENTIFIER, &wanted.identifier)?;
+        out.end_object()
     }
 }
 
@@ -92,11 +83,17 @@ impl Written for VehicleSubscriptionWriting {
 
     ghost writing = { written_vehicle_subscription };
 
-    #[tactic(auto, unfolding(crate::specs::WrittenSubscriptions::written_vehicle_subscription))]
-    fn write(alloc: Global, wanted: &Subscription) -> Result<Option<Value>, OutOfMemory> {
-        let slack = SpanRule::write(alloc, &wanted.slack)?;
-        let value = subscription_value(alloc, names::VEHICLE_MONITORING_REQUEST, slack, wanted)?;
-        Ok(Some(value))
+    #[tactic(auto, using(crate::proofs::InOrder::vehicle_subscription_in_order), unfolding(crate::specs::WrittenSubscriptions::written_vehicle_subscription, crate::specs::WrittenSubscriptions::written_subscription))]
+    fn write(out: &mut Output, wanted: &Subscription) -> Result<(), OutOfMemory> {
+        out.begin_object()?;
+        required::<SpanRule>(out, names::CHANGE_BEFORE_UPDATES, &wanted.slack)?;
+        method_row(out, wanted.fetched)?;
+        required::<FlagRule>(out, names::INCREMENTAL_UPDATES, &wanted.incremental)?;
+        required::<MomentRule>(out, names::INITIAL_TERMINATION_TIME, &wanted.termination)?;
+        required::<NameRule>(out, names::SUBSCRIBER_REF, &wanted.subscriber)?;
+        required::<NameRule>(out, names::SUBSCRIPTION_IDENTIFIER, &wanted.identifier)?;
+        required::<TopicWriting>(out, names::VEHICLE_MONITORING_REQUEST, &wanted.topic)?;
+        out.end_object()
     }
 }
 
@@ -107,58 +104,67 @@ impl Written for SituationSubscriptionWriting {
 
     ghost writing = { written_situation_subscription };
 
-    #[tactic(auto, unfolding(crate::specs::WrittenSubscriptions::written_situation_subscription))]
-    fn write(alloc: Global, wanted: &Subscription) -> Result<Option<Value>, OutOfMemory> {
-        let slack = None;
-        let value = subscription_value(alloc, names::SITUATION_EXCHANGE_REQUEST, slack, wanted)?;
-        Ok(Some(value))
+    #[tactic(auto, using(crate::proofs::InOrder::situation_subscription_in_order), unfolding(crate::specs::WrittenSubscriptions::written_situation_subscription, crate::specs::WrittenSubscriptions::written_subscription))]
+    fn write(out: &mut Output, wanted: &Subscription) -> Result<(), OutOfMemory> {
+        out.begin_object()?;
+        method_row(out, wanted.fetched)?;
+        required::<FlagRule>(out, names::INCREMENTAL_UPDATES, &wanted.incremental)?;
+        required::<MomentRule>(out, names::INITIAL_TERMINATION_TIME, &wanted.termination)?;
+        required::<TopicWriting>(out, names::SITUATION_EXCHANGE_REQUEST, &wanted.topic)?;
+        required::<NameRule>(out, names::SUBSCRIBER_REF, &wanted.subscriber)?;
+        required::<NameRule>(out, names::SUBSCRIPTION_IDENTIFIER, &wanted.identifier)?;
+        out.end_object()
     }
 }
 
-#[tactic(auto, unfolding(crate::specs::WrittenSubscriptions::written_context))]
-fn context_value(alloc: Global, heartbeat: &Option<Span>) -> Result<Option<Value>, OutOfMemory>
-    ensures { IfOk result (λ value. option_map view value ≡ written_context heartbeat.now) }
+#[tactic(auto, using(crate::proofs::InOrder::context_in_order), unfolding(crate::specs::WrittenSubscriptions::written_context))]
+fn context_row(out: &mut Output, heartbeat: &Option<Span>) -> Result<(), OutOfMemory>
+    ensures { OnOk result (out.new ≡ out.old ++ row_tokens SUBSCRIPTION_CONTEXT.now (written_context heartbeat.now)) }
 {
-    let mut members = Members::new(alloc);
-    members.put_optional::<SpanRule>(names::HEARTBEAT_INTERVAL, heartbeat)?;
-    Ok(members.object_unless_empty())
+    let Some(heartbeat) = heartbeat else {
+        return Ok(());
+    };
+    out.key(names::SUBSCRIPTION_CONTEXT)?;
+    out.begin_object()?;
+    required::<SpanRule>(out, names::HEARTBEAT_INTERVAL, heartbeat)?;
+    out.end_object()
 }
 
 /// The object of a SubscriptionRequest.
-#[tactic(auto, unfolding(crate::specs::WrittenSubscriptions::written_subscription_request))]
-pub fn subscription_request_value(
-    alloc: Global,
+#[tactic(auto, using(crate::proofs::InOrder::subscription_request_in_order))]
+pub fn write_subscription_request(
+    out: &mut Output,
     request: &SubscriptionRequest,
-) -> Result<Value, OutOfMemory>
-    ensures { IfOk result (λ value. view value ≡ written_subscription_request request.now) }
+) -> Result<(), OutOfMemory>
+    ensures { OnOk result (out.new ≡ out.old ++ tokens_of (written_subscription_request request.now)) }
 {
-    let mut members = Members::new(alloc);
-    members.put_optional::<MomentRule>(names::REQUEST_TIMESTAMP, &request.request_timestamp)?;
-    members.put_optional::<NameRule>(names::REQUESTOR_REF, &request.requestor_ref)?;
-    members.put_required::<IdentifierWriting>(
-        names::MESSAGE_IDENTIFIER,
-        &request.message_identifier,
-    )?;
-    members.put_optional::<NameRule>(names::CONSUMER_ADDRESS, &request.consumer_address)?;
-    let context = context_value(alloc, &request.heartbeat_interval)?;
-    members.put(names::SUBSCRIPTION_CONTEXT, context)?;
-    members.list::<StopSubscriptionWriting>(
-        names::STOP_MONITORING_SUBSCRIPTION_REQUEST,
-        &request.stop_monitoring_subscription_request,
-    )?;
-    members.list::<TimetableSubscriptionWriting>(
+    out.begin_object()?;
+    optional::<NameRule>(out, names::CONSUMER_ADDRESS, &request.consumer_address)?;
+    list::<TimetableSubscriptionWriting>(
+        out,
         names::ESTIMATED_TIMETABLE_SUBSCRIPTION_REQUEST,
         &request.estimated_timetable_subscription_request,
     )?;
-    members.list::<VehicleSubscriptionWriting>(
-        names::VEHICLE_MONITORING_SUBSCRIPTION_REQUEST,
-        &request.vehicle_monitoring_subscription_request,
-    )?;
-    members.list::<SituationSubscriptionWriting>(
+    required::<IdentifierWriting>(out, names::MESSAGE_IDENTIFIER, &request.message_identifier)?;
+    optional::<MomentRule>(out, names::REQUEST_TIMESTAMP, &request.request_timestamp)?;
+    optional::<NameRule>(out, names::REQUESTOR_REF, &request.requestor_ref)?;
+    list::<SituationSubscriptionWriting>(
+        out,
         names::SITUATION_EXCHANGE_SUBSCRIPTION_REQUEST,
         &request.situation_exchange_subscription_request,
     )?;
-    Ok(members.object())
+    list::<StopSubscriptionWriting>(
+        out,
+        names::STOP_MONITORING_SUBSCRIPTION_REQUEST,
+        &request.stop_monitoring_subscription_request,
+    )?;
+    context_row(out, &request.heartbeat_interval)?;
+    list::<VehicleSubscriptionWriting>(
+        out,
+        names::VEHICLE_MONITORING_SUBSCRIPTION_REQUEST,
+        &request.vehicle_monitoring_subscription_request,
+    )?;
+    out.end_object()
 }
 
 struct ResponseStatusWriting;
@@ -168,51 +174,52 @@ impl Written for ResponseStatusWriting {
 
     ghost writing = { written_response_status };
 
-    #[tactic(auto, unfolding(crate::specs::WrittenSubscriptions::written_response_status))]
-    fn write(alloc: Global, status: &ResponseStatus) -> Result<Option<Value>, OutOfMemory> {
-        let mut members = Members::new(alloc);
-        members.put_optional::<NameRule>(names::SUBSCRIBER_REF, &status.subscriber_ref)?;
-        members.put_optional::<NameRule>(names::SUBSCRIPTION_REF, &status.subscription_ref)?;
-        members.put_required::<FlagRule>(names::STATUS, &status.status)?;
-        members.put_optional::<MomentRule>(names::VALID_UNTIL, &status.valid_until)?;
-        members.put_optional::<ErrorWriting>(names::ERROR_CONDITION, &status.error_condition)?;
-        Ok(Some(members.object()))
+    #[tactic(auto, using(crate::proofs::InOrder::response_status_in_order), unfolding(crate::specs::WrittenSubscriptions::written_response_status))]
+    fn write(out: &mut Output, status: &ResponseStatus) -> Result<(), OutOfMemory> {
+        out.begin_object()?;
+        optional::<ErrorWriting>(out, names::ERROR_CONDITION, &status.error_condition)?;
+        required::<FlagRule>(out, names::STATUS, &status.status)?;
+        optional::<NameRule>(out, names::SUBSCRIBER_REF, &status.subscriber_ref)?;
+        optional::<NameRule>(out, names::SUBSCRIPTION_REF, &status.subscription_ref)?;
+        optional::<MomentRule>(out, names::VALID_UNTIL, &status.valid_until)?;
+        out.end_object()
     }
 }
 
 /// The object of a SubscriptionResponse.
-#[tactic(auto, unfolding(crate::specs::WrittenSubscriptions::written_subscription_response))]
-pub fn subscription_response_value(
-    alloc: Global,
+#[tactic(auto, using(crate::proofs::InOrder::subscription_response_in_order))]
+pub fn write_subscription_response(
+    out: &mut Output,
     response: &SubscriptionResponse,
-) -> Result<Value, OutOfMemory>
-    ensures { IfOk result (λ value. view value ≡ written_subscription_response response.now) }
+) -> Result<(), OutOfMemory>
+    ensures { OnOk result (out.new ≡ out.old ++ tokens_of (written_subscription_response response.now)) }
 {
-    let mut members = Members::new(alloc);
-    members.put_optional::<MomentRule>(names::RESPONSE_TIMESTAMP, &response.response_timestamp)?;
-    members.put_optional::<NameRule>(names::REQUEST_MESSAGE_REF, &response.request_message_ref)?;
-    members.list::<ResponseStatusWriting>(names::RESPONSE_STATUS, &response.response_status)?;
-    Ok(members.object())
+    out.begin_object()?;
+    optional::<NameRule>(
+        out,
+        names::REQUEST_MESSAGE_REF,
+        &response.request_message_ref,
+    )?;
+    list::<ResponseStatusWriting>(out, names::RESPONSE_STATUS, &response.response_status)?;
+    optional::<MomentRule>(out, names::RESPONSE_TIMESTAMP, &response.response_timestamp)?;
+    out.end_object()
 }
 
 /// The object of a TerminateSubscriptionRequest.
-#[tactic(auto, unfolding(crate::specs::WrittenSubscriptions::written_termination))]
-pub fn termination_value(
-    alloc: Global,
+#[tactic(auto, using(crate::proofs::InOrder::termination_in_order))]
+pub fn write_termination(
+    out: &mut Output,
     request: &TerminateSubscriptionRequest,
-) -> Result<Value, OutOfMemory>
-    ensures { IfOk result (λ value. view value ≡ written_termination request.now) }
+) -> Result<(), OutOfMemory>
+    ensures { OnOk result (out.new ≡ out.old ++ tokens_of (written_termination request.now)) }
 {
-    let mut members = Members::new(alloc);
-    members.put_optional::<MomentRule>(names::REQUEST_TIMESTAMP, &request.request_timestamp)?;
-    members.put_optional::<NameRule>(names::REQUESTOR_REF, &request.requestor_ref)?;
-    members.put_required::<IdentifierWriting>(
-        names::MESSAGE_IDENTIFIER,
-        &request.message_identifier,
-    )?;
-    members.put_required::<NameRule>(names::SUBSCRIBER_REF, &request.subscriber_ref)?;
-    members.list::<NameRule>(names::SUBSCRIPTION_REF, &request.subscription_ref)?;
-    Ok(members.object())
+    out.begin_object()?;
+    required::<IdentifierWriting>(out, names::MESSAGE_IDENTIFIER, &request.message_identifier)?;
+    optional::<MomentRule>(out, names::REQUEST_TIMESTAMP, &request.request_timestamp)?;
+    optional::<NameRule>(out, names::REQUESTOR_REF, &request.requestor_ref)?;
+    required::<NameRule>(out, names::SUBSCRIBER_REF, &request.subscriber_ref)?;
+    list::<NameRule>(out, names::SUBSCRIPTION_REF, &request.subscription_ref)?;
+    out.end_object()
 }
 
 struct TerminationStatusWriting;
@@ -222,34 +229,36 @@ impl Written for TerminationStatusWriting {
 
     ghost writing = { written_termination_status };
 
-    #[tactic(auto, unfolding(crate::specs::WrittenSubscriptions::written_termination_status))]
-    fn write(
-        alloc: Global,
-        status: &TerminationResponseStatus,
-    ) -> Result<Option<Value>, OutOfMemory> {
-        let mut members = Members::new(alloc);
-        members.put_optional::<NameRule>(names::SUBSCRIBER_REF, &status.subscriber_ref)?;
-        members.put_optional::<NameRule>(names::SUBSCRIPTION_REF, &status.subscription_ref)?;
-        members.put_required::<FlagRule>(names::STATUS, &status.status)?;
-        members.put_optional::<ErrorWriting>(names::ERROR_CONDITION, &status.error_condition)?;
-        Ok(Some(members.object()))
+    #[tactic(auto, using(crate::proofs::InOrder::termination_status_in_order), unfolding(crate::specs::WrittenSubscriptions::written_termination_status))]
+    fn write(out: &mut Output, status: &TerminationResponseStatus) -> Result<(), OutOfMemory> {
+        out.begin_object()?;
+        optional::<ErrorWriting>(out, names::ERROR_CONDITION, &status.error_condition)?;
+        required::<FlagRule>(out, names::STATUS, &status.status)?;
+        optional::<NameRule>(out, names::SUBSCRIBER_REF, &status.subscriber_ref)?;
+        optional::<NameRule>(out, names::SUBSCRIPTION_REF, &status.subscription_ref)?;
+        out.end_object()
     }
 }
 
 /// The object of a TerminateSubscriptionResponse.
-#[tactic(auto, unfolding(crate::specs::WrittenSubscriptions::written_termination_response))]
-pub fn termination_response_value(
-    alloc: Global,
+#[tactic(auto, using(crate::proofs::InOrder::termination_response_in_order))]
+pub fn write_termination_response(
+    out: &mut Output,
     response: &TerminateSubscriptionResponse,
-) -> Result<Value, OutOfMemory>
-    ensures { IfOk result (λ value. view value ≡ written_termination_response response.now) }
+) -> Result<(), OutOfMemory>
+    ensures { OnOk result (out.new ≡ out.old ++ tokens_of (written_termination_response response.now)) }
 {
-    let mut members = Members::new(alloc);
-    members.put_optional::<MomentRule>(names::RESPONSE_TIMESTAMP, &response.response_timestamp)?;
-    members.put_optional::<NameRule>(names::REQUEST_MESSAGE_REF, &response.request_message_ref)?;
-    members.list::<TerminationStatusWriting>(
+    out.begin_object()?;
+    optional::<NameRule>(
+        out,
+        names::REQUEST_MESSAGE_REF,
+        &response.request_message_ref,
+    )?;
+    optional::<MomentRule>(out, names::RESPONSE_TIMESTAMP, &response.response_timestamp)?;
+    list::<TerminationStatusWriting>(
+        out,
         names::TERMINATION_RESPONSE_STATUS,
         &response.termination_response_status,
     )?;
-    Ok(members.object())
+    out.end_object()
 }

@@ -1,33 +1,34 @@
 //! Writing topics.
 
-ghost use Rattle.std.specs.Prelude.{◌≡◌, Option, IfOk, option_map, option_and_then};
+ghost use Rattle.std.specs.Prelude.{◌≡◌, ◌++◌, Option, OnOk, option_and_then};
 ghost use Rattle.serde_json.specs.Data.{Data};
-ghost use Rattle.serde_json.specs.View.{view};
+ghost use Rattle.siri_json.specs.Tokens.{tokens_of};
+ghost use Rattle.siri_tables.specs.Appended.{row_tokens, Appends};
+ghost use Rattle.siri_wire.specs.declared.names.TheConstants.{LINES};
 ghost use Rattle.siri_wire.specs.WrittenTopics.{written_stop_topic, written_line_direction, written_lines, written_timetable_topic, written_vehicle_topic, written_situation_topic, written_topic, topic_writing};
 
 use crate::names;
-use serde_json::Value;
 use siri_base::{List, OutOfMemory};
 use siri_items::names as item_names;
+use siri_json::Output;
 use siri_tables::rules::{MomentRule, NameRule, NumberRule, SpanRule};
-use siri_tables::writing::{Members, Written};
+use siri_tables::writing::{Written, list_inside, optional, required};
 use siri_topic::{LineDirection, SituationTopic, StopTopic, TimetableTopic, Topic, VehicleTopic};
-use std::alloc::Global;
 
-#[tactic(auto, unfolding(crate::specs::WrittenTopics::written_stop_topic))]
-fn stop_topic_value(alloc: Global, topic: &StopTopic) -> Result<Value, OutOfMemory>
-    ensures { IfOk result (λ value. view value ≡ written_stop_topic topic.now) }
+#[tactic(auto, using(crate::proofs::InOrder::stop_topic_in_order))]
+fn write_stop_topic(out: &mut Output, topic: &StopTopic) -> Result<(), OutOfMemory>
+    ensures { OnOk result (out.new ≡ out.old ++ tokens_of (written_stop_topic topic.now)) }
 {
-    let mut members = Members::new(alloc);
-    members.put_required::<NameRule>(item_names::MONITORING_REF, &topic.monitoring_ref)?;
-    members.put_optional::<NameRule>(item_names::LINE_REF, &topic.line_ref)?;
-    members.put_optional::<NameRule>(item_names::DIRECTION_REF, &topic.direction_ref)?;
-    members.put_optional::<NameRule>(item_names::OPERATOR_REF, &topic.operator_ref)?;
-    members.put_optional::<NameRule>(item_names::DESTINATION_REF, &topic.destination_ref)?;
-    members.put_optional::<SpanRule>(names::PREVIEW_INTERVAL, &topic.preview_interval)?;
-    members.put_optional::<MomentRule>(item_names::START_TIME, &topic.start_time)?;
-    members.put_optional::<NumberRule>(names::MAXIMUM_STOP_VISITS, &topic.maximum_stop_visits)?;
-    Ok(members.object())
+    out.begin_object()?;
+    optional::<NameRule>(out, item_names::DESTINATION_REF, &topic.destination_ref)?;
+    optional::<NameRule>(out, item_names::DIRECTION_REF, &topic.direction_ref)?;
+    optional::<NameRule>(out, item_names::LINE_REF, &topic.line_ref)?;
+    optional::<NumberRule>(out, names::MAXIMUM_STOP_VISITS, &topic.maximum_stop_visits)?;
+    required::<NameRule>(out, item_names::MONITORING_REF, &topic.monitoring_ref)?;
+    optional::<NameRule>(out, item_names::OPERATOR_REF, &topic.operator_ref)?;
+    optional::<SpanRule>(out, names::PREVIEW_INTERVAL, &topic.preview_interval)?;
+    optional::<MomentRule>(out, item_names::START_TIME, &topic.start_time)?;
+    out.end_object()
 }
 
 struct LineDirectionWriting;
@@ -37,69 +38,66 @@ impl Written for LineDirectionWriting {
 
     ghost writing = { written_line_direction };
 
-    #[tactic(auto, unfolding(crate::specs::WrittenTopics::written_line_direction))]
-    fn write(alloc: Global, line: &LineDirection) -> Result<Option<Value>, OutOfMemory> {
-        let mut members = Members::new(alloc);
-        members.put_required::<NameRule>(item_names::LINE_REF, &line.line_ref)?;
-        members.put_optional::<NameRule>(item_names::DIRECTION_REF, &line.direction_ref)?;
-        Ok(Some(members.object()))
+    #[tactic(auto, using(crate::proofs::InOrder::line_direction_in_order), unfolding(crate::specs::WrittenTopics::written_line_direction))]
+    fn write(out: &mut Output, line: &LineDirection) -> Result<(), OutOfMemory> {
+        out.begin_object()?;
+        optional::<NameRule>(out, item_names::DIRECTION_REF, &line.direction_ref)?;
+        required::<NameRule>(out, item_names::LINE_REF, &line.line_ref)?;
+        out.end_object()
     }
 }
 
 #[tactic(auto, unfolding(crate::specs::WrittenTopics::written_lines))]
-fn lines_value(alloc: Global, lines: &List<LineDirection>) -> Result<Option<Value>, OutOfMemory>
-    ensures { IfOk result (λ value. option_map view value ≡ written_lines lines.now) }
+fn lines_row(out: &mut Output, lines: &List<LineDirection>) -> Result<(), OutOfMemory>
+    ensures { OnOk result (out.new ≡ out.old ++ row_tokens LINES.now (written_lines lines.now)) }
 {
-    let mut members = Members::new(alloc);
-    members.list::<LineDirectionWriting>(names::LINE_DIRECTION, lines)?;
-    Ok(members.object_unless_empty())
+    list_inside::<LineDirectionWriting>(out, names::LINES, names::LINE_DIRECTION, lines)
 }
 
-#[tactic(auto, unfolding(crate::specs::WrittenTopics::written_timetable_topic))]
-fn timetable_topic_value(alloc: Global, topic: &TimetableTopic) -> Result<Value, OutOfMemory>
-    ensures { IfOk result (λ value. view value ≡ written_timetable_topic topic.now) }
+#[tactic(auto, using(crate::proofs::InOrder::timetable_topic_in_order))]
+fn write_timetable_topic(out: &mut Output, topic: &TimetableTopic) -> Result<(), OutOfMemory>
+    ensures { OnOk result (out.new ≡ out.old ++ tokens_of (written_timetable_topic topic.now)) }
 {
-    let mut members = Members::new(alloc);
-    members.put_optional::<SpanRule>(names::PREVIEW_INTERVAL, &topic.preview_interval)?;
-    members.put_optional::<NameRule>(item_names::OPERATOR_REF, &topic.operator_ref)?;
-    let lines = lines_value(alloc, &topic.lines)?;
-    members.put(names::LINES, lines)?;
-    Ok(members.object())
+    out.begin_object()?;
+    lines_row(out, &topic.lines)?;
+    optional::<NameRule>(out, item_names::OPERATOR_REF, &topic.operator_ref)?;
+    optional::<SpanRule>(out, names::PREVIEW_INTERVAL, &topic.preview_interval)?;
+    out.end_object()
 }
 
-#[tactic(auto, unfolding(crate::specs::WrittenTopics::written_vehicle_topic))]
-fn vehicle_topic_value(alloc: Global, topic: &VehicleTopic) -> Result<Value, OutOfMemory>
-    ensures { IfOk result (λ value. view value ≡ written_vehicle_topic topic.now) }
+#[tactic(auto, using(crate::proofs::InOrder::vehicle_topic_in_order))]
+fn write_vehicle_topic(out: &mut Output, topic: &VehicleTopic) -> Result<(), OutOfMemory>
+    ensures { OnOk result (out.new ≡ out.old ++ tokens_of (written_vehicle_topic topic.now)) }
 {
-    let mut members = Members::new(alloc);
-    members.put_optional::<NameRule>(item_names::VEHICLE_REF, &topic.vehicle_ref)?;
-    members.put_optional::<NameRule>(item_names::LINE_REF, &topic.line_ref)?;
-    members.put_optional::<NameRule>(item_names::DIRECTION_REF, &topic.direction_ref)?;
-    Ok(members.object())
+    out.begin_object()?;
+    optional::<NameRule>(out, item_names::DIRECTION_REF, &topic.direction_ref)?;
+    optional::<NameRule>(out, item_names::LINE_REF, &topic.line_ref)?;
+    optional::<NameRule>(out, item_names::VEHICLE_REF, &topic.vehicle_ref)?;
+    out.end_object()
 }
 
-#[tactic(auto, unfolding(crate::specs::WrittenTopics::written_situation_topic))]
-fn situation_topic_value(alloc: Global, topic: &SituationTopic) -> Result<Value, OutOfMemory>
-    ensures { IfOk result (λ value. view value ≡ written_situation_topic topic.now) }
+#[tactic(auto, using(crate::proofs::InOrder::situation_topic_in_order))]
+fn write_situation_topic(out: &mut Output, topic: &SituationTopic) -> Result<(), OutOfMemory>
+    ensures { OnOk result (out.new ≡ out.old ++ tokens_of (written_situation_topic topic.now)) }
 {
-    let mut members = Members::new(alloc);
-    members.put_optional::<NameRule>(item_names::LINE_REF, &topic.line_ref)?;
-    members.put_optional::<NameRule>(item_names::STOP_POINT_REF, &topic.stop_point_ref)?;
-    members.put_optional::<NameRule>(item_names::OPERATOR_REF, &topic.operator_ref)?;
-    members.put_optional::<SpanRule>(names::PREVIEW_INTERVAL, &topic.preview_interval)?;
-    members.put_optional::<MomentRule>(item_names::START_TIME, &topic.start_time)?;
-    Ok(members.object())
+    out.begin_object()?;
+    optional::<NameRule>(out, item_names::LINE_REF, &topic.line_ref)?;
+    optional::<NameRule>(out, item_names::OPERATOR_REF, &topic.operator_ref)?;
+    optional::<SpanRule>(out, names::PREVIEW_INTERVAL, &topic.preview_interval)?;
+    optional::<MomentRule>(out, item_names::START_TIME, &topic.start_time)?;
+    optional::<NameRule>(out, item_names::STOP_POINT_REF, &topic.stop_point_ref)?;
+    out.end_object()
 }
 
 #[tactic(auto, unfolding(crate::specs::WrittenTopics::written_topic))]
-fn topic_value(alloc: Global, topic: &Topic) -> Result<Value, OutOfMemory>
-    ensures { IfOk result (λ value. view value ≡ written_topic topic.now) }
+fn write_topic(out: &mut Output, topic: &Topic) -> Result<(), OutOfMemory>
+    ensures { OnOk result (out.new ≡ out.old ++ tokens_of (written_topic topic.now)) }
 {
     match topic {
-        Topic::Stop(topic) => stop_topic_value(alloc, topic),
-        Topic::Timetable(topic) => timetable_topic_value(alloc, topic),
-        Topic::Vehicle(topic) => vehicle_topic_value(alloc, topic),
-        Topic::Situation(topic) => situation_topic_value(alloc, topic),
+        Topic::Stop(topic) => write_stop_topic(out, topic),
+        Topic::Timetable(topic) => write_timetable_topic(out, topic),
+        Topic::Vehicle(topic) => write_vehicle_topic(out, topic),
+        Topic::Situation(topic) => write_situation_topic(out, topic),
     }
 }
 
@@ -111,7 +109,7 @@ impl Written for TopicWriting {
 
     ghost writing = { topic_writing };
 
-    fn write(alloc: Global, topic: &Topic) -> Result<Option<Value>, OutOfMemory> {
-        Ok(Some(topic_value(alloc, topic)?))
+    fn write(out: &mut Output, topic: &Topic) -> Result<(), OutOfMemory> {
+        write_topic(out, topic)
     }
 }

@@ -1,17 +1,16 @@
 //! Writing what several messages have: errors, marks, and values in forms of their own.
 
-ghost use Rattle.std.specs.Prelude.{◌≡◌, Option, IfOk, option_map, option_and_then};
+ghost use Rattle.std.specs.Prelude.{◌≡◌, ◌++◌, Option, OnOk, option_and_then};
 ghost use Rattle.serde_json.specs.Data.{Data};
-ghost use Rattle.serde_json.specs.View.{view};
+ghost use Rattle.siri_tables.specs.Appended.{row_tokens, Appends};
 ghost use Rattle.siri_wire.specs.WrittenValues.{written_identifier, written_where_true, written_error, written_mark};
 
 use crate::names;
-use serde_json::Value;
 use siri_base::{OutOfMemory, Text};
+use siri_json::Output;
 use siri_messages::Mark;
-use siri_tables::rules::{NameRule, NumberRule, TextRule};
-use siri_tables::writing::{Members, Written};
-use std::alloc::Global;
+use siri_tables::rules::{FlagRule, NameRule, NumberRule, TextRule};
+use siri_tables::writing::{Written, required};
 
 /// A MessageIdentifier that is a number, as a string.
 pub struct IdentifierWriting;
@@ -21,16 +20,20 @@ impl Written for IdentifierWriting {
 
     ghost writing = { written_identifier };
 
-    fn write(alloc: Global, number: &u64) -> Result<Option<Value>, OutOfMemory> {
-        Ok(Some(Value::String(number.to_string(alloc)?)))
+    fn write(out: &mut Output, number: &u64) -> Result<(), OutOfMemory> {
+        out.number_text(*number)
     }
 }
 
-/// A flag that is written only where it is true.
-pub fn where_true(flag: bool) -> Option<Value>
-    ensures { option_map view result ≡ written_where_true flag }
+/// Writes the row of a flag that is written only where it is true.
+pub fn true_row(out: &mut Output, name: &str, flag: bool) -> Result<(), OutOfMemory>
+    ensures { OnOk result (out.new ≡ out.old ++ row_tokens name.now (written_where_true flag)) }
 {
-    if flag { Some(Value::Bool(true)) } else { None }
+    if flag {
+        required::<FlagRule>(out, name, &true)
+    } else {
+        Ok(())
+    }
 }
 
 /// The text of an error, as an ErrorCondition.
@@ -41,13 +44,14 @@ impl Written for ErrorWriting {
 
     ghost writing = { written_error };
 
-    #[tactic(auto, unfolding(crate::specs::WrittenValues::written_error))]
-    fn write(alloc: Global, text: &Text) -> Result<Option<Value>, OutOfMemory> {
-        let mut error = Members::new(alloc);
-        error.put_required::<TextRule>(names::ERROR_TEXT, text)?;
-        let mut condition = Members::new(alloc);
-        condition.put(names::OTHER_ERROR, Some(error.object()))?;
-        Ok(Some(condition.object()))
+    #[tactic(auto, using(crate::proofs::InOrder::error_in_order), unfolding(crate::specs::WrittenValues::written_error))]
+    fn write(out: &mut Output, text: &Text) -> Result<(), OutOfMemory> {
+        out.begin_object()?;
+        out.key(names::OTHER_ERROR)?;
+        out.begin_object()?;
+        required::<TextRule>(out, names::ERROR_TEXT, text)?;
+        out.end_object()?;
+        out.end_object()
     }
 }
 
@@ -59,14 +63,14 @@ impl Written for MarkWriting {
 
     ghost writing = { written_mark };
 
-    #[tactic(auto, unfolding(crate::specs::WrittenValues::written_mark))]
-    fn write(alloc: Global, mark: &Mark) -> Result<Option<Value>, OutOfMemory> {
-        let mut members = Members::new(alloc);
-        members.put_required::<NameRule>(names::SUBSCRIPTION_REF, &mark.subscription)?;
-        members.put_required::<NumberRule>(names::NUMBER, &mark.number)?;
-        members.put_required::<NumberRule>(names::START, &mark.start)?;
-        members.put_required::<NumberRule>(names::ROUND, &mark.round)?;
-        members.put_required::<NumberRule>(names::PART, &mark.part)?;
-        Ok(Some(members.object()))
+    #[tactic(auto, using(crate::proofs::InOrder::mark_in_order), unfolding(crate::specs::WrittenValues::written_mark))]
+    fn write(out: &mut Output, mark: &Mark) -> Result<(), OutOfMemory> {
+        out.begin_object()?;
+        required::<NumberRule>(out, names::NUMBER, &mark.number)?;
+        required::<NumberRule>(out, names::PART, &mark.part)?;
+        required::<NumberRule>(out, names::ROUND, &mark.round)?;
+        required::<NumberRule>(out, names::START, &mark.start)?;
+        required::<NameRule>(out, names::SUBSCRIPTION_REF, &mark.subscription)?;
+        out.end_object()
     }
 }

@@ -3,7 +3,7 @@ use Rattle.std.proofs.Math.Facts.{to_z-of_z}
 use Rattle.std.specs.Int.Signed.{nat_abs-le}
 use Rattle.std.proofs.lemmas.Str.{IsUtf8-from_ascii}
 use Rattle.siri_tables.proofs.Ascii.{IsAscii-decimal_text}
-use Rattle.siri_tables.proofs.writing.decimal_value.Goals as goal
+use Rattle.siri_tables.proofs.writing.decimal.Goals as goal
 
 pub unreachable-requires : goal.unreachable-requires
 unreachable-requires c =

@@ -1,0 +1,256 @@
+-- Tables that are written in byte order of their names, a lemma a table.
+use Rattle.std.proofs.Common.{◌≡◌, ℕ, true, false, List, [], ◌∷◌, ◌++◌, Option, None, refl, sym, ◌∙◌, length, append_assoc, append-nil, arith}
+use Rattle.std.proofs.lemmas.Bool.{lt-ltb}
+use Rattle.std.specs.Prelude.{ℤ, Bool, is_some, nat_lt, codes}
+use Rattle.json.specs.Token.{Token, key, string, begin_object, end_object, begin_array, end_array}
+use Rattle.json.specs.Print.{print}
+use Rattle.serde_json.proofs.Texts.{print-outline}
+use Rattle.serde_json.specs.Data.{Data}
+use Rattle.siri_json.specs.Tokens.{tokens_of}
+use Rattle.siri_tables.specs.Appended.{row_tokens}
+use Rattle.siri_time.specs.SpanText.{span_text}
+use Rattle.siri_tables.proofs.Sorted.{rows_onto, sorted, object_in_order, any_written, written_object, left_out}
+use Rattle.siri_messages.specs.declared.supplies.Mark.{Mark}
+use Rattle.siri_tables.specs.Writing.{Row, array_unless_empty, row_object, written_list, written_span, written_text}
+use Rattle.siri_wire.specs.declared.names.TheConstants.{DELIVERY_METHOD, ERROR_TEXT, ESTIMATED_JOURNEY_VERSION_FRAME, ESTIMATED_TIMETABLE_REQUEST, ESTIMATED_VEHICLE_JOURNEY, EXTENSIONS, HEARTBEAT_INTERVAL, MONITORED_STOP_VISIT, MONITORED_STOP_VISIT_CANCELLATION, OTHER_ERROR, REMOVED, SIRI, SITUATIONS, SITUATION_EXCHANGE_REQUEST, STOP_MONITORING_REQUEST, SUBSCRIPTION_CONTEXT, VEHICLE_ACTIVITY, VEHICLE_ACTIVITY_CANCELLATION, VEHICLE_MONITORING_REQUEST}
+use Rattle.siri_messages.specs.declared.requests.ServiceRequest.{ServiceRequest}
+use Rattle.siri_messages.specs.declared.supplies.DataReadyNotification.{DataReadyNotification}
+use Rattle.siri_messages.specs.declared.supplies.DataReadyAcknowledgement.{DataReadyAcknowledgement}
+use Rattle.siri_messages.specs.declared.supplies.DataSupplyRequest.{DataSupplyRequest}
+use Rattle.siri_messages.specs.declared.supplies.DataReceivedAcknowledgement.{DataReceivedAcknowledgement}
+use Rattle.siri_messages.specs.declared.statuses.CheckStatusRequest.{CheckStatusRequest}
+use Rattle.siri_messages.specs.declared.statuses.CheckStatusResponse.{CheckStatusResponse}
+use Rattle.siri_messages.specs.declared.statuses.HeartbeatNotification.{HeartbeatNotification}
+use Rattle.siri_topic.specs.declared.topics.StopTopic.{StopTopic}
+use Rattle.siri_topic.specs.declared.topics.TimetableTopic.{TimetableTopic}
+use Rattle.siri_topic.specs.declared.topics.LineDirection.{LineDirection}
+use Rattle.siri_topic.specs.declared.topics.VehicleTopic.{VehicleTopic}
+use Rattle.siri_topic.specs.declared.topics.SituationTopic.{SituationTopic}
+use Rattle.siri_topic.specs.declared.subscription.Subscription.{Subscription}
+use Rattle.siri_messages.specs.declared.subscriptions.SubscriptionRequest.{SubscriptionRequest}
+use Rattle.siri_messages.specs.declared.subscriptions.SubscriptionResponse.{SubscriptionResponse}
+use Rattle.siri_messages.specs.declared.subscriptions.ResponseStatus.{ResponseStatus}
+use Rattle.siri_messages.specs.declared.terminations.TerminateSubscriptionRequest.{TerminateSubscriptionRequest}
+use Rattle.siri_messages.specs.declared.terminations.TerminateSubscriptionResponse.{TerminateSubscriptionResponse}
+use Rattle.siri_messages.specs.declared.terminations.TerminationResponseStatus.{TerminationResponseStatus}
+use Rattle.siri_records.specs.declared.item.Item.{Item}
+use Rattle.siri_records.specs.declared.key.Key.{Key}
+use Rattle.siri_messages.specs.declared.deliveries.FunctionalDelivery.{FunctionalDelivery}
+use Rattle.siri_messages.specs.declared.deliveries.ServiceDelivery.{ServiceDelivery}
+use Rattle.siri_messages.specs.declared.message.Message.{Message}
+use Rattle.siri_messages.specs.Kinds.{kind_of}
+use Rattle.siri_wire.specs.WrittenRequests.{rows_of_check_status, rows_of_data_ready, rows_of_heartbeat, rows_of_ready_acknowledgement, rows_of_received, rows_of_service_request, rows_of_status_response, rows_of_supply, written_check_status, written_data_ready, written_heartbeat, written_ready_acknowledgement, written_received, written_service_request, written_status_response, written_supply}
+use Rattle.siri_wire.specs.WrittenDeliveries.{item_writing, rows_of_delivery, rows_of_frame, rows_of_place, rows_of_removal, rows_of_service_delivery, written_frame, written_place, written_removal, written_removed, written_service_delivery, written_situations}
+use Rattle.siri_wire.specs.WrittenSubscriptions.{rows_of_response_status, rows_of_subscription, rows_of_subscription_request, rows_of_subscription_response, rows_of_termination, rows_of_termination_response, rows_of_termination_status, written_subscription_request, written_subscription_response, written_termination, written_termination_response, written_method}
+use Rattle.siri_wire.specs.WrittenValues.{rows_of_mark}
+use Rattle.siri_wire.specs.WrittenTopics.{rows_of_stop_topic, written_stop_topic, rows_of_line_direction, rows_of_timetable_topic, written_timetable_topic, rows_of_vehicle_topic, written_vehicle_topic, rows_of_situation_topic, written_situation_topic}
+use Rattle.siri_wire.specs.Canonical.{written_body, written_message, canonical}
+use Rattle.siri_records.specs.declared.key.Key.TheVariants as keys
+
+pub mark_in_order : (old : List Token) (m : Mark) → rows_onto (old ++ begin_object ∷ []) (sorted (rows_of_mark m)) ++ end_object ∷ [] ≡ old ++ tokens_of (row_object (rows_of_mark m))
+mark_in_order old m = object_in_order old (rows_of_mark m)
+
+pub check_status_in_order : (old : List Token) (c : CheckStatusRequest) → rows_onto (old ++ begin_object ∷ []) (sorted (rows_of_check_status c)) ++ end_object ∷ [] ≡ old ++ tokens_of (written_check_status c)
+unfolding written_check_status
+check_status_in_order old c = object_in_order old (rows_of_check_status c)
+
+pub status_response_in_order : (old : List Token) (r : CheckStatusResponse) → rows_onto (old ++ begin_object ∷ []) (sorted (rows_of_status_response r)) ++ end_object ∷ [] ≡ old ++ tokens_of (written_status_response r)
+unfolding written_status_response
+status_response_in_order old r = object_in_order old (rows_of_status_response r)
+
+pub heartbeat_in_order : (old : List Token) (h : HeartbeatNotification) → rows_onto (old ++ begin_object ∷ []) (sorted (rows_of_heartbeat h)) ++ end_object ∷ [] ≡ old ++ tokens_of (written_heartbeat h)
+unfolding written_heartbeat
+heartbeat_in_order old h = object_in_order old (rows_of_heartbeat h)
+
+pub service_request_in_order : (old : List Token) (r : ServiceRequest) → rows_onto (old ++ begin_object ∷ []) (sorted (rows_of_service_request r)) ++ end_object ∷ [] ≡ old ++ tokens_of (written_service_request r)
+unfolding written_service_request
+service_request_in_order old r = object_in_order old (rows_of_service_request r)
+
+pub data_ready_in_order : (old : List Token) (n : DataReadyNotification) → rows_onto (old ++ begin_object ∷ []) (sorted (rows_of_data_ready n)) ++ end_object ∷ [] ≡ old ++ tokens_of (written_data_ready n)
+unfolding written_data_ready
+data_ready_in_order old n = object_in_order old (rows_of_data_ready n)
+
+pub ready_acknowledgement_in_order : (old : List Token) (a : DataReadyAcknowledgement) → rows_onto (old ++ begin_object ∷ []) (sorted (rows_of_ready_acknowledgement a)) ++ end_object ∷ [] ≡ old ++ tokens_of (written_ready_acknowledgement a)
+unfolding written_ready_acknowledgement
+ready_acknowledgement_in_order old a = object_in_order old (rows_of_ready_acknowledgement a)
+
+pub supply_in_order : (old : List Token) (r : DataSupplyRequest) → rows_onto (old ++ begin_object ∷ []) (sorted (rows_of_supply r)) ++ end_object ∷ [] ≡ old ++ tokens_of (written_supply r)
+unfolding written_supply
+supply_in_order old r = object_in_order old (rows_of_supply r)
+
+pub received_in_order : (old : List Token) (a : DataReceivedAcknowledgement) → rows_onto (old ++ begin_object ∷ []) (sorted (rows_of_received a)) ++ end_object ∷ [] ≡ old ++ tokens_of (written_received a)
+unfolding written_received
+received_in_order old a = object_in_order old (rows_of_received a)
+
+pub stop_topic_in_order : (old : List Token) (t : StopTopic) → rows_onto (old ++ begin_object ∷ []) (sorted (rows_of_stop_topic t)) ++ end_object ∷ [] ≡ old ++ tokens_of (written_stop_topic t)
+unfolding written_stop_topic
+stop_topic_in_order old t = object_in_order old (rows_of_stop_topic t)
+
+pub line_direction_in_order : (old : List Token) (l : LineDirection) → rows_onto (old ++ begin_object ∷ []) (sorted (rows_of_line_direction l)) ++ end_object ∷ [] ≡ old ++ tokens_of (row_object (rows_of_line_direction l))
+line_direction_in_order old l = object_in_order old (rows_of_line_direction l)
+
+pub timetable_topic_in_order : (old : List Token) (t : TimetableTopic) → rows_onto (old ++ begin_object ∷ []) (sorted (rows_of_timetable_topic t)) ++ end_object ∷ [] ≡ old ++ tokens_of (written_timetable_topic t)
+unfolding written_timetable_topic
+timetable_topic_in_order old t = object_in_order old (rows_of_timetable_topic t)
+
+pub vehicle_topic_in_order : (old : List Token) (t : VehicleTopic) → rows_onto (old ++ begin_object ∷ []) (sorted (rows_of_vehicle_topic t)) ++ end_object ∷ [] ≡ old ++ tokens_of (written_vehicle_topic t)
+unfolding written_vehicle_topic
+vehicle_topic_in_order old t = object_in_order old (rows_of_vehicle_topic t)
+
+pub situation_topic_in_order : (old : List Token) (t : SituationTopic) → rows_onto (old ++ begin_object ∷ []) (sorted (rows_of_situation_topic t)) ++ end_object ∷ [] ≡ old ++ tokens_of (written_situation_topic t)
+unfolding written_situation_topic
+situation_topic_in_order old t = object_in_order old (rows_of_situation_topic t)
+
+pub stop_subscription_in_order : (old : List Token) (w : Subscription) → rows_onto (old ++ begin_object ∷ []) (sorted (rows_of_subscription STOP_MONITORING_REQUEST.now (written_span w.slack) w)) ++ end_object ∷ [] ≡ old ++ tokens_of (row_object (rows_of_subscription STOP_MONITORING_REQUEST.now (written_span w.slack) w))
+stop_subscription_in_order old w = object_in_order old (rows_of_subscription STOP_MONITORING_REQUEST.now (written_span w.slack) w)
+
+pub timetable_subscription_in_order : (old : List Token) (w : Subscription) → rows_onto (old ++ begin_object ∷ []) (sorted (rows_of_subscription ESTIMATED_TIMETABLE_REQUEST.now (written_span w.slack) w)) ++ end_object ∷ [] ≡ old ++ tokens_of (row_object (rows_of_subscription ESTIMATED_TIMETABLE_REQUEST.now (written_span w.slack) w))
+timetable_subscription_in_order old w = object_in_order old (rows_of_subscription ESTIMATED_TIMETABLE_REQUEST.now (written_span w.slack) w)
+
+pub vehicle_subscription_in_order : (old : List Token) (w : Subscription) → rows_onto (old ++ begin_object ∷ []) (sorted (rows_of_subscription VEHICLE_MONITORING_REQUEST.now (written_span w.slack) w)) ++ end_object ∷ [] ≡ old ++ tokens_of (row_object (rows_of_subscription VEHICLE_MONITORING_REQUEST.now (written_span w.slack) w))
+vehicle_subscription_in_order old w = object_in_order old (rows_of_subscription VEHICLE_MONITORING_REQUEST.now (written_span w.slack) w)
+
+pub situation_subscription_in_order : (old : List Token) (w : Subscription) → rows_onto (old ++ begin_object ∷ []) (sorted (rows_of_subscription SITUATION_EXCHANGE_REQUEST.now None w)) ++ end_object ∷ [] ≡ old ++ tokens_of (row_object (rows_of_subscription SITUATION_EXCHANGE_REQUEST.now None w))
+situation_subscription_in_order old w = object_in_order old (rows_of_subscription SITUATION_EXCHANGE_REQUEST.now None w)
+
+pub subscription_request_in_order : (old : List Token) (r : SubscriptionRequest) → rows_onto (old ++ begin_object ∷ []) (sorted (rows_of_subscription_request r)) ++ end_object ∷ [] ≡ old ++ tokens_of (written_subscription_request r)
+unfolding written_subscription_request
+subscription_request_in_order old r = object_in_order old (rows_of_subscription_request r)
+
+pub response_status_in_order : (old : List Token) (s : ResponseStatus) → rows_onto (old ++ begin_object ∷ []) (sorted (rows_of_response_status s)) ++ end_object ∷ [] ≡ old ++ tokens_of (row_object (rows_of_response_status s))
+response_status_in_order old s = object_in_order old (rows_of_response_status s)
+
+pub subscription_response_in_order : (old : List Token) (r : SubscriptionResponse) → rows_onto (old ++ begin_object ∷ []) (sorted (rows_of_subscription_response r)) ++ end_object ∷ [] ≡ old ++ tokens_of (written_subscription_response r)
+unfolding written_subscription_response
+subscription_response_in_order old r = object_in_order old (rows_of_subscription_response r)
+
+pub termination_in_order : (old : List Token) (r : TerminateSubscriptionRequest) → rows_onto (old ++ begin_object ∷ []) (sorted (rows_of_termination r)) ++ end_object ∷ [] ≡ old ++ tokens_of (written_termination r)
+unfolding written_termination
+termination_in_order old r = object_in_order old (rows_of_termination r)
+
+pub termination_status_in_order : (old : List Token) (s : TerminationResponseStatus) → rows_onto (old ++ begin_object ∷ []) (sorted (rows_of_termination_status s)) ++ end_object ∷ [] ≡ old ++ tokens_of (row_object (rows_of_termination_status s))
+termination_status_in_order old s = object_in_order old (rows_of_termination_status s)
+
+pub termination_response_in_order : (old : List Token) (r : TerminateSubscriptionResponse) → rows_onto (old ++ begin_object ∷ []) (sorted (rows_of_termination_response r)) ++ end_object ∷ [] ≡ old ++ tokens_of (written_termination_response r)
+unfolding written_termination_response
+termination_response_in_order old r = object_in_order old (rows_of_termination_response r)
+
+pub frame_in_order : (old : List Token) (i : Item) → rows_onto (old ++ begin_object ∷ []) (sorted (rows_of_frame i)) ++ end_object ∷ [] ≡ old ++ tokens_of (row_object (rows_of_frame i))
+frame_in_order old i = object_in_order old (rows_of_frame i)
+
+pub removed_visit_in_order : (old : List Token) (m i : List ℕ) → rows_onto (old ++ begin_object ∷ []) (sorted (rows_of_removal (keys.Visit m i))) ++ end_object ∷ [] ≡ old ++ tokens_of (row_object (rows_of_removal (keys.Visit m i)))
+removed_visit_in_order old m i = object_in_order old (rows_of_removal (keys.Visit m i))
+
+pub removed_journey_in_order : (old : List Token) (l : List ℕ) (d f : Option (List ℕ)) (j : List ℕ) → rows_onto (old ++ begin_object ∷ []) (sorted (rows_of_removal (keys.Journey l d f j))) ++ end_object ∷ [] ≡ old ++ tokens_of (row_object (rows_of_removal (keys.Journey l d f j)))
+removed_journey_in_order old l d f j = object_in_order old (rows_of_removal (keys.Journey l d f j))
+
+pub removed_vehicle_in_order : (old : List Token) (v : List ℕ) → rows_onto (old ++ begin_object ∷ []) (sorted (rows_of_removal (keys.Vehicle v))) ++ end_object ∷ [] ≡ old ++ tokens_of (row_object (rows_of_removal (keys.Vehicle v)))
+removed_vehicle_in_order old v = object_in_order old (rows_of_removal (keys.Vehicle v))
+
+pub removed_situation_in_order : (old : List Token) (p : Option (List ℕ)) (n : List ℕ) → rows_onto (old ++ begin_object ∷ []) (sorted (rows_of_removal (keys.Situation p n))) ++ end_object ∷ [] ≡ old ++ tokens_of (row_object (rows_of_removal (keys.Situation p n)))
+removed_situation_in_order old p n = object_in_order old (rows_of_removal (keys.Situation p n))
+
+pub place_in_order : (old : List Token) (d : FunctionalDelivery) → rows_onto (old ++ begin_object ∷ []) (sorted (rows_of_place d [])) ++ end_object ∷ [] ≡ old ++ tokens_of (row_object (rows_of_place d []))
+place_in_order old d = object_in_order old (rows_of_place d [])
+
+pub removed_in_order : (old : List Token) (d : FunctionalDelivery) → rows_onto (old ++ begin_object ∷ []) (sorted (rows_of_place d ((REMOVED.now, written_list written_removal d.removals) ∷ []))) ++ end_object ∷ [] ≡ old ++ tokens_of (row_object (rows_of_place d ((REMOVED.now, written_list written_removal d.removals) ∷ [])))
+removed_in_order old d = object_in_order old (rows_of_place d ((REMOVED.now, written_list written_removal d.removals) ∷ []))
+
+pub stop_delivery_in_order : (old : List Token) (d : FunctionalDelivery) → rows_onto (old ++ begin_object ∷ []) (sorted (rows_of_delivery d (written_place d) ((MONITORED_STOP_VISIT.now, written_list item_writing d.items) ∷ (MONITORED_STOP_VISIT_CANCELLATION.now, written_list written_removal d.removals) ∷ []))) ++ end_object ∷ [] ≡ old ++ tokens_of (row_object (rows_of_delivery d (written_place d) ((MONITORED_STOP_VISIT.now, written_list item_writing d.items) ∷ (MONITORED_STOP_VISIT_CANCELLATION.now, written_list written_removal d.removals) ∷ [])))
+stop_delivery_in_order old d = object_in_order old (rows_of_delivery d (written_place d) ((MONITORED_STOP_VISIT.now, written_list item_writing d.items) ∷ (MONITORED_STOP_VISIT_CANCELLATION.now, written_list written_removal d.removals) ∷ []))
+
+pub timetable_delivery_in_order : (old : List Token) (d : FunctionalDelivery) → rows_onto (old ++ begin_object ∷ []) (sorted (rows_of_delivery d (written_removed d) ((ESTIMATED_JOURNEY_VERSION_FRAME.now, written_list written_frame d.items) ∷ []))) ++ end_object ∷ [] ≡ old ++ tokens_of (row_object (rows_of_delivery d (written_removed d) ((ESTIMATED_JOURNEY_VERSION_FRAME.now, written_list written_frame d.items) ∷ [])))
+timetable_delivery_in_order old d = object_in_order old (rows_of_delivery d (written_removed d) ((ESTIMATED_JOURNEY_VERSION_FRAME.now, written_list written_frame d.items) ∷ []))
+
+pub vehicle_delivery_in_order : (old : List Token) (d : FunctionalDelivery) → rows_onto (old ++ begin_object ∷ []) (sorted (rows_of_delivery d (written_place d) ((VEHICLE_ACTIVITY.now, written_list item_writing d.items) ∷ (VEHICLE_ACTIVITY_CANCELLATION.now, written_list written_removal d.removals) ∷ []))) ++ end_object ∷ [] ≡ old ++ tokens_of (row_object (rows_of_delivery d (written_place d) ((VEHICLE_ACTIVITY.now, written_list item_writing d.items) ∷ (VEHICLE_ACTIVITY_CANCELLATION.now, written_list written_removal d.removals) ∷ [])))
+vehicle_delivery_in_order old d = object_in_order old (rows_of_delivery d (written_place d) ((VEHICLE_ACTIVITY.now, written_list item_writing d.items) ∷ (VEHICLE_ACTIVITY_CANCELLATION.now, written_list written_removal d.removals) ∷ []))
+
+pub situation_delivery_in_order : (old : List Token) (d : FunctionalDelivery) → rows_onto (old ++ begin_object ∷ []) (sorted (rows_of_delivery d (written_removed d) ((SITUATIONS.now, written_situations d.items) ∷ []))) ++ end_object ∷ [] ≡ old ++ tokens_of (row_object (rows_of_delivery d (written_removed d) ((SITUATIONS.now, written_situations d.items) ∷ [])))
+situation_delivery_in_order old d = object_in_order old (rows_of_delivery d (written_removed d) ((SITUATIONS.now, written_situations d.items) ∷ []))
+
+pub service_delivery_in_order : (old : List Token) (d : ServiceDelivery) → rows_onto (old ++ begin_object ∷ []) (sorted (rows_of_service_delivery d)) ++ end_object ∷ [] ≡ old ++ tokens_of (written_service_delivery d)
+unfolding written_service_delivery
+service_delivery_in_order old d = object_in_order old (rows_of_service_delivery d)
+
+-- ---- values and objects in forms of their own
+
+regroup_error : (old a : List Token) (b k c e f : Token) → (((((old ++ b ∷ []) ++ k ∷ []) ++ c ∷ []) ++ a) ++ e ∷ []) ++ f ∷ [] ≡ old ++ b ∷ k ∷ c ∷ (a ++ e ∷ f ∷ [])
+regroup_error old a b k c e f = simp append_assoc
+
+pub error_in_order : (old : List Token) (t : List ℕ)
+    → (((((old ++ begin_object ∷ []) ++ key OTHER_ERROR.now ∷ []) ++ begin_object ∷ []) ++ row_tokens ERROR_TEXT.now (written_text t)) ++ end_object ∷ []) ++ end_object ∷ []
+    ≡ old ++ begin_object ∷ key OTHER_ERROR.now ∷ begin_object ∷ key ERROR_TEXT.now ∷ string t ∷ end_object ∷ end_object ∷ []
+error_in_order old t = regroup_error old (row_tokens ERROR_TEXT.now (written_text t)) begin_object (key OTHER_ERROR.now) begin_object end_object end_object
+
+regroup_row : (old a : List Token) (k b e : Token) → (((old ++ k ∷ []) ++ b ∷ []) ++ a) ++ e ∷ [] ≡ old ++ k ∷ b ∷ (a ++ e ∷ [])
+regroup_row old a k b e = simp append_assoc
+
+regroup_method : (old : List Token) (k b m t e : Token) → ((((old ++ k ∷ []) ++ b ∷ []) ++ m ∷ []) ++ t ∷ []) ++ e ∷ [] ≡ old ++ k ∷ b ∷ m ∷ t ∷ e ∷ []
+regroup_method old k b m t e = simp append_assoc
+
+pub method_in_order : (old : List Token) (fetched : Bool) → fetched ≡ true
+    → ((((old ++ key EXTENSIONS.now ∷ []) ++ begin_object ∷ []) ++ key DELIVERY_METHOD.now ∷ []) ++ string (codes "fetched") ∷ []) ++ end_object ∷ []
+    ≡ old ++ row_tokens EXTENSIONS.now (written_method fetched)
+unfolding written_method
+method_in_order old fetched is = rw is (regroup_method old (key EXTENSIONS.now) begin_object (key DELIVERY_METHOD.now) (string (codes "fetched")) end_object)
+
+pub method_left_out : (old : List Token) (fetched : Bool) → fetched ≡ false → old ≡ old ++ row_tokens EXTENSIONS.now (written_method fetched)
+unfolding written_method
+method_left_out old fetched is = rw is (sym (append-nil old))
+
+pub context_in_order : (old : List Token) (s : ℤ)
+    → (((old ++ key SUBSCRIPTION_CONTEXT.now ∷ []) ++ begin_object ∷ []) ++ row_tokens HEARTBEAT_INTERVAL.now (written_span s)) ++ end_object ∷ []
+    ≡ old ++ key SUBSCRIPTION_CONTEXT.now ∷ begin_object ∷ key HEARTBEAT_INTERVAL.now ∷ string (span_text s) ∷ end_object ∷ []
+context_in_order old s = regroup_row old (row_tokens HEARTBEAT_INTERVAL.now (written_span s)) (key SUBSCRIPTION_CONTEXT.now) begin_object end_object
+
+pub journey_row_is : (old : List Token) (d : Data)
+    → (((old ++ key ESTIMATED_VEHICLE_JOURNEY.now ∷ []) ++ begin_array ∷ []) ++ tokens_of d) ++ end_array ∷ [] ≡ old ++ row_tokens ESTIMATED_VEHICLE_JOURNEY.now (array_unless_empty (d ∷ []))
+journey_row_is old d = regroup_row old (tokens_of d) (key ESTIMATED_VEHICLE_JOURNEY.now) begin_array end_array
+
+-- ---- Extensions that are left out where they would be empty
+
+pub place_left_out : (old : List Token) (d : FunctionalDelivery) → any_written (rows_of_place d []) ≡ false → old ≡ old ++ row_tokens EXTENSIONS.now (written_place d)
+unfolding written_place
+place_left_out old d is = rw (left_out (rows_of_place d []) is) (sym (append-nil old))
+
+pub place_written : (old : List Token) (d : FunctionalDelivery) → any_written (rows_of_place d []) ≡ true
+    → (old ++ key EXTENSIONS.now ∷ []) ++ tokens_of (row_object (rows_of_place d [])) ≡ old ++ row_tokens EXTENSIONS.now (written_place d)
+unfolding written_place
+place_written old d is = rw (written_object (rows_of_place d []) is) (append_assoc old (key EXTENSIONS.now ∷ []) (tokens_of (row_object (rows_of_place d []))))
+
+rows_of_removed : FunctionalDelivery → List Row
+rows_of_removed d = rows_of_place d ((REMOVED.now, written_list written_removal d.removals) ∷ [])
+
+pub removed_left_out : (old : List Token) (d : FunctionalDelivery) → any_written (rows_of_place d ((REMOVED.now, written_list written_removal d.removals) ∷ [])) ≡ false → old ≡ old ++ row_tokens EXTENSIONS.now (written_removed d)
+unfolding written_removed rows_of_removed
+removed_left_out old d is = rw (left_out (rows_of_removed d) is) (sym (append-nil old))
+
+pub removed_written : (old : List Token) (d : FunctionalDelivery) → any_written (rows_of_place d ((REMOVED.now, written_list written_removal d.removals) ∷ [])) ≡ true
+    → (old ++ key EXTENSIONS.now ∷ []) ++ tokens_of (row_object (rows_of_place d ((REMOVED.now, written_list written_removal d.removals) ∷ []))) ≡ old ++ row_tokens EXTENSIONS.now (written_removed d)
+unfolding written_removed rows_of_removed
+removed_written old d is = rw (written_object (rows_of_removed d) is) (append_assoc old (key EXTENSIONS.now ∷ []) (tokens_of (row_object (rows_of_removed d))))
+
+pub any_removed : (keys : List Key) → is_some (written_list written_removal keys) ≡ nat_lt 0 (length keys)
+unfolding written_list written_removal
+any_removed [] = refl
+any_removed (k ∷ ks) = sym (lt-ltb 0 (length (k ∷ ks)) (omega arith))
+
+-- ---- documents
+
+regroup_message : (old a : List Token) (b s c k e f : Token) → ((((((old ++ b ∷ []) ++ s ∷ []) ++ c ∷ []) ++ k ∷ []) ++ a) ++ e ∷ []) ++ f ∷ [] ≡ old ++ b ∷ s ∷ c ∷ k ∷ (a ++ e ∷ f ∷ [])
+regroup_message old a b s c k e f = simp append_assoc
+
+regroup_body : (old a : List Token) (b s c k e f : Token) → old ++ b ∷ s ∷ ((c ∷ k ∷ (a ++ e ∷ [])) ++ f ∷ []) ≡ old ++ b ∷ s ∷ c ∷ k ∷ (a ++ e ∷ f ∷ [])
+regroup_body old a b s c k e f = simp append_assoc
+
+pub message_in_order : (old : List Token) (m : Message)
+    → ((((((old ++ begin_object ∷ []) ++ key SIRI.now ∷ []) ++ begin_object ∷ []) ++ key (kind_of m) ∷ []) ++ tokens_of (written_body m)) ++ end_object ∷ []) ++ end_object ∷ []
+    ≡ old ++ tokens_of (written_message m)
+unfolding written_message
+message_in_order old m =
+    regroup_message old (tokens_of (written_body m)) begin_object (key SIRI.now) begin_object (key (kind_of m)) end_object end_object
+    ∙ sym (regroup_body old (tokens_of (written_body m)) begin_object (key SIRI.now) begin_object (key (kind_of m)) end_object end_object)
+
+pub message_said : (m : Message) → print ([] ++ tokens_of (written_message m)) ≡ canonical m
+unfolding canonical
+message_said m = print-outline (written_message m)
