@@ -1,2 +1,3 @@
+mod Examples
 pub mod Sends
 pub mod Serves
