@@ -1,5 +1,5 @@
 -- Messages that are sent, one after the other.
-use Rattle.std.proofs.Common.{◌≡◌, ◌<◌, ◌+◌, ◌-◌, ℕ, zero, suc, List, [], ◌∷◌, ◌++◌, length, Option, None, Some, refl, sym, ap, ◌∙◌, subst, append-nil, append_assoc, drop, arith, ◌⊎◌, inl, inr, Result, Ok, Err}
+use Rattle.std.proofs.Common.{◌≡◌, ℕ, zero, suc, List, [], ◌∷◌, ◌++◌, length, Option, None, Some, refl, sym, ap, ◌∙◌, subst, append-nil, append_assoc, drop, arith, inl, inr, Result, Ok, Err}
 use Rattle.std.specs.Prelude.{OnErr}
 use Rattle.siri_messages.specs.declared.message.Message.{Message}
 use Rattle.siri_model.specs.History.{History, Take, Settle}
@@ -13,7 +13,7 @@ use Rattle.siri_exchange.specs.Posts.{Posts}
 use Rattle.siri_exchange.specs.declared.posting.Sent.{Sent}
 use Rattle.siri_exchange.specs.Tallies.{with_unsent}
 use Rattle.siri_ends.specs.At.{At, End, Goes, at_of}
-use Rattle.siri_ends.specs.Sending.{FirstSends, SendsOne, SendsOut, SendsAll, SendsSome, acknowledgement, sends_after, steps_after, target_of}
+use Rattle.siri_ends.specs.Sending.{FirstSends, SendsOut, SendsAll, SendsSome, acknowledgement, sends_after, steps_after, target_of}
 use Rattle.siri_ends.specs.Turns.{Hears, SendsNext, StopsAt}
 
 -- without an acknowledgement nothing is taken

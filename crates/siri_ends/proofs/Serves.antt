@@ -1,5 +1,5 @@
 -- A connection that is served.
-use Rattle.std.proofs.Common.{◌≡◌, ℕ, List, [], ◌∷◌, ◌++◌, Option, None, Some, refl, sym, ap, ◌∙◌, subst, append_assoc, inl, inr}
+use Rattle.std.proofs.Common.{◌≡◌, ℕ, List, [], ◌∷◌, ◌++◌, Option, None, Some, refl, ap, ◌∙◌, subst, append_assoc, inl, inr}
 use Rattle.siri_base.specs.Wires.{WireState}
 use Rattle.siri_http.specs.Connections.{OnConnection}
 use Rattle.siri_model.specs.History.{History, Settle}
@@ -12,7 +12,7 @@ use Rattle.siri_exchange.specs.declared.asked.Asked.{Asked}
 use Rattle.siri_exchange.specs.declared.tally.Tally.{Tally}
 use Rattle.siri_ends.specs.declared.response.Response.{Response}
 use Rattle.siri_ends.specs.Responses.{message_asked, response_to, taking, turn_steps}
-use Rattle.siri_ends.specs.At.{At, End, Goes, at_of, end_of}
+use Rattle.siri_ends.specs.At.{End, Goes, at_of, end_of}
 use Rattle.siri_ends.specs.Sending.{FirstSends, SendsAll, SendsSome}
 use Rattle.siri_ends.specs.Serving.{Answers, AnswersWith, FirstAnswer, ServesOne, ServesSome, StopsWriting}
 use Rattle.siri_ends.specs.Turns.{AnswersSo, TakesFor, at_any}

@@ -1,5 +1,5 @@
 -- What an accepted connection is answered (EN 15531-2 for the messages, RFC 9110 for the statuses).
-use Rattle.std.specs.Prelude.{ℕ, Bool, true, false, List, [], ◌∷◌, ◌++◌, codes, Option, None, Some, Result, Ok, Err}
+use Rattle.std.specs.Prelude.{ℕ, true, false, List, [], ◌∷◌, ◌++◌, codes, Option, None, Some, Result, Ok, Err}
 use Rattle.siri_base.specs.Words.{reason_name}
 use Rattle.siri_json.specs.Paths.{path_text}
 use Rattle.siri_tables.specs.Refusals.{Refusal}

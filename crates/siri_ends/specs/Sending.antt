@@ -1,12 +1,11 @@
 -- Messages that are sent out, one after the other (EN 15531-2, deliveries, notifications and their acknowledgements).
-use Rattle.std.specs.Prelude.{◌≡◌, ◌⊎◌, ℕ, zero, suc, List, [], ◌∷◌, ◌++◌, length, Option, None, Some, Result, Ok, Err}
+use Rattle.std.specs.Prelude.{◌≡◌, ◌⊎◌, ℕ, zero, suc, List, [], ◌∷◌, ◌++◌, length, Option, None, Some}
 use Rattle.siri_base.specs.Wires.{WireState}
 use Rattle.siri_base.specs.OutsideCalls.{WhereTold}
 use Rattle.siri_http.specs.Addresses.{address_of}
-use Rattle.siri_tables.specs.Refusals.{Refusal}
 use Rattle.siri_messages.specs.declared.message.Message.{Message}
 use Rattle.siri_messages.specs.declared.message.Message.TheVariants as message
-use Rattle.siri_model.specs.History.{History, Take, Settle}
+use Rattle.siri_model.specs.History.{History, Take}
 use Rattle.siri_producer.specs.Known.{Known, StandsFor}
 use Rattle.siri_producer.specs.Sends.{sends}
 use Rattle.siri_settle.specs.declared.outs.Out.{Out}

@@ -1,5 +1,4 @@
-use Rattle.std.proofs.Common.{◌≡◌, ◌-◌, suc, ◌∙◌, List, [], ◌++◌, ◌∷◌, length, arith}
-use Rattle.siri_settle.specs.declared.outs.Out.{Out}
+use Rattle.std.proofs.Common.{◌≡◌, ◌-◌, suc, ◌∙◌, [], arith}
 use Rattle.siri_ends.specs.Sending.{SendsSome}
 use Rattle.siri_ends.proofs.Sends.{comes_next, comes_last, comes_full, comes_short, none_left, on_err, whole_stop}
 use Rattle.siri_ends.proofs.sending.send_out.Goals as goal
