@@ -1,12 +1,5 @@
 -- Small turns that compute, so that the definitions are tried.
-use Rattle.std.proofs.Common.{◌≡◌, ℕ, true, List, [], ◌∷◌, ◌++◌, Option, None, Some, Ok, refl}
-use Rattle.std.specs.Prelude.{codes}
-use Rattle.siri_http.specs.declared.errors.HttpError.TheVariants as http
-use Rattle.siri_http.specs.Bodies.{body_length, number_of, values}
-use Rattle.siri_http.specs.Heads.{after_byte, ends_head, head_text}
-use Rattle.siri_http.specs.Messages.{Head, RequestLine, message}
-use Rattle.siri_http.specs.Texts.{ended}
-use Rattle.siri_exchange.specs.Requests.{asked_of}
+use Rattle.std.proofs.Common.{◌≡◌, ℕ, true, List, [], ◌∷◌, None, Some, Ok, refl}
 use Rattle.siri_exchange.specs.declared.asked.Asked.TheVariants as asked
 use Rattle.siri_messages.specs.declared.message.Message.TheVariants as siri
 use Rattle.siri_model.specs.History.{Clock, History, Start, after_step}
@@ -14,20 +7,7 @@ use Rattle.siri_producer.specs.Answers.{answer_to}
 use Rattle.siri_replies.specs.Statuses.{status_response}
 use Rattle.siri_ends.specs.Responses.{document_response, replying, response_to}
 
--- the head of a POST with 34 bytes of body
-abbrev post : Option (Head RequestLine)
-post = Some (record { told = (codes "POST", codes "/"); wanted = true; fields = (codes "Content-Length", codes "34") ∷ [] })
-
--- that head and ten bytes of the body
-abbrev cut_bytes : List ℕ
-cut_bytes = ended (codes "POST / HTTP/1.1") ++ (ended (codes "Content-Length: 34") ++ (ended [] ++ codes "0123456789"))
-
--- a body that is cut is Short
-cut_body_is_short : asked_of (message post http.Short cut_bytes) ≡ Some asked.Short
-unfolding message head_text ends_head after_byte body_length values number_of
-cut_body_is_short = refl
-
--- and isn't answered
+-- a request that didn't come whole isn't answered
 short_is_not_answered : (name : List ℕ) (h : History) → response_to name h asked.Short ≡ None
 unfolding response_to
 short_is_not_answered name h = refl
