@@ -1,13 +1,25 @@
 //! The command `siri`: makes the adapters over the system, does what its words say, and tells how it ended.
 //!
-//! Stands on `siri_cli`, whose `run` is the whole of the work.
+//! Stands on `siri_cli`, whose `run` is the whole of the work, and on `siri_system` for the network, the clock and the start
+//! number.
 #![tactic(auto)]
 
-use siri_base::{InMemoryClock, InMemoryKeeper, InMemoryWire, Input, Output, Status};
+use siri_base::{Input, Output, Status};
 use siri_cli::run;
+use siri_system::{FileKeeper, SystemClock, TcpWire};
 use std::env;
 use std::io::Write;
 use std::process::ExitCode;
+
+/// What is listed where the words are no command.
+const COMMANDS: &str =
+    "siri replay < SCRIPT
+siri check < DOCUMENT
+siri convert < DOCUMENT
+siri load SEED COUNT
+siri serve NAME HOST:PORT COUNT
+siri consume NAME HOST:PORT PRODUCER COUNT < SUBSCRIPTIONS
+";
 
 fn main(rt: HostRuntime) -> ExitCode {
     let status = run_command(&rt);
@@ -29,19 +41,23 @@ fn run_command(rt: &HostRuntime) -> Status {
         &words,
         &mut Input::new(rt.stdin()),
         &mut Output::new(rt.stdout()),
-        &mut InMemoryWire::new(alloc, &[], &[]),
-        &mut InMemoryClock::new(&[]),
-        &mut InMemoryKeeper::new(99_999_999_999),
+        &mut TcpWire::new(*rt),
+        &mut SystemClock::new(*rt),
+        &mut FileKeeper::new(*rt),
     )
 }
 
-/// Writes the status's text and a line end to standard error, where it has one.
+/// Writes the status's text and a line end to standard error, where it has one, and after `siri: usage` the commands, a line
+/// each.
 fn report_status(rt: &HostRuntime, status: &Status) {
     if let Ok(text) = status.text(rt.alloc()) {
         if text.len() > 0 {
             let mut errors = rt.stderr();
             let _ = errors.write_all(text.slice());
             let _ = errors.write_all(b"\n");
+            if matches!(status, Status::Usage) {
+                let _ = errors.write_all(COMMANDS.as_bytes());
+            }
         }
     }
 }

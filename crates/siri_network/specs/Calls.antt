@@ -1,0 +1,30 @@
+-- Calls of the outside that end a run where they fail.
+use Rattle.std.specs.Prelude.{◌≡◌, ℕ, Option, Result, Ok, Err}
+use Rattle.siri_base.specs.Causes.{HasOutsideCause}
+use Rattle.siri_base.specs.OutsideCalls.{WhereTold}
+use Rattle.siri_base.specs.declared.errors.OutsideError.{OutsideError}
+use Rattle.siri_network.specs.declared.network_error.NetworkError.{NetworkError}
+
+-- what an object of the outside tells, where it does, and how often it has failed
+pub record Told (State : Type 0) : Type 0 where
+  pub tells : Option State
+  pub faults : ℕ
+
+abbrev pub told_by : {State : Type 0} → Option State → ℕ → Told State
+told_by tells faults = record { tells = tells; faults = faults }
+
+-- one call: what it does to what is told; it fails only where the count of faults rises
+pub record Call {State T : Type 0} (Does : State → State → Result T OutsideError → Type 0) (outcome : Result T OutsideError) (old new : Told State) : Type 0 where
+  pub does : WhereTold old.tells new.tells (λ before after. Does before after outcome)
+  pub cause : HasOutsideCause old.faults new.faults outcome
+
+-- a call that fails ends a run with this error
+pub record Fails {State T : Type 0} (Does : State → State → Result T OutsideError → Type 0) (error_of : OutsideError → NetworkError) (error : NetworkError) (old new : Told State) : Type 0 where
+  pub failure : OutsideError
+  pub error_is : error ≡ error_of failure
+  pub call : Call Does (Err failure) old new
+
+-- what comes of a call
+abbrev pub Comes : {State T : Type 0} → (State → State → Result T OutsideError → Type 0) → (OutsideError → NetworkError) → Result T NetworkError → Told State → Told State → Type 0
+Comes Does error_of (Ok value) old new = Call Does (Ok value) old new
+Comes Does error_of (Err error) old new = Fails Does error_of error old new

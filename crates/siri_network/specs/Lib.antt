@@ -1,0 +1,4 @@
+-- In order of reading: why a run ends early; the calls that it ends at; the line that it ends with.
+pub mod Errors
+pub mod Calls
+pub mod Summaries

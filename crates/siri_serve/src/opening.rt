@@ -1,0 +1,36 @@
+// How a run opens.
+ghost use Rattle.std.specs.Prelude.{◌≡◌, [], ◌∷◌, IfOk, IfErr};
+ghost use Rattle.siri_model.specs.History.{Start};
+ghost use Rattle.siri_network.specs.Calls.{told_by};
+ghost use Rattle.siri_producer.specs.Known.{Known, StandsFor};
+ghost use Rattle.siri_serve.specs.Opening.{FailsToOpen};
+ghost use Rattle.siri_serve.specs.Openings.{OpensProducer};
+ghost use Rattle.siri_serve.specs.Running.{outside_of};
+
+use siri_base::{Clock, Keeper, Name, Wire};
+use siri_network::{NetworkError, listen, now, raise};
+use siri_producer::Producer;
+use std::alloc::Global;
+
+/// Raises the number of the start, listens, reads the clock, and starts a producer of this name.
+pub fn open<W: Wire, C: Clock, E: Keeper>(
+    alloc: Global,
+    name: Name,
+    address: &Name,
+    wire: &mut W,
+    clock: &mut C,
+    keeper: &mut E,
+) -> Result<Producer, NetworkError>
+    ensures ok { IfOk result (λ producer. OpensProducer name address.now producer
+        (outside_of (W.tells wire.old) (W.faults wire.old) (C.tells clock.old) (C.faults clock.old) (told_by (E.tells keeper.old) (E.faults keeper.old)))
+        (outside_of (W.tells wire.new) (W.faults wire.new) (C.tells clock.new) (C.faults clock.new) (told_by (E.tells keeper.new) (E.faults keeper.new)))) }
+    ensures err { IfErr result (λ error. FailsToOpen address.now error
+        (outside_of (W.tells wire.old) (W.faults wire.old) (C.tells clock.old) (C.faults clock.old) (told_by (E.tells keeper.old) (E.faults keeper.old)))
+        (outside_of (W.tells wire.new) (W.faults wire.new) (C.tells clock.new) (C.faults clock.new) (told_by (E.tells keeper.new) (E.faults keeper.new)))) }
+{
+    let start = raise(keeper)?;
+    listen(wire, address)?;
+    let moment = now(clock)?;
+    let producer = Producer::new(alloc, name, start, moment)?;
+    Ok(producer)
+}

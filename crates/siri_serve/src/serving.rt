@@ -1,0 +1,69 @@
+// The command `serve`.
+ghost use Rattle.std.specs.Prelude.{◌≡◌, IfErr, IfOk, OnErr};
+ghost use Rattle.siri_base.specs.Causes.{Rose};
+ghost use Rattle.siri_network.specs.Calls.{told_by};
+ghost use Rattle.siri_serve.specs.Running.{outside_of};
+ghost use Rattle.siri_serve.specs.Runs.{EndsServing, ServeRun, ServesAll, ServesNot};
+
+use crate::opening::open;
+use crate::turns::serve_connections;
+use siri_base::{Clock, Keeper, Name, OutsideError, Sink, Status, Wire};
+use siri_exchange::Tally;
+use siri_network::{NetworkError, write_summary};
+use std::alloc::Global;
+
+/// A producer of this name for so many connections at `HOST:PORT`: it raises the number of its start, listens, reads the clock
+/// for its first moment, and serves each connection at the clock's moment. Then it writes `served N refused R dropped D unsent U`.
+///
+/// `KeeperFault`, `WireFault` and `ClockFault` only where the keeper, the wire or the clock failed, the wire to listen or to
+/// accept; nothing is written then. `WriteFault` only where the sink failed, `OutOfMemory` wherever memory is asked for,
+/// otherwise `Done`.
+pub fn serve<K: Sink, W: Wire, C: Clock, E: Keeper>(
+    alloc: Global,
+    name: Name,
+    address: &Name,
+    count: u64,
+    sink: &mut K,
+    wire: &mut W,
+    clock: &mut C,
+    keeper: &mut E,
+) -> Status
+    ensures run { ServeRun name address.now count
+        (outside_of (W.tells wire.old) (W.faults wire.old) (C.tells clock.old) (C.faults clock.old) (told_by (E.tells keeper.old) (E.faults keeper.old)))
+        (outside_of (W.tells wire.new) (W.faults wire.new) (C.tells clock.new) (C.faults clock.new) (told_by (E.tells keeper.new) (E.faults keeper.new)))
+        (K.held sink.old) (K.held sink.new) result }
+    ensures unwritten { EndsServing result → sink.new ≡ sink.old }
+    ensures write { result ≡ Status.WriteFault → Rose (K.faults sink.old) (K.faults sink.new) }
+{
+    match serve_all(alloc, name, address, count, wire, clock, keeper) {
+        Ok(tally) => match write_summary(alloc, &tally, sink) {
+            Ok(()) => Status::Done,
+            Err(OutsideError::Failed) => Status::WriteFault,
+            Err(OutsideError::OutOfMemory) => Status::OutOfMemory,
+        },
+        Err(error) => Status::from(error),
+    }
+}
+
+/// Opens and serves all connections, and gives what was counted.
+fn serve_all<W: Wire, C: Clock, E: Keeper>(
+    alloc: Global,
+    name: Name,
+    address: &Name,
+    count: u64,
+    wire: &mut W,
+    clock: &mut C,
+    keeper: &mut E,
+) -> Result<Tally, NetworkError>
+    ensures ok { IfOk result (λ tally. ServesAll name address.now count tally
+        (outside_of (W.tells wire.old) (W.faults wire.old) (C.tells clock.old) (C.faults clock.old) (told_by (E.tells keeper.old) (E.faults keeper.old)))
+        (outside_of (W.tells wire.new) (W.faults wire.new) (C.tells clock.new) (C.faults clock.new) (told_by (E.tells keeper.new) (E.faults keeper.new)))) }
+    ensures err { IfErr result (λ error. ServesNot name address.now count error
+        (outside_of (W.tells wire.old) (W.faults wire.old) (C.tells clock.old) (C.faults clock.old) (told_by (E.tells keeper.old) (E.faults keeper.old)))
+        (outside_of (W.tells wire.new) (W.faults wire.new) (C.tells clock.new) (C.faults clock.new) (told_by (E.tells keeper.new) (E.faults keeper.new)))) }
+{
+    let mut producer = open(alloc, name, address, wire, clock, keeper)?;
+    let mut tally = Tally::new();
+    serve_connections(alloc, count, wire, clock, &mut producer, &mut tally)?;
+    Ok(tally)
+}

@@ -1,0 +1,57 @@
+// The turns of a run.
+ghost use Rattle.std.specs.Prelude.{◌≡◌, IfErr, OnOk};
+ghost use Rattle.siri_network.specs.Calls.{Told};
+ghost use Rattle.siri_serve.specs.Running.{Ends, Goes, outside_of, server_of};
+ghost use Rattle.siri_serve.specs.Turns.{Turn, Turns, TurnFails, TurnsFail};
+ghost use Rattle.siri_base.specs.OutsideCalls.{KeeperState};
+
+use siri_base::{Clock, Wire};
+use siri_exchange::Tally;
+use siri_ends::serve_one;
+use siri_network::{NetworkError, accept, now};
+use siri_producer::Producer;
+use std::alloc::Global;
+
+/// Accepts a connection, gives the producer a moment, and serves the connection.
+fn serve_next<W: Wire, C: Clock>(
+    alloc: Global,
+    wire: &mut W,
+    clock: &mut C,
+    producer: &mut Producer,
+    tally: &mut Tally,
+) -> Result<(), NetworkError>
+    ensures ok { OnOk result ((keeper : Told KeeperState) → Goes Turn
+        (server_of producer.old tally.old (outside_of (W.tells wire.old) (W.faults wire.old) (C.tells clock.old) (C.faults clock.old) keeper))
+        (server_of producer.new tally.new (outside_of (W.tells wire.new) (W.faults wire.new) (C.tells clock.new) (C.faults clock.new) keeper))) }
+    ensures err { IfErr result (λ error. (keeper : Told KeeperState) → Ends (TurnFails error)
+        (server_of producer.old tally.old (outside_of (W.tells wire.old) (W.faults wire.old) (C.tells clock.old) (C.faults clock.old) keeper))
+        (outside_of (W.tells wire.new) (W.faults wire.new) (C.tells clock.new) (C.faults clock.new) keeper)) }
+{
+    accept(wire)?;
+    let moment = now(clock)?;
+    producer.clock(moment);
+    serve_one(alloc, wire, producer, tally)?;
+    Ok(())
+}
+
+/// Serves so many connections, one after the other.
+pub fn serve_connections<W: Wire, C: Clock>(
+    alloc: Global,
+    count: u64,
+    wire: &mut W,
+    clock: &mut C,
+    producer: &mut Producer,
+    tally: &mut Tally,
+) -> Result<(), NetworkError>
+    ensures ok { OnOk result ((keeper : Told KeeperState) → Goes (λ name. Turns name count)
+        (server_of producer.old tally.old (outside_of (W.tells wire.old) (W.faults wire.old) (C.tells clock.old) (C.faults clock.old) keeper))
+        (server_of producer.new tally.new (outside_of (W.tells wire.new) (W.faults wire.new) (C.tells clock.new) (C.faults clock.new) keeper))) }
+    ensures err { IfErr result (λ error. (keeper : Told KeeperState) → Ends (TurnsFail count error)
+        (server_of producer.old tally.old (outside_of (W.tells wire.old) (W.faults wire.old) (C.tells clock.old) (C.faults clock.old) keeper))
+        (outside_of (W.tells wire.new) (W.faults wire.new) (C.tells clock.new) (C.faults clock.new) keeper)) }
+{
+    for _turn in 0..count {
+        serve_next(alloc, wire, clock, producer, tally)?;
+    }
+    Ok(())
+}
