@@ -1,7 +1,12 @@
--- In order of reading: what a connection is answered; an end at a moment of its run; a connection that is served; messages that
--- are sent out.
+-- In order of reading: what a connection is answered; a producer's end at a moment of its run; a connection that is answered;
+-- messages that are sent one after the other. Of a producer: messages that are sent out; a connection that is served. Of a
+-- consumer: messages that are sent up; a connection that is answered.
 pub mod Responses
 pub mod At
+pub mod Answering
+pub mod InTurn
 pub mod Sending
 pub mod Serving
+pub mod SendingUp
+pub mod Consuming
 pub mod Turns

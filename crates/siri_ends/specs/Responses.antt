@@ -29,17 +29,29 @@ reply_body (Some message) = canonical message
 abbrev pub replying : Option Message → Response
 replying reply = record { status = 200; plain = false; body = reply_body reply }
 
--- what a POST of a document is answered by a producer of this name, after a history
-abbrev pub document_response : (name : List ℕ) → History → Result Message Refusal → Response
-document_response name h (Ok message) = replying (answer_to name h message).reply
-document_response name h (Err refusal) = refusing 400 (refusal_text refusal)
+-- what a POST of a document is answered, where a message is replied to so
+abbrev pub responding_to : (reply : Message → Option Message) → Result Message Refusal → Response
+responding_to reply (Ok message) = replying (reply message)
+responding_to reply (Err refusal) = refusing 400 (refusal_text refusal)
 
--- what a connection is answered; nothing where its request didn't come whole
-unfoldable pub response_to : (name : List ℕ) → History → Asked → Option Response
-response_to name h (asked.Posted body) = Some (document_response name h (message_of body))
-response_to name h (asked.Refused bad) = Some (refusing (status_of bad) (name_of bad))
-response_to name h asked.Short = None
-response_to name h asked.Failed = None
+-- what a connection is answered, where a message is replied to so; nothing where its request didn't come whole
+unfoldable pub responding : (reply : Message → Option Message) → Asked → Option Response
+responding reply (asked.Posted body) = Some (responding_to reply (message_of body))
+responding reply (asked.Refused bad) = Some (refusing (status_of bad) (name_of bad))
+responding reply asked.Short = None
+responding reply asked.Failed = None
+
+-- what a producer of this name replies to a message, after a history
+abbrev pub producer_reply : (name : List ℕ) → History → Message → Option Message
+producer_reply name h message = (answer_to name h message).reply
+
+-- what it answers to a POST of a document
+abbrev pub document_response : (name : List ℕ) → History → Result Message Refusal → Response
+document_response name h document = responding_to (producer_reply name h) document
+
+-- what it answers a connection
+abbrev pub response_to : (name : List ℕ) → History → Asked → Option Response
+response_to name h asked = responding (producer_reply name h) asked
 
 -- the message of a document
 abbrev pub message_in : Result Message Refusal → Option Message

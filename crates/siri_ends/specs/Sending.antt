@@ -19,6 +19,7 @@ use Rattle.siri_exchange.specs.declared.posting.Sent.TheVariants as sent
 use Rattle.siri_exchange.specs.declared.tally.Tally.{Tally}
 use Rattle.siri_ends.specs.Responses.{message_in, turn_steps}
 use Rattle.siri_ends.specs.At.{At}
+use Rattle.siri_ends.specs.InTurn.{FirstInTurn, InTurn}
 
 -- the host and path of an address, where a message has one that is one
 abbrev pub target_of : Option (List ℕ) → Option (List ℕ × List ℕ)
@@ -61,26 +62,30 @@ pub record SendsOne (out : Out) (outcome : Sent) (at next : At) : Type 0 where
   pub history : next.history ≡ at.history ++ steps_after (acknowledgement outcome)
   pub tally : next.tally ≡ tally_after outcome at.tally
 
+-- what an acknowledgement settles
+abbrev pub brings : (name : List ℕ) → Sent → At → List Out
+brings name outcome at = sends_after name at.history (acknowledgement outcome)
+
+-- messages that aren't sent are unsent
+abbrev pub LeavesUnsent : List Out → At → At → Type 0
+LeavesUnsent outs at end = end ≡ record at { tally = with_unsent (length outs) at.tally }
+
 -- Messages are sent in their order, and what an acknowledgement settles joins the end. Of more than so many the rest are unsent.
-unfoldable pub SendsOut : (name : List ℕ) → ℕ → List Out → At → At → Type 0
-SendsOut name zero outs at end = end ≡ record at { tally = with_unsent (length outs) at.tally }
-SendsOut name (suc limit) [] at end = end ≡ at
-SendsOut name (suc limit) (out ∷ rest) at end =
-    (outcome : Sent) × (next : At) × SendsOne out outcome at next
-    × SendsOut name limit (rest ++ sends_after name at.history (acknowledgement outcome)) next end
+abbrev pub SendsOut : (name : List ℕ) → ℕ → List Out → At → At → Type 0
+SendsOut name limit outs at end = InTurn SendsOne (brings name) LeavesUnsent limit outs at end
 
 -- the messages of one turn: at most 100,000 are sent
 abbrev pub SendsAll : List Out → (name : List ℕ) → At → At → Type 0
 SendsAll outs name at end = SendsOut name 100000 outs at end
 
--- Where memory was wanting, the first of these sends were made, and of the next one the first steps, which `Posts` tells.
-unfoldable pub FirstSends : (name : List ℕ) → ℕ → List Out → History → (before after : Option WireState) → Type 0
-FirstSends name zero outs h before after = after ≡ before
-FirstSends name (suc limit) [] h before after = after ≡ before
-FirstSends name (suc limit) (out ∷ rest) h before after =
-    WhereTold before after (Posts (target_of out.address) (canonical out.message) None)
-    ⊎ ((outcome : Sent) × (next : Option WireState) × WhereTold before next (Posts (target_of out.address) (canonical out.message) (Some outcome))
-    × FirstSends name limit (rest ++ sends_after name h (acknowledgement outcome)) (h ++ steps_after (acknowledgement outcome)) next after)
+-- a message's exchange with its address, or the first steps of it, which `Posts` tells
+abbrev pub PostsOut : Out → Option Sent → (before after : Option WireState) → Type 0
+PostsOut out outcome before after = WhereTold before after (Posts (target_of out.address) (canonical out.message) outcome)
+
+-- Where memory was wanting, the first of these sends were made, and of the next one the first steps.
+abbrev pub FirstSends : (name : List ℕ) → ℕ → List Out → History → (before after : Option WireState) → Type 0
+FirstSends name limit outs h before after =
+    FirstInTurn PostsOut (λ outcome h. sends_after name h (acknowledgement outcome)) (λ outcome h. h ++ steps_after (acknowledgement outcome)) limit outs h before after
 
 -- the first sends of one turn, whatever history the producer stood for before them
 abbrev pub SendsSome : List Out → Known → (before after : Option WireState) → Type 0

@@ -1,25 +1,36 @@
-//! The ends of the exchange over HTTP: what a producer answers to whoever connects to it, and what it sends.
+//! The ends of the exchange over HTTP: what a producer or a consumer answers to whoever connects to it, and what it sends.
 //!
 //! ```text
-//!   a connection -> serve_one: reads the request, takes its message, settles, answers and hangs up,
-//!                              and sends out what was settled
-//!   messages     -> send_out:  to each one's address, one after the other; an acknowledgement that comes back is taken,
-//!                              and what that settles joins the messages
+//!   a connection -> serve_one:   the producer takes the message of its request, settles, answers and hangs up, and sends out
+//!                                what was settled
+//!   messages     -> send_out:    to each one's address, one after the other; an acknowledgement that comes back is taken,
+//!                                and what that settles joins the messages
+//!
+//!   a connection -> consume_one: the consumer takes the message of its request, answers the first reply and hangs up, and
+//!                                sends up the further ones
+//!   messages     -> send_up:     to the producer's address, one after the other; a message that comes back is taken, and the
+//!                                replies to it join the messages
 //! ```
 //!
-//! A call is a function of what the wire brings and of the producer's history: its contract says which bytes go to which
-//! connection, which addresses are dialled, and what is counted. It ends well, or for want of memory; what a peer does ends
-//! neither.
+//! A call is a function of what the wire brings and of the producer's history, or of the consumer: its contract says which bytes
+//! go to which connection, which addresses are dialled, and what is counted. It ends well, or for want of memory; what a peer
+//! does ends neither.
 //!
-//! Stands on `siri_exchange` for one exchange over one connection, on `siri_wire` for documents and on `siri_producer`. It
-//! accepts no connection, knows no clock, and waits no bounded time.
+//! Stands on `siri_exchange` for one exchange over one connection, on `siri_wire` for documents, on `siri_producer` and on
+//! `siri_view`, whose consumer's contracts see it as a record. It accepts no connection, knows no clock, and waits no bounded
+//! time.
 #![tactic(auto)]
 
 mod answering;
+mod consuming;
+mod in_turn;
 mod response;
 mod sending;
+mod sending_up;
 mod serving;
 
+pub use consuming::consume_one;
 pub use sending::send_out;
+pub use sending_up::send_up;
 pub use serving::serve_one;
 pub use siri_exchange::Tally;

@@ -10,10 +10,11 @@ ghost use Rattle.siri_exchange.specs.Causes.{HasSentCause, outcome};
 ghost use Rattle.siri_exchange.specs.Posts.{Posts};
 ghost use Rattle.siri_ends.specs.Responses.{message_in, turn_steps};
 ghost use Rattle.siri_ends.specs.At.{Goes, end_of};
-ghost use Rattle.siri_ends.specs.Sending.{SendsAll, SendsSome, acknowledging, acknowledging_in, sends_after, steps_after, target_of};
+ghost use Rattle.siri_ends.specs.Sending.{PostsOut, SendsAll, SendsSome, acknowledging, acknowledging_in, sends_after, steps_after, target_of};
 ghost use Rattle.siri_ends.specs.Turns.{Hears, SendsNext, StopsAt};
 
 use crate::Tally;
+use crate::in_turn::{SEND_LIMIT, append_all};
 use siri_base::{List, OutOfMemory, Wire};
 use siri_exchange::{Sent, post};
 use siri_messages::Message;
@@ -21,9 +22,6 @@ use siri_producer::{Out, Producer};
 use siri_wire::{DecodeError, decode, encode};
 use std::alloc::Global;
 use std::collections::VecDeque;
-
-/// The most messages that are sent in one turn.
-const SEND_LIMIT: u64 = 100_000;
 
 /// Takes an acknowledgement and settles it, and gives what that sends.
 fn settle_acknowledgement(
@@ -71,8 +69,8 @@ fn hear_document(
 /// Sends a message to its address, where it has one.
 #[tactic(auto, using(crate::proofs::Sends::posts_nothing))]
 fn post_out<W: Wire>(alloc: Global, wire: &mut W, out: &Out) -> Result<Sent, OutOfMemory>
-    ensures told { IfOk result (λ sent. WhereTold (W.tells wire.old) (W.tells wire.new) (Posts (target_of out.now.address) (canonical out.now.message) (Some sent))) }
-    ensures err { OnErr result (WhereTold (W.tells wire.old) (W.tells wire.new) (Posts (target_of out.now.address) (canonical out.now.message) None)) }
+    ensures told { IfOk result (λ sent. PostsOut out.now (Some sent) (W.tells wire.old) (W.tells wire.new)) }
+    ensures err { OnErr result (PostsOut out.now None (W.tells wire.old) (W.tells wire.new)) }
     ensures cause { HasSentCause (W.faults wire.old) (W.faults wire.new) (outcome result) }
 {
     match &out.address {
@@ -94,7 +92,7 @@ fn send_one<W: Wire>(
     tally: &mut Tally,
 ) -> Result<List<Out>, OutOfMemory>
     ensures ok { IfOk result (λ more. SendsNext out.now more (end_of producer.old tally.old (W.tells wire.old) (W.faults wire.old)) (end_of producer.new tally.new (W.tells wire.new) (W.faults wire.new))) }
-    ensures err { OnErr result (StopsAt out.now (W.tells wire.old) (W.tells wire.new)) }
+    ensures err { OnErr result (StopsAt (PostsOut out.now) (W.tells wire.old) (W.tells wire.new)) }
 {
     match post_out(alloc, wire, out)? {
         Sent::Accepted(body) => {
@@ -117,17 +115,9 @@ fn send_next<W: Wire>(
     tally: &mut Tally,
 ) -> Result<List<Out>, OutOfMemory>
     ensures ok { IfOk result (λ more. SendsNext out more (end_of producer.old tally.old (W.tells wire.old) (W.faults wire.old)) (end_of producer.new tally.new (W.tells wire.new) (W.faults wire.new))) }
-    ensures err { OnErr result (StopsAt out (W.tells wire.old) (W.tells wire.new)) }
+    ensures err { OnErr result (StopsAt (PostsOut out) (W.tells wire.old) (W.tells wire.new)) }
 {
     send_one(alloc, wire, &out, producer, tally)
-}
-
-/// Puts messages at the end of those that are to be sent.
-fn append_outs(queue: &mut VecDeque<Out>, outs: List<Out>) -> Result<(), OutOfMemory>
-    ensures { OnOk result (queue.new.items ≡ queue.old.items ++ outs) }
-{
-    let mut more = VecDeque::from(outs.into_vec());
-    Ok(queue.append(&mut more)?)
 }
 
 /// Sends messages in their order: each is dialled, written, its response read, and the connection hung up. A
@@ -151,7 +141,7 @@ pub fn send_out<W: Wire>(
             return Ok(());
         };
         let more = send_next(alloc, wire, out, producer, tally)?;
-        append_outs(&mut queue, more)?;
+        append_all(&mut queue, more)?;
         left -= 1;
     }
     tally.count_unsent(queue.len() as u64);

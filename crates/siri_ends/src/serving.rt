@@ -1,79 +1,52 @@
 // Serves a connection.
-ghost use Rattle.std.specs.Prelude.{◌≡◌, ◌≤◌, IfOk, OnOk, OnErr, true, Some};
-ghost use Rattle.siri_base.specs.OutsideCalls.{WhereTold};
-ghost use Rattle.siri_base.specs.Wires.{hung_up};
-ghost use Rattle.siri_http.specs.Texts.{response_text, is_written};
+ghost use Rattle.std.specs.Prelude.{◌≡◌, IfOk, OnOk, OnErr, Some, true};
+ghost use Rattle.siri_http.specs.Texts.{is_written};
 ghost use Rattle.siri_model.specs.History.{History};
 ghost use Rattle.siri_producer.specs.Known.{StandsFor};
-ghost use Rattle.siri_exchange.specs.Responses.{Responds};
-ghost use Rattle.siri_exchange.specs.Causes.{HasResponseCause};
+ghost use Rattle.siri_ends.specs.Responses.{message_asked, producer_reply, replying, response_to};
 ghost use Rattle.siri_ends.specs.At.{Goes, end_of};
-ghost use Rattle.siri_ends.specs.Serving.{Answers, FirstAnswer, ServesOne, ServesSome, StopsWriting, answered_tally, dropped_tally};
-ghost use Rattle.siri_ends.specs.Turns.{AnswersSo, AreWritten, HangsUpSo, WritesSo};
+ghost use Rattle.siri_ends.specs.Serving.{Answers, FirstAnswer, ServesOne, ServesSome};
+ghost use Rattle.siri_ends.specs.Turns.{AreWritten, TakesFor};
 
-use crate::answering::response_to;
-use crate::response::Response;
+use crate::answering::{Brought, brought_by, finish};
+use crate::response::{Response, replying};
 use crate::sending::send_out;
 use siri_base::{List, OutOfMemory, Wire};
-use siri_exchange::{Tally, read_asked, respond};
+use siri_exchange::{Asked, Tally, read_asked};
+use siri_messages::Message;
 use siri_producer::{Out, Producer};
 use std::alloc::Global;
 
-/// Writes a response and hangs up, and counts the connection.
-fn write_answer<W: Wire>(
+/// Takes a message, and gives its answer.
+fn answer_message(
     alloc: Global,
-    wire: &mut W,
-    response: &Response,
-    tally: &mut Tally,
-) -> Result<(), OutOfMemory>
-    requires there { W.is_open wire.old }
-    requires written { is_written response.now.status ≡ true }
-    ensures ok { OnOk result (WritesSo response.now tally.old tally.new (W.tells wire.old) (W.tells wire.new) (W.faults wire.old) (W.faults wire.new)) }
-    ensures err { OnErr result (StopsWriting (Some response.now) (W.tells wire.old) (W.tells wire.new)) }
+    producer: &mut Producer,
+    message: &Message,
+) -> Result<Response, OutOfMemory>
+    ensures stands { OnOk result (TakesFor producer.old producer.new (Some message.now)) }
+    ensures response { IfOk result (λ response. (h : History) → StandsFor producer.old h → response ≡ replying (producer_reply producer.old.responder.name h message.now)) }
+    ensures written { IfOk result (λ response. is_written response.status ≡ true) }
+    ensures name { producer.new.responder.name ≡ producer.old.responder.name }
 {
-    tally.count_served();
-    if response.plain {
-        tally.count_refused();
-    }
-    if !respond(
-        alloc,
-        wire,
-        response.status,
-        response.plain,
-        response.body.slice(),
-    )? {
-        tally.count_dropped();
-    }
-    Ok(())
+    let answer = producer.take(message)?;
+    replying(alloc, answer.reply.as_ref())
 }
 
-/// Hangs up, and counts the connection as dropped.
-fn drop_connection<W: Wire>(wire: &mut W, tally: &mut Tally)
-    ensures { HangsUpSo tally.old tally.new (W.tells wire.old) (W.tells wire.new) (W.faults wire.old) (W.faults wire.new) }
-{
-    wire.hang_up();
-    tally.count_served();
-    tally.count_dropped();
-}
-
-/// Writes the response, where there is one, and hangs up.
-fn finish<W: Wire>(
+/// Takes the message that a connection brings, where it brings one, and gives the answer, where there is one.
+fn response_to(
     alloc: Global,
-    wire: &mut W,
-    response: &Option<Response>,
-    tally: &mut Tally,
-) -> Result<(), OutOfMemory>
-    requires there { W.is_open wire.old }
-    requires written { AreWritten response.now }
-    ensures ok { OnOk result (AnswersSo response.now tally.old tally.new (W.tells wire.old) (W.tells wire.new) (W.faults wire.old) (W.faults wire.new)) }
-    ensures err { OnErr result (StopsWriting response.now (W.tells wire.old) (W.tells wire.new)) }
+    producer: &mut Producer,
+    asked: &Asked,
+) -> Result<Option<Response>, OutOfMemory>
+    ensures stands { OnOk result (TakesFor producer.old producer.new (message_asked asked.now)) }
+    ensures response { IfOk result (λ response. (h : History) → StandsFor producer.old h → response ≡ response_to producer.old.responder.name h asked.now) }
+    ensures written { IfOk result AreWritten }
+    ensures name { producer.new.responder.name ≡ producer.old.responder.name }
 {
-    match response {
-        Some(response) => write_answer(alloc, wire, response, tally),
-        None => {
-            drop_connection(wire, tally);
-            Ok(())
-        }
+    match brought_by(alloc, asked)? {
+        Brought::Message(message) => Ok(Some(answer_message(alloc, producer, &message)?)),
+        Brought::Refused(response) => Ok(Some(response)),
+        Brought::Nothing => Ok(None),
     }
 }
 

@@ -4,7 +4,8 @@
 //!   an accepted connection  -> read_asked ---> a POST with its body, a refused request, or none
 //!                           <- respond    <--- a status and a body; then it hangs up
 //!
-//!   an address and a body   -> post       ---> dials, writes, reads and hangs up: the body of a 200, or none
+//!   an address and a body   -> post_to    ---> dials, writes, reads and hangs up: the body of a 200, or none
+//!   its text and a body     -> post       ---> the same, where the text is an address
 //! ```
 //!
 //! [`Tally`] has the four counts that the ends of a run rise by.
@@ -19,6 +20,6 @@ mod responding;
 mod tally;
 
 pub use asked::{Asked, BadRequest, read_asked};
-pub use posting::{Sent, post};
+pub use posting::{Sent, post, post_to};
 pub use responding::respond;
 pub use tally::Tally;

@@ -75,26 +75,9 @@ fn talk<W: Wire>(
     }
 }
 
-/// Sends a body to an address: dials, writes a POST, reads the response and hangs up. `Failed` comes only where the wire's
-/// count of faults rose; nothing is called where the address is none.
-pub fn post<W: Wire>(
-    alloc: Global,
-    wire: &mut W,
-    address: &Name,
-    body: &[u8],
-) -> Result<Sent, OutOfMemory>
-    ensures told { WhereTold (W.tells wire.old) (W.tells wire.new) (Posts (address_of address.now) body.now (outcome result)) }
-    ensures cause { HasSentCause (W.faults wire.old) (W.faults wire.new) (outcome result) }
-{
-    match read_address(alloc, address) {
-        Ok(address) => send_to(alloc, wire, &address, body),
-        Err(AddressError::BadAddress) => Ok(Sent::Refused),
-        Err(AddressError::OutOfMemory) => Err(OutOfMemory),
-    }
-}
-
-/// Sends a body to this address.
-fn send_to<W: Wire>(
+/// Sends a body to this address: dials, writes a POST, reads the response and hangs up. `Failed` comes only where the wire's
+/// count of faults rose.
+pub fn post_to<W: Wire>(
     alloc: Global,
     wire: &mut W,
     address: &Address,
@@ -107,5 +90,22 @@ fn send_to<W: Wire>(
         Ok(()) => talk(alloc, wire, address, body),
         Err(OutsideError::Failed) => Ok(Sent::Failed),
         Err(OutsideError::OutOfMemory) => Err(OutOfMemory),
+    }
+}
+
+/// Sends a body to an address, as [`post_to`] does. Nothing is called where the address is none.
+pub fn post<W: Wire>(
+    alloc: Global,
+    wire: &mut W,
+    address: &Name,
+    body: &[u8],
+) -> Result<Sent, OutOfMemory>
+    ensures told { WhereTold (W.tells wire.old) (W.tells wire.new) (Posts (address_of address.now) body.now (outcome result)) }
+    ensures cause { HasSentCause (W.faults wire.old) (W.faults wire.new) (outcome result) }
+{
+    match read_address(alloc, address) {
+        Ok(address) => post_to(alloc, wire, &address, body),
+        Err(AddressError::BadAddress) => Ok(Sent::Refused),
+        Err(AddressError::OutOfMemory) => Err(OutOfMemory),
     }
 }
