@@ -1,7 +1,8 @@
 -- Calls of the outside that end a run where they fail.
 use Rattle.std.specs.Prelude.{◌≡◌, ℕ, Option, Result, Ok, Err}
 use Rattle.siri_base.specs.Causes.{HasOutsideCause}
-use Rattle.siri_base.specs.OutsideCalls.{WhereTold}
+use Rattle.siri_base.specs.OutsideCalls.{ClockState, KeeperState, WhereTold}
+use Rattle.siri_base.specs.Wires.{WireState}
 use Rattle.siri_base.specs.declared.errors.OutsideError.{OutsideError}
 use Rattle.siri_network.specs.declared.network_error.NetworkError.{NetworkError}
 
@@ -28,3 +29,12 @@ pub record Fails {State T : Type 0} (Does : State → State → Result T Outside
 abbrev pub Comes : {State T : Type 0} → (State → State → Result T OutsideError → Type 0) → (OutsideError → NetworkError) → Result T NetworkError → Told State → Told State → Type 0
 Comes Does error_of (Ok value) old new = Call Does (Ok value) old new
 Comes Does error_of (Err error) old new = Fails Does error_of error old new
+
+-- what a run over the network is handed beside its source and sink: connections, moments, and the number of its start
+pub record Outside : Type 0 where
+  pub wire : Told WireState
+  pub clock : Told ClockState
+  pub keeper : Told KeeperState
+
+abbrev pub outside_of : Told WireState → Told ClockState → Told KeeperState → Outside
+outside_of wire clock keeper = record { wire = wire; clock = clock; keeper = keeper }

@@ -1,3 +1,3 @@
 mod Causes
+mod Made
 mod Runs
-mod Turns

@@ -1,6 +1,5 @@
--- In order of reading: a run at a moment; how it opens; a turn; the whole run.
-pub mod Running
+-- In order of reading: a producer that serves; how its run opens; the whole run.
+pub mod Serving
 pub mod Opening
-pub mod Turns
 pub mod Runs
-pub mod Openings
+pub mod Steps

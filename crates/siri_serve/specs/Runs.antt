@@ -7,10 +7,11 @@ use Rattle.siri_exchange.specs.declared.tally.Tally.{Tally}
 use Rattle.siri_lines.specs.Ends.{AppendsFront, Bytes}
 use Rattle.siri_network.specs.Summaries.{summary_text}
 use Rattle.siri_network.specs.declared.network_error.NetworkError.{NetworkError}
-use Rattle.siri_network.specs.declared.network_error.NetworkError.TheVariants as error
+use Rattle.siri_network.specs.declared.network_error.NetworkError.TheVariants as errors
 use Rattle.siri_serve.specs.Opening.{FailsToOpen, Opens, opened}
-use Rattle.siri_serve.specs.Running.{Outside, Running}
-use Rattle.siri_serve.specs.Turns.{Turns, TurnsFail}
+use Rattle.siri_network.specs.Calls.{Outside}
+use Rattle.siri_network.specs.Turns.{Running}
+use Rattle.siri_serve.specs.Serving.{EndsInTurns, Serving, ServesTurns}
 
 -- it opened, and every connection was served: this was counted
 pub record ServesAll (name listen : List ℕ) (count : ℕ) (tally : Tally) (from to : Outside) : Type 0 where
@@ -18,9 +19,9 @@ pub record ServesAll (name listen : List ℕ) (count : ℕ) (tally : Tally) (fro
   pub moment : ℕ
   pub open_ : Outside
   pub opens : Opens listen start moment from open_
-  pub end : Running
-  pub turns : Turns name count (opened start moment open_) end
-  pub tally_is : tally ≡ end.tally
+  pub end : Running Serving
+  pub turns : ServesTurns name count (opened start moment open_) end
+  pub tally_is : tally ≡ end.state.tally
   pub outside_is : to ≡ end.outside
 
 -- it opened, and a turn ended it
@@ -29,7 +30,7 @@ pub record FailsToServe (name listen : List ℕ) (count : ℕ) (error : NetworkE
   pub moment : ℕ
   pub open_ : Outside
   pub opens : Opens listen start moment from open_
-  pub fails : TurnsFail count error name (opened start moment open_) to
+  pub fails : EndsInTurns name count error (opened start moment open_) to
 
 -- it ended before every connection was served
 abbrev pub ServesNot : (name listen : List ℕ) → ℕ → NetworkError → Outside → Outside → Type 0
@@ -51,10 +52,10 @@ abbrev pub ServeRun : (name listen : List ℕ) → ℕ → Outside → Outside �
 ServeRun name listen count from to old new status.Done = Summarizes Appends name listen count from to old new
 ServeRun name listen count from to old new status.WriteFault = Summarizes AppendsFront name listen count from to old new
 ServeRun name listen count from to old new status.OutOfMemory =
-    Summarizes AppendsFront name listen count from to old new ⊎ EndsUnwritten name listen count error.OutOfMemory from to old new
-ServeRun name listen count from to old new status.WireFault = EndsUnwritten name listen count error.WireFault from to old new
-ServeRun name listen count from to old new status.ClockFault = EndsUnwritten name listen count error.ClockFault from to old new
-ServeRun name listen count from to old new status.KeeperFault = EndsUnwritten name listen count error.KeeperFault from to old new
+    Summarizes AppendsFront name listen count from to old new ⊎ EndsUnwritten name listen count errors.OutOfMemory from to old new
+ServeRun name listen count from to old new status.WireFault = EndsUnwritten name listen count errors.WireFault from to old new
+ServeRun name listen count from to old new status.ClockFault = EndsUnwritten name listen count errors.ClockFault from to old new
+ServeRun name listen count from to old new status.KeeperFault = EndsUnwritten name listen count errors.KeeperFault from to old new
 ServeRun name listen count from to old new other = ⊥
 
 -- the statuses of a run in which nothing was written

@@ -1,11 +1,8 @@
 // How a run opens.
-ghost use Rattle.std.specs.Prelude.{◌≡◌, [], ◌∷◌, IfOk, IfErr};
-ghost use Rattle.siri_model.specs.History.{Start};
-ghost use Rattle.siri_network.specs.Calls.{told_by};
-ghost use Rattle.siri_producer.specs.Known.{Known, StandsFor};
+ghost use Rattle.std.specs.Prelude.{IfOk, IfErr};
+ghost use Rattle.siri_network.specs.Calls.{outside_of, told_by};
 ghost use Rattle.siri_serve.specs.Opening.{FailsToOpen};
-ghost use Rattle.siri_serve.specs.Openings.{OpensProducer};
-ghost use Rattle.siri_serve.specs.Running.{outside_of};
+ghost use Rattle.siri_serve.specs.Steps.{OpensProducer};
 
 use siri_base::{Clock, Keeper, Name, Wire};
 use siri_network::{NetworkError, listen, now, raise};
@@ -22,11 +19,11 @@ pub fn open<W: Wire, C: Clock, E: Keeper>(
     keeper: &mut E,
 ) -> Result<Producer, NetworkError>
     ensures ok { IfOk result (λ producer. OpensProducer name address.now producer
-        (outside_of (W.tells wire.old) (W.faults wire.old) (C.tells clock.old) (C.faults clock.old) (told_by (E.tells keeper.old) (E.faults keeper.old)))
-        (outside_of (W.tells wire.new) (W.faults wire.new) (C.tells clock.new) (C.faults clock.new) (told_by (E.tells keeper.new) (E.faults keeper.new)))) }
+        (outside_of (told_by (W.tells wire.old) (W.faults wire.old)) (told_by (C.tells clock.old) (C.faults clock.old)) (told_by (E.tells keeper.old) (E.faults keeper.old)))
+        (outside_of (told_by (W.tells wire.new) (W.faults wire.new)) (told_by (C.tells clock.new) (C.faults clock.new)) (told_by (E.tells keeper.new) (E.faults keeper.new)))) }
     ensures err { IfErr result (λ error. FailsToOpen address.now error
-        (outside_of (W.tells wire.old) (W.faults wire.old) (C.tells clock.old) (C.faults clock.old) (told_by (E.tells keeper.old) (E.faults keeper.old)))
-        (outside_of (W.tells wire.new) (W.faults wire.new) (C.tells clock.new) (C.faults clock.new) (told_by (E.tells keeper.new) (E.faults keeper.new)))) }
+        (outside_of (told_by (W.tells wire.old) (W.faults wire.old)) (told_by (C.tells clock.old) (C.faults clock.old)) (told_by (E.tells keeper.old) (E.faults keeper.old)))
+        (outside_of (told_by (W.tells wire.new) (W.faults wire.new)) (told_by (C.tells clock.new) (C.faults clock.new)) (told_by (E.tells keeper.new) (E.faults keeper.new)))) }
 {
     let start = raise(keeper)?;
     listen(wire, address)?;

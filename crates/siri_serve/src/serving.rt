@@ -1,8 +1,7 @@
 // The command `serve`.
-ghost use Rattle.std.specs.Prelude.{◌≡◌, IfErr, IfOk, OnErr};
+ghost use Rattle.std.specs.Prelude.{◌≡◌, IfErr, IfOk};
 ghost use Rattle.siri_base.specs.Causes.{Rose};
-ghost use Rattle.siri_network.specs.Calls.{told_by};
-ghost use Rattle.siri_serve.specs.Running.{outside_of};
+ghost use Rattle.siri_network.specs.Calls.{outside_of, told_by};
 ghost use Rattle.siri_serve.specs.Runs.{EndsServing, ServeRun, ServesAll, ServesNot};
 
 use crate::opening::open;
@@ -29,11 +28,15 @@ pub fn serve<K: Sink, W: Wire, C: Clock, E: Keeper>(
     keeper: &mut E,
 ) -> Status
     ensures run { ServeRun name address.now count
-        (outside_of (W.tells wire.old) (W.faults wire.old) (C.tells clock.old) (C.faults clock.old) (told_by (E.tells keeper.old) (E.faults keeper.old)))
-        (outside_of (W.tells wire.new) (W.faults wire.new) (C.tells clock.new) (C.faults clock.new) (told_by (E.tells keeper.new) (E.faults keeper.new)))
+        (outside_of (told_by (W.tells wire.old) (W.faults wire.old)) (told_by (C.tells clock.old) (C.faults clock.old)) (told_by (E.tells keeper.old) (E.faults keeper.old)))
+        (outside_of (told_by (W.tells wire.new) (W.faults wire.new)) (told_by (C.tells clock.new) (C.faults clock.new)) (told_by (E.tells keeper.new) (E.faults keeper.new)))
         (K.held sink.old) (K.held sink.new) result }
     ensures unwritten { EndsServing result → sink.new ≡ sink.old }
-    ensures write { result ≡ Status.WriteFault → Rose (K.faults sink.old) (K.faults sink.new) }
+    // When each fault comes.
+    ensures write_fault { result ≡ Status.WriteFault → Rose (K.faults sink.old) (K.faults sink.new) }
+    ensures wire_fault { result ≡ Status.WireFault → Rose (W.faults wire.old) (W.faults wire.new) }
+    ensures clock_fault { result ≡ Status.ClockFault → Rose (C.faults clock.old) (C.faults clock.new) }
+    ensures keeper_fault { result ≡ Status.KeeperFault → Rose (E.faults keeper.old) (E.faults keeper.new) }
 {
     match serve_all(alloc, name, address, count, wire, clock, keeper) {
         Ok(tally) => match write_summary(alloc, &tally, sink) {
@@ -56,11 +59,11 @@ fn serve_all<W: Wire, C: Clock, E: Keeper>(
     keeper: &mut E,
 ) -> Result<Tally, NetworkError>
     ensures ok { IfOk result (λ tally. ServesAll name address.now count tally
-        (outside_of (W.tells wire.old) (W.faults wire.old) (C.tells clock.old) (C.faults clock.old) (told_by (E.tells keeper.old) (E.faults keeper.old)))
-        (outside_of (W.tells wire.new) (W.faults wire.new) (C.tells clock.new) (C.faults clock.new) (told_by (E.tells keeper.new) (E.faults keeper.new)))) }
+        (outside_of (told_by (W.tells wire.old) (W.faults wire.old)) (told_by (C.tells clock.old) (C.faults clock.old)) (told_by (E.tells keeper.old) (E.faults keeper.old)))
+        (outside_of (told_by (W.tells wire.new) (W.faults wire.new)) (told_by (C.tells clock.new) (C.faults clock.new)) (told_by (E.tells keeper.new) (E.faults keeper.new)))) }
     ensures err { IfErr result (λ error. ServesNot name address.now count error
-        (outside_of (W.tells wire.old) (W.faults wire.old) (C.tells clock.old) (C.faults clock.old) (told_by (E.tells keeper.old) (E.faults keeper.old)))
-        (outside_of (W.tells wire.new) (W.faults wire.new) (C.tells clock.new) (C.faults clock.new) (told_by (E.tells keeper.new) (E.faults keeper.new)))) }
+        (outside_of (told_by (W.tells wire.old) (W.faults wire.old)) (told_by (C.tells clock.old) (C.faults clock.old)) (told_by (E.tells keeper.old) (E.faults keeper.old)))
+        (outside_of (told_by (W.tells wire.new) (W.faults wire.new)) (told_by (C.tells clock.new) (C.faults clock.new)) (told_by (E.tells keeper.new) (E.faults keeper.new)))) }
 {
     let mut producer = open(alloc, name, address, wire, clock, keeper)?;
     let mut tally = Tally::new();

@@ -1,13 +1,13 @@
 // The turns of a run.
-ghost use Rattle.std.specs.Prelude.{◌≡◌, IfErr, OnOk};
-ghost use Rattle.siri_network.specs.Calls.{Told};
-ghost use Rattle.siri_serve.specs.Running.{Ends, Goes, outside_of, server_of};
-ghost use Rattle.siri_serve.specs.Turns.{Turn, Turns, TurnFails, TurnsFail};
+ghost use Rattle.std.specs.Prelude.{IfErr, OnOk};
 ghost use Rattle.siri_base.specs.OutsideCalls.{KeeperState};
+ghost use Rattle.siri_network.specs.Calls.{Told, outside_of, told_by};
+ghost use Rattle.siri_serve.specs.Serving.{EndsAtTurn, EndsInTurns, ServesTurn, ServesTurns};
+ghost use Rattle.siri_serve.specs.Steps.{Ends, Goes, server_of};
 
 use siri_base::{Clock, Wire};
-use siri_exchange::Tally;
 use siri_ends::serve_one;
+use siri_exchange::Tally;
 use siri_network::{NetworkError, accept, now};
 use siri_producer::Producer;
 use std::alloc::Global;
@@ -20,12 +20,12 @@ fn serve_next<W: Wire, C: Clock>(
     producer: &mut Producer,
     tally: &mut Tally,
 ) -> Result<(), NetworkError>
-    ensures ok { OnOk result ((keeper : Told KeeperState) → Goes Turn
-        (server_of producer.old tally.old (outside_of (W.tells wire.old) (W.faults wire.old) (C.tells clock.old) (C.faults clock.old) keeper))
-        (server_of producer.new tally.new (outside_of (W.tells wire.new) (W.faults wire.new) (C.tells clock.new) (C.faults clock.new) keeper))) }
-    ensures err { IfErr result (λ error. (keeper : Told KeeperState) → Ends (TurnFails error)
-        (server_of producer.old tally.old (outside_of (W.tells wire.old) (W.faults wire.old) (C.tells clock.old) (C.faults clock.old) keeper))
-        (outside_of (W.tells wire.new) (W.faults wire.new) (C.tells clock.new) (C.faults clock.new) keeper)) }
+    ensures ok { OnOk result ((keeper : Told KeeperState) → Goes ServesTurn
+        (server_of producer.old tally.old (outside_of (told_by (W.tells wire.old) (W.faults wire.old)) (told_by (C.tells clock.old) (C.faults clock.old)) keeper))
+        (server_of producer.new tally.new (outside_of (told_by (W.tells wire.new) (W.faults wire.new)) (told_by (C.tells clock.new) (C.faults clock.new)) keeper))) }
+    ensures err { IfErr result (λ error. (keeper : Told KeeperState) → Ends (λ name. EndsAtTurn name error)
+        (server_of producer.old tally.old (outside_of (told_by (W.tells wire.old) (W.faults wire.old)) (told_by (C.tells clock.old) (C.faults clock.old)) keeper))
+        (outside_of (told_by (W.tells wire.new) (W.faults wire.new)) (told_by (C.tells clock.new) (C.faults clock.new)) keeper)) }
 {
     accept(wire)?;
     let moment = now(clock)?;
@@ -43,12 +43,12 @@ pub fn serve_connections<W: Wire, C: Clock>(
     producer: &mut Producer,
     tally: &mut Tally,
 ) -> Result<(), NetworkError>
-    ensures ok { OnOk result ((keeper : Told KeeperState) → Goes (λ name. Turns name count)
-        (server_of producer.old tally.old (outside_of (W.tells wire.old) (W.faults wire.old) (C.tells clock.old) (C.faults clock.old) keeper))
-        (server_of producer.new tally.new (outside_of (W.tells wire.new) (W.faults wire.new) (C.tells clock.new) (C.faults clock.new) keeper))) }
-    ensures err { IfErr result (λ error. (keeper : Told KeeperState) → Ends (TurnsFail count error)
-        (server_of producer.old tally.old (outside_of (W.tells wire.old) (W.faults wire.old) (C.tells clock.old) (C.faults clock.old) keeper))
-        (outside_of (W.tells wire.new) (W.faults wire.new) (C.tells clock.new) (C.faults clock.new) keeper)) }
+    ensures ok { OnOk result ((keeper : Told KeeperState) → Goes (λ name. ServesTurns name count)
+        (server_of producer.old tally.old (outside_of (told_by (W.tells wire.old) (W.faults wire.old)) (told_by (C.tells clock.old) (C.faults clock.old)) keeper))
+        (server_of producer.new tally.new (outside_of (told_by (W.tells wire.new) (W.faults wire.new)) (told_by (C.tells clock.new) (C.faults clock.new)) keeper))) }
+    ensures err { IfErr result (λ error. (keeper : Told KeeperState) → Ends (λ name. EndsInTurns name count error)
+        (server_of producer.old tally.old (outside_of (told_by (W.tells wire.old) (W.faults wire.old)) (told_by (C.tells clock.old) (C.faults clock.old)) keeper))
+        (outside_of (told_by (W.tells wire.new) (W.faults wire.new)) (told_by (C.tells clock.new) (C.faults clock.new)) keeper)) }
 {
     for _turn in 0..count {
         serve_next(alloc, wire, clock, producer, tally)?;

@@ -1,0 +1,13 @@
+-- A consumer that a run opened with.
+use Rattle.std.specs.Prelude.{◌≡◌, ℕ, List}
+use Rattle.siri_lines.specs.Ends.{Bytes}
+use Rattle.siri_view.specs.Consuming.{Consuming}
+use Rattle.siri_wire.specs.declared.wanted.Wanted.{Wanted}
+use Rattle.siri_network.specs.Calls.{Outside}
+use Rattle.siri_consume.specs.Opening.{Opens, opened}
+
+pub record OpensConsumer (name listen : List ℕ) (input : Bytes) (list : List Wanted) (consumer : Consuming) (from to : Outside) : Type 0 where
+  pub start : ℕ
+  pub moment : ℕ
+  pub opens : Opens name listen input start list moment from to
+  pub consumer_is : consumer ≡ opened name listen start moment

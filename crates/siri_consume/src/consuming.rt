@@ -1,0 +1,116 @@
+// The command `consume`.
+ghost use Rattle.std.specs.Prelude.{◌≡◌, ◌≤◌, ◌++◌, length, IfErr, IfOk, OnErr, OnOk};
+ghost use Rattle.std.specs.Io.KnownBytes.{Appends};
+ghost use Rattle.siri_base.specs.Causes.{HasOutsideCause, Rose};
+ghost use Rattle.siri_lines.specs.Ends.{AppendsFront, ReadsAll};
+ghost use Rattle.siri_network.specs.Calls.{outside_of, told_by};
+ghost use Rattle.siri_consume.specs.Runs.{ConsumeRun, ConsumesAll, ConsumesNot, EndsConsuming, end_text};
+
+use crate::opening::{Opened, open};
+use crate::turns::{ask_all, consume_connections};
+use crate::views::write_views;
+use siri_base::{Clock, Keeper, Name, OutOfMemory, OutsideError, Sink, Source, Status, Wire};
+use siri_ends::{Tally, send_up};
+use siri_http::Address;
+use siri_network::write_summary;
+use siri_view::Consumer;
+use std::alloc::Global;
+
+/// What a run comes to.
+#[derive(Drop)]
+struct Consumed {
+    consumer: Consumer,
+    tally: Tally,
+}
+
+/// A consumer of this name for so many connections at `HOST:PORT`, of at most 247 bytes: it raises the number of its start, reads its
+/// lines, each a wanted subscription, reads the clock, listens, and asks the producer for all that is wanted; then it answers each
+/// connection at the clock's moment. In the end it writes its views and `served N refused R dropped D unsent U`.
+///
+/// `Script` and `Limit` exactly at the first line that isn't taken. `ReadFault`, `KeeperFault`, `WireFault` and `ClockFault` only where the
+/// source, the keeper, the wire or the clock failed, the wire to listen or to accept; nothing is written then, nor where a line
+/// isn't taken. `WriteFault` only where the sink failed, `OutOfMemory` wherever memory is asked for, otherwise `Done`.
+pub fn consume<S: Source, K: Sink, W: Wire, C: Clock, E: Keeper>(
+    alloc: Global,
+    name: Name,
+    address: &Name,
+    producer: &Address,
+    count: u64,
+    source: &mut S,
+    sink: &mut K,
+    wire: &mut W,
+    clock: &mut C,
+    keeper: &mut E,
+) -> Status
+    requires { length address.now ≤ 247 }
+    ensures run { ConsumeRun name address.now (producer.now.host, producer.now.path) count (S.left source.old) (S.left source.new)
+        (outside_of (told_by (W.tells wire.old) (W.faults wire.old)) (told_by (C.tells clock.old) (C.faults clock.old)) (told_by (E.tells keeper.old) (E.faults keeper.old)))
+        (outside_of (told_by (W.tells wire.new) (W.faults wire.new)) (told_by (C.tells clock.new) (C.faults clock.new)) (told_by (E.tells keeper.new) (E.faults keeper.new)))
+        (K.held sink.old) (K.held sink.new) result }
+    ensures all { ReadsAll (S.left source.new) result }
+    ensures unwritten { EndsConsuming result → sink.new ≡ sink.old }
+    // When each fault comes.
+    ensures read_fault { result ≡ Status.ReadFault → Rose (S.faults source.old) (S.faults source.new) }
+    ensures write_fault { result ≡ Status.WriteFault → Rose (K.faults sink.old) (K.faults sink.new) }
+    ensures wire_fault { result ≡ Status.WireFault → Rose (W.faults wire.old) (W.faults wire.new) }
+    ensures clock_fault { result ≡ Status.ClockFault → Rose (C.faults clock.old) (C.faults clock.new) }
+    ensures keeper_fault { result ≡ Status.KeeperFault → Rose (E.faults keeper.old) (E.faults keeper.new) }
+{
+    match consume_all(
+        alloc, name, address, producer, count, source, wire, clock, keeper,
+    ) {
+        Ok(consumed) => match write_end(alloc, &consumed, sink) {
+            Ok(()) => Status::Done,
+            Err(OutsideError::Failed) => Status::WriteFault,
+            Err(OutsideError::OutOfMemory) => Status::OutOfMemory,
+        },
+        Err(end) => end,
+    }
+}
+
+/// Writes the views and the summary.
+fn write_end<K: Sink>(alloc: Global, consumed: &Consumed, sink: &mut K) -> Result<(), OutsideError>
+    ensures ok { OnOk result (Appends (K.held sink.old) (K.held sink.new) (end_text (record { consumer = consumed.now.consumer; tally = consumed.now.tally }))) }
+    ensures err { OnErr result (AppendsFront (K.held sink.old) (K.held sink.new) (end_text (record { consumer = consumed.now.consumer; tally = consumed.now.tally }))) }
+    ensures cause { HasOutsideCause (K.faults sink.old) (K.faults sink.new) result }
+{
+    write_views(alloc, &consumed.consumer, sink)?;
+    write_summary(alloc, &consumed.tally, sink)
+}
+
+/// Opens, asks, and answers all connections.
+fn consume_all<S: Source, W: Wire, C: Clock, E: Keeper>(
+    alloc: Global,
+    name: Name,
+    address: &Name,
+    producer: &Address,
+    count: u64,
+    source: &mut S,
+    wire: &mut W,
+    clock: &mut C,
+    keeper: &mut E,
+) -> Result<Consumed, Status>
+    requires { length address.now ≤ 247 }
+    ensures ok { IfOk result (λ consumed. ConsumesAll name address.now (producer.now.host, producer.now.path) count (S.left source.old) (record { consumer = consumed.consumer; tally = consumed.tally })
+        (outside_of (told_by (W.tells wire.old) (W.faults wire.old)) (told_by (C.tells clock.old) (C.faults clock.old)) (told_by (E.tells keeper.old) (E.faults keeper.old)))
+        (outside_of (told_by (W.tells wire.new) (W.faults wire.new)) (told_by (C.tells clock.new) (C.faults clock.new)) (told_by (E.tells keeper.new) (E.faults keeper.new)))) }
+    ensures err { IfErr result (λ end. ConsumesNot name address.now (producer.now.host, producer.now.path) count (S.left source.old) (S.left source.new) end
+        (outside_of (told_by (W.tells wire.old) (W.faults wire.old)) (told_by (C.tells clock.old) (C.faults clock.old)) (told_by (E.tells keeper.old) (E.faults keeper.old)))
+        (outside_of (told_by (W.tells wire.new) (W.faults wire.new)) (told_by (C.tells clock.new) (C.faults clock.new)) (told_by (E.tells keeper.new) (E.faults keeper.new)))) }
+    ensures all { OnOk result (ReadsAll (S.left source.new) Status.Done) }
+    ensures read { IfErr result (λ end. end ≡ Status.ReadFault → Rose (S.faults source.old) (S.faults source.new)) }
+{
+    let Opened {
+        mut consumer,
+        wanted,
+    } = open(alloc, name, address, source, wire, clock, keeper)?;
+    let mut tally = Tally::new();
+    match ask_all(alloc, producer, wire, &mut consumer, wanted, &mut tally) {
+        Ok(()) => {}
+        Err(OutOfMemory) => return Err(Status::OutOfMemory),
+    }
+    consume_connections(
+        alloc, count, producer, wire, clock, &mut consumer, &mut tally,
+    )?;
+    Ok(Consumed { consumer, tally })
+}
