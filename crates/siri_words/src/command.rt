@@ -1,0 +1,231 @@
+// The commands.
+ghost use Rattle.std.specs.Prelude.{◌≡◌, map, string_bytes, None, Ok, IfOk};
+ghost use Rattle.std.specs.List.{list_any};
+ghost use Rattle.siri_words.specs.Commands as Spec;
+
+use crate::arguments::{count_of, is_listen, is_name, is_producer, name_of, producer_of};
+use siri_base::{Name, OutOfMemory};
+use siri_http::{Address, number_of};
+use std::alloc::Global;
+
+/// The most events of a load.
+const MOST_EVENTS: u64 = 20_000;
+
+/// The most connections that a producer or a consumer takes.
+const MOST_CONNECTIONS: u64 = 1_000_000;
+
+/// What the words ask for.
+#[derive(Debug, Drop)]
+pub enum Command {
+    /// Reads a script, and writes its report.
+    Replay,
+    /// Reads one document, and writes the name of its message, or the refusal.
+    Check,
+    /// Reads one document, and writes its message's canonical text, or the refusal.
+    Convert,
+    /// Plays a large script that is made from a number, and writes one line of it.
+    Load {
+        /// The number that it is made from.
+        seed: u64,
+        /// How many events are drawn, at most 20,000.
+        count: u64,
+    },
+    /// Is a producer on a network.
+    Serve {
+        /// The producer's name.
+        name: Name,
+        /// The host and the port that it listens at.
+        listen: Name,
+        /// How many connections it takes, 1 to 1,000,000.
+        count: u64,
+    },
+    /// Is a consumer on a network.
+    Consume {
+        /// The consumer's name.
+        name: Name,
+        /// The host and the port that it listens at.
+        listen: Name,
+        /// Where its producer listens.
+        producer: Address,
+        /// How many connections it takes, 1 to 1,000,000.
+        count: u64,
+    },
+}
+
+impl Command {
+    /// The command of the words after the program's name, or `None` exactly where they are no plain spelling of one, which
+    /// takes no memory.
+    #[tactic(auto, unfolding(crate::specs::Commands::command_of), using(crate::proofs::Lists::any_of_map))]
+    pub fn read(alloc: Global, words: &[String]) -> Result<Option<Command>, OutOfMemory>
+        ensures value { IfOk result (λ command. command ≡ Spec.command_of (map string_bytes words.now)) }
+        ensures none { Spec.command_of (map string_bytes words.now) ≡ None → result ≡ Ok None }
+    {
+        if begin_with_minus(words) {
+            return Ok(None);
+        }
+        Command::by(alloc, words)
+    }
+
+    /// The command of words of which none begins with `-`.
+    fn by(alloc: Global, words: &[String]) -> Result<Option<Command>, OutOfMemory>
+        ensures value { IfOk result (λ command. command ≡ Spec.command_by (map string_bytes words.now)) }
+        ensures none { Spec.command_by (map string_bytes words.now) ≡ None → result ≡ Ok None }
+    {
+        match words {
+            [] => Ok(None),
+            [word, arguments @ ..] => Command::with(alloc, word.as_str(), arguments),
+        }
+    }
+
+    /// The command of a word with its arguments.
+    #[tactic(auto, unfolding(crate::specs::Commands::command_with))]
+    fn with(alloc: Global, word: &str, arguments: &[String]) -> Result<Option<Command>, OutOfMemory>
+        ensures value { IfOk result (λ command. command ≡ Spec.command_with word.now (map string_bytes arguments.now)) }
+        ensures none { Spec.command_with word.now (map string_bytes arguments.now) ≡ None → result ≡ Ok None }
+    {
+        if word == "load" {
+            Ok(Command::load(arguments))
+        } else if word == "serve" {
+            Command::serve(alloc, arguments)
+        } else if word == "consume" {
+            Command::consume(alloc, arguments)
+        } else {
+            Ok(Command::plain(word, arguments))
+        }
+    }
+
+    fn plain(word: &str, arguments: &[String]) -> Option<Command>
+        ensures { result ≡ Spec.plain_of word.now (map string_bytes arguments.now) }
+    {
+        match arguments {
+            [] => Command::named(word),
+            [_, ..] => None,
+        }
+    }
+
+    fn named(word: &str) -> Option<Command>
+        ensures { result ≡ Spec.command_named word.now }
+    {
+        if word == "replay" {
+            Some(Command::Replay)
+        } else if word == "check" {
+            Some(Command::Check)
+        } else if word == "convert" {
+            Some(Command::Convert)
+        } else {
+            None
+        }
+    }
+
+    #[tactic(auto, using(crate::proofs::Lists::no_load))]
+    fn load(arguments: &[String]) -> Option<Command>
+        ensures { result ≡ Spec.load_of (map string_bytes arguments.now) }
+    {
+        match arguments {
+            [seed, count] => Command::load_by(seed.as_str(), count.as_str()),
+            _ => None,
+        }
+    }
+
+    #[tactic(auto, unfolding(crate::specs::Commands::load_by))]
+    fn load_by(seed: &str, count: &str) -> Option<Command>
+        ensures { result ≡ Spec.load_by seed.now count.now }
+    {
+        Some(Command::Load {
+            seed: number_of(seed.as_bytes())?,
+            count: count_of(count, 0, MOST_EVENTS)?,
+        })
+    }
+
+    #[tactic(auto, using(crate::proofs::Lists::no_serve))]
+    fn serve(alloc: Global, arguments: &[String]) -> Result<Option<Command>, OutOfMemory>
+        ensures value { IfOk result (λ command. command ≡ Spec.serve_of (map string_bytes arguments.now)) }
+        ensures none { Spec.serve_of (map string_bytes arguments.now) ≡ None → result ≡ Ok None }
+    {
+        match arguments {
+            [name, listen, count] => {
+                Command::serve_by(alloc, name.as_str(), listen.as_str(), count.as_str())
+            }
+            _ => Ok(None),
+        }
+    }
+
+    #[tactic(auto, unfolding(crate::specs::Commands::serve_by))]
+    fn serve_by(
+        alloc: Global,
+        name: &str,
+        listen: &str,
+        count: &str,
+    ) -> Result<Option<Command>, OutOfMemory>
+        ensures value { IfOk result (λ command. command ≡ Spec.serve_by name.now listen.now count.now) }
+        ensures none { Spec.serve_by name.now listen.now count.now ≡ None → result ≡ Ok None }
+    {
+        let Some(count) = count_of(count, 1, MOST_CONNECTIONS) else {
+            return Ok(None);
+        };
+        if !is_name(name) || !is_listen(listen) {
+            return Ok(None);
+        }
+        Ok(Some(Command::Serve {
+            name: name_of(alloc, name)?,
+            listen: name_of(alloc, listen)?,
+            count,
+        }))
+    }
+
+    #[tactic(auto, using(crate::proofs::Lists::no_consume))]
+    fn consume(alloc: Global, arguments: &[String]) -> Result<Option<Command>, OutOfMemory>
+        ensures value { IfOk result (λ command. command ≡ Spec.consume_of (map string_bytes arguments.now)) }
+        ensures none { Spec.consume_of (map string_bytes arguments.now) ≡ None → result ≡ Ok None }
+    {
+        match arguments {
+            [name, listen, producer, count] => Command::consume_by(
+                alloc,
+                name.as_str(),
+                listen.as_str(),
+                producer.as_str(),
+                count.as_str(),
+            ),
+            _ => Ok(None),
+        }
+    }
+
+    #[tactic(auto, unfolding(crate::specs::Commands::consume_by))]
+    fn consume_by(
+        alloc: Global,
+        name: &str,
+        listen: &str,
+        producer: &str,
+        count: &str,
+    ) -> Result<Option<Command>, OutOfMemory>
+        ensures value { IfOk result (λ command. command ≡ Spec.consume_by name.now listen.now producer.now count.now) }
+        ensures none { Spec.consume_by name.now listen.now producer.now count.now ≡ None → result ≡ Ok None }
+    {
+        let Some(count) = count_of(count, 1, MOST_CONNECTIONS) else {
+            return Ok(None);
+        };
+        if !is_name(name) || !is_listen(listen) || !is_producer(producer) {
+            return Ok(None);
+        }
+        Ok(Some(Command::Consume {
+            name: name_of(alloc, name)?,
+            listen: name_of(alloc, listen)?,
+            producer: producer_of(alloc, producer)?,
+            count,
+        }))
+    }
+}
+
+/// Whether a word begins with `-`.
+fn begins_with_minus(word: &str) -> bool
+    ensures { result ≡ Spec.begins_with_minus word.now }
+{
+    matches!(word.as_bytes(), [b'-', ..])
+}
+
+/// Whether one of the words begins with `-`.
+fn begin_with_minus(words: &[String]) -> bool
+    ensures { result ≡ list_any (λ word. Spec.begins_with_minus (string_bytes word)) words.now }
+{
+    words.iter().any(|word| begins_with_minus(word.as_str()))
+}
