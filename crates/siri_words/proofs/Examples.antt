@@ -1,8 +1,8 @@
 -- Words, and what they ask for.
-use Rattle.std.proofs.Common.{◌≡◌, ℕ, List, [], ◌∷◌, codes, refl, true, false, Some, None}
+use Rattle.std.proofs.Common.{◌≡◌, [], ◌∷◌, codes, refl, true, false, Some, None}
 use Rattle.siri_http.specs.Addresses.{address_of, is_host_with_port}
 use Rattle.siri_http.specs.Bodies.{number_of}
-use Rattle.siri_words.specs.Arguments.{is_name, is_listen, producer_of, count_of}
+use Rattle.siri_words.specs.Arguments.{is_listen, producer_of, count_of}
 use Rattle.siri_words.specs.Commands.{load_by, serve_by, consume_by, command_with, command_of}
 use Rattle.siri_words.specs.declared.command.Command.TheVariants.{Replay, Check, Convert, Load, Serve, Consume}
 

@@ -1,5 +1,5 @@
 -- The forms of the arguments of commands.
-use Rattle.std.specs.Prelude.{ℕ, List, [], ◌∷◌, length, Bool, true, not, ◌==◌, ◌&&◌, nat_le, Option, Some, None, option_map, if◌then◌else◌}
+use Rattle.std.specs.Prelude.{ℕ, List, ◌∷◌, length, Bool, true, not, ◌==◌, ◌&&◌, nat_le, Option, Some, None, option_map, if◌then◌else◌}
 use Rattle.siri_http.specs.Addresses.{address_of, is_host_with_port}
 use Rattle.siri_http.specs.Bodies.{number_of}
 use Rattle.siri_http.specs.declared.address.Address.{Address}

@@ -6,6 +6,12 @@ use siri_base::{Name, OutOfMemory, TextError};
 use siri_http::{Address, AddressError, is_address, is_host_with_port, number_of, read_address};
 use std::alloc::Global;
 
+/// The most events of a load.
+pub const MOST_EVENTS: u64 = 20_000;
+
+/// The most connections that a producer or a consumer takes.
+pub const MOST_CONNECTIONS: u64 = 1_000_000;
+
 /// Whether a word is a NAME: 1 to 255 bytes.
 pub fn is_name(word: &str) -> bool
     ensures { result ≡ Spec.is_name word.now }

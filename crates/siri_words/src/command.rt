@@ -3,16 +3,12 @@ ghost use Rattle.std.specs.Prelude.{◌≡◌, map, string_bytes, None, Ok, IfOk
 ghost use Rattle.std.specs.List.{list_any};
 ghost use Rattle.siri_words.specs.Commands as Spec;
 
-use crate::arguments::{count_of, is_listen, is_name, is_producer, name_of, producer_of};
+use crate::consume::consume;
+use crate::load::load;
+use crate::serve::serve;
 use siri_base::{Name, OutOfMemory};
-use siri_http::{Address, number_of};
+use siri_http::Address;
 use std::alloc::Global;
-
-/// The most events of a load.
-const MOST_EVENTS: u64 = 20_000;
-
-/// The most connections that a producer or a consumer takes.
-const MOST_CONNECTIONS: u64 = 1_000_000;
 
 /// What the words ask for.
 #[derive(Debug, Drop)]
@@ -84,11 +80,11 @@ impl Command {
         ensures none { Spec.command_with word.now (map string_bytes arguments.now) ≡ None → result ≡ Ok None }
     {
         if word == "load" {
-            Ok(Command::load(arguments))
+            load(alloc, arguments)
         } else if word == "serve" {
-            Command::serve(alloc, arguments)
+            serve(alloc, arguments)
         } else if word == "consume" {
-            Command::consume(alloc, arguments)
+            consume(alloc, arguments)
         } else {
             Ok(Command::plain(word, arguments))
         }
@@ -115,104 +111,6 @@ impl Command {
         } else {
             None
         }
-    }
-
-    #[tactic(auto, using(crate::proofs::Lists::no_load))]
-    fn load(arguments: &[String]) -> Option<Command>
-        ensures { result ≡ Spec.load_of (map string_bytes arguments.now) }
-    {
-        match arguments {
-            [seed, count] => Command::load_by(seed.as_str(), count.as_str()),
-            _ => None,
-        }
-    }
-
-    #[tactic(auto, unfolding(crate::specs::Commands::load_by))]
-    fn load_by(seed: &str, count: &str) -> Option<Command>
-        ensures { result ≡ Spec.load_by seed.now count.now }
-    {
-        Some(Command::Load {
-            seed: number_of(seed.as_bytes())?,
-            count: count_of(count, 0, MOST_EVENTS)?,
-        })
-    }
-
-    #[tactic(auto, using(crate::proofs::Lists::no_serve))]
-    fn serve(alloc: Global, arguments: &[String]) -> Result<Option<Command>, OutOfMemory>
-        ensures value { IfOk result (λ command. command ≡ Spec.serve_of (map string_bytes arguments.now)) }
-        ensures none { Spec.serve_of (map string_bytes arguments.now) ≡ None → result ≡ Ok None }
-    {
-        match arguments {
-            [name, listen, count] => {
-                Command::serve_by(alloc, name.as_str(), listen.as_str(), count.as_str())
-            }
-            _ => Ok(None),
-        }
-    }
-
-    #[tactic(auto, unfolding(crate::specs::Commands::serve_by))]
-    fn serve_by(
-        alloc: Global,
-        name: &str,
-        listen: &str,
-        count: &str,
-    ) -> Result<Option<Command>, OutOfMemory>
-        ensures value { IfOk result (λ command. command ≡ Spec.serve_by name.now listen.now count.now) }
-        ensures none { Spec.serve_by name.now listen.now count.now ≡ None → result ≡ Ok None }
-    {
-        let Some(count) = count_of(count, 1, MOST_CONNECTIONS) else {
-            return Ok(None);
-        };
-        if !is_name(name) || !is_listen(listen) {
-            return Ok(None);
-        }
-        Ok(Some(Command::Serve {
-            name: name_of(alloc, name)?,
-            listen: name_of(alloc, listen)?,
-            count,
-        }))
-    }
-
-    #[tactic(auto, using(crate::proofs::Lists::no_consume))]
-    fn consume(alloc: Global, arguments: &[String]) -> Result<Option<Command>, OutOfMemory>
-        ensures value { IfOk result (λ command. command ≡ Spec.consume_of (map string_bytes arguments.now)) }
-        ensures none { Spec.consume_of (map string_bytes arguments.now) ≡ None → result ≡ Ok None }
-    {
-        match arguments {
-            [name, listen, producer, count] => Command::consume_by(
-                alloc,
-                name.as_str(),
-                listen.as_str(),
-                producer.as_str(),
-                count.as_str(),
-            ),
-            _ => Ok(None),
-        }
-    }
-
-    #[tactic(auto, unfolding(crate::specs::Commands::consume_by))]
-    fn consume_by(
-        alloc: Global,
-        name: &str,
-        listen: &str,
-        producer: &str,
-        count: &str,
-    ) -> Result<Option<Command>, OutOfMemory>
-        ensures value { IfOk result (λ command. command ≡ Spec.consume_by name.now listen.now producer.now count.now) }
-        ensures none { Spec.consume_by name.now listen.now producer.now count.now ≡ None → result ≡ Ok None }
-    {
-        let Some(count) = count_of(count, 1, MOST_CONNECTIONS) else {
-            return Ok(None);
-        };
-        if !is_name(name) || !is_listen(listen) || !is_producer(producer) {
-            return Ok(None);
-        }
-        Ok(Some(Command::Consume {
-            name: name_of(alloc, name)?,
-            listen: name_of(alloc, listen)?,
-            producer: producer_of(alloc, producer)?,
-            count,
-        }))
     }
 }
 
