@@ -15,7 +15,7 @@ is_listen word = nat_le 1 (length word) && (nat_le (length word) 247 && is_host_
 abbrev pub address : List ℕ × List ℕ → Address
 address parts = record { host = parts.0; path = parts.1 }
 
--- PRODUCER: the address `http://HOST[:PORT][/PATH]` of at most 255 bytes
+-- PRODUCER: the address `http://HOST[:PORT][/PATH]`, of 1 to 255 bytes as a NAME
 unfoldable pub producer_of : List ℕ → Option Address
 producer_of word = if is_name word then option_map address (address_of word) else None
 

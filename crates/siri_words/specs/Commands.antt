@@ -8,13 +8,17 @@ use Rattle.siri_words.specs.Arguments.{is_name, is_listen, producer_of, count_of
 use Rattle.siri_words.specs.declared.command.Command.{Command}
 use Rattle.siri_words.specs.declared.command.Command.TheVariants.{Replay, Check, Convert, Load, Serve, Consume}
 
+-- the word is that text
+abbrev pub is_word : (word text : List ℕ) → Bool
+is_word word text = pointwise nat_eq word text
+
 -- ---- `replay`, `check`, `convert`
 
 abbrev pub command_named : List ℕ → Option Command
 command_named word =
-    if pointwise nat_eq word (codes "replay") then Some Replay
-    else if pointwise nat_eq word (codes "check") then Some Check
-    else if pointwise nat_eq word (codes "convert") then Some Convert
+    if is_word word (codes "replay") then Some Replay
+    else if is_word word (codes "check") then Some Check
+    else if is_word word (codes "convert") then Some Convert
     else None
 
 -- a command without arguments
@@ -67,9 +71,9 @@ consume_of arguments = None
 -- what a word asks for with its arguments
 unfoldable pub command_with : List ℕ → List (List ℕ) → Option Command
 command_with word arguments =
-    if pointwise nat_eq word (codes "load") then load_of arguments
-    else if pointwise nat_eq word (codes "serve") then serve_of arguments
-    else if pointwise nat_eq word (codes "consume") then consume_of arguments
+    if is_word word (codes "load") then load_of arguments
+    else if is_word word (codes "serve") then serve_of arguments
+    else if is_word word (codes "consume") then consume_of arguments
     else plain_of word arguments
 
 abbrev pub command_by : List (List ℕ) → Option Command

@@ -9,7 +9,7 @@ use std::alloc::Global;
 /// The most events of a load.
 pub const MOST_EVENTS: u64 = 20_000;
 
-/// The most connections that a producer or a consumer takes.
+/// The most connections that a producer or a consumer serves.
 pub const MOST_CONNECTIONS: u64 = 1_000_000;
 
 /// Whether a word is a NAME: 1 to 255 bytes.

@@ -26,24 +26,24 @@ pub enum Command {
         /// How many events are drawn, at most 20,000.
         count: u64,
     },
-    /// Is a producer on a network.
+    /// Serves connections as a producer.
     Serve {
         /// The producer's name.
         name: Name,
         /// The host and the port that it listens at.
         listen: Name,
-        /// How many connections it takes, 1 to 1,000,000.
+        /// How many connections it serves, 1 to 1,000,000.
         count: u64,
     },
-    /// Is a consumer on a network.
+    /// Serves connections as a consumer of one producer.
     Consume {
         /// The consumer's name.
         name: Name,
         /// The host and the port that it listens at.
         listen: Name,
-        /// Where its producer listens.
+        /// The producer's address.
         producer: Address,
-        /// How many connections it takes, 1 to 1,000,000.
+        /// How many connections it serves, 1 to 1,000,000.
         count: u64,
     },
 }
