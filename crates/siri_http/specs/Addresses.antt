@@ -63,3 +63,8 @@ after_scheme text = authority (take (before 47 text) text) (drop (before 47 text
 -- The host with its port, and the path, of the address `http://HOST[:PORT][/PATH]`; `None` where the text is none.
 unfoldable pub address_of : List ℕ → Option (List ℕ × List ℕ)
 address_of text = if starts_with nat_eq text scheme then after_scheme (drop 7 text) else None
+
+-- `HOST:PORT`, where the port is not left out
+unfoldable pub is_host_with_port : List ℕ → Bool
+is_host_with_port text =
+    is_host (take (before 58 text) text) && (nat_le 1 (length (drop (before 58 text) text)) && is_port (drop (before 58 text) text))

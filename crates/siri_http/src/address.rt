@@ -1,5 +1,5 @@
 // The addresses that messages are sent to.
-ghost use Rattle.std.specs.Prelude.{◌≡◌, ◌≤◌, ◌+◌, ◌↔◌, true, length, IfOk, Some, None, IsErrOf, IsAscii};
+ghost use Rattle.std.specs.Prelude.{◌≡◌, ◌≤◌, ◌+◌, ◌↔◌, true, is_some, length, IfOk, Some, None, IsErrOf, IsAscii};
 ghost use Rattle.std.specs.List.{list_all};
 ghost use Rattle.std.specs.Char.{is_ascii_graphic};
 ghost use Rattle.siri_http.specs.declared.address.AddressError.TheVariants.{OutOfMemory};
@@ -223,4 +223,36 @@ pub fn read_address(alloc: Global, text: &Name) -> Result<Address, AddressError>
     }
     let (_, rest) = bytes.split_at(7);
     read_parts(alloc, rest)
+}
+
+/// Whether what comes after the scheme has its form.
+fn has_parts(rest: &[u8]) -> bool
+    ensures { result ≡ is_some (Spec.after_scheme rest.now) }
+{
+    let (authority, path) = rest.split_at(before(b'/', rest));
+    let (host, port) = authority.split_at(before(b':', authority));
+    are_parts(host, port, path)
+}
+
+/// Whether a text is an address, of whatever length. It takes no memory.
+#[tactic(auto, using(crate::proofs::AddressTexts::address_is, crate::proofs::AddressTexts::address_none))]
+pub fn is_address(text: &str) -> bool
+    ensures { result ≡ is_some (Spec.address_of text.now) }
+{
+    let bytes = text.as_bytes();
+    if !bytes.starts_with(b"http://") {
+        return false;
+    }
+    let (_, rest) = bytes.split_at(7);
+    has_parts(rest)
+}
+
+/// Whether a text is a host with its port, `HOST:PORT`, of whatever length. It takes no memory.
+#[tactic(auto, unfolding(crate::specs::Addresses::is_host_with_port))]
+pub fn is_host_with_port(text: &str) -> bool
+    ensures { result ≡ Spec.is_host_with_port text.now }
+{
+    let bytes = text.as_bytes();
+    let (host, port) = bytes.split_at(before(b':', bytes));
+    is_host(host) && port.len() >= 1 && is_port(port)
 }

@@ -25,8 +25,9 @@ mod response;
 mod scan;
 mod writing;
 
-pub use address::{Address, AddressError, read_address};
+pub use address::{Address, AddressError, is_address, is_host_with_port, read_address};
 pub use errors::HttpError;
+pub use fields::number_of;
 pub use request::{HttpRequest, read_request};
 pub use response::{HttpResponse, read_response};
 pub use writing::{write_request, write_response};

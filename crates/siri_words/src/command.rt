@@ -1,0 +1,129 @@
+// The commands.
+ghost use Rattle.std.specs.Prelude.{◌≡◌, map, string_bytes, None, Ok, IfOk};
+ghost use Rattle.std.specs.List.{list_any};
+ghost use Rattle.siri_words.specs.Commands as Spec;
+
+use crate::consume::consume;
+use crate::load::load;
+use crate::serve::serve;
+use siri_base::{Name, OutOfMemory};
+use siri_http::Address;
+use std::alloc::Global;
+
+/// What the words ask for.
+#[derive(Debug, Drop)]
+pub enum Command {
+    /// Reads a script, and writes its report.
+    Replay,
+    /// Reads one document, and writes the name of its message, or the refusal.
+    Check,
+    /// Reads one document, and writes its message's canonical text, or the refusal.
+    Convert,
+    /// Plays a large script that is made from a number, and writes one line of it.
+    Load {
+        /// The number that it is made from.
+        seed: u64,
+        /// How many events are drawn, at most 20,000.
+        count: u64,
+    },
+    /// Serves connections as a producer.
+    Serve {
+        /// The producer's name.
+        name: Name,
+        /// The host and the port that it listens at.
+        listen: Name,
+        /// How many connections it serves, 1 to 1,000,000.
+        count: u64,
+    },
+    /// Serves connections as a consumer of one producer.
+    Consume {
+        /// The consumer's name.
+        name: Name,
+        /// The host and the port that it listens at.
+        listen: Name,
+        /// The producer's address.
+        producer: Address,
+        /// How many connections it serves, 1 to 1,000,000.
+        count: u64,
+    },
+}
+
+impl Command {
+    /// The command of the words after the program's name, or `None` exactly where they are no plain spelling of one, which
+    /// takes no memory.
+    #[tactic(auto, unfolding(crate::specs::Commands::command_of), using(crate::proofs::Lists::any_of_map))]
+    pub fn read(alloc: Global, words: &[String]) -> Result<Option<Command>, OutOfMemory>
+        ensures value { IfOk result (λ command. command ≡ Spec.command_of (map string_bytes words.now)) }
+        ensures none { Spec.command_of (map string_bytes words.now) ≡ None → result ≡ Ok None }
+    {
+        if begin_with_minus(words) {
+            return Ok(None);
+        }
+        Command::by(alloc, words)
+    }
+
+    /// The command of words of which none begins with `-`.
+    fn by(alloc: Global, words: &[String]) -> Result<Option<Command>, OutOfMemory>
+        ensures value { IfOk result (λ command. command ≡ Spec.command_by (map string_bytes words.now)) }
+        ensures none { Spec.command_by (map string_bytes words.now) ≡ None → result ≡ Ok None }
+    {
+        match words {
+            [] => Ok(None),
+            [word, arguments @ ..] => Command::with(alloc, word.as_str(), arguments),
+        }
+    }
+
+    /// The command of a word with its arguments.
+    #[tactic(auto, unfolding(crate::specs::Commands::command_with))]
+    fn with(alloc: Global, word: &str, arguments: &[String]) -> Result<Option<Command>, OutOfMemory>
+        ensures value { IfOk result (λ command. command ≡ Spec.command_with word.now (map string_bytes arguments.now)) }
+        ensures none { Spec.command_with word.now (map string_bytes arguments.now) ≡ None → result ≡ Ok None }
+    {
+        if word == "load" {
+            load(alloc, arguments)
+        } else if word == "serve" {
+            serve(alloc, arguments)
+        } else if word == "consume" {
+            consume(alloc, arguments)
+        } else {
+            Ok(Command::plain(word, arguments))
+        }
+    }
+
+    fn plain(word: &str, arguments: &[String]) -> Option<Command>
+        ensures { result ≡ Spec.plain_of word.now (map string_bytes arguments.now) }
+    {
+        match arguments {
+            [] => Command::named(word),
+            [_, ..] => None,
+        }
+    }
+
+    fn named(word: &str) -> Option<Command>
+        ensures { result ≡ Spec.command_named word.now }
+    {
+        if word == "replay" {
+            Some(Command::Replay)
+        } else if word == "check" {
+            Some(Command::Check)
+        } else if word == "convert" {
+            Some(Command::Convert)
+        } else {
+            None
+        }
+    }
+}
+
+/// Whether a word begins with `-`.
+fn begins_with_minus(word: &str) -> bool
+    ensures { result ≡ Spec.begins_with_minus word.now }
+{
+    matches!(word.as_bytes(), [b'-', ..])
+}
+
+/// Whether one of the words begins with `-`.
+fn begin_with_minus(words: &[String]) -> bool
+    ensures { result ≡ list_any (λ word. Spec.begins_with_minus (string_bytes word)) words.now }
+{
+    words.iter().any(|word| begins_with_minus(word.as_str()))
+}

@@ -1,0 +1,76 @@
+// `load SEED COUNT`.
+ghost use Rattle.std.specs.Prelude.{◌≡◌, map, string_bytes, true, is_some, None, Some, Ok, IfOk};
+ghost use Rattle.siri_words.specs.Commands as Spec;
+ghost use Rattle.siri_words.specs.inner.Values.{IsOf, load_app};
+
+use crate::Command;
+use crate::arguments::{MOST_EVENTS, count_of};
+use crate::values::{matches_of, value};
+use clap::Arg;
+use siri_base::OutOfMemory;
+use siri_http::number_of;
+use std::alloc::{AllocError, Global};
+
+/// The command of the arguments of `load`, or `None` exactly where they are none, which takes no memory.
+#[tactic(auto, using(crate::proofs::Lists::no_load))]
+pub fn load(alloc: Global, arguments: &[String]) -> Result<Option<Command>, OutOfMemory>
+    ensures value { IfOk result (λ command. command ≡ Spec.load_of (map string_bytes arguments.now)) }
+    ensures none { Spec.load_of (map string_bytes arguments.now) ≡ None → result ≡ Ok None }
+{
+    match arguments {
+        [seed, count] => load_by(alloc, seed.as_str(), count.as_str()),
+        _ => Ok(None),
+    }
+}
+
+fn load_by(alloc: Global, seed: &str, count: &str) -> Result<Option<Command>, OutOfMemory>
+    ensures value { IfOk result (λ command. command ≡ Spec.load_by seed.now count.now) }
+    ensures none { Spec.load_by seed.now count.now ≡ None → result ≡ Ok None }
+{
+    if is_load(seed, count) {
+        Ok(Some(read_load(alloc, seed, count)?))
+    } else {
+        Ok(None)
+    }
+}
+
+#[tactic(auto, unfolding(crate::specs::Commands::load_by))]
+fn is_load(seed: &str, count: &str) -> bool
+    ensures { result ≡ is_some (Spec.load_by seed.now count.now) }
+{
+    number_of(seed.as_bytes()).is_some() && count_of(count, 0, MOST_EVENTS).is_some()
+}
+
+/// The arguments of `load`, as clap reads them.
+fn load_command<'a>(alloc: Global) -> Result<clap::Command<'a>, AllocError>
+    ensures { IfOk result (IsOf load_app) }
+{
+    let seed = Arg::new(alloc, "SEED");
+    let count = Arg::new(alloc, "COUNT");
+    clap::Command::new(alloc, "load")
+        .disable_help_flag(true)
+        .arg(seed)?
+        .arg(count)
+}
+
+/// The command of words that are the arguments of `load`.
+fn read_load(alloc: Global, seed: &str, count: &str) -> Result<Command, OutOfMemory>
+    requires { is_some (Spec.load_by seed.now count.now) ≡ true }
+    ensures { IfOk result (λ command. Spec.load_by seed.now count.now ≡ Some command) }
+{
+    let words = ["load", "--", seed, count];
+    let matches = matches_of(load_command(alloc)?, &words)?;
+    Ok(load_with(value(&matches, "SEED"), value(&matches, "COUNT")))
+}
+
+/// The command of these arguments.
+#[tactic(auto, unfolding(crate::specs::Commands::load_by))]
+fn load_with(seed: &str, count: &str) -> Command
+    requires { is_some (Spec.load_by seed.now count.now) ≡ true }
+    ensures { Spec.load_by seed.now count.now ≡ Some result }
+{
+    match (number_of(seed.as_bytes()), count_of(count, 0, MOST_EVENTS)) {
+        (Some(seed), Some(count)) => Command::Load { seed, count },
+        _ => unreachable!(),
+    }
+}

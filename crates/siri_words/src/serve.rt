@@ -1,0 +1,91 @@
+// `serve NAME LISTEN COUNT`.
+ghost use Rattle.std.specs.Prelude.{◌≡◌, map, string_bytes, true, is_some, None, Some, Ok, IfOk};
+ghost use Rattle.siri_words.specs.Commands as Spec;
+ghost use Rattle.siri_words.specs.inner.Values.{IsOf, serve_app};
+
+use crate::Command;
+use crate::arguments::{MOST_CONNECTIONS, count_of, is_listen, is_name, name_of};
+use crate::values::{matches_of, value};
+use clap::Arg;
+use siri_base::OutOfMemory;
+use std::alloc::{AllocError, Global};
+
+/// The command of the arguments of `serve`, or `None` exactly where they are none, which takes no memory.
+#[tactic(auto, using(crate::proofs::Lists::no_serve))]
+pub fn serve(alloc: Global, arguments: &[String]) -> Result<Option<Command>, OutOfMemory>
+    ensures value { IfOk result (λ command. command ≡ Spec.serve_of (map string_bytes arguments.now)) }
+    ensures none { Spec.serve_of (map string_bytes arguments.now) ≡ None → result ≡ Ok None }
+{
+    match arguments {
+        [name, listen, count] => serve_by(alloc, name.as_str(), listen.as_str(), count.as_str()),
+        _ => Ok(None),
+    }
+}
+
+fn serve_by(
+    alloc: Global,
+    name: &str,
+    listen: &str,
+    count: &str,
+) -> Result<Option<Command>, OutOfMemory>
+    ensures value { IfOk result (λ command. command ≡ Spec.serve_by name.now listen.now count.now) }
+    ensures none { Spec.serve_by name.now listen.now count.now ≡ None → result ≡ Ok None }
+{
+    if is_serve(name, listen, count) {
+        Ok(Some(read_serve(alloc, name, listen, count)?))
+    } else {
+        Ok(None)
+    }
+}
+
+#[tactic(auto, unfolding(crate::specs::Commands::serve_by))]
+fn is_serve(name: &str, listen: &str, count: &str) -> bool
+    ensures { result ≡ is_some (Spec.serve_by name.now listen.now count.now) }
+{
+    is_name(name) && is_listen(listen) && count_of(count, 1, MOST_CONNECTIONS).is_some()
+}
+
+/// The arguments of `serve`, as clap reads them.
+fn serve_command<'a>(alloc: Global) -> Result<clap::Command<'a>, AllocError>
+    ensures { IfOk result (IsOf serve_app) }
+{
+    let name = Arg::new(alloc, "NAME");
+    let listen = Arg::new(alloc, "LISTEN");
+    let count = Arg::new(alloc, "COUNT");
+    clap::Command::new(alloc, "serve")
+        .disable_help_flag(true)
+        .arg(name)?
+        .arg(listen)?
+        .arg(count)
+}
+
+/// The command of words that are the arguments of `serve`.
+fn read_serve(alloc: Global, name: &str, listen: &str, count: &str) -> Result<Command, OutOfMemory>
+    requires { is_some (Spec.serve_by name.now listen.now count.now) ≡ true }
+    ensures { IfOk result (λ command. Spec.serve_by name.now listen.now count.now ≡ Some command) }
+{
+    let words = ["serve", "--", name, listen, count];
+    let matches = matches_of(serve_command(alloc)?, &words)?;
+    serve_with(
+        alloc,
+        value(&matches, "NAME"),
+        value(&matches, "LISTEN"),
+        value(&matches, "COUNT"),
+    )
+}
+
+/// The command of these arguments.
+#[tactic(auto, unfolding(crate::specs::Commands::serve_by))]
+fn serve_with(alloc: Global, name: &str, listen: &str, count: &str) -> Result<Command, OutOfMemory>
+    requires { is_some (Spec.serve_by name.now listen.now count.now) ≡ true }
+    ensures { IfOk result (λ command. Spec.serve_by name.now listen.now count.now ≡ Some command) }
+{
+    let Some(count) = count_of(count, 1, MOST_CONNECTIONS) else {
+        unreachable!()
+    };
+    Ok(Command::Serve {
+        name: name_of(alloc, name)?,
+        listen: name_of(alloc, listen)?,
+        count,
+    })
+}
