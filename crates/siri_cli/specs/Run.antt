@@ -2,8 +2,8 @@
 use Rattle.std.specs.Prelude.{Option, Some, None}
 use Rattle.siri_base.specs.declared.status.Status.{Status}
 use Rattle.siri_base.specs.declared.status.Status.TheVariants as status
-use Rattle.siri_cli.specs.declared.words.Command.{Command}
-use Rattle.siri_cli.specs.declared.words.Command.TheVariants.{Replay, Check, Convert, Load}
+use Rattle.siri_words.specs.declared.command.Command.{Command}
+use Rattle.siri_words.specs.declared.command.Command.TheVariants.{Replay, Check, Convert, Load, Serve, Consume}
 
 -- the statuses that a command over one document may end with
 abbrev pub EndsDocument : Status → Type 0
@@ -20,20 +20,41 @@ TakesDocument (Some Check) = Unit {0}
 TakesDocument (Some Convert) = Unit {0}
 TakesDocument other = ⊥
 
--- the command reads nothing
+-- the command plays a load
 abbrev pub IsLoad : Option Command → Type 0
 IsLoad (Some (Load seed count)) = Unit {0}
 IsLoad other = ⊥
 
+-- the command is over the network
+abbrev pub IsOnNetwork : Option Command → Type 0
+IsOnNetwork (Some (Serve name listen count)) = Unit {0}
+IsOnNetwork (Some (Consume name listen producer count)) = Unit {0}
+IsOnNetwork other = ⊥
+
+-- the statuses of such a command that ended before its connections were served
+abbrev pub EndsEarly : Status → Type 0
+EndsEarly (status.Script n why) = Unit {0}
+EndsEarly (status.Limit n) = Unit {0}
+EndsEarly status.ReadFault = Unit {0}
+EndsEarly status.WireFault = Unit {0}
+EndsEarly status.ClockFault = Unit {0}
+EndsEarly status.KeeperFault = Unit {0}
+EndsEarly other = ⊥
+
+-- the command reads nothing
+abbrev pub ReadsNothing : Option Command → Type 0
+ReadsNothing (Some (Load seed count)) = Unit {0}
+ReadsNothing (Some (Serve name listen count)) = Unit {0}
+ReadsNothing other = ⊥
+
 -- it reads its input to the end, where it does its work
 abbrev pub ReadsInput : Option Command → Type 0
 ReadsInput (Some (Load seed count)) = ⊥
+ReadsInput (Some (Serve name listen count)) = ⊥
 ReadsInput other = Unit {0}
 
 -- the command has no use for the wire, the clock and the keeper of the start number
 abbrev pub UsesNone : Option Command → Type 0
-UsesNone None = Unit {0}
-UsesNone (Some Replay) = Unit {0}
-UsesNone (Some Check) = Unit {0}
-UsesNone (Some Convert) = Unit {0}
-UsesNone (Some (Load seed count)) = Unit {0}
+UsesNone (Some (Serve name listen count)) = ⊥
+UsesNone (Some (Consume name listen producer count)) = ⊥
+UsesNone other = Unit {0}

@@ -1,34 +1,42 @@
 // The top call.
-ghost use Rattle.std.specs.Prelude.{◌≡◌, ◌↔◌, ℕ, map, string_bytes, Some, None};
+ghost use Rattle.std.specs.Prelude.{◌≡◌, ◌↔◌, ℕ, List, map, string_bytes, Some, None};
 ghost use Rattle.siri_base.specs.Causes.{Rose};
+ghost use Rattle.siri_http.specs.declared.address.Address.{Address as Target};
 ghost use Rattle.siri_lines.specs.Ends.{ReadsAll};
 ghost use Rattle.siri_cli.specs.OneDocument.{Answers, check_text, convert_text};
 ghost use Rattle.siri_lines.specs.Reports.{Reports};
 ghost use Rattle.siri_lines.specs.Stops.{EndsReading};
-ghost use Rattle.siri_cli.specs.Run.{EndsDocument, IsLoad, ReadsInput, TakesDocument, UsesNone};
+ghost use Rattle.siri_cli.specs.Run.{EndsDocument, EndsEarly, IsLoad, IsOnNetwork, ReadsInput, ReadsNothing, TakesDocument, UsesNone};
 ghost use Rattle.siri_load.specs.Load.{load_text};
 ghost use Rattle.siri_load.specs.Runs.{EndsLoad, Writes};
+ghost use Rattle.siri_network.specs.Calls.{outside_of, told_by};
 ghost use Rattle.siri_replay.specs.Report.{report};
 ghost use Rattle.siri_replay.specs.Views.{ReportsViews};
-ghost use Rattle.siri_cli.specs.Commands.{command_of};
+ghost use Rattle.siri_serve.specs.Runs.{ServeRun};
+ghost use Rattle.siri_consume.specs.Runs.{ConsumeRun};
+ghost use Rattle.siri_words.specs.Commands.{command_of};
 
 use crate::check::Check;
 use crate::convert::Convert;
 use crate::document::answer_document;
-use crate::words::Command;
-use siri_base::{Clock, Keeper, Sink, Source, Status, Wire};
+use siri_base::{Clock, Keeper, OutOfMemory, Sink, Source, Status, Wire};
+use siri_consume::consume;
 use siri_load::load;
 use siri_replay::replay;
+use siri_serve::serve;
+use siri_words::Command;
 use std::alloc::Global;
 
 /// Does what the words after the program's name say: `replay` reads a script and writes its report, `check` and
-/// `convert` read one document and write what is told of it. A view that a report tells as `quiet` lists the items of a direct
+/// `convert` read one document and write what is told of it, `load` plays a large script that is made from a number, `serve` is a
+/// producer over the network, and `consume` a consumer. A view that a report tells as `quiet` lists the items of a direct
 /// response at that moment over all observations since the producer's latest start, whatever packets were lost.
 ///
 /// `Usage` exactly where the words are no plain spelling of a command. `Refused` where the document of `check` or
-/// `convert` is refused. `Script` and `Limit` where a line of a script is refused or passes a limit, each with the number of that line.
-/// `ReadFault` and `WriteFault` only where the source or the sink failed, `OutOfMemory` wherever memory is asked for,
-/// otherwise `Done`. No command uses the wire, the clock and the keeper.
+/// `convert` is refused. `Script` and `Limit` where a line of a script, or of what a consumer wants, is refused or passes a limit, each
+/// with the number of that line. `ReadFault`, `WriteFault`, `WireFault`, `ClockFault` and `KeeperFault` only where the source, the sink, the wire,
+/// the clock or the keeper failed, the wire to listen or to accept; `OutOfMemory` wherever memory is asked for, otherwise
+/// `Done`. Only `serve` and `consume` use the wire, the clock and the keeper.
 pub fn run<S: Source, K: Sink, W: Wire, C: Clock, E: Keeper>(
     alloc: Global,
     words: &[String],
@@ -47,35 +55,61 @@ pub fn run<S: Source, K: Sink, W: Wire, C: Clock, E: Keeper>(
         → Answers check_text (S.left source.old) (S.left source.new) (K.held sink.old) (K.held sink.new) result }
     ensures convert { command_of (map string_bytes words.now) ≡ Some Command.Convert
         → Answers convert_text (S.left source.old) (S.left source.new) (K.held sink.old) (K.held sink.new) result }
-
     ensures load { (seed count : ℕ) → command_of (map string_bytes words.now) ≡ Some (Command.Load seed count)
         → Writes (load_text seed count) (K.held sink.old) (K.held sink.new) result }
+    ensures serve { (name listen : List ℕ) (count : ℕ) → command_of (map string_bytes words.now) ≡ Some (Command.Serve name listen count)
+        → ServeRun name listen count
+            (outside_of (told_by (W.tells wire.old) (W.faults wire.old)) (told_by (C.tells clock.old) (C.faults clock.old)) (told_by (E.tells keeper.old) (E.faults keeper.old)))
+            (outside_of (told_by (W.tells wire.new) (W.faults wire.new)) (told_by (C.tells clock.new) (C.faults clock.new)) (told_by (E.tells keeper.new) (E.faults keeper.new)))
+            (K.held sink.old) (K.held sink.new) result }
+    ensures consume { (name listen : List ℕ) (producer : Target) (count : ℕ) → command_of (map string_bytes words.now) ≡ Some (Command.Consume name listen producer count)
+        → ConsumeRun name listen (producer.host, producer.path) count (S.left source.old) (S.left source.new)
+            (outside_of (told_by (W.tells wire.old) (W.faults wire.old)) (told_by (C.tells clock.old) (C.faults clock.old)) (told_by (E.tells keeper.old) (E.faults keeper.old)))
+            (outside_of (told_by (W.tells wire.new) (W.faults wire.new)) (told_by (C.tells clock.new) (C.faults clock.new)) (told_by (E.tells keeper.new) (E.faults keeper.new)))
+            (K.held sink.old) (K.held sink.new) result }
 
     // What was read, and where nothing was done.
     ensures all { ReadsInput (command_of (map string_bytes words.now)) → ReadsAll (S.left source.new) result }
-    ensures input { IsLoad (command_of (map string_bytes words.now)) → source.new ≡ source.old }
+    ensures input { ReadsNothing (command_of (map string_bytes words.now)) → source.new ≡ source.old }
     ensures usage { (result ≡ Status.Usage) ↔ (command_of (map string_bytes words.now) ≡ None) }
     ensures nothing { result ≡ Status.Usage → (source.new ≡ source.old) × (sink.new ≡ sink.old) }
 
     // What each status comes of.
     ensures read { result ≡ Status.ReadFault → Rose (S.faults source.old) (S.faults source.new) }
     ensures write { result ≡ Status.WriteFault → Rose (K.faults sink.old) (K.faults sink.new) }
+    ensures wire_fault { result ≡ Status.WireFault → Rose (W.faults wire.old) (W.faults wire.new) }
+    ensures clock_fault { result ≡ Status.ClockFault → Rose (C.faults clock.old) (C.faults clock.new) }
+    ensures keeper_fault { result ≡ Status.KeeperFault → Rose (E.faults keeper.old) (E.faults keeper.new) }
     ensures refused { result ≡ Status.Refused → TakesDocument (command_of (map string_bytes words.now)) }
     ensures document { TakesDocument (command_of (map string_bytes words.now)) → EndsDocument result }
     ensures unread { TakesDocument (command_of (map string_bytes words.now)) → result ≡ Status.ReadFault → sink.new ≡ sink.old }
     ensures script { command_of (map string_bytes words.now) ≡ Some Command.Replay → EndsReading result }
-
     ensures made { IsLoad (command_of (map string_bytes words.now)) → EndsLoad result }
+    ensures unwritten { IsOnNetwork (command_of (map string_bytes words.now)) → EndsEarly result → sink.new ≡ sink.old }
 
     // The rest of the outside.
     ensures unused { UsesNone (command_of (map string_bytes words.now))
         → (wire.new ≡ wire.old) × (clock.new ≡ clock.old) × (keeper.new ≡ keeper.old) }
 {
-    match Command::read(words) {
-        None => Status::Usage,
-        Some(Command::Replay) => replay(alloc, source, sink),
-        Some(Command::Check) => answer_document::<Check, S, K>(alloc, source, sink),
-        Some(Command::Convert) => answer_document::<Convert, S, K>(alloc, source, sink),
-        Some(Command::Load { seed, count }) => load(alloc, sink, seed, count),
+    match Command::read(alloc, words) {
+        Err(OutOfMemory) => Status::OutOfMemory,
+        Ok(None) => Status::Usage,
+        Ok(Some(Command::Replay)) => replay(alloc, source, sink),
+        Ok(Some(Command::Check)) => answer_document::<Check, S, K>(alloc, source, sink),
+        Ok(Some(Command::Convert)) => answer_document::<Convert, S, K>(alloc, source, sink),
+        Ok(Some(Command::Load { seed, count })) => load(alloc, sink, seed, count),
+        Ok(Some(Command::Serve {
+            name,
+            listen,
+            count,
+        })) => serve(alloc, name, &listen, count, sink, wire, clock, keeper),
+        Ok(Some(Command::Consume {
+            name,
+            listen,
+            producer,
+            count,
+        })) => consume(
+            alloc, name, &listen, &producer, count, source, sink, wire, clock, keeper,
+        ),
     }
 }

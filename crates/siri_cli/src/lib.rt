@@ -21,6 +21,5 @@ mod check;
 mod command;
 mod convert;
 mod document;
-mod words;
 
 pub use command::run;

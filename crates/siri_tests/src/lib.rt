@@ -13,6 +13,8 @@ mod documents;
 #[cfg(test)]
 mod items;
 #[cfg(test)]
+mod network;
+#[cfg(test)]
 mod replay;
 #[cfg(test)]
 mod rounds;

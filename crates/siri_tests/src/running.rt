@@ -1,7 +1,7 @@
 // Runs of the top call over forms in memory.
 use siri_base::{
-    InMemoryClock, InMemoryKeeper, InMemorySink, InMemorySource, InMemoryWire, List, OutOfMemory,
-    Sink, Source, Status,
+    Clock, InMemoryClock, InMemoryKeeper, InMemorySink, InMemorySource, InMemoryWire, Keeper, List,
+    OutOfMemory, Sink, Source, Status, Wire,
 };
 use siri_cli::run;
 use std::alloc::{AllocError, Global};
@@ -39,36 +39,39 @@ fn told_of(alloc: Global, status: Status) -> Result<Ended, OutOfMemory> {
     })
 }
 
-// Runs the command of these words, with nothing to come from a wire, a clock and a keeper.
-fn run_words<S: Source, K: Sink>(
+/// How the command of these words ends over a source, a sink, a wire, a clock and a keeper.
+pub fn end_over<S: Source, K: Sink, W: Wire, C: Clock, E: Keeper>(
     alloc: Global,
-    words: &[String],
+    words: &[&str],
     source: &mut S,
     sink: &mut K,
-) -> Status {
-    let mut wire = InMemoryWire::new(alloc, &[], &[]);
-    let mut clock = InMemoryClock::new(&[]);
-    let mut keeper = InMemoryKeeper::new(0);
-    run(
+    wire: &mut W,
+    clock: &mut C,
+    keeper: &mut E,
+) -> Result<Ended, OutOfMemory> {
+    let words = words_of(alloc, words)?;
+    told_of(
         alloc,
-        words,
-        source,
-        sink,
-        &mut wire,
-        &mut clock,
-        &mut keeper,
+        run(alloc, &words, source, sink, wire, clock, keeper),
     )
 }
 
-/// How the command of these words ends over a source and a sink.
+/// How the command of these words ends over a source and a sink, with nothing to come from a wire, a clock and a keeper.
 pub fn end_of<S: Source, K: Sink>(
     alloc: Global,
     words: &[&str],
     source: &mut S,
     sink: &mut K,
 ) -> Result<Ended, OutOfMemory> {
-    let words = words_of(alloc, words)?;
-    told_of(alloc, run_words(alloc, &words, source, sink))
+    end_over(
+        alloc,
+        words,
+        source,
+        sink,
+        &mut InMemoryWire::new(alloc, &[], &[]),
+        &mut InMemoryClock::new(&[]),
+        &mut InMemoryKeeper::new(0),
+    )
 }
 
 /// Whether the command of these words over an input writes this text, and ends with the status of this number and text.

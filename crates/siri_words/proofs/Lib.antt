@@ -1,3 +1,4 @@
 pub mod Lists
+pub mod Memory
 pub mod Places
 mod Examples

@@ -87,3 +87,10 @@ begins_with_minus (first ∷ rest) = first == 45
 -- what the words ask for, or nothing where they are no plain spelling; no word begins with `-`
 unfoldable pub command_of : List (List ℕ) → Option Command
 command_of words = if list_any begins_with_minus words then None else command_by words
+
+-- it is a command with arguments
+abbrev pub HasArguments : Option Command → Type 0
+HasArguments (Some (Load seed count)) = Unit {0}
+HasArguments (Some (Serve name listen count)) = Unit {0}
+HasArguments (Some (Consume name listen producer count)) = Unit {0}
+HasArguments other = ⊥

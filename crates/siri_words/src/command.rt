@@ -1,5 +1,5 @@
 // The commands.
-ghost use Rattle.std.specs.Prelude.{◌≡◌, map, string_bytes, None, Ok, IfOk};
+ghost use Rattle.std.specs.Prelude.{◌≡◌, map, string_bytes, None, Ok, IfOk, OnErr};
 ghost use Rattle.std.specs.List.{list_any};
 ghost use Rattle.siri_words.specs.Commands as Spec;
 
@@ -49,12 +49,13 @@ pub enum Command {
 }
 
 impl Command {
-    /// The command of the words after the program's name, or `None` exactly where they are no plain spelling of one, which
-    /// takes no memory.
+    /// The command of the words after the program's name, or `None` exactly where they are no plain spelling of one. Only
+    /// a command with arguments takes memory.
     #[tactic(auto, unfolding(crate::specs::Commands::command_of), using(crate::proofs::Lists::any_of_map))]
     pub fn read(alloc: Global, words: &[String]) -> Result<Option<Command>, OutOfMemory>
         ensures value { IfOk result (λ command. command ≡ Spec.command_of (map string_bytes words.now)) }
         ensures none { Spec.command_of (map string_bytes words.now) ≡ None → result ≡ Ok None }
+        ensures memory { OnErr result (Spec.HasArguments (Spec.command_of (map string_bytes words.now))) }
     {
         if begin_with_minus(words) {
             return Ok(None);
@@ -66,6 +67,7 @@ impl Command {
     fn by(alloc: Global, words: &[String]) -> Result<Option<Command>, OutOfMemory>
         ensures value { IfOk result (λ command. command ≡ Spec.command_by (map string_bytes words.now)) }
         ensures none { Spec.command_by (map string_bytes words.now) ≡ None → result ≡ Ok None }
+        ensures memory { OnErr result (Spec.HasArguments (Spec.command_by (map string_bytes words.now))) }
     {
         match words {
             [] => Ok(None),
@@ -78,6 +80,7 @@ impl Command {
     fn with(alloc: Global, word: &str, arguments: &[String]) -> Result<Option<Command>, OutOfMemory>
         ensures value { IfOk result (λ command. command ≡ Spec.command_with word.now (map string_bytes arguments.now)) }
         ensures none { Spec.command_with word.now (map string_bytes arguments.now) ≡ None → result ≡ Ok None }
+        ensures memory { OnErr result (Spec.HasArguments (Spec.command_with word.now (map string_bytes arguments.now))) }
     {
         if word == "load" {
             load(alloc, arguments)

@@ -1,5 +1,5 @@
 // `consume NAME LISTEN PRODUCER COUNT`.
-ghost use Rattle.std.specs.Prelude.{◌≡◌, map, string_bytes, true, is_some, None, Some, Ok, IfOk};
+ghost use Rattle.std.specs.Prelude.{◌≡◌, map, string_bytes, true, is_some, None, Some, Ok, IfOk, OnErr};
 ghost use Rattle.siri_words.specs.Commands as Spec;
 ghost use Rattle.siri_words.specs.inner.Values.{IsOf, consume_app};
 
@@ -17,6 +17,7 @@ use std::alloc::{AllocError, Global};
 pub fn consume(alloc: Global, arguments: &[String]) -> Result<Option<Command>, OutOfMemory>
     ensures value { IfOk result (λ command. command ≡ Spec.consume_of (map string_bytes arguments.now)) }
     ensures none { Spec.consume_of (map string_bytes arguments.now) ≡ None → result ≡ Ok None }
+    ensures memory { OnErr result (Spec.HasArguments (Spec.consume_of (map string_bytes arguments.now))) }
 {
     match arguments {
         [name, listen, producer, count] => consume_by(
@@ -30,6 +31,7 @@ pub fn consume(alloc: Global, arguments: &[String]) -> Result<Option<Command>, O
     }
 }
 
+#[tactic(auto, using(crate::proofs::Memory::some_consume))]
 fn consume_by(
     alloc: Global,
     name: &str,
@@ -39,6 +41,7 @@ fn consume_by(
 ) -> Result<Option<Command>, OutOfMemory>
     ensures value { IfOk result (λ command. command ≡ Spec.consume_by name.now listen.now producer.now count.now) }
     ensures none { Spec.consume_by name.now listen.now producer.now count.now ≡ None → result ≡ Ok None }
+    ensures memory { OnErr result (Spec.HasArguments (Spec.consume_by name.now listen.now producer.now count.now)) }
 {
     if is_consume(name, listen, producer, count) {
         Ok(Some(read_consume(alloc, name, listen, producer, count)?))

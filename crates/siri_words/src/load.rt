@@ -1,5 +1,5 @@
 // `load SEED COUNT`.
-ghost use Rattle.std.specs.Prelude.{◌≡◌, map, string_bytes, true, is_some, None, Some, Ok, IfOk};
+ghost use Rattle.std.specs.Prelude.{◌≡◌, map, string_bytes, true, is_some, None, Some, Ok, IfOk, OnErr};
 ghost use Rattle.siri_words.specs.Commands as Spec;
 ghost use Rattle.siri_words.specs.inner.Values.{IsOf, load_app};
 
@@ -16,6 +16,7 @@ use std::alloc::{AllocError, Global};
 pub fn load(alloc: Global, arguments: &[String]) -> Result<Option<Command>, OutOfMemory>
     ensures value { IfOk result (λ command. command ≡ Spec.load_of (map string_bytes arguments.now)) }
     ensures none { Spec.load_of (map string_bytes arguments.now) ≡ None → result ≡ Ok None }
+    ensures memory { OnErr result (Spec.HasArguments (Spec.load_of (map string_bytes arguments.now))) }
 {
     match arguments {
         [seed, count] => load_by(alloc, seed.as_str(), count.as_str()),
@@ -23,9 +24,11 @@ pub fn load(alloc: Global, arguments: &[String]) -> Result<Option<Command>, OutO
     }
 }
 
+#[tactic(auto, using(crate::proofs::Memory::some_load))]
 fn load_by(alloc: Global, seed: &str, count: &str) -> Result<Option<Command>, OutOfMemory>
     ensures value { IfOk result (λ command. command ≡ Spec.load_by seed.now count.now) }
     ensures none { Spec.load_by seed.now count.now ≡ None → result ≡ Ok None }
+    ensures memory { OnErr result (Spec.HasArguments (Spec.load_by seed.now count.now)) }
 {
     if is_load(seed, count) {
         Ok(Some(read_load(alloc, seed, count)?))

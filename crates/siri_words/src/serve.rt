@@ -1,5 +1,5 @@
 // `serve NAME LISTEN COUNT`.
-ghost use Rattle.std.specs.Prelude.{◌≡◌, map, string_bytes, true, is_some, None, Some, Ok, IfOk};
+ghost use Rattle.std.specs.Prelude.{◌≡◌, map, string_bytes, true, is_some, None, Some, Ok, IfOk, OnErr};
 ghost use Rattle.siri_words.specs.Commands as Spec;
 ghost use Rattle.siri_words.specs.inner.Values.{IsOf, serve_app};
 
@@ -15,6 +15,7 @@ use std::alloc::{AllocError, Global};
 pub fn serve(alloc: Global, arguments: &[String]) -> Result<Option<Command>, OutOfMemory>
     ensures value { IfOk result (λ command. command ≡ Spec.serve_of (map string_bytes arguments.now)) }
     ensures none { Spec.serve_of (map string_bytes arguments.now) ≡ None → result ≡ Ok None }
+    ensures memory { OnErr result (Spec.HasArguments (Spec.serve_of (map string_bytes arguments.now))) }
 {
     match arguments {
         [name, listen, count] => serve_by(alloc, name.as_str(), listen.as_str(), count.as_str()),
@@ -22,6 +23,7 @@ pub fn serve(alloc: Global, arguments: &[String]) -> Result<Option<Command>, Out
     }
 }
 
+#[tactic(auto, using(crate::proofs::Memory::some_serve))]
 fn serve_by(
     alloc: Global,
     name: &str,
@@ -30,6 +32,7 @@ fn serve_by(
 ) -> Result<Option<Command>, OutOfMemory>
     ensures value { IfOk result (λ command. command ≡ Spec.serve_by name.now listen.now count.now) }
     ensures none { Spec.serve_by name.now listen.now count.now ≡ None → result ≡ Ok None }
+    ensures memory { OnErr result (Spec.HasArguments (Spec.serve_by name.now listen.now count.now)) }
 {
     if is_serve(name, listen, count) {
         Ok(Some(read_serve(alloc, name, listen, count)?))
