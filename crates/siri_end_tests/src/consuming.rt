@@ -5,6 +5,7 @@ use siri_http::{Address, read_address};
 use siri_topic::{Subscription, Topic, VehicleTopic};
 use siri_view::Consumer;
 use std::alloc::Global;
+use std::test::Fail;
 
 /// 2024-05-01T08:00:00Z.
 const NOW: i64 = 1_714_550_400_000;
@@ -33,16 +34,19 @@ const READY: &[u8] =
 const SUPPLY: &[u8] =
     b"POST /siri HTTP/1.1\r\nHost: a.example:80\r\nContent-Type: application/json\r\nContent-Length: 170\r\nConnection: close\r\n\r\n{\"Siri\":{\"DataSupplyRequest\":{\"ConsumerRef\":\"c1\",\"Extensions\":{\"Number\":1,\"Part\":1,\"Round\":1,\"Start\":1,\"SubscriptionRef\":\"S\"},\"RequestTimestamp\":\"2024-05-01T08:00:00Z\"}}}";
 
-fn address(alloc: Global) -> Option<Address> {
-    let text = Name::new(alloc, "http://a.example/siri").ok()?;
-    read_address(alloc, &text).ok()
+fn address(alloc: Global) -> Result<Address, Fail> {
+    let text = Name::new(alloc, "http://a.example/siri")?;
+    Ok(read_address(alloc, &text).ok().ok_or("no address")?)
 }
 
-/// A subscription `S` of the consumer `c1` to all vehicles, which it fetches.
-fn subscription(alloc: Global, termination: Moment, slack: Span) -> Option<Subscription> {
-    let subscriber = Name::new(alloc, "c1").ok()?;
-    let identifier = Name::new(alloc, "S").ok()?;
-    Some(Subscription {
+/// A subscription to all vehicles, which are fetched.
+fn subscription_of(
+    subscriber: Name,
+    identifier: Name,
+    termination: Moment,
+    slack: Span,
+) -> Subscription {
+    Subscription {
         subscriber,
         identifier,
         termination,
@@ -54,49 +58,73 @@ fn subscription(alloc: Global, termination: Moment, slack: Span) -> Option<Subsc
         slack,
         incremental: true,
         fetched: true,
-    })
+    }
 }
 
-/// The consumer `c1` at 08:00, which asked for that subscription under number 1.
-fn consumer(alloc: Global) -> Option<Consumer> {
-    let now = Moment::new(NOW)?;
-    let none = Span::new(0)?;
-    let name = Name::new(alloc, "c1").ok()?;
-    let mut wanted = List::new(alloc);
-    wanted.push(subscription(alloc, now, none)?).ok()?;
-    let mut consumer = Consumer::new(alloc, name, None, 1).ok()?;
+/// Such a subscription `S` of the consumer `c1`.
+fn subscription(alloc: Global, termination: Moment, slack: Span) -> Result<Subscription, Fail> {
+    let subscriber = Name::new(alloc, "c1")?;
+    let identifier = Name::new(alloc, "S")?;
+    Ok(subscription_of(subscriber, identifier, termination, slack))
+}
+
+/// Asks for it.
+fn ask(consumer: &mut Consumer, alloc: Global, now: Moment) -> Result<(), Fail> {
+    let none = Span::new(0).ok_or("no span")?;
+    let wanted = subscription(alloc, now, none)?;
+    let mut list = List::new(alloc);
+    list.push(wanted)?;
+    let asked = consumer.subscribe(&list, none);
+    drop(list);
+    drop(asked);
+    Ok(())
+}
+
+/// The consumer `c1` at 08:00, which asked for it under number 1.
+fn consumer(alloc: Global) -> Result<Consumer, Fail> {
+    let now = Moment::new(NOW).ok_or("no moment")?;
+    let name = Name::new(alloc, "c1")?;
+    let mut consumer = Consumer::new(alloc, name, None, 1)?;
     consumer.clock(now);
-    drop(consumer.subscribe(&wanted, none));
-    Some(consumer)
+    ask(&mut consumer, alloc, now)?;
+    Ok(consumer)
+}
+
+/// Whether these texts are written to the connections, in order, and to no other.
+fn are_written(wire: &InMemoryWire<'_>, texts: &[&[u8]]) -> bool {
+    for (place, text) in texts.iter().enumerate() {
+        if wire.written(place) != Some(*text) {
+            return false;
+        }
+    }
+    wire.written(texts.len()).is_none()
 }
 
 /// Whether a connection with this input is answered, and messages sent up after it, so that these texts are written, where
 /// the producer's connections bring these responses; and whether so many are served, refused, dropped and unsent.
 fn is_consumed(
-    rt: &HostRuntime,
+    alloc: Global,
     input: &[u8],
     responses: &[&[u8]],
     texts: &[&[u8]],
     counts: [u64; 4],
-) -> Option<bool> {
-    let alloc = rt.alloc();
+) -> Result<bool, Fail> {
     let to_accept: [&[u8]; 1] = [input];
     let mut wire = InMemoryWire::new(alloc, &to_accept, responses);
     let mut tally = Tally::new();
     let producer = address(alloc)?;
     if wire.accept().is_err() {
-        return None;
+        return Ok(false);
     }
     let mut consumer = consumer(alloc)?;
-    let done = consume_one(alloc, &mut wire, &producer, &mut consumer, &mut tally).is_ok();
+    let done = consume_one(alloc, &mut wire, &producer, &mut consumer, &mut tally);
     drop(consumer);
-    let written = (0..texts.len()).all(|place| wire.written(place) == Some(texts[place]));
     let counted = [tally.served, tally.refused, tally.dropped, tally.unsent];
-    Some(done && written && wire.written(texts.len()).is_none() && counted == counts)
+    Ok(done.is_ok() && are_written(&wire, texts) && counted == counts)
 }
 
 #[test]
-fn connections_are_answered_and_replies_sent_up(rt: HostRuntime) {
+fn connections_are_answered_and_replies_sent_up(rt: HostRuntime) -> Result<(), Fail> {
     let rows: [(&[u8], &[&[u8]], &[&[u8]], [u64; 4]); 5] = [
         (DELIVERED, &[], &[ACKNOWLEDGED], [1, 0, 0, 0]),
         (
@@ -122,9 +150,7 @@ fn connections_are_answered_and_replies_sent_up(rt: HostRuntime) {
         ),
     ];
     for (input, responses, texts, counts) in rows {
-        assert_eq!(rt;
-            is_consumed(&rt, input, responses, texts, counts),
-            Some(true)
-        );
+        assert!(rt; is_consumed(rt.alloc(), input, responses, texts, counts)?);
     }
+    Ok(())
 }
