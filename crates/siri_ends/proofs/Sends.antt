@@ -1,6 +1,5 @@
 -- Messages that are sent, one after the other.
-use Rattle.std.proofs.Common.{◌≡◌, ℕ, zero, suc, List, [], ◌∷◌, ◌++◌, length, Option, None, Some, refl, sym, ap, ◌∙◌, subst, append-nil, append_assoc, drop, arith, inl, inr, Result, Ok, Err}
-use Rattle.std.specs.Prelude.{OnErr}
+use Rattle.std.proofs.Common.{◌≡◌, ℕ, suc, List, [], ◌∷◌, ◌++◌, length, Option, None, Some, refl, sym, ap, ◌∙◌, subst, append-nil, append_assoc, inl, inr}
 use Rattle.siri_messages.specs.declared.message.Message.{Message}
 use Rattle.siri_model.specs.History.{History, Take, Settle}
 use Rattle.siri_producer.specs.Known.{Known, StandsFor, GoesOn, SendsFor}
@@ -10,7 +9,6 @@ use Rattle.siri_base.specs.OutsideCalls.{WhereTold}
 use Rattle.siri_base.specs.Wires.{WireState}
 use Rattle.siri_wire.specs.Canonical.{canonical}
 use Rattle.siri_exchange.specs.Posts.{Posts}
-use Rattle.siri_exchange.specs.declared.posting.Sent.{Sent}
 use Rattle.siri_exchange.specs.Tallies.{with_unsent}
 use Rattle.siri_ends.specs.At.{At, End, Goes, at_of}
 use Rattle.siri_ends.specs.Sending.{LeavesUnsent, PostsOut, SendsOne, SendsAll, SendsSome, history_after, settled_by, target_of}

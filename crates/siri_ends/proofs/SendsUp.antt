@@ -1,9 +1,7 @@
 -- Messages that are sent up, one after the other.
-use Rattle.std.proofs.Common.{◌≡◌, ℕ, suc, List, [], ◌∷◌, ◌++◌, length, Option, None, Some, refl, ◌∙◌, ap, drop, inl, inr, arith}
+use Rattle.std.proofs.Common.{◌≡◌, ℕ, suc, List, [], ◌∷◌, ◌++◌, length, Option, None, Some, refl, ◌∙◌, ap, inl, inr}
 use Rattle.siri_base.specs.Wires.{WireState}
-use Rattle.siri_http.specs.Texts.{request_text}
 use Rattle.siri_messages.specs.declared.message.Message.{Message}
-use Rattle.siri_wire.specs.Canonical.{canonical}
 use Rattle.siri_exchange.specs.Tallies.{with_unsent}
 use Rattle.siri_ends.specs.At.{ConsumerAt}
 use Rattle.siri_ends.specs.SendingUp.{FirstSendsUp, LeavesUnsentUp, PostsUp, SendsOneUp, SendsUp, consumer_after, replies_after}

@@ -1,5 +1,5 @@
 -- Messages that are sent out, one after the other (EN 15531-2, deliveries, notifications and their acknowledgements).
-use Rattle.std.specs.Prelude.{◌≡◌, ◌⊎◌, ℕ, zero, suc, List, [], ◌∷◌, ◌++◌, length, Option, None, Some}
+use Rattle.std.specs.Prelude.{◌≡◌, ℕ, List, [], ◌∷◌, ◌++◌, length, Option, None, Some}
 use Rattle.siri_base.specs.Wires.{WireState}
 use Rattle.siri_base.specs.OutsideCalls.{WhereTold}
 use Rattle.siri_http.specs.Addresses.{address_of}

@@ -1,6 +1,5 @@
 -- Inner words: cited by private functions alone. What a part of a turn does.
-use Rattle.std.specs.Prelude.{◌≡◌, ◌⊎◌, ⊤, ℕ, true, List, ◌++◌, Option, None, Some, Result, Ok, Err}
-use Rattle.siri_base.specs.OutsideCalls.{WhereTold}
+use Rattle.std.specs.Prelude.{◌≡◌, ◌⊎◌, ⊤, ℕ, true, List, ◌++◌, Option, None, Some, Result}
 use Rattle.siri_base.specs.Wires.{WireState}
 use Rattle.siri_http.specs.Texts.{is_written}
 use Rattle.siri_tables.specs.Refusals.{Refusal}
@@ -8,12 +7,10 @@ use Rattle.siri_messages.specs.declared.message.Message.{Message}
 use Rattle.siri_model.specs.History.{History}
 use Rattle.siri_producer.specs.Known.{Known, StandsFor}
 use Rattle.siri_settle.specs.declared.outs.Out.{Out}
-use Rattle.siri_wire.specs.Canonical.{canonical}
 use Rattle.siri_exchange.specs.Causes.{HasSentCause}
 use Rattle.siri_exchange.specs.Posts.{Posts}
 use Rattle.siri_exchange.specs.declared.asked.Asked.{Asked}
 use Rattle.siri_exchange.specs.declared.posting.Sent.{Sent}
-use Rattle.siri_exchange.specs.declared.tally.Tally.{Tally}
 use Rattle.siri_ends.specs.declared.answering.Brought.{Brought}
 use Rattle.siri_ends.specs.declared.answering.Brought.TheVariants as brought
 use Rattle.siri_ends.specs.declared.response.Response.{Response}

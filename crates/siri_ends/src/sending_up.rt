@@ -1,5 +1,5 @@
 // Sends messages up to the producer.
-ghost use Rattle.std.specs.Prelude.{◌≡◌, ◌++◌, [], IfOk, OnOk, OnErr, Some, None};
+ghost use Rattle.std.specs.Prelude.{◌≡◌, IfOk, OnOk, OnErr, Some};
 ghost use Rattle.siri_view.specs.Consuming.{after_message, seen_of};
 ghost use Rattle.siri_wire.specs.Documents.{message_of};
 ghost use Rattle.siri_exchange.specs.Causes.{HasSentCause, outcome};
