@@ -5,9 +5,11 @@
 //!     the bytes of a connection -> a call over a wire in memory -> the bytes that are answered and sent, and the counts
 //! ```
 //!
-//! Stands on `siri_http`, `siri_exchange`, `siri_ends` and `siri_system`. It has no code of its own outside of tests.
+//! Stands on `siri_http`, `siri_exchange`, `siri_ends` and `siri_system`, and on `siri_topic` and `siri_view` for a consumer. It has no code of its own outside of tests.
 #![tactic(auto)]
 
+#[cfg(test)]
+mod consuming;
 #[cfg(test)]
 mod exchange;
 #[cfg(test)]

@@ -5,11 +5,11 @@ use Rattle.siri_messages.specs.declared.message.Message.TheVariants as siri
 use Rattle.siri_model.specs.History.{Clock, History, Start, after_step}
 use Rattle.siri_producer.specs.Answers.{answer_to}
 use Rattle.siri_replies.specs.Statuses.{status_response}
-use Rattle.siri_ends.specs.Responses.{document_response, replying, response_to}
+use Rattle.siri_ends.specs.Responses.{document_response, replying, responding, response_to}
 
 -- a request that didn't come whole isn't answered
 short_is_not_answered : (name : List ℕ) (h : History) → response_to name h asked.Short ≡ None
-unfolding response_to
+unfolding responding
 short_is_not_answered name h = refl
 
 -- a producer that started at 7 and stands at 8 answers a CheckStatusRequest with its name and both moments

@@ -12,21 +12,18 @@ use Rattle.siri_exchange.specs.declared.asked.Asked.{Asked}
 use Rattle.siri_exchange.specs.declared.tally.Tally.{Tally}
 use Rattle.siri_ends.specs.declared.response.Response.{Response}
 use Rattle.siri_ends.specs.Responses.{message_asked, response_to, taking, turn_steps}
-use Rattle.siri_ends.specs.At.{End, Goes, at_of, end_of}
+use Rattle.siri_ends.specs.At.{End, Goes, at_of, end_of, surroundings}
 use Rattle.siri_ends.specs.Sending.{FirstSends, SendsAll, SendsSome}
-use Rattle.siri_ends.specs.Serving.{Answers, AnswersWith, FirstAnswer, ServesOne, ServesSome, StopsWriting}
-use Rattle.siri_ends.specs.Turns.{AnswersSo, TakesFor, at_any}
-
-with_any : (response : Option Response) (old new : Tally) (before after : Option WireState) (earlier later : ℕ) (h g : History) → AnswersSo response old new before after earlier later → AnswersWith response (at_any h old before earlier) (at_any g new after later)
-with_any None old new before after earlier later h g so = so h g
-with_any (Some response) old new before after earlier later h g so = so h g
+use Rattle.siri_ends.specs.Answering.{AnswersWith, StopsWriting}
+use Rattle.siri_ends.specs.Serving.{Answers, FirstAnswer, ServesOne, ServesSome}
+use Rattle.siri_ends.specs.Turns.{TakesFor}
 
 -- the request is read, its message taken and settled, and the answer written
 pub answers_one : (outs : List Out) (asked : Asked) (response : Option Response) (first taken last : Known) (old new : Tally) (before read after : Option WireState) (earlier between later : ℕ)
     → OnConnection (Asks (Some asked)) before read → HasAskedCause earlier between (Some asked)
     → TakesFor first taken (message_asked asked) → ((h : History) → StandsFor first h → response ≡ response_to first.responder.name h asked) → taken.responder.name ≡ first.responder.name
     → GoesOn taken last Settle → SendsFor taken outs → last.responder.name ≡ taken.responder.name
-    → AnswersSo response old new read after between later
+    → AnswersWith response (surroundings old read between) (surroundings new after later)
     → Goes (Answers outs) (end_of first old before earlier) (end_of last new after later)
 answers_one outs asked response first taken last old new before read after earlier between later told cause takes answer named settles sent kept so = record {
   name = kept ∙ named;
@@ -37,9 +34,9 @@ answers_one outs asked response first taken last old new before read after earli
         subst (StandsFor last) (append_assoc h (taking message) (Settle ∷ [])) (settles (h ++ taking message) one),
         record {
           asked = asked;
-          read = at_any h old read between;
-          reads = record { told = told; cause = cause; history = refl; tally = refl };
-          answers = subst (λ r. AnswersWith r (at_any h old read between) (at_any (h ++ turn_steps message) new after later)) (answer h stands) (with_any response old new read after between later h (h ++ turn_steps message) so);
+          read = surroundings old read between;
+          reads = record { told = told; cause = cause; tally = refl };
+          answers = subst (λ r. AnswersWith r (surroundings old read between) (surroundings new after later)) (answer h stands) so;
           history = refl;
           outs_are = sent (h ++ taking message) one ∙ ap (λ name. sends name (h ++ taking message)) named;
         },

@@ -1,5 +1,5 @@
 -- Messages that are sent out, one after the other (EN 15531-2, deliveries, notifications and their acknowledgements).
-use Rattle.std.specs.Prelude.{◌≡◌, ◌⊎◌, ℕ, zero, suc, List, [], ◌∷◌, ◌++◌, length, Option, None, Some}
+use Rattle.std.specs.Prelude.{◌≡◌, ℕ, List, [], ◌∷◌, ◌++◌, length, Option, None, Some}
 use Rattle.siri_base.specs.Wires.{WireState}
 use Rattle.siri_base.specs.OutsideCalls.{WhereTold}
 use Rattle.siri_http.specs.Addresses.{address_of}
@@ -62,9 +62,9 @@ pub record SendsOne (out : Out) (outcome : Sent) (at next : At) : Type 0 where
   pub history : next.history ≡ at.history ++ steps_after (acknowledgement outcome)
   pub tally : next.tally ≡ tally_after outcome at.tally
 
--- what an acknowledgement settles
-abbrev pub brings : (name : List ℕ) → Sent → At → List Out
-brings name outcome at = sends_after name at.history (acknowledgement outcome)
+-- what the acknowledgement of a message settles
+abbrev pub settled_by : (name : List ℕ) → Sent → History → List Out
+settled_by name outcome h = sends_after name h (acknowledgement outcome)
 
 -- messages that aren't sent are unsent
 abbrev pub LeavesUnsent : List Out → At → At → Type 0
@@ -72,7 +72,7 @@ LeavesUnsent outs at end = end ≡ record at { tally = with_unsent (length outs)
 
 -- Messages are sent in their order, and what an acknowledgement settles joins the end. Of more than so many the rest are unsent.
 abbrev pub SendsOut : (name : List ℕ) → ℕ → List Out → At → At → Type 0
-SendsOut name limit outs at end = InTurn SendsOne (brings name) LeavesUnsent limit outs at end
+SendsOut name limit outs at end = InTurn SendsOne (λ outcome at. settled_by name outcome at.history) LeavesUnsent limit outs at end
 
 -- the messages of one turn: at most 100,000 are sent
 abbrev pub SendsAll : List Out → (name : List ℕ) → At → At → Type 0
@@ -82,10 +82,14 @@ SendsAll outs name at end = SendsOut name 100000 outs at end
 abbrev pub PostsOut : Out → Option Sent → (before after : Option WireState) → Type 0
 PostsOut out outcome before after = WhereTold before after (Posts (target_of out.address) (canonical out.message) outcome)
 
+-- the history after it
+abbrev pub history_after : Sent → History → History
+history_after outcome h = h ++ steps_after (acknowledgement outcome)
+
 -- Where memory was wanting, the first of these sends were made, and of the next one the first steps.
 abbrev pub FirstSends : (name : List ℕ) → ℕ → List Out → History → (before after : Option WireState) → Type 0
 FirstSends name limit outs h before after =
-    FirstInTurn PostsOut (λ outcome h. sends_after name h (acknowledgement outcome)) (λ outcome h. h ++ steps_after (acknowledgement outcome)) limit outs h before after
+    FirstInTurn PostsOut (settled_by name) history_after limit outs h before after
 
 -- the first sends of one turn, whatever history the producer stood for before them
 abbrev pub SendsSome : List Out → Known → (before after : Option WireState) → Type 0

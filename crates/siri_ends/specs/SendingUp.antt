@@ -33,6 +33,14 @@ unfoldable pub message_answered : Sent → Option Message
 message_answered (sent.Accepted body) = message_in (message_of body)
 message_answered other = None
 
+-- the consumer after a message was sent up
+abbrev pub consumer_after : Sent → Consuming → Consuming
+consumer_after outcome consumer = after_taking consumer (message_answered outcome)
+
+-- all that is replied to the response
+abbrev pub replies_after : Sent → Consuming → List Message
+replies_after outcome consumer = replies_to consumer (message_answered outcome)
+
 -- a message's exchange with the producer's address, or the first steps of it, which `PostsTo` tells
 abbrev pub PostsUp : (host path : List ℕ) → Message → Option Sent → (before after : Option WireState) → Type 0
 PostsUp host path message outcome before after = WhereTold before after (PostsTo host (request_text host path (canonical message)) outcome)
@@ -42,12 +50,8 @@ PostsUp host path message outcome before after = WhereTold before after (PostsTo
 pub record SendsOneUp (host path : List ℕ) (message : Message) (outcome : Sent) (at next : ConsumerAt) : Type 0 where
   pub told : PostsUp host path message (Some outcome) at.wire next.wire
   pub cause : HasSentCause at.faults next.faults (Some outcome)
-  pub consumer : next.consumer ≡ after_taking at.consumer (message_answered outcome)
+  pub consumer : next.consumer ≡ consumer_after outcome at.consumer
   pub tally : next.tally ≡ tally_after outcome at.tally
-
--- all that is replied to a response
-abbrev pub brings_up : Sent → ConsumerAt → List Message
-brings_up outcome at = replies_to at.consumer (message_answered outcome)
 
 -- messages that aren't sent are unsent
 abbrev pub LeavesUnsentUp : List Message → ConsumerAt → ConsumerAt → Type 0
@@ -55,9 +59,9 @@ LeavesUnsentUp list at end = end ≡ record at { tally = with_unsent (length lis
 
 -- Messages are sent up in their order, and all replies to a response join the end. Of more than 100,000 the rest are unsent.
 abbrev pub SendsUp : (host path : List ℕ) → List Message → (at end : ConsumerAt) → Type 0
-SendsUp host path list at end = InTurn (SendsOneUp host path) brings_up LeavesUnsentUp 100000 list at end
+SendsUp host path list at end = InTurn (SendsOneUp host path) (λ outcome at. replies_after outcome at.consumer) LeavesUnsentUp 100000 list at end
 
 -- Where memory was wanting, the first of these sends were made, and of the next one the first steps.
 abbrev pub FirstSendsUp : (host path : List ℕ) → List Message → Consuming → (before after : Option WireState) → Type 0
 FirstSendsUp host path list consumer before after =
-    FirstInTurn (PostsUp host path) (λ outcome c. replies_to c (message_answered outcome)) (λ outcome c. after_taking c (message_answered outcome)) 100000 list consumer before after
+    FirstInTurn (PostsUp host path) replies_after consumer_after 100000 list consumer before after

@@ -1,6 +1,5 @@
 -- Inner words: cited by private functions alone. What a part of a turn does.
-use Rattle.std.specs.Prelude.{◌≡◌, ◌⊎◌, ⊤, ℕ, true, List, ◌++◌, Option, None, Some, Result, Ok, Err}
-use Rattle.siri_base.specs.OutsideCalls.{WhereTold}
+use Rattle.std.specs.Prelude.{◌≡◌, ◌⊎◌, ⊤, ℕ, true, List, ◌++◌, Option, None, Some, Result}
 use Rattle.siri_base.specs.Wires.{WireState}
 use Rattle.siri_http.specs.Texts.{is_written}
 use Rattle.siri_tables.specs.Refusals.{Refusal}
@@ -8,19 +7,17 @@ use Rattle.siri_messages.specs.declared.message.Message.{Message}
 use Rattle.siri_model.specs.History.{History}
 use Rattle.siri_producer.specs.Known.{Known, StandsFor}
 use Rattle.siri_settle.specs.declared.outs.Out.{Out}
-use Rattle.siri_wire.specs.Canonical.{canonical}
 use Rattle.siri_exchange.specs.Causes.{HasSentCause}
 use Rattle.siri_exchange.specs.Posts.{Posts}
 use Rattle.siri_exchange.specs.declared.asked.Asked.{Asked}
 use Rattle.siri_exchange.specs.declared.posting.Sent.{Sent}
-use Rattle.siri_exchange.specs.declared.tally.Tally.{Tally}
 use Rattle.siri_ends.specs.declared.answering.Brought.{Brought}
 use Rattle.siri_ends.specs.declared.answering.Brought.TheVariants as brought
 use Rattle.siri_ends.specs.declared.response.Response.{Response}
 use Rattle.siri_ends.specs.Responses.{message_asked, message_in, replying, responding, responding_to, taking}
 use Rattle.siri_ends.specs.At.{ConsumerAt, End}
 use Rattle.siri_ends.specs.Sending.{PostsOut, acknowledgement, sends_after, steps_after, tally_after}
-use Rattle.siri_ends.specs.SendingUp.{SendsOneUp, brings_up}
+use Rattle.siri_ends.specs.SendingUp.{SendsOneUp, replies_after}
 use Rattle.siri_ends.specs.Consuming.{AnswersFirst, further_replies}
 
 -- ---- what a connection brings
@@ -40,17 +37,22 @@ abbrev pub AreWritten : Option Response → Type 0
 AreWritten None = ⊤
 AreWritten (Some response) = is_written response.status ≡ true
 
+-- a refusal that is brought has one of the statuses that are written
+abbrev pub IsWrittenIfRefused : Brought → Type 0
+IsWrittenIfRefused (brought.Refused response) = is_written response.status ≡ true
+IsWrittenIfRefused other = ⊤
+
 -- what the body of a POST brings
 pub record BringsDocument (document : Result Message Refusal) (brought : Brought) : Type 0 where
   pub message : message_in document ≡ message_brought brought
   pub answer : (reply : Message → Option Message) → Some (responding_to reply document) ≡ answered reply brought
-  pub written : (reply : Message → Option Message) → AreWritten (answered reply brought)
+  pub written : IsWrittenIfRefused brought
 
 -- what a connection brings that asks this
 pub record Brings (asked : Asked) (brought : Brought) : Type 0 where
   pub message : message_asked asked ≡ message_brought brought
   pub answer : (reply : Message → Option Message) → responding reply asked ≡ answered reply brought
-  pub written : (reply : Message → Option Message) → AreWritten (answered reply brought)
+  pub written : IsWrittenIfRefused brought
 
 -- ---- a producer
 
@@ -88,7 +90,7 @@ pub record AnswersOne (further : List Message) (at mid : ConsumerAt) : Type 0 wh
 pub record SendsNextUp (host path : List ℕ) (message : Message) (more : List Message) (at next : ConsumerAt) : Type 0 where
   pub outcome : Sent
   pub sends : SendsOneUp host path message outcome at next
-  pub more_are : more ≡ brings_up outcome at
+  pub more_are : more ≡ replies_after outcome at.consumer
 
 -- ---- where memory was wanting
 

@@ -58,7 +58,7 @@ fn reply_to(alloc: Global, consumer: &mut Consumer, asked: &Asked) -> Result<Rep
 {
     match brought_by(alloc, asked)? {
         Brought::Message(message) => {
-            let replies = take_message(consumer, &message)?;
+            let replies = take_message(consumer, message)?;
             split(alloc, replies)
         }
         Brought::Refused(response) => Ok(Replied {

@@ -1,5 +1,5 @@
 // A response that is to be written.
-ghost use Rattle.std.specs.Prelude.{◌≡◌, ◌++◌, [], IfOk, true, option_map};
+ghost use Rattle.std.specs.Prelude.{◌≡◌, IfOk, true, option_map};
 ghost use Rattle.siri_http.specs.Texts.{is_written};
 ghost use Rattle.siri_exchange.specs.Requests.{status_of, name_of};
 ghost use Rattle.siri_ends.specs.Responses.{refusal_text, refusing, reply_body, replying};

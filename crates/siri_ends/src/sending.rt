@@ -1,16 +1,10 @@
 // Sends messages to where they are for.
-ghost use Rattle.std.specs.Prelude.{◌≡◌, ◌++◌, [], IfOk, OnOk, OnErr, length, option_map, Some};
-ghost use Rattle.siri_base.specs.OutsideCalls.{WhereTold};
-ghost use Rattle.siri_model.specs.History.{History, Take};
-ghost use Rattle.siri_producer.specs.Known.{StandsFor};
-ghost use Rattle.siri_producer.specs.Sends.{sends};
-ghost use Rattle.siri_wire.specs.Canonical.{canonical};
+ghost use Rattle.std.specs.Prelude.{◌≡◌, IfOk, OnOk, OnErr, Some};
 ghost use Rattle.siri_wire.specs.Documents.{message_of};
 ghost use Rattle.siri_exchange.specs.Causes.{HasSentCause, outcome};
-ghost use Rattle.siri_exchange.specs.Posts.{Posts};
-ghost use Rattle.siri_ends.specs.Responses.{message_in, turn_steps};
+ghost use Rattle.siri_ends.specs.Responses.{message_in};
 ghost use Rattle.siri_ends.specs.At.{Goes, end_of};
-ghost use Rattle.siri_ends.specs.Sending.{PostsOut, SendsAll, SendsSome, acknowledging, acknowledging_in, sends_after, steps_after, target_of};
+ghost use Rattle.siri_ends.specs.Sending.{PostsOut, SendsAll, SendsSome, acknowledging, acknowledging_in};
 ghost use Rattle.siri_ends.specs.Turns.{Hears, SendsNext, StopsAt};
 
 use crate::Tally;

@@ -1,5 +1,5 @@
 // Sends messages up to the producer.
-ghost use Rattle.std.specs.Prelude.{◌≡◌, ◌++◌, [], IfOk, OnOk, OnErr, Some, None};
+ghost use Rattle.std.specs.Prelude.{◌≡◌, IfOk, OnOk, OnErr, Some};
 ghost use Rattle.siri_view.specs.Consuming.{after_message, seen_of};
 ghost use Rattle.siri_wire.specs.Documents.{message_of};
 ghost use Rattle.siri_exchange.specs.Causes.{HasSentCause, outcome};
@@ -20,15 +20,13 @@ use std::alloc::Global;
 use std::collections::VecDeque;
 
 /// Takes a message, and gives the replies to it.
-pub fn take_message(
-    consumer: &mut Consumer,
-    message: &Message,
-) -> Result<List<Message>, OutOfMemory>
-    ensures consumer { OnOk result (consumer.new ≡ after_message consumer.old message.now) }
-    ensures replies { IfOk result (λ replies. replies ≡ (seen_of consumer.old message.now).replies) }
+pub fn take_message(consumer: &mut Consumer, message: Message) -> Result<List<Message>, OutOfMemory>
+    ensures consumer { OnOk result (consumer.new ≡ after_message consumer.old message) }
+    ensures replies { IfOk result (λ replies. replies ≡ (seen_of consumer.old message).replies) }
 {
-    let seen = consumer.take(message)?;
-    Ok(seen.replies)
+    let seen = consumer.take(&message);
+    drop(message);
+    Ok(seen?.replies)
 }
 
 /// Takes the message of a document that was answered, where it is one, and gives the replies to it.
@@ -41,7 +39,7 @@ fn hear_document(
     ensures replies { IfOk result (λ replies. replies ≡ replies_to consumer.old (message_in (message_of document.now))) }
 {
     match decode(alloc, document) {
-        Ok(message) => take_message(consumer, &message),
+        Ok(message) => take_message(consumer, message),
         Err(DecodeError::Refused(_)) => Ok(List::new(alloc)),
         Err(DecodeError::OutOfMemory) => Err(OutOfMemory),
     }
@@ -98,7 +96,9 @@ fn send_next<W: Wire>(
     ensures ok { IfOk result (λ more. SendsNextUp producer.now.host producer.now.path message more (consumer_at consumer.old tally.old (W.tells wire.old) (W.faults wire.old)) (consumer_at consumer.new tally.new (W.tells wire.new) (W.faults wire.new))) }
     ensures err { OnErr result (StopsAt (PostsUp producer.now.host producer.now.path message) (W.tells wire.old) (W.tells wire.new)) }
 {
-    send_one(alloc, wire, &message, producer, consumer, tally)
+    let more = send_one(alloc, wire, &message, producer, consumer, tally);
+    drop(message);
+    more
 }
 
 /// Sends messages up to the producer's address in their order: each is dialled, written, its response read, and the connection

@@ -21,15 +21,19 @@ use std::alloc::Global;
 fn answer_message(
     alloc: Global,
     producer: &mut Producer,
-    message: &Message,
+    message: Message,
 ) -> Result<Response, OutOfMemory>
-    ensures stands { OnOk result (TakesFor producer.old producer.new (Some message.now)) }
-    ensures response { IfOk result (λ response. (h : History) → StandsFor producer.old h → response ≡ replying (producer_reply producer.old.responder.name h message.now)) }
+    ensures stands { OnOk result (TakesFor producer.old producer.new (Some message)) }
+    ensures response { IfOk result (λ response. (h : History) → StandsFor producer.old h → response ≡ replying (producer_reply producer.old.responder.name h message)) }
     ensures written { IfOk result (λ response. is_written response.status ≡ true) }
     ensures name { producer.new.responder.name ≡ producer.old.responder.name }
 {
-    let answer = producer.take(message)?;
-    replying(alloc, answer.reply.as_ref())
+    let answer = producer.take(&message);
+    drop(message);
+    let answer = answer?;
+    let response = replying(alloc, answer.reply.as_ref());
+    drop(answer);
+    response
 }
 
 /// Takes the message that a connection brings, where it brings one, and gives the answer, where there is one.
@@ -44,7 +48,7 @@ fn response_to(
     ensures name { producer.new.responder.name ≡ producer.old.responder.name }
 {
     match brought_by(alloc, asked)? {
-        Brought::Message(message) => Ok(Some(answer_message(alloc, producer, &message)?)),
+        Brought::Message(message) => Ok(Some(answer_message(alloc, producer, message)?)),
         Brought::Refused(response) => Ok(Some(response)),
         Brought::Nothing => Ok(None),
     }

@@ -1,6 +1,7 @@
 use Rattle.std.proofs.Common.{◌≡◌, ◌-◌, suc, ◌∙◌, [], arith}
 use Rattle.siri_ends.specs.Sending.{SendsSome}
-use Rattle.siri_ends.proofs.Sends.{comes_next, comes_last, comes_full, comes_short, none_left, on_err, whole_stop}
+use Rattle.siri_ends.proofs.InTurn.{none_left, on_err}
+use Rattle.siri_ends.proofs.Sends.{comes_next, comes_last, comes_full, comes_short, whole_stop}
 use Rattle.siri_ends.proofs.sending.send_out.Goals as goal
 
 pub returns-in_default-clause-ok : goal.returns-in_default-clause-ok
@@ -12,7 +13,7 @@ returns-in_default-clause-ok g c =
 pub loop-left-preserved : goal.loop-left-preserved
 loop-left-preserved g c =
     let one : c.loop-left.left ≡ suc (c.loop-left.left - 1) = omega (arith, c.loop-left-test.true) in
-    comes_next c.args.outs c.loop-left.queue.items c.append_outs.new.queue.items _ _ _ c.loop-left.left (c.loop-left.left - 1) c.in-Some.out c.pop_front.new.self.items c.in_ok-more.more c.loop-left.invariant c.in-Some.ensures.items one c.in_ok-more.ensures.ok c.in_ok-append_outs.ensures
+    comes_next c.args.outs c.loop-left.queue.items c.append_all.new.queue.items _ _ _ c.loop-left.left (c.loop-left.left - 1) c.in-Some.out c.pop_front.new.self.items c.in_ok-more.more c.loop-left.invariant c.in-Some.ensures.items one c.in_ok-more.ensures.ok c.in_ok-append_all.ensures
 
 pub returns-clause-ok : goal.returns-clause-ok
 returns-clause-ok g c =
@@ -25,8 +26,8 @@ returns-in_err-more-clause-err g c =
     on_err c.from_residual.result (SendsSome c.args.outs c.args.producer.now (g.W.Wire.tells c.args.wire.now) (g.W.Wire.tells c.send_next.new.wire))
     (comes_short c.args.outs c.loop-left.queue.items _ _ c.loop-left.left (c.loop-left.left - 1) c.in-Some.out c.pop_front.new.self.items _ c.loop-left.invariant c.in-Some.ensures.items one c.in_err-more.ensures.err)
 
-pub returns-in_err-append_outs-clause-err : goal.returns-in_err-append_outs-clause-err
-returns-in_err-append_outs-clause-err g c =
+pub returns-in_err-append_all-clause-err : goal.returns-in_err-append_all-clause-err
+returns-in_err-append_all-clause-err g c =
     let one : c.loop-left.left ≡ suc (c.loop-left.left - 1) = omega (arith, c.loop-left-test.true) in
-    on_err c.from_residual-in_err-append_outs.result (SendsSome c.args.outs c.args.producer.now (g.W.Wire.tells c.args.wire.now) (g.W.Wire.tells c.send_next.new.wire))
+    on_err c.from_residual-in_err-append_all.result (SendsSome c.args.outs c.args.producer.now (g.W.Wire.tells c.args.wire.now) (g.W.Wire.tells c.send_next.new.wire))
     (comes_short c.args.outs c.loop-left.queue.items _ _ c.loop-left.left (c.loop-left.left - 1) c.in-Some.out c.pop_front.new.self.items _ c.loop-left.invariant c.in-Some.ensures.items one (whole_stop c.in-Some.out c.in_ok-more.more _ _ c.in_ok-more.ensures.ok))

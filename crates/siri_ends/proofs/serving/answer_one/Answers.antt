@@ -1,4 +1,4 @@
-use Rattle.siri_ends.proofs.Sends.{on_err}
+use Rattle.siri_ends.proofs.InTurn.{on_err}
 use Rattle.siri_ends.proofs.Serves.{answers_one, stops_asking, stops_answering, stops_writing}
 use Rattle.siri_ends.proofs.serving.answer_one.Goals as goal
 

@@ -1,4 +1,4 @@
-use Rattle.siri_ends.proofs.Sends.{on_err}
+use Rattle.siri_ends.proofs.InTurn.{on_err}
 use Rattle.siri_ends.proofs.Serves.{serves_one, stops_in_answer, stops_in_sends}
 use Rattle.siri_ends.proofs.serving.serve_one.Goals as goal
 
