@@ -1,3 +1,6 @@
 pub mod Alive
 pub mod Earliest
 pub mod Gathered
+pub mod OwnKeys
+pub mod Ranges
+pub mod Sides

@@ -1,5 +1,5 @@
 -- A walk over the items that are shown to a topic.
-use Rattle.std.specs.Prelude.{Bool, ◌≡◌, ℕ, ◌+◌, ◌-◌, ◌≤◌, max, List, [], ◌∷◌, length, drop, filter, Option, MatchOption}
+use Rattle.std.specs.Prelude.{Bool, ◌≡◌, ℕ, ◌+◌, ◌-◌, ◌≤◌, max, List, [], ◌∷◌, slice_range, filter, Option, MatchOption}
 use Rattle.std.specs.Map.{values_of}
 use Rattle.std.specs.Borrow.{Bor}
 use Rattle.std.specs.declared.rc.Rc.{Rc}
@@ -24,15 +24,16 @@ shown_entries topic moment es = filter (shown_at topic moment) es
 abbrev pub shown_of : Topic → ℕ → Items → List Item
 shown_of topic moment es = values_of (shown_entries topic moment es)
 
--- the items that a walk has still to lend: those that are shown from its place on
+-- the items that a walk has still to lend: those that are shown from its place to its end
 abbrev pub to_lend : Selected → List Item
-to_lend s = shown_of s.topic.now s.moment (drop s.place s.entries.now)
+to_lend s = shown_of s.topic.now s.moment (slice_range s.entries.now s.place s.end)
 
 -- the first item that was still to be lent was lent, and each item that was looked at is a step
 pub record Steps (s : Selected) (r : Option (Bor (Rc Item Global))) (t : Selected) : Type 0 where
   pub lent : MatchOption r ((to_lend s ≡ []) × (to_lend t ≡ [])) (λ item. to_lend s ≡ item.now.value ∷ to_lend t)
   pub onward : MatchOption r (s.place ≤ t.place) (λ _. s.place + 1 ≤ t.place)
-  pub within : t.place ≤ max s.place (length s.entries.now)
+  pub within : t.place ≤ max s.place s.end
+  pub end : t.end ≡ s.end
   pub counter : t.counter.now ≡ counted s.counter.now (t.place - s.place)
   pub same_counter : t.counter.ghost_name ≡ s.counter.ghost_name
   pub topic : t.topic.now ≡ s.topic.now

@@ -7,7 +7,7 @@
 //!
 //!     key           -> look      ---> the item of that key         one step
 //!     topic         -> select    ---> the items that are shown     a step for each item that is looked at
-//!     topic         -> shown     ---> all of them in one call      a step for each item that is held
+//!     topic         -> shown     ---> all of them in one call      a step for each that may be shown by its key
 //! ```
 //!
 //! An item leaves once it is dead at the store's moment: the store's owner moves the moment by `advance` and then lets the
@@ -19,6 +19,7 @@
 //! Stands on `siri_base`, `siri_records` and `siri_topic`. It knows no subscription, no message and no clock.
 #![tactic(auto)]
 
+mod candidates;
 mod counter;
 mod leaving;
 mod selected;

@@ -1,14 +1,16 @@
 // The store of current items.
-ghost use Rattle.std.specs.Prelude.{◌≡◌, ◌↔◌, ◌+◌, ◌≤◌, max, [], length, option_map, true, false, None, IfOk, OnOk, OnErr, IsErrOf, ⊤};
+ghost use Rattle.std.specs.Prelude.{◌≡◌, ◌↔◌, ◌+◌, ◌≤◌, max, [], length, slice_range, option_map, true, false, None, IfOk, OnOk, OnErr, IsErrOf, ⊤};
 ghost use mathlib.Core.Option.{none};
 ghost use Rattle.std.specs.Borrow.{sem, follows, follows_so};
 ghost use Rattle.siri_records.specs.Keyed.{InOrder, item_of, dead_of, living, unshared};
 ghost use Rattle.siri_store.specs.Calls.{NoneDead, is_held, without, refuses, observed, IsNextToLeave, after_expiry};
+ghost use Rattle.siri_store.specs.Candidates.{candidates};
 ghost use Rattle.siri_store.specs.Held.{counted};
-ghost use Rattle.siri_store.specs.Walk.{shown_entries, shown_of};
+ghost use Rattle.siri_store.specs.Walk.{shown_entries, shown_of, to_lend};
 ghost use Rattle.siri_store.specs.contracts.counter.Counter.{the_row as counter_row};
 ghost use Rattle.siri_store.specs.contracts.store.Store.{the_row};
 
+use crate::candidates::candidates;
 use crate::counter::Counter;
 use crate::leaving::first_to_leave;
 use crate::{Selected, walk};
@@ -45,8 +47,8 @@ impl From<OutOfMemory> for ObserveError {
     }
 }
 
-/// Current items in order of key, a moment, and a counter of steps. Contracts see the keys with the items themselves,
-/// the moment and the counter.
+/// Current items in order of key, each under its own key, a moment, and a counter of steps. Contracts see the keys with the
+/// items themselves, the moment and the counter.
 #[derive(Drop)]
 pub struct Store {
     entries: KeyedItems,
@@ -55,11 +57,14 @@ pub struct Store {
 }
 
 impl Model for Store {
+    ghost use Rattle.siri_store.specs.Candidates.{UnderOwnKeys};
     ghost use Rattle.siri_store.specs.Held.{Held};
 
     ghost Value = { Held };
 
     ghost view = { λ s. record { entries = s.entries; moment = s.moment; reads = s.counter } };
+
+    ghost invariant = { λ s. UnderOwnKeys s.entries };
 }
 
 impl Store {
@@ -164,31 +169,36 @@ impl Store {
         self.entries.get(key)
     }
 
-    /// Lends, in order of key, the held items that are shown to a topic at the store's moment. Each held item that the
-    /// walk looks at is a step. The store holds still as long as the walk is alive.
+    /// Lends, in order of key, the held items that are shown to a topic at the store's moment. The walk looks only at held
+    /// items that may be shown to the topic by their keys, and each that it looks at is a step. The store holds still as long
+    /// as the walk is alive.
     pub fn select<'a>(&'a mut self, topic: &'a Topic) -> Selected<'a>
         ensures* keeps { sem 𝓛 (follows the_row counter_row self.entry.ghost_name result.counter.ghost_name (λ steps. record self.old { reads = steps })) }
         ensures counter { result.counter.now ≡ self.old.reads }
         ensures topic { result.topic.now ≡ topic.now }
         ensures moment { result.moment ≡ self.old.moment }
         ensures entries { result.entries.now ≡ self.old.entries }
-        ensures place { result.place ≡ 0 }
+        ensures lends { to_lend result ≡ shown_of topic.now self.old.moment self.old.entries }
+        ensures places { slice_range self.old.entries result.place result.end ≡ candidates topic.now self.old.entries }
+        ensures within { (result.place ≤ result.end) × (result.end ≤ length self.old.entries) }
     {
         let moment = self.moment;
+        let places = candidates(&self.entries, topic);
         Selected {
             counter: &mut self.counter,
             topic,
             moment,
             entries: &self.entries,
-            place: 0,
+            place: places.start,
+            end: places.end,
         }
     }
 
     /// All held items that are shown to a topic at the store's moment, in order of key, shared with the store. Each held
-    /// item is a step. After want of memory nothing but the counter has changed.
+    /// item that may be shown to the topic by its key is a step. After want of memory nothing but the counter has changed.
     pub fn shown(&mut self, alloc: Global, topic: &Topic) -> Result<Vec<Rc<Item>>, OutOfMemory>
         ensures ok { IfOk result (λ items. unshared items.items ≡ shown_of topic.now self.old.moment self.old.entries) }
-        ensures steps { OnOk result (self.new.reads ≡ counted self.old.reads (length self.old.entries)) }
+        ensures steps { OnOk result (self.new.reads ≡ counted self.old.reads (length (candidates topic.now self.old.entries))) }
         ensures rest { self.new ≡ record self.old { reads = self.new.reads } }
         ensures risen { self.old.reads ≤ self.new.reads }
         ensures at_most { self.new.reads ≤ self.old.reads + length self.old.entries }
@@ -201,7 +211,7 @@ impl Store {
     /// The same items with their keys.
     pub fn shown_entries(&mut self, alloc: Global, topic: &Topic) -> Result<KeyedItems, OutOfMemory>
         ensures ok { IfOk result (λ items. items ≡ shown_entries topic.now self.old.moment self.old.entries) }
-        ensures steps { OnOk result (self.new.reads ≡ counted self.old.reads (length self.old.entries)) }
+        ensures steps { OnOk result (self.new.reads ≡ counted self.old.reads (length (candidates topic.now self.old.entries))) }
         ensures rest { self.new ≡ record self.old { reads = self.new.reads } }
         ensures risen { self.old.reads ≤ self.new.reads }
         ensures at_most { self.new.reads ≤ self.old.reads + length self.old.entries }

@@ -1,9 +1,11 @@
-// Walks over the held items that the store makes itself, from the first to the last. Each item is a step.
+// Walks that the store makes itself, over the held items that may be shown to a topic by their keys. Each item is a step.
 ghost use Rattle.std.specs.Prelude.{◌≡◌, ◌+◌, ◌≤◌, length, IfOk, OnOk};
 ghost use Rattle.siri_records.specs.Keyed.{InOrder, unshared};
+ghost use Rattle.siri_store.specs.Candidates.{UnderOwnKeys, candidates};
 ghost use Rattle.siri_store.specs.Held.{counted};
 ghost use Rattle.siri_store.specs.Walk.{shown_entries, shown_of};
 
+use crate::candidates::candidates;
 use crate::counter::Counter;
 use siri_base::{Copies, Moment, OutOfMemory};
 use siri_records::{Item, KeyedItems};
@@ -19,27 +21,25 @@ pub(crate) fn shown_items(
     topic: &Topic,
     moment: Moment,
 ) -> Result<Vec<Rc<Item>>, OutOfMemory>
+    requires { UnderOwnKeys items.now }
     ensures ok { IfOk result (λ found. unshared found.items ≡ shown_of topic.now moment items.now) }
-    ensures steps { OnOk result (counter.new ≡ counted counter.old (length items.now)) }
+    ensures steps { OnOk result (counter.new ≡ counted counter.old (length (candidates topic.now items.now))) }
     ensures risen { counter.old ≤ counter.new }
     ensures at_most { counter.new ≤ counter.old + length items.now }
     ensures ordered { InOrder items.now }
 {
     let mut found = Vec::new(alloc);
-    let mut place = 0;
-    loop {
-        match items.entry(place) {
-            Some(entry) => {
-                counter.count();
-                if shown(topic, &entry.1, moment) {
-                    let item = entry.1.clone()?;
-                    found.push(item)?;
-                }
-                place += 1;
+    let places = candidates(items, topic);
+    for place in places.start..places.end {
+        if let Some(entry) = items.entry(place) {
+            counter.count();
+            if shown(topic, &entry.1, moment) {
+                let item = entry.1.clone()?;
+                found.push(item)?;
             }
-            None => return Ok(found),
         }
     }
+    Ok(found)
 }
 
 // The same with copies of their keys.
@@ -50,26 +50,24 @@ pub(crate) fn shown_entries(
     topic: &Topic,
     moment: Moment,
 ) -> Result<KeyedItems, OutOfMemory>
+    requires { UnderOwnKeys items.now }
     ensures ok { IfOk result (λ found. found ≡ shown_entries topic.now moment items.now) }
-    ensures steps { OnOk result (counter.new ≡ counted counter.old (length items.now)) }
+    ensures steps { OnOk result (counter.new ≡ counted counter.old (length (candidates topic.now items.now))) }
     ensures risen { counter.old ≤ counter.new }
     ensures at_most { counter.new ≤ counter.old + length items.now }
     ensures ordered { InOrder items.now }
 {
     let mut found = KeyedItems::new(alloc);
-    let mut place = 0;
-    loop {
-        match items.entry(place) {
-            Some(entry) => {
-                counter.count();
-                if shown(topic, &entry.1, moment) {
-                    let item = entry.1.clone()?;
-                    let key = entry.0.copy()?;
-                    found.push_last(key, item)?;
-                }
-                place += 1;
+    let places = candidates(items, topic);
+    for place in places.start..places.end {
+        if let Some(entry) = items.entry(place) {
+            counter.count();
+            if shown(topic, &entry.1, moment) {
+                let item = entry.1.clone()?;
+                let key = entry.0.copy()?;
+                found.push_last(key, item)?;
             }
-            None => return Ok(found),
         }
     }
+    Ok(found)
 }

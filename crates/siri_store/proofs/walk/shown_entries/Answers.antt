@@ -1,14 +1,71 @@
-use Rattle.std.proofs.Common.{◌≡◌, true, ap, sym, ◌∙◌}
-use Rattle.siri_topic.specs.Shown.{is_shown}
+use Rattle.std.proofs.Common.{◌≡◌, ◌≤◌, ◌+◌, ◌-◌, [], ◌∷◌, ◌++◌, true, false, length, arith, ap, sym, ◌∙◌}
 use Rattle.siri_records.specs.declared.key.Key.{Key}
 use Rattle.siri_records.specs.declared.item.Item.{Item}
-use Rattle.siri_store.proofs.Gathered.{next_above}
+use Rattle.siri_topic.specs.Shown.{is_shown}
+use Rattle.siri_store.specs.Candidates.{candidates}
+use Rattle.siri_store.proofs.Gathered.{next_above, shown_next, unshown_next, found_one, counted_none, counted_one}
+use Rattle.siri_store.proofs.OwnKeys.{shown_there}
+use Rattle.siri_store.proofs.Ranges.{range_length, range_next}
+use Rattle.siri_store.proofs.walk.shown_entries.Goals.{in-Some+then-shown+in_ok-item+in_ok-key+in_ok-push_last, in-Some+else-shown, in_default}
 use Rattle.siri_store.proofs.walk.shown_entries.Goals as goal
+
+pub loop-place-init : goal.loop-place-init
+loop-place-init c =
+    let topic = c.args.topic.now in
+    let es = c.args.items.now in
+    let places = c.candidates-places in
+    let there = shown_there topic c.args.moment es places.result.start places.result.end c.requires places.ensures.places in
+    let number = sym (ap length places.ensures.places) ∙ range_length es places.result.start places.result.end places.ensures.within in
+    let none : length (candidates topic es) - (places.result.end - places.result.start) ≡ 0 = omega (arith, number) in
+    record {
+      found = rw c.new-found.ensures there;
+      within = places.ensures.within;
+      left = omega (arith, number);
+      counter = counted_none c.args.counter.now _ none;
+    }
+
+pub loop-place-preserved : goal.loop-place-preserved
+loop-place-preserved c =
+    let topic = c.args.topic.now in
+    let moment = c.args.moment in
+    let es = c.args.items.now in
+    let place = c.loop-place.place in
+    let end = c.candidates-places.result.end in
+    let all = length (candidates topic es) in
+    let now = c.loop-place.invariant in
+    let onward : all - (end - (place + 1)) ≡ all - (end - place) + 1 = omega (arith, now.left, c.loop-place-test.true) in
+    let left : end - (place + 1) ≤ all = omega (arith, now.left) in
+    elim c.match-entry.branch [
+      | in-Some+then-shown+in_ok-item+in_ok-key+in_ok-push_last w ↦
+          let e : Key × Item = (w.in-Some.entry.now.0, w.in-Some.entry.now.1.value) in
+          let shown : is_shown topic e.1 moment ≡ true = ap (λ i. is_shown topic i moment) (sym w.deref.ensures) ∙ (sym w.shown.ensures ∙ w.if-shown.true) in
+          let next = shown_next topic moment es place end e c.loop-place-test.true w.in-Some.ensures.onward.0 shown in
+          let pair : ◌≡◌ {A = Key × Item} (w.in_ok-key.key, w.in_ok-item.item.value) e = λ j. (w.in_ok-key.ensures j, w.in_ok-item.ensures.cases j) in
+          record {
+            found = found_one _ _ _ _ _ e (w.found-is ∙ (w.in_ok-push_last.ensures.ok ∙ ap (λ (x : Key × Item). c.loop-place.found ++ x ∷ []) pair)) next now.found;
+            within = now.within;
+            left = left;
+            counter = counted_one c.args.counter.now c.loop-place.counter c.match-entry.counter _ _ onward now.counter (w.counter-is ∙ w.count.ensures.step);
+          }
+      | in-Some+else-shown w ↦
+          let e : Key × Item = (w.in-Some.entry.now.0, w.in-Some.entry.now.1.value) in
+          let unshown : is_shown topic e.1 moment ≡ false = ap (λ i. is_shown topic i moment) (sym w.deref.ensures) ∙ (sym w.shown.ensures ∙ w.if-shown.false) in
+          let next = unshown_next topic moment es place end e c.loop-place-test.true w.in-Some.ensures.onward.0 unshown in
+          record {
+            found = rw (w.found-is, ← next) now.found;
+            within = now.within;
+            left = left;
+            counter = counted_one c.args.counter.now c.loop-place.counter c.match-entry.counter _ _ onward now.counter (w.counter-is ∙ w.count.ensures.step);
+          }
+      | in_default w ↦ absurd (omega (arith, now.within, c.loop-place-test.true, w.in_default.ensures.onward.1))
+    ]
 
 pub push_last-requires : goal.push_last-requires
 push_last-requires c =
     let topic = c.args.topic.now in
     let moment = c.args.moment in
+    let es = c.args.items.now in
     let e : Key × Item = (c.in-Some.entry.now.0, c.in-Some.entry.now.1.value) in
     let shown : is_shown topic e.1 moment ≡ true = ap (λ i. is_shown topic i moment) (sym c.deref.ensures) ∙ (sym c.shown.ensures ∙ c.if-shown.true) in
-    rw c.in_ok-key-in-Some.ensures (next_above topic moment c.args.items.now c.loop-entry.found c.loop-entry.place e c.in-Some.ensures.ordered c.loop-entry.invariant.found c.in-Some.ensures.onward.0 shown)
+    let next = range_next es c.loop-place.place c.candidates-places.result.end e c.loop-place-test.true c.in-Some.ensures.onward.0 in
+    rw c.in_ok-key.ensures (next_above topic moment es c.loop-place.found _ _ e c.in-Some.ensures.ordered c.loop-place.invariant.found next shown)

@@ -5,6 +5,7 @@ use Rattle.siri_records.specs.declared.item.Item.{Item}
 use Rattle.siri_records.specs.Ends.{is_dead}
 use Rattle.siri_records.specs.Keyed.{living, dead_of}
 use Rattle.siri_store.proofs.Alive.{alive_living}
+use Rattle.siri_store.proofs.OwnKeys.{own_living}
 use Rattle.siri_store.proofs.store.Store.expire.Goals as goal
 
 pub overflow_sub-result : goal.overflow_sub-result
@@ -23,3 +24,6 @@ returns-clause-number c =
 
 pub returns-clause-alive : goal.returns-clause-alive
 returns-clause-alive c = rw c.keep_living.ensures (alive_living c.self.inside.moment c.self.inside.entries)
+
+pub invariant_of-self : goal.invariant_of-self
+invariant_of-self c = rw c.keep_living.ensures (own_living c.self.inside.moment c.self.inside.entries c.self.invariant)

@@ -4,6 +4,7 @@ use Rattle.siri_records.specs.Keyed.{Items}
 use Rattle.siri_store.specs.Leaving.{IsFirst}
 use Rattle.siri_store.proofs.Alive.{none_dead, alive_no_dead}
 use Rattle.siri_store.proofs.Earliest.{first_of_none}
+use Rattle.siri_store.proofs.OwnKeys.{own_removed}
 use Rattle.siri_store.proofs.store.Store.expire_one.Goals as goal
 
 pub returns-in-None-clause-key : goal.returns-in-None-clause-key
@@ -22,3 +23,6 @@ returns-in-Some-clause-none c = (
       let first = subst (λ (es : Items). IsFirst es (slice_get c.self.inside.entries c.in-Some.place)) no_dead c.in-Some.ensures.first in
       absurd (first_of_none (slice_get c.self.inside.entries c.in-Some.place) c.remove_at.result c.remove_at.ensures.key first)),
 )
+
+pub invariant_of-self : goal.invariant_of-self
+invariant_of-self c = rw c.remove_at.ensures.rest (own_removed c.self.inside.entries c.remove_at.result c.self.invariant)

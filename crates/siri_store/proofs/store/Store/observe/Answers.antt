@@ -1,6 +1,8 @@
 use Rattle.std.proofs.Common.{sym, ◌∙◌, ap}
 use Rattle.siri_records.specs.Ends.{is_dead}
+use Rattle.siri_records.specs.Keys.{key_of}
 use Rattle.siri_store.proofs.Alive.{alive_removed, alive_put}
+use Rattle.siri_store.proofs.OwnKeys.{own_removed, own_put}
 use Rattle.siri_store.proofs.store.Store.observe.Goals as goal
 
 pub returns-then-dead-clause-alive : goal.returns-then-dead-clause-alive
@@ -16,3 +18,11 @@ returns-clause-alive c =
 
 pub returns-in_err-put-clause-alive : goal.returns-in_err-put-clause-alive
 returns-in_err-put-clause-alive c = rw c.in_err-put.ensures.err (rw (← c.self.view_is) at c.requires)
+
+pub invariant_of-self : goal.invariant_of-self
+invariant_of-self c = rw c.remove.ensures.rest (own_removed c.self.inside.entries c.in-Ok.key c.self.invariant)
+
+pub invariant_of-self-2 : goal.invariant_of-self-2
+invariant_of-self-2 c =
+    let own = c.in-Ok.ensures ∙ ap key_of c.deref.ensures in
+    rw c.in_ok-put.ensures.ok (own_put c.self.inside.entries c.in-Ok.key c.args.item.value own c.self.invariant)

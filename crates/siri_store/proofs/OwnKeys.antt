@@ -1,0 +1,103 @@
+-- Items under their own keys, and which of them are shown.
+use Rattle.std.proofs.Common.{◌≡◌, ℕ, ◌≤◌, [], ◌∷◌, length, take, drop, Bool, true, false, ◌&&◌, refl, ap, sym, ◌∙◌, slice_range}
+use Rattle.std.specs.List.{All, AllByRecursion}
+use Rattle.std.specs.Map.{remove_entry}
+use Rattle.std.specs.BTreeMap.{insert_entry, is_at}
+use Rattle.std.specs.declared.cmp.Ordering.{Ordering}
+use Rattle.std.specs.declared.cmp.Ordering.TheVariants.{Less, Equal, Greater}
+use Rattle.std.proofs.lemmas.List.Elements.{All-from_recursion, recursion_from_All, All-filter, All-weaker}
+use Rattle.siri_records.specs.declared.item.Item.{Item}
+use Rattle.siri_records.specs.declared.item.Item.TheVariants as item
+use Rattle.siri_records.specs.declared.key.Key.{Key}
+use Rattle.siri_records.specs.Keyed.{Items, living}
+use Rattle.siri_records.specs.Keys.{key_of}
+use Rattle.siri_records.specs.Order.{key_cmp}
+use Rattle.siri_records.proofs.Order.{key_cmp_exact}
+use Rattle.siri_topic.specs.declared.topics.Topic.{Topic}
+use Rattle.siri_topic.specs.declared.topics.Topic.TheVariants as topic
+use Rattle.siri_topic.specs.Agreement.{agrees, has_visit}
+use Rattle.siri_topic.specs.Shown.{is_shown}
+use Rattle.siri_store.specs.Candidates.{UnderOwnKeys, may_be_shown, candidates}
+use Rattle.siri_store.specs.Sides.{is_below}
+use Rattle.siri_store.specs.Walk.{shown_at, shown_entries}
+use Rattle.siri_store.proofs.Ranges.{filter_through, in_turn, range_is_kept, range_after, range_before}
+use Rattle.siri_store.proofs.Sides.{below_none, above_none, between_all, not_both}
+
+-- ---- what the store's calls keep
+
+abbrev Own : Key × Item → Type 0
+Own e = e.0 ≡ key_of e.1
+
+put_case : (es : Items) (e : Key × Item) (k : Key) (i : Item) (o : Ordering) → key_cmp k e.0 ≡ o → k ≡ key_of i → Own e → AllByRecursion Own es → AllByRecursion Own (insert_entry key_cmp es k i) → AllByRecursion Own (insert_entry key_cmp (e ∷ es) k i)
+put_case es e k i Less is own first rest more = rw is (own, (first, rest))
+put_case es e k i Equal is own first rest more = rw is (sym (key_cmp_exact k e.0 is) ∙ own, rest)
+put_case es e k i Greater is own first rest more = rw is (first, more)
+
+put_own : (es : Items) (k : Key) (i : Item) → k ≡ key_of i → AllByRecursion Own es → AllByRecursion Own (insert_entry key_cmp es k i)
+put_own [] k i own a = (own, tt)
+put_own (e ∷ es) k i own a = put_case es e k i (key_cmp k e.0) refl own a.0 a.1 (put_own es k i own a.1)
+
+pub own_put : (es : Items) (k : Key) (i : Item) → k ≡ key_of i → UnderOwnKeys es → UnderOwnKeys (insert_entry key_cmp es k i)
+own_put es k i own all = All-from_recursion Own (insert_entry key_cmp es k i) (put_own es k i own (recursion_from_All Own es all))
+
+remove_case : (test : Key → Bool) (e : Key × Item) (es : Items) (b : Bool) → test e.0 ≡ b → Own e → AllByRecursion Own es → AllByRecursion Own (remove_entry test es) → AllByRecursion Own (remove_entry test (e ∷ es))
+remove_case test e es true is first rest less = rw is rest
+remove_case test e es false is first rest less = rw is (first, less)
+
+remove_own : (test : Key → Bool) (es : Items) → AllByRecursion Own es → AllByRecursion Own (remove_entry test es)
+remove_own test [] a = tt
+remove_own test (e ∷ es) a = remove_case test e es (test e.0) refl a.0 a.1 (remove_own test es a.1)
+
+pub own_removed : (es : Items) (k : Key) → UnderOwnKeys es → UnderOwnKeys (remove_entry (is_at (key_cmp k)) es)
+own_removed es k all = All-from_recursion Own (remove_entry (is_at (key_cmp k)) es) (remove_own (is_at (key_cmp k)) es (recursion_from_All Own es all))
+
+pub own_living : (now : ℕ) (es : Items) → UnderOwnKeys es → UnderOwnKeys (living now es)
+own_living now es all = All-filter _ Own es all
+
+-- ---- what is shown may be shown by its key
+
+both_left : (a b : Bool) → (a && b) ≡ true → a ≡ true
+both_left true b is = refl
+both_left false b is = absurd (cc is)
+
+agreeing : (t : Topic) (i : Item) → agrees t i ≡ true → may_be_shown t (key_of i) ≡ true
+unfolding has_visit
+agreeing (topic.Stop t) (item.Visit v) is = both_left _ _ (both_left _ _ (both_left _ _ (both_left _ _ is)))
+agreeing (topic.Timetable t) (item.Journey j) is = refl
+agreeing (topic.Vehicle t) (item.Vehicle v) is = refl
+agreeing (topic.Situation t) (item.Situation s) is = refl
+agreeing t i is = absurd (cc is)
+
+showing : (t : Topic) (now : ℕ) (e : Key × Item) → Own e → is_shown t e.1 now ≡ true → may_be_shown t e.0 ≡ true
+showing t now e own is = ap (may_be_shown t) own ∙ agreeing t e.1 (both_left _ _ (both_left _ _ is))
+
+all_showing : (t : Topic) (now : ℕ) (es : Items) → AllByRecursion Own es → AllByRecursion (λ e. is_shown t e.1 now ≡ true → may_be_shown t e.0 ≡ true) es
+all_showing t now [] a = tt
+all_showing t now (e ∷ es) a = (showing t now e a.0, all_showing t now es a.1)
+
+-- what is shown of the candidates is what is shown of all
+pub shown_candidates : (t : Topic) (now : ℕ) (es : Items) → UnderOwnKeys es → shown_entries t now (candidates t es) ≡ shown_entries t now es
+shown_candidates t now es all = filter_through (λ (e : Key × Item). may_be_shown t e.0) (shown_at t now) es (all_showing t now es (recursion_from_All Own es all))
+
+-- so where they stand together, what is shown there is what is shown of all
+pub shown_there : (t : Topic) (now : ℕ) (es : Items) (from to : ℕ) → UnderOwnKeys es → slice_range es from to ≡ candidates t es → shown_entries t now (slice_range es from to) ≡ shown_entries t now es
+shown_there t now es from to all is = ap (shown_entries t now) is ∙ shown_candidates t now es all
+
+-- ---- their places
+
+pub places_rise : (t : Topic) (es : Items) (from to : ℕ) → from ≤ length es → All (λ e. is_below t Equal e.0 ≡ true) (take from es) → All (λ e. is_below t Greater e.0 ≡ false) (drop to es) → from ≤ to
+places_rise t es from to within before after =
+    in_turn (λ (e : Key × Item). is_below t Equal e.0 ≡ true) (λ (e : Key × Item). is_below t Greater e.0 ≡ false) es from to (λ e. not_both t e.0) within before after
+
+-- between the first that isn't below the middle side and the first that is above it, they are the candidates
+pub places_are : (t : Topic) (es : Items) (from to : ℕ) → from ≤ to
+    → All (λ e. is_below t Equal e.0 ≡ true) (take from es) → All (λ e. is_below t Equal e.0 ≡ false) (drop from es)
+    → All (λ e. is_below t Greater e.0 ≡ true) (take to es) → All (λ e. is_below t Greater e.0 ≡ false) (drop to es)
+    → slice_range es from to ≡ candidates t es
+places_are t es from to le below not_below not_above above =
+    let after = range_after (λ (e : Key × Item). is_below t Equal e.0 ≡ false) es from to not_below in
+    let before = range_before (λ (e : Key × Item). is_below t Greater e.0 ≡ true) es from to le not_above in
+    range_is_kept (λ (e : Key × Item). may_be_shown t e.0) es from to le
+    (All-weaker (λ (e : Key × Item). is_below t Equal e.0 ≡ true) (λ (e : Key × Item). may_be_shown t e.0 ≡ false) (λ e. below_none t e.0) (take from es) below)
+    (λ k d lt. between_all t _ (after k d lt) (before k d lt))
+    (All-weaker (λ (e : Key × Item). is_below t Greater e.0 ≡ false) (λ (e : Key × Item). may_be_shown t e.0 ≡ false) (λ e. above_none t e.0) (drop to es) above)
