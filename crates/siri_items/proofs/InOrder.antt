@@ -17,12 +17,17 @@ use Rattle.siri_items.specs.declared.names.TheConstants.{AFFECTED_NETWORK, AFFEC
 use Rattle.siri_json.specs.Tokens.{tokens_of}
 use Rattle.siri_tables.specs.Appended.{row_tokens, Appends}
 use Rattle.siri_tables.specs.Writing.{row_object, written_list, written_moment, written_name}
-use Rattle.siri_items.specs.Written.{rows_of_call, written_call, rows_of_location, written_location, rows_of_framed_ref, rows_of_visit_journey, written_visit_journey, rows_of_visit, written_visit, rows_of_vehicle_journey, written_vehicle_journey, rows_of_vehicle, written_vehicle, rows_of_journey, written_journey, written_timed_journey, rows_of_period, written_names, written_network, written_networks, rows_of_affects, written_affects, rows_of_situation, written_situation}
+use Rattle.siri_tables.specs.Tables.{all_written}
+use Rattle.siri_items.specs.Calls.{call_table, written_call, rows_of_location, written_location, rows_of_framed_ref}
+use Rattle.siri_items.specs.Visits.{visit_journey_table, written_visit_journey, visit_table, written_visit}
+use Rattle.siri_items.specs.Vehicles.{vehicle_journey_table, written_vehicle_journey, vehicle_table, written_vehicle}
+use Rattle.siri_items.specs.Journeys.{rows_of_journey, written_journey, written_timed_journey}
+use Rattle.siri_items.specs.Situations.{rows_of_period, written_names, written_network, written_networks, rows_of_affects, written_affects, situation_table, written_situation}
 use Rattle.siri_tables.proofs.Sorted.{rows_onto, sorted, object_in_order, row_in_order, any_written, written_object, left_out}
 
-pub call_in_order : (old : List Token) (c : StopCall) → rows_onto (old ++ begin_object ∷ []) (sorted (rows_of_call c)) ++ end_object ∷ [] ≡ old ++ tokens_of (written_call c)
+pub call_in_order : (old : List Token) (c : StopCall) → rows_onto (old ++ begin_object ∷ []) (sorted (all_written call_table c)) ++ end_object ∷ [] ≡ old ++ tokens_of (written_call c)
 unfolding written_call
-call_in_order old c = object_in_order old (rows_of_call c)
+call_in_order old c = object_in_order old (all_written call_table c)
 
 pub location_in_order : (old : List Token) (l : VehicleLocation) → rows_onto (old ++ begin_object ∷ []) (sorted (rows_of_location l)) ++ end_object ∷ [] ≡ old ++ tokens_of (row_object (rows_of_location l))
 location_in_order old l = object_in_order old (rows_of_location l)
@@ -31,21 +36,21 @@ pub framed_in_order : (old : List Token) (name frame : List ℕ) (dated : Option
     → rows_onto ((old ++ key name ∷ []) ++ begin_object ∷ []) (sorted (rows_of_framed_ref frame dated)) ++ end_object ∷ [] ≡ old ++ key name ∷ tokens_of (row_object (rows_of_framed_ref frame dated))
 framed_in_order old name frame dated = row_in_order old name (rows_of_framed_ref frame dated)
 
-pub visit_journey_in_order : (old : List Token) (j : VisitJourney) → rows_onto (old ++ begin_object ∷ []) (sorted (rows_of_visit_journey j)) ++ end_object ∷ [] ≡ old ++ tokens_of (written_visit_journey j)
+pub visit_journey_in_order : (old : List Token) (j : VisitJourney) → rows_onto (old ++ begin_object ∷ []) (sorted (all_written visit_journey_table j)) ++ end_object ∷ [] ≡ old ++ tokens_of (written_visit_journey j)
 unfolding written_visit_journey
-visit_journey_in_order old j = object_in_order old (rows_of_visit_journey j)
+visit_journey_in_order old j = object_in_order old (all_written visit_journey_table j)
 
-pub visit_in_order : (old : List Token) (v : Visit) → rows_onto (old ++ begin_object ∷ []) (sorted (rows_of_visit v)) ++ end_object ∷ [] ≡ old ++ tokens_of (written_visit v)
+pub visit_in_order : (old : List Token) (v : Visit) → rows_onto (old ++ begin_object ∷ []) (sorted (all_written visit_table v)) ++ end_object ∷ [] ≡ old ++ tokens_of (written_visit v)
 unfolding written_visit
-visit_in_order old v = object_in_order old (rows_of_visit v)
+visit_in_order old v = object_in_order old (all_written visit_table v)
 
-pub vehicle_journey_in_order : (old : List Token) (j : VehicleJourney) → rows_onto (old ++ begin_object ∷ []) (sorted (rows_of_vehicle_journey j)) ++ end_object ∷ [] ≡ old ++ tokens_of (written_vehicle_journey j)
+pub vehicle_journey_in_order : (old : List Token) (j : VehicleJourney) → rows_onto (old ++ begin_object ∷ []) (sorted (all_written vehicle_journey_table j)) ++ end_object ∷ [] ≡ old ++ tokens_of (written_vehicle_journey j)
 unfolding written_vehicle_journey
-vehicle_journey_in_order old j = object_in_order old (rows_of_vehicle_journey j)
+vehicle_journey_in_order old j = object_in_order old (all_written vehicle_journey_table j)
 
-pub vehicle_in_order : (old : List Token) (v : Vehicle) → rows_onto (old ++ begin_object ∷ []) (sorted (rows_of_vehicle v)) ++ end_object ∷ [] ≡ old ++ tokens_of (written_vehicle v)
+pub vehicle_in_order : (old : List Token) (v : Vehicle) → rows_onto (old ++ begin_object ∷ []) (sorted (all_written vehicle_table v)) ++ end_object ∷ [] ≡ old ++ tokens_of (written_vehicle v)
 unfolding written_vehicle
-vehicle_in_order old v = object_in_order old (rows_of_vehicle v)
+vehicle_in_order old v = object_in_order old (all_written vehicle_table v)
 
 pub journey_in_order : (old : List Token) (time : Option ℕ) (j : Journey)
     → rows_onto (old ++ begin_object ∷ []) (sorted ((RECORDED_AT_TIME.now, option_and_then written_moment time) ∷ rows_of_journey j)) ++ end_object ∷ [] ≡ old ++ tokens_of (written_timed_journey time j)
@@ -63,9 +68,9 @@ pub affects_in_order : (old : List Token) (os ls ss : List (List ℕ))
     → rows_onto (old ++ begin_object ∷ []) (sorted (rows_of_affects os ls ss)) ++ end_object ∷ [] ≡ old ++ tokens_of (row_object (rows_of_affects os ls ss))
 affects_in_order old os ls ss = object_in_order old (rows_of_affects os ls ss)
 
-pub situation_in_order : (old : List Token) (s : Situation) → rows_onto (old ++ begin_object ∷ []) (sorted (rows_of_situation s)) ++ end_object ∷ [] ≡ old ++ tokens_of (written_situation s)
+pub situation_in_order : (old : List Token) (s : Situation) → rows_onto (old ++ begin_object ∷ []) (sorted (all_written situation_table s)) ++ end_object ∷ [] ≡ old ++ tokens_of (written_situation s)
 unfolding written_situation
-situation_in_order old s = object_in_order old (rows_of_situation s)
+situation_in_order old s = object_in_order old (all_written situation_table s)
 
 -- ---- objects that are left out
 

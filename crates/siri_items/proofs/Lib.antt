@@ -1,6 +1,6 @@
-pub mod BackTables
-pub mod CanonicalTables
+pub mod Affects
+pub mod CallTables
 pub mod InOrder
-pub mod ProperTables
-pub mod ReadImpliesSpells
-pub mod SpellsImpliesRead
+pub mod ItemLaws
+pub mod ItemTables
+pub mod References

@@ -1,6 +1,6 @@
--- The tables of calls, of a vehicle's location, and of how a journey is named: what an object is read as, row by row.
-use Rattle.std.specs.Prelude.{ℕ, List, [], ◌∷◌, Bool, ◌&&◌, is_none, Option, Some, None, Result, Ok, Err}
-use Rattle.serde_json.specs.Data.{Data}
+-- The tables of calls and of a vehicle's location, and how a journey is named: a line a row.
+use Rattle.std.specs.Prelude.{◌≡◌, ℕ, List, [], ◌∷◌, Bool, false, Option, Some, None, IfSome, IsSome, option_and_then, Result, Ok, Err}
+use Rattle.serde_json.specs.Data.{Data, no_members}
 use Rattle.siri_base.specs.declared.reason.Reason.TheVariants.{Missing}
 use Rattle.siri_json.specs.declared.path.Step.TheVariants.{Member}
 use Rattle.siri_json.specs.Values.{object_in}
@@ -10,77 +10,106 @@ use Rattle.siri_items.specs.declared.names.TheConstants.{STOP_POINT_REF, ORDER, 
 use Rattle.siri_items.specs.declared.read_call.JourneyRef.{JourneyRef}
 use Rattle.siri_items.specs.declared.read_call.RequiredJourneyRef.{RequiredJourneyRef}
 use Rattle.siri_tables.specs.Refusals.{Refusal, ◌>>=◌}
-use Rattle.siri_tables.specs.Rules.{name, text, number, decimal, moment, flag, unless_wrong, table_unless_blank, maybe, row, required_row}
+use Rattle.siri_tables.specs.Rules.{name, table, unless_wrong, table_unless_blank, maybe, row, required_row}
+use Rattle.siri_tables.specs.Proper.{IsName}
+use Rattle.siri_tables.specs.Writing.{Row as Written, row_object, with_rows, object_unless_empty, written_list, written_text}
+use Rattle.siri_tables.specs.Tables.{Kind, Row, optional, a_name, a_text, a_moment, a_number, a_decimal, a_flag, Table, Maker, read_all, AllProper, all_written, all_blank}
 
 -- StopCall: a call at a stop (EN 15531-3, MonitoredCall, RecordedCall and EstimatedCall)
+abbrev pub call_table : Table StopCall
+call_table =
+    optional a_name STOP_POINT_REF.now (λ c. c.stop_point_ref) ∷
+    optional a_number ORDER.now (λ c. c.order) ∷
+    optional a_text STOP_POINT_NAME.now (λ c. c.stop_point_name) ∷
+    optional a_flag VEHICLE_AT_STOP.now (λ c. c.vehicle_at_stop) ∷
+    optional a_moment AIMED_ARRIVAL_TIME.now (λ c. c.aimed_arrival_time) ∷
+    optional a_moment EXPECTED_ARRIVAL_TIME.now (λ c. c.expected_arrival_time) ∷
+    optional a_moment ACTUAL_ARRIVAL_TIME.now (λ c. c.actual_arrival_time) ∷
+    optional a_text ARRIVAL_STATUS.now (λ c. c.arrival_status) ∷
+    optional a_text ARRIVAL_PLATFORM_NAME.now (λ c. c.arrival_platform_name) ∷
+    optional a_moment AIMED_DEPARTURE_TIME.now (λ c. c.aimed_departure_time) ∷
+    optional a_moment EXPECTED_DEPARTURE_TIME.now (λ c. c.expected_departure_time) ∷
+    optional a_moment ACTUAL_DEPARTURE_TIME.now (λ c. c.actual_departure_time) ∷
+    optional a_text DEPARTURE_STATUS.now (λ c. c.departure_status) ∷
+    optional a_text DEPARTURE_PLATFORM_NAME.now (λ c. c.departure_platform_name) ∷ []
+
+abbrev pub make_call : Maker call_table
+make_call =
+    λ stop_point_ref order stop_point_name vehicle_at_stop aimed_arrival_time expected_arrival_time actual_arrival_time arrival_status
+    arrival_platform_name aimed_departure_time expected_departure_time actual_departure_time departure_status departure_platform_name.
+    record {
+      stop_point_ref = stop_point_ref;
+      order = order;
+      stop_point_name = stop_point_name;
+      vehicle_at_stop = vehicle_at_stop;
+      aimed_arrival_time = aimed_arrival_time;
+      expected_arrival_time = expected_arrival_time;
+      actual_arrival_time = actual_arrival_time;
+      arrival_status = arrival_status;
+      arrival_platform_name = arrival_platform_name;
+      aimed_departure_time = aimed_departure_time;
+      expected_departure_time = expected_departure_time;
+      actual_departure_time = actual_departure_time;
+      departure_status = departure_status;
+      departure_platform_name = departure_platform_name;
+    }
+
 unfoldable pub stop_call : Data → Result StopCall Refusal
-stop_call d = do
-  stop_point_ref ← row name STOP_POINT_REF.now d
-  order ← row number ORDER.now d
-  stop_point_name ← row text STOP_POINT_NAME.now d
-  vehicle_at_stop ← row flag VEHICLE_AT_STOP.now d
-  aimed_arrival_time ← row moment AIMED_ARRIVAL_TIME.now d
-  expected_arrival_time ← row moment EXPECTED_ARRIVAL_TIME.now d
-  actual_arrival_time ← row moment ACTUAL_ARRIVAL_TIME.now d
-  arrival_status ← row text ARRIVAL_STATUS.now d
-  arrival_platform_name ← row text ARRIVAL_PLATFORM_NAME.now d
-  aimed_departure_time ← row moment AIMED_DEPARTURE_TIME.now d
-  expected_departure_time ← row moment EXPECTED_DEPARTURE_TIME.now d
-  actual_departure_time ← row moment ACTUAL_DEPARTURE_TIME.now d
-  departure_status ← row text DEPARTURE_STATUS.now d
-  departure_platform_name ← row text DEPARTURE_PLATFORM_NAME.now d
-  Ok (record {
-    stop_point_ref = stop_point_ref;
-    order = order;
-    stop_point_name = stop_point_name;
-    vehicle_at_stop = vehicle_at_stop;
-    aimed_arrival_time = aimed_arrival_time;
-    expected_arrival_time = expected_arrival_time;
-    actual_arrival_time = actual_arrival_time;
-    arrival_status = arrival_status;
-    arrival_platform_name = arrival_platform_name;
-    aimed_departure_time = aimed_departure_time;
-    expected_departure_time = expected_departure_time;
-    actual_departure_time = actual_departure_time;
-    departure_status = departure_status;
-    departure_platform_name = departure_platform_name;
-  })
+stop_call d = read_all call_table make_call d
 
 -- all its rows are absent
 unfoldable pub call_is_blank : StopCall → Bool
-call_is_blank c =
-    is_none c.stop_point_ref &&
-    is_none c.order &&
-    is_none c.stop_point_name &&
-    is_none c.vehicle_at_stop &&
-    is_none c.aimed_arrival_time &&
-    is_none c.expected_arrival_time &&
-    is_none c.actual_arrival_time &&
-    is_none c.arrival_status &&
-    is_none c.arrival_platform_name &&
-    is_none c.aimed_departure_time &&
-    is_none c.expected_departure_time &&
-    is_none c.actual_departure_time &&
-    is_none c.departure_status &&
-    is_none c.departure_platform_name
+call_is_blank c = all_blank call_table c
+
+unfoldable pub written_call : StopCall → Data
+written_call c = row_object (all_written call_table c)
+
+abbrev pub call_writing : StopCall → Option Data
+call_writing c = Some (written_call c)
+
+abbrev pub a_call : Kind StopCall
+a_call = record { rule = table stop_call; writing = call_writing; Is = AllProper call_table }
+
+-- a call that need not be there: it counts as absent where all its rows are
+abbrev pub optional_call : Data → Result (Option StopCall) Refusal
+optional_call = table_unless_blank call_is_blank stop_call
+
+abbrev pub an_optional_call : Kind StopCall
+an_optional_call = record { rule = optional_call; writing = call_writing; Is = λ c. AllProper call_table c × (call_is_blank c ≡ false) }
+
+-- calls inside an object of their own
+unfoldable pub written_calls : List ℕ → List StopCall → Option Data
+written_calls key calls = object_unless_empty (with_rows no_members ((key, written_list call_writing calls) ∷ []))
 
 -- VehicleLocation: where a vehicle is
+abbrev pub location_table : Table VehicleLocation
+location_table =
+    optional a_decimal LONGITUDE.now (λ l. l.longitude) ∷
+    optional a_decimal LATITUDE.now (λ l. l.latitude) ∷ []
+
+abbrev pub make_location : Maker location_table
+make_location = λ longitude latitude. record { longitude = longitude; latitude = latitude }
+
 unfoldable pub location : Data → Result VehicleLocation Refusal
-location d = do
-  longitude ← row decimal LONGITUDE.now d
-  latitude ← row decimal LATITUDE.now d
-  Ok (record { longitude = longitude; latitude = latitude })
+location d = read_all location_table make_location d
 
 -- both its rows are absent
 unfoldable pub location_is_blank : VehicleLocation → Bool
-location_is_blank l = is_none l.longitude && is_none l.latitude
+location_is_blank l = all_blank location_table l
 
--- a location and a call that need not be there: they count as absent where all their rows are
+abbrev pub rows_of_location : VehicleLocation → List Written
+rows_of_location l = all_written location_table l
+
+-- it isn't written where it would be empty
+unfoldable pub written_location : VehicleLocation → Option Data
+written_location l = object_unless_empty (with_rows no_members (rows_of_location l))
+
+-- a location need not be there: it counts as absent where all its rows are
 abbrev pub optional_location : Data → Result (Option VehicleLocation) Refusal
 optional_location = table_unless_blank location_is_blank location
 
-abbrev pub optional_call : Data → Result (Option StopCall) Refusal
-optional_call = table_unless_blank call_is_blank stop_call
+abbrev pub a_location : Kind VehicleLocation
+a_location = record { rule = optional_location; writing = written_location; Is = λ l. AllProper location_table l × (location_is_blank l ≡ false) }
 
 -- ---- how a journey is named
 
@@ -120,3 +149,44 @@ plain_required_journey_ref d None = do
 -- the journey reference, which has to be there
 unfoldable pub required_journey_ref : Data → Result RequiredJourneyRef Refusal
 required_journey_ref d = row framed_ref FRAMED_VEHICLE_JOURNEY_REF.now d >>= plain_required_journey_ref d
+
+-- it is written as an object where there is a data frame, otherwise as a member of its own
+abbrev pub rows_of_framed_ref : List ℕ → Option Data → List Written
+rows_of_framed_ref frame dated =
+    (DATA_FRAME_REF.now, written_text frame) ∷
+    (DATED_VEHICLE_JOURNEY_REF.now, dated) ∷ []
+
+unfoldable pub written_framed_ref : Option (List ℕ) → Option Data → Option Data
+written_framed_ref None dated = None
+written_framed_ref (Some frame) dated = Some (row_object (rows_of_framed_ref frame dated))
+
+unfoldable pub written_dated : Option (List ℕ) → Option Data → Option Data
+written_dated None dated = dated
+written_dated (Some frame) dated = None
+
+abbrev pub written_journey_ref : Option (List ℕ) → Option Data → List Written
+written_journey_ref frame dated = (FRAMED_VEHICLE_JOURNEY_REF.now, written_framed_ref frame dated) ∷ (DATED_VEHICLE_JOURNEY_REF.now, written_dated frame dated) ∷ []
+
+-- the row of a reference that need not be there; a data frame isn't there without its dated journey
+abbrev pub optional_ref : {S : Type 0} → (S → JourneyRef) → Row S
+optional_ref of = record {
+  Of = JourneyRef;
+  of = of;
+  read = journey_ref;
+  Spelled = λ d r. journey_ref d ≡ Ok r;
+  write = λ r. written_journey_ref r.data_frame_ref (option_and_then written_text r.dated_vehicle_journey_ref);
+  Is = λ r. IfSome r.data_frame_ref IsName × IfSome r.dated_vehicle_journey_ref IsName × (IsSome r.data_frame_ref → IsSome r.dated_vehicle_journey_ref);
+  blank = λ r. false;
+}
+
+-- the row of one that has to be there
+abbrev pub mandatory_ref : {S : Type 0} → (S → RequiredJourneyRef) → Row S
+mandatory_ref of = record {
+  Of = RequiredJourneyRef;
+  of = of;
+  read = required_journey_ref;
+  Spelled = λ d r. required_journey_ref d ≡ Ok r;
+  write = λ r. written_journey_ref r.data_frame_ref (written_text r.dated_vehicle_journey_ref);
+  Is = λ r. IfSome r.data_frame_ref IsName × IsName r.dated_vehicle_journey_ref;
+  blank = λ r. false;
+}

@@ -12,3 +12,5 @@ pub mod ProperParts
 pub mod RowSpells
 pub mod Sorted
 pub mod Steps
+pub mod TableLaws
+pub mod ValueLaws

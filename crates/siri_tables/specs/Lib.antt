@@ -5,3 +5,4 @@ pub mod Spelling
 pub mod Writing
 pub mod Appended
 pub mod Proper
+pub mod Tables

@@ -1,5 +1,5 @@
 use Rattle.siri_json.proofs.TreeTexts.{tree_is_utf8}
-use Rattle.siri_items.proofs.ProperTables.{read_proper}
+use Rattle.siri_items.proofs.ItemLaws.{read_proper}
 use Rattle.siri_items.proofs.laws.read_is_proper.Goals as goal
 
 pub returns-clause-of_document : goal.returns-clause-of_document

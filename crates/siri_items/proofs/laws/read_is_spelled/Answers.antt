@@ -1,5 +1,5 @@
-use Rattle.siri_items.proofs.SpellsImpliesRead.{item_reads}
-use Rattle.siri_items.proofs.ReadImpliesSpells.{item_spelled}
+use Rattle.siri_items.proofs.ItemLaws.{item_reads}
+use Rattle.siri_items.proofs.ItemLaws.{item_spelled}
 use Rattle.siri_items.proofs.laws.read_is_spelled.Goals as goal
 
 pub returns : goal.returns

@@ -1,4 +1,4 @@
-use Rattle.siri_items.proofs.CanonicalTables.{item_canonical}
+use Rattle.siri_items.proofs.ItemLaws.{item_canonical}
 use Rattle.siri_items.proofs.laws.written_is_canonical.Goals as goal
 
 pub returns : goal.returns

@@ -1,4 +1,4 @@
-use Rattle.siri_items.proofs.BackTables.{item_back}
+use Rattle.siri_items.proofs.ItemLaws.{item_back}
 use Rattle.siri_items.proofs.laws.written_is_read.Goals as goal
 
 pub returns : goal.returns

@@ -1,6 +1,6 @@
 use Rattle.std.proofs.Common.{refl}
-use Rattle.siri_items.proofs.BackTables.{item_back}
-use Rattle.siri_items.proofs.CanonicalTables.{item_text}
+use Rattle.siri_items.proofs.ItemLaws.{item_back}
+use Rattle.siri_items.proofs.ItemLaws.{item_text}
 use Rattle.siri_items.proofs.laws.written_text_is_read.Goals as goal
 
 pub returns : goal.returns
