@@ -102,3 +102,7 @@ ends_next n count e a b after fewer some fails h stands =
       turns = one.2;
       ends = subst (λ name. EndsAtTurn name e (running_of b one.0) after) some.name (fails one.0 one.1);
     }
+
+-- the same number of turns
+pub goes_same : (n m : ℕ) (a b : Server) → n ≡ m → Goes (λ name. ServesTurns name n) a b → Goes (λ name. ServesTurns name m) a b
+goes_same n m a b is some = subst (λ k. Goes (λ name. ServesTurns name k) a b) is some

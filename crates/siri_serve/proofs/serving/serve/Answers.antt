@@ -1,0 +1,14 @@
+use Rattle.siri_serve.proofs.Runs.{clock_fault, keeper_fault, no_write_fault, run_ended, wire_fault}
+use Rattle.siri_serve.proofs.serving.serve.Goals as goal
+
+pub returns-in-Err-clause-run : goal.returns-in-Err-clause-run
+returns-in-Err-clause-run g c = run_ended _ _ _ _ _ _ c.in-Err.error c.from.result c.from.ensures c.in-Err.ensures.err
+
+pub returns-in-Err-clause-wire_fault : goal.returns-in-Err-clause-wire_fault
+returns-in-Err-clause-wire_fault g c = wire_fault _ _ _ _ _ c.in-Err.error c.from.result c.from.ensures c.in-Err.ensures.err
+
+pub returns-in-Err-clause-clock_fault : goal.returns-in-Err-clause-clock_fault
+returns-in-Err-clause-clock_fault g c = clock_fault _ _ _ _ _ c.in-Err.error c.from.result c.from.ensures c.in-Err.ensures.err
+
+pub returns-in-Err-clause-keeper_fault : goal.returns-in-Err-clause-keeper_fault
+returns-in-Err-clause-keeper_fault g c = keeper_fault _ _ _ _ _ c.in-Err.error c.from.result c.from.ensures c.in-Err.ensures.err
