@@ -9,7 +9,7 @@ use Rattle.siri_messages.specs.declared.message.Message.{Message}
 use Rattle.siri_messages.specs.Kinds.{kind_of}
 use Rattle.siri_wire.specs.Documents.{message_of}
 use Rattle.siri_wire.specs.Canonical.{canonical}
-use Rattle.siri_replay.specs.ReportLines.{line_feed}
+use Rattle.siri_script.specs.Spaced.{line_feed}
 use Rattle.siri_lines.specs.Ends.{Bytes, Ends, AppendsFront, is_cut}
 use Rattle.siri_lines.specs.RunResult.{RunResult}
 

@@ -1,6 +1,6 @@
 // The command `check`.
 ghost use Rattle.std.specs.Prelude.{◌≡◌, ◌++◌, IfOk};
-ghost use Rattle.siri_replay.specs.ReportLines.{line_feed};
+ghost use Rattle.siri_script.specs.Spaced.{line_feed};
 ghost use Rattle.siri_cli.specs.OneDocument.{ok_text};
 
 use crate::document::Telling;

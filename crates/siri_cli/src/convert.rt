@@ -1,7 +1,7 @@
 // The command `convert`.
 ghost use Rattle.std.specs.Prelude.{◌≡◌, ◌++◌, IfOk};
 ghost use Rattle.siri_wire.specs.Canonical.{canonical};
-ghost use Rattle.siri_replay.specs.ReportLines.{line_feed};
+ghost use Rattle.siri_script.specs.Spaced.{line_feed};
 
 use crate::document::Telling;
 use siri_base::{OutOfMemory, append};

@@ -7,7 +7,7 @@ ghost use Rattle.siri_wire.specs.Documents.{Decodes, message_of};
 ghost use Rattle.siri_lines.specs.Ends.{ReadsAll};
 ghost use Rattle.siri_cli.specs.inner.DocumentParts.{IsDocument, Tells};
 ghost use Rattle.siri_cli.specs.OneDocument.{Answers, refused_told, told_by};
-ghost use Rattle.siri_replay.specs.ReportLines.{line_feed};
+ghost use Rattle.siri_script.specs.Spaced.{line_feed};
 ghost use Rattle.siri_cli.specs.Run.{EndsDocument};
 
 use siri_base::{OutOfMemory, OutsideError, Sink, Source, Status, append};

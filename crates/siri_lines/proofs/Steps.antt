@@ -12,7 +12,7 @@ use Rattle.siri_lines.specs.declared.stop.Stop.TheVariants as stop
 use Rattle.siri_lines.specs.Stops.{status_of}
 use Rattle.siri_lines.specs.RunResult.{RunResult, Events, verdict}
 use Rattle.siri_lines.specs.Ends.{Bytes, Ends, AppendsFront, AreWholeLines, HasNoBreak, is_cut}
-use Rattle.siri_lines.specs.inner.Reading.{Progress, to_come, Continues, Advances, CutsOff, EndsWithin, Breaks, LineBreaks, Finishes}
+use Rattle.siri_lines.specs.inner.Reading.{Progress, to_come, gone_from, Continues, Advances, TakesLine, CutsOff, EndsWithin, Breaks, LineBreaks, Finishes, GoesToEnd}
 use Rattle.siri_lines.proofs.Written.{front_none}
 use Rattle.siri_lines.proofs.LineBreaks.{lines_whole, whole_append, no_break_append, line_ended, last_line, too_long}
 
@@ -52,13 +52,14 @@ advances_none event a s h = record {
   whole = inl refl;
   begun = h;
   continues = λ more. record { text = []; written = Appends-nil a; parts = refl; status_is = refl };
+  leads = λ more. refl;
 }
 
-more_parts : (l p q e m f n : List ℕ) → l ++ p ≡ e ++ m → m ++ q ≡ f ++ n → l ++ (p ++ q) ≡ (e ++ f) ++ n
+pub more_parts : (l p q e m f n : List ℕ) → l ++ p ≡ e ++ m → m ++ q ≡ f ++ n → l ++ (p ++ q) ≡ (e ++ f) ++ n
 more_parts l p q e m f n u v = sym (append_assoc l p q) ∙ ap (λ x. x ++ q) u ∙ append_assoc e m q ∙ ap (λ x. e ++ x) v ∙ sym (append_assoc e f n)
 
 -- the lines of two fronts, one after the other
-more_lines : (e f : List ℕ) (more : List (List ℕ)) → AreWholeLines e → lines (e ++ f) ++ more ≡ lines e ++ (lines f ++ more)
+pub more_lines : (e f : List ℕ) (more : List (List ℕ)) → AreWholeLines e → lines (e ++ f) ++ more ≡ lines e ++ (lines f ++ more)
 more_lines e f more h = ap (λ ls. ls ++ more) (lines_whole e f h) ∙ append_assoc (lines e) (lines f) more
 
 pub advances_more : {W : Type 0} (event : Events W) (a b c : Bytes) (s : Progress W) (p : List ℕ) (t : Progress W) (q : List ℕ) (u : Progress W) → Advances event a s p b t → Advances event b t q c u → Advances event a s (p ++ q) c u
@@ -68,6 +69,7 @@ advances_more event a b c s p t q u x y = record {
   whole = whole_append x.ended y.ended x.whole y.whole;
   begun = y.begun;
   continues = λ more. subst (λ ls. Continues a (to_come event s ls) c (to_come event u more)) (sym (more_lines x.ended y.ended more x.whole)) (continues_trans a b c _ _ _ (x.continues (lines y.ended ++ more)) (y.continues more));
+  leads = λ more. ap (gone_from event s) (more_lines x.ended y.ended more x.whole) ∙ x.leads (lines y.ended ++ more) ∙ y.leads more;
 }
 
 ends_within_more : {W : Type 0} (event : Events W) (a b c : Bytes) (s : Progress W) (p : List ℕ) (t : Progress W) (q : List ℕ) (end : Status) → Advances event a s p b t → EndsWithin event b t q c end → EndsWithin event a s (p ++ q) c end
@@ -113,13 +115,14 @@ breaks_longer event a b s p q stop.OutOfMemory y = cuts_off_longer event a b s p
 breaks_longer event a b s p q stop.WriteFault y = cuts_off_longer event a b s p q y
 
 -- a line feed came
-pub line_advances : {W : Type 0} (event : Events W) (a b : Bytes) (s t : Progress W) → HasNoBreak s.line → t.line ≡ [] → ((more : List (List ℕ)) → Continues a (to_come event s (strip_carriage_return s.line ∷ more)) b (to_come event t more)) → Advances event a s (10 ∷ []) b t
+pub line_advances : {W : Type 0} (event : Events W) (a b : Bytes) (s t : Progress W) → HasNoBreak s.line → t.line ≡ [] → TakesLine event a s (strip_carriage_return s.line) b t → Advances event a s (10 ∷ []) b t
 line_advances event a b s t h e step = record {
   ended = s.line ++ 10 ∷ [];
   parts = sym (ap (λ l. (s.line ++ 10 ∷ []) ++ l) e ∙ append-nil (s.line ++ 10 ∷ []));
   whole = inr (s.line, refl);
   begun = subst HasNoBreak (sym e) tt;
-  continues = λ more. subst (λ ls. Continues a (to_come event s (ls ++ more)) b (to_come event t more)) (sym (line_ended s.line h)) (step more);
+  continues = λ more. subst (λ ls. Continues a (to_come event s (ls ++ more)) b (to_come event t more)) (sym (line_ended s.line h)) (step.continues more);
+  leads = λ more. ap (λ ls. gone_from event s (ls ++ more)) (line_ended s.line h) ∙ step.leads more;
 }
 
 line_ends : {W : Type 0} (event : Events W) (a b : Bytes) (s : Progress W) (end : Status) → HasNoBreak s.line → ((more : List (List ℕ)) → Ends a (to_come event s (strip_carriage_return s.line ∷ more)) b end) → EndsWithin event a s (10 ∷ []) b end
@@ -150,6 +153,7 @@ run_advances event a s run h e = record {
   whole = inl refl;
   begun = no_break_append s.line run h e;
   continues = λ more. record { text = []; written = Appends-nil a; parts = refl; status_is = refl };
+  leads = λ more. refl;
 }
 
 -- by these bytes the line becomes too long
@@ -179,15 +183,21 @@ on_ok_with (Ok x) f p q = f p q
 on_ok_with (Err e) f p q = tt
 
 -- a line feed came, and the line before it was taken
-pub line_taken : {W : Type 0} (event : Events W) (a b : Bytes) (s t : Progress W) (line : List ℕ) → HasNoBreak s.line → line ≡ strip_carriage_return s.line → t.line ≡ [] → ((more : List (List ℕ)) → Continues a (to_come event s (line ∷ more)) b (to_come event t more)) → Advances event a s (10 ∷ []) b t
-line_taken event a b s t line h e none step = line_advances event a b s t h none (λ more. subst (λ l. Continues a (to_come event s (l ∷ more)) b (to_come event t more)) e (step more))
+pub line_taken : {W : Type 0} (event : Events W) (a b : Bytes) (s t : Progress W) (line : List ℕ) → HasNoBreak s.line → line ≡ strip_carriage_return s.line → t.line ≡ [] → TakesLine event a s line b t → Advances event a s (10 ∷ []) b t
+line_taken event a b s t line h e none step = line_advances event a b s t h none (subst (λ l. TakesLine event a s l b t) e step)
 
 -- the last line was taken
-pub finished_whole : {W : Type 0} (event : Events W) (a b : Bytes) (s t : Progress W) (n : ℕ) → n ≡ length s.line → HasNoBreak s.line → eqb (length s.line) 0 ≡ false → ((more : List (List ℕ)) → Continues a (to_come event s (take n s.line ∷ more)) b (to_come event t more)) → Ends a (to_come event s (lines s.line)) b status.Done
+pub finished_whole : {W : Type 0} (event : Events W) (a b : Bytes) (s t : Progress W) (n : ℕ) → n ≡ length s.line → HasNoBreak s.line → eqb (length s.line) 0 ≡ false → TakesLine event a s (take n s.line) b t → Ends a (to_come event s (lines s.line)) b status.Done
 finished_whole event a b s t n e h some step =
     let whole : take n s.line ∷ [] ≡ lines s.line = ap (λ l. l ∷ []) (ap (λ k. take k s.line) e ∙ take-length s.line) ∙ sym (last_line s.line h some) in
-    let here = step [] in
+    let here = step.continues [] in
     subst (λ ls. Ends a (to_come event s ls) b status.Done) whole (record { status_is = here.status_is; written = subst (Appends a b) (sym (here.parts ∙ append-nil here.text)) here.written })
+
+-- and leads to the world after it
+pub goes_to_end : {W : Type 0} (event : Events W) (a b : Bytes) (s t : Progress W) (n : ℕ) → n ≡ length s.line → HasNoBreak s.line → eqb (length s.line) 0 ≡ false → TakesLine event a s (take n s.line) b t → GoesToEnd event s t
+goes_to_end event a b s t n e h some step =
+    let whole : take n s.line ∷ [] ≡ lines s.line = ap (λ l. l ∷ []) (ap (λ k. take k s.line) e ∙ take-length s.line) ∙ sym (last_line s.line h some) in
+    ap (gone_from event s) (sym whole) ∙ step.leads []
 
 -- the last line ended the run, or it was cut off
 pub finished_early : {W : Type 0} (event : Events W) (a b : Bytes) (s : Progress W) (n : ℕ) → n ≡ length s.line → HasNoBreak s.line → eqb (length s.line) 0 ≡ false → (end : Stop) → LineBreaks event a s (take n s.line) b end → Finishes event a s b (status_of end)

@@ -1,6 +1,7 @@
 -- A run over a source that told its bytes, or did not.
 use Rattle.std.proofs.Common.{◌≡◌, ℕ, List, [], ◌++◌, None, Some, refl, sym, ap, ◌∙◌, subst, append-nil, append_assoc, inl, inr}
 use Rattle.std.specs.Io.KnownBytes.{Consumes, Keeps, IsAtEnd}
+use Rattle.std.specs.Str.Lines.{lines}
 use Rattle.siri_base.specs.declared.status.Status.{Status}
 use Rattle.siri_base.specs.declared.status.Status.TheVariants as status
 use Rattle.siri_lines.specs.declared.stop.Stop.{Stop}
@@ -8,11 +9,14 @@ use Rattle.siri_lines.specs.declared.stop.Stop.TheVariants as stop
 use Rattle.siri_lines.specs.RunResult.{Events}
 use Rattle.siri_lines.specs.Ends.{Bytes, Ends, AppendsFront}
 use Rattle.siri_lines.specs.Stops.{EndsLines}
-use Rattle.siri_lines.specs.inner.Reading.{Progress, beginning, Advances, CutsOff, EndsWithin, Breaks, Finishes, HasRead, Follows}
+use Rattle.siri_lines.specs.inner.Reading.{Progress, beginning, gone_from, Advances, CutsOff, EndsWithin, Breaks, Finishes, GoesToEnd, HasRead, Follows, IsTaken, Passes}
 use Rattle.siri_lines.specs.Stops.{status_of}
+use Rattle.siri_lines.specs.Fronts.{gone_through}
 use Rattle.siri_lines.specs.Reports.{Reports, Writes, WritesFront, report_of}
+use Rattle.siri_lines.specs.Stands.{IsInput, TakesAll}
 use Rattle.siri_lines.proofs.Written.{front_none}
-use Rattle.siri_lines.proofs.Steps.{advances_none, advances_more, breaks_more, finishes_after, whole_so_far}
+use Rattle.siri_lines.proofs.LineBreaks.{lines_whole, whole_append}
+use Rattle.siri_lines.proofs.Steps.{advances_none, advances_more, breaks_more, finishes_after, more_lines, more_parts, whole_so_far}
 
 -- nothing was read yet
 pub follows_start : {W : Type 0} (event : Events W) (fresh : W) (input held : Bytes) → Follows event fresh input input held (beginning fresh) held
@@ -104,3 +108,46 @@ follows_fault event fresh (Some input) held (Some left) (Some later) mid s f k =
 pub reports_nothing : {W : Type 0} (event : Events W) (fresh : W) (input held : Bytes) → Reports (report_of event fresh) input input held held status.OutOfMemory
 reports_nothing event fresh None held = tt
 reports_nothing event fresh (Some input) held = record { whole = []; begun = []; read = refl; lines = inl (inl refl); front = front_none held _ }
+
+-- ---- the world that the lines led to
+
+taken_none : (input : Bytes) → IsTaken input [] input
+taken_none None = tt
+taken_none (Some input) = refl
+
+taken_more : (input left later : Bytes) (taken piece : List ℕ) → IsTaken input taken left → Consumes left later piece → IsTaken input (taken ++ piece) later
+taken_more None left later taken piece h took = tt
+taken_more (Some input) None later taken piece h took = absurd h
+taken_more (Some input) (Some left) None taken piece h took = absurd took
+taken_more (Some input) (Some left) (Some later) taken piece h took = h ∙ ap (λ l. taken ++ l) took ∙ sym (append_assoc taken piece later)
+
+taken_all : (input left later : Bytes) (taken : List ℕ) → IsTaken input taken left → Consumes left later [] → IsAtEnd later → IsInput input taken
+taken_all None left later taken h took none = tt
+taken_all (Some input) None later taken h took none = absurd h
+taken_all (Some input) (Some left) None taken h took none = absurd took
+taken_all (Some input) (Some left) (Some later) taken h took none = h ∙ ap (λ l. taken ++ l) (took ∙ none) ∙ append-nil taken
+
+-- nothing was read yet
+pub passes_start : {W : Type 0} (event : Events W) (fresh : W) (input : Bytes) → Passes event fresh input input (beginning fresh)
+passes_start event fresh input = record { taken = []; read = taken_none input; ended = []; parts = refl; whole = inl refl; leads = λ more. refl }
+
+-- a piece was read, and taken
+pub passes_more : {W : Type 0} (event : Events W) (fresh : W) (input left later mid now : Bytes) (s t : Progress W) (piece : List ℕ) → Passes event fresh input left s → Consumes left later piece → Advances event mid s piece now t → Passes event fresh input later t
+passes_more event fresh input left later mid now s t piece p took x = record {
+  taken = p.taken ++ piece;
+  read = taken_more input left later p.taken piece p.read took;
+  ended = p.ended ++ x.ended;
+  parts = more_parts [] p.taken piece p.ended s.line x.ended t.line p.parts x.parts;
+  whole = whole_append p.ended x.ended p.whole x.whole;
+  leads = λ more. ap (gone_from event (beginning fresh)) (more_lines p.ended x.ended more p.whole) ∙ p.leads (lines x.ended ++ more) ∙ x.leads more;
+}
+
+-- the input has ended, and its last line was taken
+pub passes_end : {T W : Type 0} (Fits : T → W → Type 0) (event : Events W) (fresh : W) (input left later : Bytes) (last : T) (s t : Progress W) → Passes event fresh input left s → Consumes left later [] → IsAtEnd later → Fits last t.world → GoesToEnd event s t → TakesAll Fits event fresh input last
+passes_end Fits event fresh input left later last s t p took none stands x = record {
+  bytes = p.taken;
+  read = taken_all input left later p.taken p.read took none;
+  world = t.world;
+  is = ap (gone_through event 1 fresh) (ap lines p.parts ∙ lines_whole p.ended s.line p.whole) ∙ p.leads (lines s.line) ∙ x;
+  stands = stands;
+}

@@ -10,13 +10,14 @@ use Rattle.siri_lines.specs.declared.stop.Stop.TheVariants as stop
 use Rattle.siri_lines.specs.Ends.{Bytes, Ends, HasNoBreak}
 use Rattle.siri_lines.specs.Reports.{Reports, report_of}
 use Rattle.siri_lines.specs.RunResult.{Events, verdict}
+use Rattle.siri_lines.specs.Stands.{TakesAll}
 use Rattle.siri_lines.specs.Stops.{EndsLines, status_of}
-use Rattle.siri_lines.specs.inner.Reading.{Advances, Breaks, Continues, Finishes, Follows, LineBreaks, to_come}
+use Rattle.siri_lines.specs.inner.Reading.{Advances, Breaks, Finishes, Follows, GoesToEnd, IsTaken, LineBreaks, Passes, TakesLine, to_come}
 use Rattle.siri_lines.specs.inner.Standing.{HasNoRoom, InEachWorld, Leads, progress}
 use Rattle.std.specs.Str.Lines.{lines}
 use Rattle.siri_lines.proofs.LineBreaks.{no_break_append}
-use Rattle.siri_lines.proofs.Steps.{advances_none, advances_more, breaks_longer, breaks_more, finished_early, finished_whole, line_breaks, line_taken, run_advances, run_no_memory, run_too_long}
-use Rattle.siri_lines.proofs.Whole.{follows_start, follows_more, follows_break, follows_end, follows_fault}
+use Rattle.siri_lines.proofs.Steps.{advances_none, advances_more, breaks_longer, breaks_more, finished_early, finished_whole, goes_to_end, line_breaks, line_taken, run_advances, run_no_memory, run_too_long}
+use Rattle.siri_lines.proofs.Whole.{follows_start, follows_more, follows_break, follows_end, follows_fault, passes_start, passes_more, passes_end}
 
 -- ---- a run of bytes that end no line
 
@@ -51,7 +52,7 @@ more_ends_each Fits event first next old mid a b c run later end before here = �
 -- ---- a line feed
 
 -- the line before it was taken
-pub break_leads : {T W : Type 0} (Fits : T → W → Type 0) (event : Events W) (before after : T) (old new : Reader) (a b : Bytes) (line : List ℕ) → HasNoBreak old.line.items → line ≡ strip_carriage_return old.line.items → new.line.items ≡ [] → Leads Fits before old after new (λ from to. (more : List (List ℕ)) → Continues a (to_come event from (line ∷ more)) b (to_come event to more)) → Leads Fits before old after new (λ from to. Advances event a from (10 ∷ []) b to)
+pub break_leads : {T W : Type 0} (Fits : T → W → Type 0) (event : Events W) (before after : T) (old new : Reader) (a b : Bytes) (line : List ℕ) → HasNoBreak old.line.items → line ≡ strip_carriage_return old.line.items → new.line.items ≡ [] → Leads Fits before old after new (λ from to. TakesLine event a from line b to) → Leads Fits before old after new (λ from to. Advances event a from (10 ∷ []) b to)
 break_leads Fits event before after old new a b line h e none leads = λ w s.
     let (v, t, step) = leads w s in
     (v, t, line_taken event a b (progress old w) (progress new v) line h e none step)
@@ -60,10 +61,10 @@ pub break_ends_each : {T W : Type 0} (Fits : T → W → Type 0) (event : Events
 break_ends_each Fits event taker old a b line end h e ends = λ w s. line_breaks event a b (progress old w) end h (subst (λ l. LineBreaks event a (progress old w) l b end) e (ends w s))
 
 -- a run was kept, and the line that it ends was taken
-pub run_taken : {T W : Type 0} (Fits : T → W → Type 0) (event : ℕ → Events W) (first last : T) (old mid new : Reader) (a b : Bytes) (line run : List ℕ) → HasNoBreak old.line.items → HasNoBreak run → mid.lines ≡ old.lines → mid.most ≡ old.most → mid.line.items ≡ old.line.items ++ run → line ≡ strip_carriage_return mid.line.items → new.line.items ≡ [] → Leads Fits first mid last new (λ from to. (more : List (List ℕ)) → Continues a (to_come (event mid.most) from (line ∷ more)) b (to_come (event mid.most) to more)) → Leads Fits first old last new (λ from to. Advances (event old.most) a from (run ++ 10 ∷ []) b to)
+pub run_taken : {T W : Type 0} (Fits : T → W → Type 0) (event : ℕ → Events W) (first last : T) (old mid new : Reader) (a b : Bytes) (line run : List ℕ) → HasNoBreak old.line.items → HasNoBreak run → mid.lines ≡ old.lines → mid.most ≡ old.most → mid.line.items ≡ old.line.items ++ run → line ≡ strip_carriage_return mid.line.items → new.line.items ≡ [] → Leads Fits first mid last new (λ from to. TakesLine (event mid.most) a from line b to) → Leads Fits first old last new (λ from to. Advances (event old.most) a from (run ++ 10 ∷ []) b to)
 run_taken Fits event first last old mid new a b line run h e number same kept strip none leads =
     let whole : HasNoBreak mid.line.items = subst HasNoBreak (sym kept) (no_break_append old.line.items run h e) in
-    let here = subst (λ most. Leads Fits first mid last new (λ from to. (more : List (List ℕ)) → Continues a (to_come (event most) from (line ∷ more)) b (to_come (event most) to more))) same leads in
+    let here = subst (λ most. Leads Fits first mid last new (λ from to. TakesLine (event most) a from line b to)) same leads in
     more_leads Fits (event old.most) first first last old mid new a a b run (10 ∷ []) (run_leads Fits (event old.most) first old mid a run h e number kept) (break_leads Fits (event old.most) first last mid new a b line whole strip none here)
 
 -- it was kept, and the line that it ends ended the run
@@ -107,10 +108,15 @@ front_last Fits event first now old mid new a b piece rest same f here =
 
 -- ---- the end of the input
 
-pub last_finishes : {T W : Type 0} (Fits : T → W → Type 0) (event : Events W) (before after : T) (old new : Reader) (a b : Bytes) (n : ℕ) → n ≡ length old.line.items → HasNoBreak old.line.items → eqb (length old.line.items) 0 ≡ false → Leads Fits before old after new (λ from to. (more : List (List ℕ)) → Continues a (to_come event from (take n old.line.items ∷ more)) b (to_come event to more)) → InEachWorld Fits before old (λ from. Ends a (to_come event from (lines from.line)) b status.Done)
+pub last_finishes : {T W : Type 0} (Fits : T → W → Type 0) (event : Events W) (before after : T) (old new : Reader) (a b : Bytes) (n : ℕ) → n ≡ length old.line.items → HasNoBreak old.line.items → eqb (length old.line.items) 0 ≡ false → Leads Fits before old after new (λ from to. TakesLine event a from (take n old.line.items) b to) → InEachWorld Fits before old (λ from. Ends a (to_come event from (lines from.line)) b status.Done)
 last_finishes Fits event before after old new a b n e h some leads = λ w s.
     let (v, t, step) = leads w s in
     finished_whole event a b (progress old w) (progress new v) n e h some step
+
+pub last_leads : {T W : Type 0} (Fits : T → W → Type 0) (event : Events W) (before after : T) (old new : Reader) (a b : Bytes) (n : ℕ) → n ≡ length old.line.items → HasNoBreak old.line.items → eqb (length old.line.items) 0 ≡ false → Leads Fits before old after new (λ from to. TakesLine event a from (take n old.line.items) b to) → Leads Fits before old after new (GoesToEnd event)
+last_leads Fits event before after old new a b n e h some leads = λ w s.
+    let (v, t, step) = leads w s in
+    (v, t, goes_to_end event a b (progress old w) (progress new v) n e h some step)
 
 pub last_ends_each : {T W : Type 0} (Fits : T → W → Type 0) (event : Events W) (taker : T) (old : Reader) (a b : Bytes) (n : ℕ) (end : Stop) → n ≡ length old.line.items → HasNoBreak old.line.items → eqb (length old.line.items) 0 ≡ false → InEachWorld Fits taker old (λ from. LineBreaks event a from (take n old.line.items) b end) → InEachWorld Fits taker old (λ from. Finishes event a from b (status_of end))
 last_ends_each Fits event taker old a b n end e h some ends = λ w s. finished_early event a b (progress old w) n e h some end (ends w s)
@@ -122,12 +128,14 @@ pub record ReadsOn {T W : Type 0} (Fits : T → W → Type 0) (event : Events W)
   pub world : W
   pub stands : Fits taker world
   pub follows : Follows event fresh input left held (progress r world) now
+  pub passes : Passes event fresh input left (progress r world)
 
 pub reads_start : {T W : Type 0} (Fits : T → W → Type 0) (event : Events W) (fresh : W) (input held : Bytes) (taker : T) (r : Reader) → Fits taker fresh → r.lines ≡ 0 → r.line.items ≡ [] → ReadsOn Fits event fresh input input held taker r held
 reads_start Fits event fresh input held taker r stands number line = record {
   world = fresh;
   stands = stands;
   follows = rw (number, line) (follows_start event fresh input held);
+  passes = rw (number, line) (passes_start event fresh input);
 }
 
 pub reads_more : {T W : Type 0} (Fits : T → W → Type 0) (event : ℕ → Events W) (most : ℕ) (fresh : W) (input held left later mid now : Bytes) (before after : T) (r new : Reader) (piece : List ℕ) → r.most ≡ most → ReadsOn Fits (event most) fresh input left held before r mid → Consumes left later piece → Leads Fits before r after new (λ from to. Advances (event r.most) mid from piece now to) → ReadsOn Fits (event most) fresh input later held after new now
@@ -137,6 +145,7 @@ reads_more Fits event most fresh input held left later mid now before after r ne
       world = v;
       stands = stands;
       follows = follows_more (event most) fresh input held left later mid now (progress r on.world) (progress new v) piece on.follows took (subst (λ most. Advances (event most) mid (progress r on.world) piece now (progress new v)) same x);
+      passes = passes_more (event most) fresh input left later mid now (progress r on.world) (progress new v) piece on.passes took (subst (λ most. Advances (event most) mid (progress r on.world) piece now (progress new v)) same x);
     }
 
 pub reads_break : {T W : Type 0} (Fits : T → W → Type 0) (event : ℕ → Events W) (most : ℕ) (fresh : W) (input held left later mid now : Bytes) (taker : T) (r : Reader) (piece : List ℕ) (end : Stop) → r.most ≡ most → ReadsOn Fits (event most) fresh input left held taker r mid → Consumes left later piece → InEachWorld Fits taker r (λ from. Breaks (event r.most) mid from piece now end) → Reports (report_of (event most) fresh) input later held now (status_of end)
@@ -146,6 +155,11 @@ reads_break Fits event most fresh input held left later mid now taker r piece en
 pub reads_end : {T W : Type 0} (Fits : T → W → Type 0) (event : ℕ → Events W) (most : ℕ) (fresh : W) (input held left later mid now : Bytes) (taker : T) (r : Reader) (end : Status) → r.most ≡ most → EndsLines end → ReadsOn Fits (event most) fresh input left held taker r mid → Consumes left later [] → IsAtEnd later → InEachWorld Fits taker r (λ from. Finishes (event r.most) mid from now end) → Reports (report_of (event most) fresh) input later held now end
 reads_end Fits event most fresh input held left later mid now taker r end same known on took none finishes =
     follows_end (event most) fresh input held left later mid now (progress r on.world) end known on.follows took none (subst (λ most. Finishes (event most) mid (progress r on.world) now end) same (finishes on.world on.stands))
+
+pub reads_all : {T W : Type 0} (Fits : T → W → Type 0) (event : ℕ → Events W) (most : ℕ) (fresh : W) (input held left later mid : Bytes) (taker last : T) (r new : Reader) → r.most ≡ most → ReadsOn Fits (event most) fresh input left held taker r mid → Consumes left later [] → IsAtEnd later → Leads Fits taker r last new (GoesToEnd (event r.most)) → TakesAll Fits (event most) fresh input last
+reads_all Fits event most fresh input held left later mid taker last r new same on took none leads =
+    let (v, stands, x) = leads on.world on.stands in
+    passes_end Fits (event most) fresh input left later last (progress r on.world) (progress new v) on.passes took none stands (subst (λ most. GoesToEnd (event most) (progress r on.world) (progress new v)) same x)
 
 pub reads_fault : {T W : Type 0} (Fits : T → W → Type 0) (event : Events W) (fresh : W) (input held left later mid : Bytes) (taker : T) (r : Reader) → ReadsOn Fits event fresh input left held taker r mid → Keeps left later → Reports (report_of event fresh) input later held mid status.ReadFault
 reads_fault Fits event fresh input held left later mid taker r on kept =

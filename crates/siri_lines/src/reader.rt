@@ -1,10 +1,10 @@
 // Lines that come in pieces.
-ghost use Rattle.std.specs.Prelude.{◌≡◌, ◌≤◌, ◌<◌, ◌+◌, ◌∷◌, ◌++◌, [], List, ℕ, length, take, OnOk, IfErr};
+ghost use Rattle.std.specs.Prelude.{◌≡◌, ◌≤◌, ◌<◌, ◌+◌, ◌∷◌, ◌++◌, [], length, take, OnOk, IfErr};
 ghost use Rattle.std.specs.Str.Lines.{strip_carriage_return};
 ghost use Rattle.siri_lines.specs.RunResult.{verdict};
 ghost use Rattle.siri_lines.specs.Ends.{HasNoBreak};
 ghost use Rattle.siri_lines.specs.Brings.{StopCause};
-ghost use Rattle.siri_lines.specs.inner.Reading.{Advances, Breaks, Continues, Finishes, LineBreaks, to_come};
+ghost use Rattle.siri_lines.specs.inner.Reading.{Advances, Breaks, Finishes, GoesToEnd, LineBreaks, TakesLine};
 ghost use Rattle.siri_lines.specs.inner.Standing.{EndCause, HasNoRoom, InEachWorld, IsWithin, Leads, room};
 
 use crate::{LineTaker, Stop};
@@ -74,6 +74,7 @@ impl Reader {
         requires { IsWithin self.old }
         ensures ends { InEachWorld T.fits taker.old self.old (λ from.
             Finishes (verdict self.old.most T.event) (K.held sink.old) from (K.held sink.new) result) }
+        ensures stands { result ≡ Status.Done → Leads T.fits taker.old self.old taker.new self.new (GoesToEnd (verdict self.old.most T.event)) }
         ensures cause { EndCause (K.faults sink.old) (K.faults sink.new) result }
     {
         if self.line.is_empty() {
@@ -137,9 +138,8 @@ impl Reader {
     ) -> Result<(), Stop>
         requires within { IsWithin self.old }
         requires ended { ended ≤ length self.old.line.items }
-        ensures ok { OnOk result (Leads T.fits taker.old self.old taker.new self.new (λ from to. (more : List (List ℕ)) → Continues (K.held sink.old)
-            (to_come (verdict self.old.most T.event) from (take ended self.old.line.items ∷ more))
-            (K.held sink.new) (to_come (verdict self.old.most T.event) to more))) }
+        ensures ok { OnOk result (Leads T.fits taker.old self.old taker.new self.new (λ from to.
+            TakesLine (verdict self.old.most T.event) (K.held sink.old) from (take ended self.old.line.items) (K.held sink.new) to)) }
         ensures err { IfErr result (λ stop. InEachWorld T.fits taker.old self.old (λ from.
             LineBreaks (verdict self.old.most T.event) (K.held sink.old) from (take ended self.old.line.items) (K.held sink.new) stop)) }
         ensures most { self.new.most ≡ self.old.most }

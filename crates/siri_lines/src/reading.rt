@@ -4,6 +4,7 @@ ghost use Rattle.siri_base.specs.Causes.{Rose};
 ghost use Rattle.siri_lines.specs.RunResult.{verdict};
 ghost use Rattle.siri_lines.specs.Ends.{ReadsAll};
 ghost use Rattle.siri_lines.specs.Reports.{Reports, report_of};
+ghost use Rattle.siri_lines.specs.Stands.{TakesAll};
 ghost use Rattle.siri_lines.specs.Stops.{EndsReading};
 
 use crate::LineTaker;
@@ -29,6 +30,8 @@ pub fn read_lines<T: LineTaker, S: Source, K: Sink>(
     requires { most ≤ 1000000 }
     ensures report { (w : T.World) → T.fits taker.old w →
         Reports (report_of (verdict most T.event) w) (S.left source.old) (S.left source.new) (K.held sink.old) (K.held sink.new) result }
+    ensures stands { result ≡ Status.Done → (w : T.World) → T.fits taker.old w →
+        TakesAll T.fits (verdict most T.event) w (S.left source.old) taker.new }
     ensures all { ReadsAll (S.left source.new) result }
     ensures read { result ≡ Status.ReadFault → Rose (S.faults source.old) (S.faults source.new) }
     ensures write { result ≡ Status.WriteFault → Rose (K.faults sink.old) (K.faults sink.new) }
@@ -53,6 +56,8 @@ fn read_pieces<T: LineTaker, S: Source, K: Sink>(
     requires space { 0 < length buffer.old }
     ensures report { (w : T.World) → T.fits taker.old w →
         Reports (report_of (verdict most T.event) w) (S.left source.old) (S.left source.new) (K.held sink.old) (K.held sink.new) result }
+    ensures stands { result ≡ Status.Done → (w : T.World) → T.fits taker.old w →
+        TakesAll T.fits (verdict most T.event) w (S.left source.old) taker.new }
     ensures all { ReadsAll (S.left source.new) result }
     ensures read { result ≡ Status.ReadFault → Rose (S.faults source.old) (S.faults source.new) }
     ensures write { result ≡ Status.WriteFault → Rose (K.faults sink.old) (K.faults sink.new) }

@@ -1,6 +1,6 @@
 -- The lines of a report, written one after the other.
-use Rattle.std.proofs.Common.{◌≡◌, ℕ, ◌+◌, ◌<◌, List, [], ◌∷◌, ◌++◌, Ok, Err, Result, refl, sym, ap, ◌∙◌, subst, append-nil, length, take, drop, get_or, take-append-drop}
-use Rattle.std.specs.Prelude.{OnErr, flat_map}
+use Rattle.std.proofs.Common.{◌≡◌, ℕ, ◌+◌, ◌<◌, List, [], ◌∷◌, ◌++◌, refl, sym, ap, ◌∙◌, subst, append-nil, length, take, drop, get_or, take-append-drop}
+use Rattle.std.specs.Prelude.{flat_map}
 use Rattle.std.specs.Io.KnownBytes.{Appends}
 use Rattle.std.proofs.lemmas.List.{take_more}
 use Rattle.std.proofs.lemmas.Grind.{flat_map-append}
@@ -9,14 +9,6 @@ use Rattle.siri_world_model.specs.declared.line.Line.{Line}
 use Rattle.siri_world_model.specs.Lines.{told_line, told_lines}
 use Rattle.siri_replay.specs.ReportLines.{line_text, lines_text}
 use Rattle.siri_lines.proofs.Written.{front_longer, front_more}
-
-pub on_err : {T E P : Type 0} (r : Result T E) → P → OnErr r P
-on_err (Ok x) p = tt
-on_err (Err e) p = p
-
-pub on_err_with : {T E P Q : Type 0} (r : Result T E) → (P → Q) → OnErr r P → OnErr r Q
-on_err_with (Ok x) f p = tt
-on_err_with (Err e) f p = f p
 
 -- the text of a line
 abbrev text_of : Line → List ℕ

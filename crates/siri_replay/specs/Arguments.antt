@@ -7,8 +7,6 @@ use Rattle.std.specs.Str.{is_utf8}
 use Rattle.siri_base.specs.declared.reason.ScriptReason.{ScriptReason}
 use Rattle.siri_base.specs.declared.reason.ScriptReason.TheVariants as reason
 use Rattle.siri_time.specs.Moment.{moment_of}
-use Rattle.siri_json.specs.Paths.{path_text}
-use Rattle.siri_tables.specs.Refusals.{Refusal}
 use Rattle.siri_tables.specs.Scalars.{number_of}
 use Rattle.siri_messages.specs.declared.message.Message.{Message}
 use Rattle.siri_messages.specs.declared.message.Message.TheVariants as message
@@ -16,13 +14,9 @@ use Rattle.siri_messages.specs.declared.deliveries.ServiceDelivery.{ServiceDeliv
 use Rattle.siri_messages.specs.declared.requests.ServiceRequest.{ServiceRequest}
 use Rattle.siri_messages.specs.Rounds.{has_round}
 use Rattle.siri_wire.specs.Documents.{message_of}
-use Rattle.siri_wire.specs.Wanted.{WantedRefusal, refused_at, several, wanted_of}
+use Rattle.siri_wire.specs.Wanted.{wanted_of}
 use Rattle.siri_wire.specs.declared.wanted.Wanted.{Wanted}
-
--- the value, and another error
-abbrev pub or_refused : {A E : Type 0} → (E → ScriptReason) → Result A E → Result A ScriptReason
-or_refused why (Ok value) = Ok value
-or_refused why (Err error) = Err (why error)
+use Rattle.siri_script.specs.Wanted.{bad_document, or_refused, unwanted}
 
 -- what is made of the value
 abbrev pub and_then : {A B : Type 0} → Result A ScriptReason → (A → Result B ScriptReason) → Result B ScriptReason
@@ -74,10 +68,6 @@ number_in (Some text) = if is_utf8 text then or_bad (number_of text) else Err re
 
 -- ---- documents
 
--- a document is refused with its path and reason
-abbrev pub bad_document : Refusal → ScriptReason
-bad_document refusal = reason.BadDocument (path_text refusal.path) refusal.reason
-
 -- DOC
 abbrev pub document_in : Option (List ℕ) → Result Message ScriptReason
 document_in None = Err reason.BadArgument
@@ -100,11 +90,6 @@ delivery_in argument = and_then (document_in argument) fed_delivery
 -- the DOC of `ask`
 abbrev pub request_in : Option (List ℕ) → Result ServiceRequest ScriptReason
 request_in argument = and_then (document_in argument) asked_request
-
--- why a text asks for no subscription: it is refused as a document is, or asks for several
-abbrev pub unwanted : WantedRefusal → ScriptReason
-unwanted (refused_at refusal) = bad_document refusal
-unwanted several = reason.WrongMessage
 
 -- WANTED, the subscription that a consumer asks for
 abbrev pub wanted_in : List ℕ → Option (List ℕ) → Result Wanted ScriptReason

@@ -4,7 +4,6 @@
 pub mod Lines
 pub mod Arguments
 pub mod Events
-pub mod Items
 pub mod ReportLines
 pub mod Report
 pub mod Views

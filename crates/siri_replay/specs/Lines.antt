@@ -1,5 +1,5 @@
--- What a line of a script is: skipped, or a word and its argument.
-use Rattle.std.specs.Prelude.{ℕ, ◌+◌, List, [], ◌∷◌, Bool, true, not, length, take, drop, codes, if◌then◌else◌, ◌==◌, nat_eq, nat_lt, Option, Some, None, Result, Ok, Err}
+-- What a line of a script is that isn't skipped: a word and its argument.
+use Rattle.std.specs.Prelude.{ℕ, ◌+◌, List, [], ◌∷◌, not, length, take, drop, codes, if◌then◌else◌, ◌==◌, nat_eq, nat_lt, Option, Some, None, Result, Ok, Err}
 use Rattle.std.specs.Cmp.Lexicographic.{pointwise}
 use Rattle.std.specs.List.{prefix_len}
 use Rattle.std.specs.Map.{lookup}
@@ -8,11 +8,6 @@ use Rattle.siri_base.specs.declared.reason.ScriptReason.{ScriptReason}
 use Rattle.siri_base.specs.declared.reason.ScriptReason.TheVariants as reason
 use Rattle.siri_replay.specs.declared.script_words.ScriptWord.{ScriptWord}
 use Rattle.siri_replay.specs.declared.script_words.ScriptWord.TheVariants as word
-
--- an empty line, or one that begins with `#`, is skipped
-abbrev pub is_skipped : List ℕ → Bool
-is_skipped [] = true
-is_skipped (first ∷ rest) = first == 35
 
 -- where the first word ends: at the first space, or with the line
 abbrev pub word_end : List ℕ → ℕ

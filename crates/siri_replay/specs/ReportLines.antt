@@ -15,17 +15,9 @@ use Rattle.siri_world_model.specs.declared.word.Word.{Word}
 use Rattle.siri_world_model.specs.declared.word.Word.TheVariants as word
 use Rattle.siri_world_model.specs.Lines as line
 use Rattle.siri_world_model.specs.Lines.{ToldLine}
-use Rattle.siri_replay.specs.Items.{item_text}
-
-abbrev pub line_feed : List ℕ
-line_feed = 10 ∷ []
-
-abbrev pub space : List ℕ
-space = codes " "
-
--- two texts with a space between them
-abbrev pub spaced : List ℕ → List ℕ → List ℕ
-spaced first next = first ++ (space ++ next)
+use Rattle.siri_script.specs.Items.{item_text}
+use Rattle.siri_script.specs.Spaced.{line_feed, space, spaced}
+use Rattle.siri_script.specs.ViewLines.{held_text}
 
 -- ---- what a receiver says of a packet
 
@@ -85,12 +77,6 @@ and_identifier (Some identifier) = space ++ identifier
 abbrev pub state_text : Bool → List ℕ
 state_text true = codes "quiet"
 state_text false = codes "moving"
-
--- `number N start S round R`
-abbrev pub held_text : Held → List ℕ
-held_text held =
-    spaced (spaced (codes "number") (decimal held.number)) (
-    spaced (spaced (codes "start") (decimal held.start)) (spaced (codes "round") (decimal held.round)))
 
 -- `view CONSUMER ID number N start S round R items K STATE`
 abbrev pub view_text : (consumer identifier : List ℕ) → Held → (items : ℕ) → (quiet : Bool) → List ℕ

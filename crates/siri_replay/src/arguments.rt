@@ -1,15 +1,15 @@
 // The arguments of a script's words.
-ghost use Rattle.std.specs.Prelude.{◌≡◌, IfOk, option_map};
+ghost use Rattle.std.specs.Prelude.{option_map};
 ghost use Rattle.std.specs.List.{list_all};
-ghost use Rattle.siri_replay.specs.Arguments.{asked_request, bad_document, consumer_in, delivery_in, document_in, fed_delivery, identifier_in, is_consumer, is_consumer_byte, is_consumer_word, moment_in, name_of, number_in, request_in, wanted_in};
-ghost use Rattle.siri_replay.specs.inner.Saying.{Reads};
+ghost use Rattle.siri_replay.specs.Arguments.{asked_request, consumer_in, delivery_in, document_in, fed_delivery, identifier_in, is_consumer, is_consumer_byte, is_consumer_word, moment_in, name_of, number_in, request_in, wanted_in};
+ghost use Rattle.siri_script.specs.Reads.{Reads};
 
-use crate::line_error::LineError;
-use siri_base::{Moment, Name, OutOfMemory, ScriptReason, TextError};
+use siri_base::{Moment, Name, ScriptReason, TextError};
 use siri_messages::{Message, ServiceDelivery, ServiceRequest};
+use siri_script::{LineError, bad_document, wanted_said};
 use siri_tables::number_of;
 use siri_time::read_moment;
-use siri_wire::{DecodeError, Refusal, Wanted, WantedError, decode, decode_wanted};
+use siri_wire::{DecodeError, Wanted, decode};
 use std::alloc::Global;
 
 /// The name of a script's producer.
@@ -118,16 +118,6 @@ fn document_in(alloc: Global, argument: Option<&[u8]>) -> Result<Message, LineEr
     }
 }
 
-/// A document is refused.
-fn bad_document(refusal: &Refusal) -> Result<ScriptReason, OutOfMemory>
-    ensures { IfOk result (λ why. why ≡ bad_document (record { path = refusal.now.path; reason = refusal.now.reason })) }
-{
-    Ok(ScriptReason::BadDocument {
-        path: refusal.path.text()?,
-        reason: refusal.reason,
-    })
-}
-
 /// The delivery to feed: one that belongs to no round.
 pub fn delivery_in(alloc: Global, argument: Option<&[u8]>) -> Result<ServiceDelivery, LineError>
     ensures { Reads result (delivery_in (option_map (λ text. text.now) argument.entry)) }
@@ -162,13 +152,8 @@ pub fn wanted_in(
 ) -> Result<Wanted, LineError>
     ensures { Reads result (wanted_in consumer.now (option_map (λ text. text.now) argument.entry)) }
 {
-    let Some(text) = argument else {
-        return Err(LineError::Refused(ScriptReason::BadArgument));
-    };
-    match decode_wanted(alloc, text, consumer) {
-        Ok(wanted) => Ok(wanted),
-        Err(WantedError::Refused(refusal)) => Err(LineError::Refused(bad_document(&refusal)?)),
-        Err(WantedError::WrongMessage) => Err(LineError::Refused(ScriptReason::WrongMessage)),
-        Err(WantedError::OutOfMemory) => Err(LineError::OutOfMemory),
+    match argument {
+        Some(text) => wanted_said(alloc, consumer, text),
+        None => Err(LineError::Refused(ScriptReason::BadArgument)),
     }
 }

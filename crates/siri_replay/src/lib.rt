@@ -13,12 +13,11 @@
 //! each event in the world after those before it.
 //!
 //! Stands on `siri_lines`, which reads the lines, on `siri_world`, in which the events happen, on `siri_wire` and `siri_items`
-//! for documents and items, and on `siri_time` for moments.
+//! for documents and items, on `siri_script` for what its lines have in common with those of other commands, and on `siri_time`
+//! for moments.
 #![tactic(auto)]
 
 mod arguments;
-mod item_line;
-mod line_error;
 mod replaying;
 mod report_line;
 mod saying;

@@ -8,15 +8,15 @@ ghost use Rattle.siri_lines.specs.Ends.{AppendsFront};
 ghost use Rattle.siri_wire.specs.Canonical.{canonical};
 ghost use Rattle.siri_world_model.specs.Lines as line;
 ghost use Rattle.siri_world_model.specs.Lines.{told_line, told_lines};
-ghost use Rattle.siri_replay.specs.ReportLines.{ask_text, held_text, line_feed, line_text, lines_text, packet_text, spaced, state_text, told_text, view_text};
+ghost use Rattle.siri_replay.specs.ReportLines.{ask_text, line_text, lines_text, packet_text, state_text, told_text, view_text};
+ghost use Rattle.siri_script.specs.Spaced.{line_feed, spaced};
 
-use crate::item_line::item_text;
-use crate::words_said::{append_count, append_fed, append_said, append_word};
-use siri_base::{Name, OutOfMemory, OutsideError, Sink, append, append_number};
+use crate::words_said::{append_fed, append_said};
+use siri_base::{Name, OutOfMemory, OutsideError, Sink, append};
 use siri_lines::write_text;
 use siri_messages::Message;
 use siri_producer::Fed;
-use siri_records::Item;
+use siri_script::{append_count, append_word, item_line, view_line, write_whole};
 use siri_view::{AskError, Held};
 use siri_wire::encode;
 use siri_world::{Line, Word};
@@ -74,18 +74,8 @@ fn write_line<K: Sink>(alloc: Global, line: &Line, sink: &mut K) -> Result<(), O
             view(alloc, consumer, identifier, held, *items, *quiet)?,
             sink,
         ),
-        Line::Item(item) => write_whole(item_of(alloc, item)?, sink),
+        Line::Item(item) => write_whole(item_line(alloc, item)?, sink),
     }
-}
-
-/// Writes a text and a line feed.
-fn write_whole<K: Sink>(mut text: Vec<u8>, sink: &mut K) -> Result<(), OutsideError>
-    ensures ok { OnOk result (Appends (K.held sink.old) (K.held sink.new) (text.items ++ line_feed)) }
-    ensures err { OnErr result (AppendsFront (K.held sink.old) (K.held sink.new) (text.items ++ line_feed)) }
-    ensures cause { HasOutsideCause (K.faults sink.old) (K.faults sink.new) result }
-{
-    append(&mut text, b"\n")?;
-    write_text(sink, &text)
 }
 
 /// Writes a line that ends with a document, in parts.
@@ -205,42 +195,13 @@ fn view(
 ) -> Result<Vec<u8>, OutOfMemory>
     ensures { IfOk result (λ text. text.items ≡ view_text consumer.now identifier.now held.now items quiet) }
 {
-    let mut text = Vec::new(alloc);
-    append(&mut text, b"view")?;
-    append_word(&mut text, consumer.text().as_bytes())?;
-    append_word(&mut text, identifier.text().as_bytes())?;
-    append(&mut text, b" ")?;
-    append_held(alloc, &mut text, held)?;
-    append(&mut text, b" items")?;
-    append_count(alloc, &mut text, items)?;
+    let mut text = view_line(alloc, consumer, identifier, held, items)?;
     append_word(&mut text, state_text(quiet).as_bytes())?;
     Ok(text)
-}
-
-/// `number N start S round R`
-fn append_held(alloc: Global, into: &mut Vec<u8>, held: &Held) -> Result<(), OutOfMemory>
-    ensures { OnOk result (into.new.items ≡ into.old.items ++ held_text held.now) }
-{
-    append(into, b"number")?;
-    append_count(alloc, into, held.number)?;
-    append(into, b" start")?;
-    append_count(alloc, into, held.start)?;
-    append(into, b" round")?;
-    append_count(alloc, into, held.round)
 }
 
 fn state_text(quiet: bool) -> &'static str
     ensures { result.now ≡ state_text quiet }
 {
     if quiet { "quiet" } else { "moving" }
-}
-
-/// `item {NAME:ITEM}`
-fn item_of(alloc: Global, item: &Item) -> Result<Vec<u8>, OutOfMemory>
-    ensures { IfOk result (λ text. text.items ≡ told_text (line.Item item.now)) }
-{
-    let mut text = Vec::new(alloc);
-    append(&mut text, b"item")?;
-    append_word(&mut text, &item_text(alloc, item)?)?;
-    Ok(text)
 }

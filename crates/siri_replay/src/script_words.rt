@@ -2,10 +2,10 @@
 ghost use Rattle.std.specs.Prelude.{◌≡◌, ◌≤◌, length, map, option_map, nat_eq};
 ghost use Rattle.std.specs.Cmp.Lexicographic.{pointwise};
 ghost use Rattle.std.specs.Map.{lookup};
-ghost use Rattle.std.specs.Str.{is_utf8};
-ghost use Rattle.siri_replay.specs.Lines.{argument_of, first_word, is_skipped, word_end, word_named, word_of};
+ghost use Rattle.siri_replay.specs.Lines.{argument_of, first_word, word_end, word_named, word_of};
 
 use siri_base::ScriptReason;
+use siri_script::is_text;
 
 /// The words that a line may begin with.
 #[derive(Clone, Copy, Debug)]
@@ -57,16 +57,6 @@ fn lookup(mut table: &[(&[u8], ScriptWord)], name: &[u8]) -> Option<ScriptWord>
     None
 }
 
-/// Whether a line is skipped: it is empty, or begins with `#`.
-pub fn is_skipped(line: &[u8]) -> bool
-    ensures { result ≡ is_skipped line.now }
-{
-    match line.first() {
-        Some(first) => *first == b'#',
-        None => true,
-    }
-}
-
 /// The word that a line begins with. It is refused where it isn't UTF-8, or its first word is none of the nine.
 pub fn word_of(line: &[u8]) -> Result<ScriptWord, ScriptReason>
     ensures { result ≡ word_of line.now }
@@ -78,13 +68,6 @@ pub fn word_of(line: &[u8]) -> Result<ScriptWord, ScriptReason>
         Some(word) => Ok(word),
         None => Err(ScriptReason::BadWord),
     }
-}
-
-/// Whether a line is UTF-8.
-fn is_text(line: &[u8]) -> bool
-    ensures { result ≡ is_utf8 line.now }
-{
-    std::str::from_utf8(line).is_ok()
 }
 
 /// Where the first word ends: at the first space, or with the line.

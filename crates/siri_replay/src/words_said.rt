@@ -1,29 +1,13 @@
 // What a receiver says of a packet, as a report writes it.
-ghost use Rattle.std.specs.Prelude.{◌≡◌, ◌++◌, OnOk, codes};
-ghost use Rattle.std.specs.Fmt.{decimal};
-ghost use Rattle.siri_replay.specs.ReportLines.{fed_text, note_text, outcome_text, place_text, space, word_text};
+ghost use Rattle.std.specs.Prelude.{◌≡◌, ◌++◌, OnOk};
+ghost use Rattle.siri_replay.specs.ReportLines.{fed_text, note_text, outcome_text, place_text, word_text};
 
 use siri_base::{OutOfMemory, Place, append, append_number};
 use siri_producer::{Fed, Note};
+use siri_script::append_count;
 use siri_view::Outcome;
 use siri_world::Word;
 use std::alloc::Global;
-
-/// A space and a number.
-pub fn append_count(alloc: Global, into: &mut Vec<u8>, number: u64) -> Result<(), OutOfMemory>
-    ensures { OnOk result (into.new.items ≡ into.old.items ++ (space ++ decimal number)) }
-{
-    append(into, b" ")?;
-    append_number(alloc, into, number)
-}
-
-/// A space and a text.
-pub fn append_word(into: &mut Vec<u8>, text: &[u8]) -> Result<(), OutOfMemory>
-    ensures { OnOk result (into.new.items ≡ into.old.items ++ (space ++ text.now)) }
-{
-    append(into, b" ")?;
-    append(into, text)
-}
 
 /// `OBSERVED WITHDRAWN FULL`
 pub fn append_fed(alloc: Global, into: &mut Vec<u8>, fed: &Fed) -> Result<(), OutOfMemory>

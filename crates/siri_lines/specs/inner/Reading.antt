@@ -1,5 +1,5 @@
 -- Inner words: how far lines were read.
-use Rattle.std.specs.Prelude.{◌≡◌, ℕ, ◌+◌, List, [], ◌∷◌, ◌++◌, MatchBool, None, Some}
+use Rattle.std.specs.Prelude.{◌≡◌, ℕ, ◌+◌, List, [], ◌∷◌, ◌++◌, MatchBool, Option, None, Some}
 use Rattle.std.specs.Io.KnownBytes.{Appends}
 use Rattle.std.specs.Str.Lines.{lines}
 use Rattle.siri_base.specs.declared.status.Status.{Status}
@@ -8,6 +8,7 @@ use Rattle.siri_lines.specs.declared.stop.Stop.{Stop}
 use Rattle.siri_lines.specs.declared.stop.Stop.TheVariants as stop
 use Rattle.siri_lines.specs.RunResult.{RunResult, Events, report_from}
 use Rattle.siri_lines.specs.Ends.{Bytes, Ends, AppendsFront, AreWholeLines, HasNoBreak, is_cut}
+use Rattle.siri_lines.specs.Fronts.{gone_through}
 
 -- how far lines were read: the lines that ended, the world that they made, the bytes of the line that has begun
 pub record Progress (W : Type 0) : Type 0 where
@@ -18,6 +19,10 @@ pub record Progress (W : Type 0) : Type 0 where
 -- what is to come where these lines follow
 abbrev pub to_come : {W : Type 0} → Events W → Progress W → List (List ℕ) → RunResult
 to_come event at more = report_from event (at.lines + 1) at.world more
+
+-- the world after these lines, where none of them ends the run
+abbrev pub gone_from : {W : Type 0} → Events W → Progress W → List (List ℕ) → Option W
+gone_from event at more = gone_through event (at.lines + 1) at.world more
 
 -- some text was written, and what was to come is this text and what is to come
 pub record Continues (old : Bytes) (before : RunResult) (new : Bytes) (after : RunResult) : Type 0 where
@@ -33,6 +38,12 @@ pub record Advances {W : Type 0} (event : Events W) (old : Bytes) (from : Progre
   pub whole : AreWholeLines ended
   pub begun : HasNoBreak to.line
   pub continues : (more : List (List ℕ)) → Continues old (to_come event from (lines ended ++ more)) new (to_come event to more)
+  pub leads : (more : List (List ℕ)) → gone_from event from (lines ended ++ more) ≡ gone_from event to more
+
+-- a line was taken, and brought what it brings
+pub record TakesLine {W : Type 0} (event : Events W) (old : Bytes) (from : Progress W) (line : List ℕ) (new : Bytes) (to : Progress W) : Type 0 where
+  pub continues : (more : List (List ℕ)) → Continues old (to_come event from (line ∷ more)) new (to_come event to more)
+  pub leads : (more : List (List ℕ)) → gone_from event from (line ∷ more) ≡ gone_from event to more
 
 -- the run was cut off in these bytes: a front of what their whole lines bring was written
 pub record CutsOff {W : Type 0} (event : Events W) (old : Bytes) (from : Progress W) (bytes : List ℕ) (new : Bytes) : Type 0 where
@@ -69,6 +80,25 @@ abbrev pub Finishes : {W : Type 0} → Events W → Bytes → Progress W → Byt
 Finishes event old from new status = MatchBool (is_cut status)
     (AppendsFront old new (to_come event from (lines from.line)).text)
     (Ends old (to_come event from (lines from.line)) new status)
+
+-- the last line, if one has begun, was taken
+abbrev pub GoesToEnd : {W : Type 0} → Events W → Progress W → Progress W → Type 0
+GoesToEnd event from to = gone_from event from (lines from.line) ≡ Some to.world
+
+-- these bytes were read of an input, where this is left of it
+abbrev pub IsTaken : Bytes → List ℕ → Bytes → Type 0
+IsTaken None taken left = Unit {0}
+IsTaken (Some input) taken None = ⊥
+IsTaken (Some input) taken (Some left) = input ≡ taken ++ left
+
+-- the bytes that were read led here, told or not
+pub record Passes {W : Type 0} (event : Events W) (fresh : W) (input left : Bytes) (to : Progress W) : Type 0 where
+  pub taken : List ℕ
+  pub read : IsTaken input taken left
+  pub ended : List ℕ
+  pub parts : taken ≡ ended ++ to.line
+  pub whole : AreWholeLines ended
+  pub leads : (more : List (List ℕ)) → gone_from event (beginning fresh) (lines ended ++ more) ≡ gone_from event to more
 
 -- what was read of the input, and what it brought
 pub record HasRead {W : Type 0} (event : Events W) (fresh : W) (input left : List ℕ) (old : Bytes) (to : Progress W) (now : Bytes) : Type 0 where

@@ -1,4 +1,5 @@
-use Rattle.siri_replay.proofs.ReportLines.{on_err, lines_cut}
+use Rattle.siri_replay.proofs.ReportLines.{lines_cut}
+use Rattle.siri_script.proofs.Results.{on_err}
 use Rattle.siri_replay.proofs.report_line.write_lines.Goals as goal
 
 pub returns-in_err-write_line-clause-err : goal.returns-in_err-write_line-clause-err

@@ -1,8 +1,8 @@
-// Why a line of a script isn't taken.
+// Why a line isn't taken.
 ghost use Rattle.std.specs.Prelude.{◌≡◌, ◌≢◌};
 ghost use Rattle.siri_lines.specs.declared.stop.Stop.TheVariants as stop;
-ghost use Rattle.siri_replay.specs.declared.line_error.LineError.TheVariants.{OutOfMemory};
-ghost use Rattle.siri_replay.specs.inner.Saying.{line_stop};
+ghost use Rattle.siri_script.specs.declared.line_error.LineError.TheVariants.{OutOfMemory};
+ghost use Rattle.siri_script.specs.Reads.{line_stop};
 
 use siri_base::{OutOfMemory, ScriptReason};
 use siri_lines::Stop;

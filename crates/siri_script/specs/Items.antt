@@ -1,5 +1,5 @@
--- An item as a line of a report writes it.
-use Rattle.std.specs.Prelude.{ℕ, List, [], ◌∷◌, Option, Some, option_and_then}
+-- The line of an item.
+use Rattle.std.specs.Prelude.{ℕ, List, [], ◌∷◌, codes, Option, Some, option_and_then}
 use Rattle.serde_json.specs.Data.{Data, object}
 use Rattle.serde_json.specs.Written.{compact_text}
 use Rattle.siri_records.specs.declared.item.Item.{Item}
@@ -9,6 +9,7 @@ use Rattle.siri_items.specs.Written.{written_item}
 use Rattle.siri_items.specs.declared.names.TheConstants.{RECORDED_AT_TIME}
 use Rattle.siri_wire.specs.declared.names.TheConstants.{ESTIMATED_VEHICLE_JOURNEY, MONITORED_STOP_VISIT, PT_SITUATION_ELEMENT, VEHICLE_ACTIVITY}
 use Rattle.siri_wire.specs.WrittenDeliveries.{frame_time}
+use Rattle.siri_script.specs.Spaced.{spaced}
 
 -- the name under which a delivery lists items of its kind (EN 15531-3; CEN/TS 15531-5)
 abbrev pub item_name : Item → List ℕ
@@ -32,3 +33,7 @@ item_object item = row_object ((item_name item, Some (item_members item)) ∷ []
 
 unfoldable pub item_text : Item → List ℕ
 item_text item = compact_text (item_object item)
+
+-- `item {NAME:ITEM}`
+abbrev pub item_line : Item → List ℕ
+item_line item = spaced (codes "item") (item_text item)

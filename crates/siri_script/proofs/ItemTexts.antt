@@ -1,4 +1,4 @@
--- What is written of an item in a line of a report.
+-- What is written of an item in its line.
 use Rattle.std.proofs.Common.{◌≡◌, [], ◌∷◌, ◌++◌, refl, sym, ap, ◌∙◌}
 use Rattle.std.specs.Prelude.{option_and_then}
 use Rattle.json.specs.Token.{key, begin_object, end_object}
@@ -16,7 +16,7 @@ use Rattle.siri_tables.specs.Writing.{Row, written_moment}
 use Rattle.siri_tables.proofs.Sorted.{with_rows_sorted}
 use Rattle.siri_items.specs.declared.names.TheConstants.{RECORDED_AT_TIME}
 use Rattle.siri_items.specs.Written.{rows_of_journey, written_visit, written_journey, written_timed_journey, written_vehicle, written_situation}
-use Rattle.siri_replay.specs.Items.{item_members, item_name, item_object, item_text}
+use Rattle.siri_script.specs.Items.{item_members, item_name, item_object, item_text}
 
 time_row : Journey → Row
 time_row j = (RECORDED_AT_TIME.now, option_and_then written_moment j.recorded_at_time)

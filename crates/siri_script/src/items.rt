@@ -1,18 +1,29 @@
-// The text of an item.
+// The line of an item.
 ghost use Rattle.std.specs.Prelude.{◌≡◌, ◌++◌, IfOk, OnOk};
 ghost use Rattle.siri_json.specs.Tokens.{tokens_of};
-ghost use Rattle.siri_replay.specs.Items.{item_members, item_name, item_text};
+ghost use Rattle.siri_script.specs.Items.{item_line, item_members, item_name, item_text};
 
-use siri_base::OutOfMemory;
+use crate::append_word;
+use siri_base::{OutOfMemory, append};
 use siri_items::{write_item, write_timed_journey};
 use siri_json::Output;
 use siri_records::Item;
 use siri_wire::names;
 use std::alloc::Global;
 
+/// `item {NAME:ITEM}`
+pub fn item_line(alloc: Global, item: &Item) -> Result<Vec<u8>, OutOfMemory>
+    ensures { IfOk result (λ text. text.items ≡ item_line item.now) }
+{
+    let mut text = Vec::new(alloc);
+    append(&mut text, b"item")?;
+    append_word(&mut text, &item_text(alloc, item)?)?;
+    Ok(text)
+}
+
 /// `{NAME:ITEM}`: an item under the name of its kind. A journey carries its RecordedAtTime itself.
 #[tactic(auto, using(crate::proofs::ItemTexts::item_said))]
-pub fn item_text(alloc: Global, item: &Item) -> Result<Vec<u8>, OutOfMemory>
+fn item_text(alloc: Global, item: &Item) -> Result<Vec<u8>, OutOfMemory>
     ensures { IfOk result (λ text. text.items ≡ item_text item.now) }
 {
     let mut out = Output::new(alloc);

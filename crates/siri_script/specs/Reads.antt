@@ -1,10 +1,10 @@
--- Inner words: what was read of a line.
+-- What was read of a line, and how a line ends a run that isn't taken.
 use Rattle.std.specs.Prelude.{◌≡◌, ℕ, Result, Ok, Err}
 use Rattle.siri_base.specs.declared.reason.ScriptReason.{ScriptReason}
 use Rattle.siri_lines.specs.declared.stop.Stop.{Stop}
 use Rattle.siri_lines.specs.declared.stop.Stop.TheVariants as stop
-use Rattle.siri_replay.specs.declared.line_error.LineError.{LineError}
-use Rattle.siri_replay.specs.declared.line_error.LineError.TheVariants as line_error
+use Rattle.siri_script.specs.declared.line_error.LineError.{LineError}
+use Rattle.siri_script.specs.declared.line_error.LineError.TheVariants as line_error
 
 -- what was read is what is said, memory left free
 abbrev pub Reads : {A : Type 0} → Result A LineError → Result A ScriptReason → Type 0

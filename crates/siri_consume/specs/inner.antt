@@ -1,0 +1,3 @@
+-- Inner words: cited by private functions alone.
+pub mod Standing
+pub mod Shown
