@@ -1,3 +1,4 @@
 -- Inner words: cited by private functions alone.
 pub mod Standing
+pub mod Steps
 pub mod Shown

@@ -1,19 +1,30 @@
-//! What the command `consume` reads and shows.
+//! The command `consume`: a consumer over the network for so many connections.
 //!
 //! ```text
-//! source -> lines -> skipped, or a WANTED -> the subscriptions that the consumer asks for      (reading.rt, wanted_lines.rt)
-//!           (siri_lines)  (siri_script)
-//! consumer -> of each subscription that it holds the line of its view and its items -> sink    (views.rt)
-//!                                                   (siri_script)
+//!   keeper -> the number of its start --+
+//!   source -> lines -> what is wanted   +--> a consumer -> one request --> the producer       (opening.rt, reading.rt, wanted_lines.rt)
+//!   clock  -> its first moment          |        |
+//!   wire   -> listens                 --+        v
+//!   wire -> a connection, clock -> a moment --> consume_one   (COUNT times)                    (turns.rt)
+//!                                                |
+//!                                                v
+//!   the views, with their items, and the counts --> sink                                       (views.rt, consuming.rt)
 //! ```
 //!
-//! Stands on `siri_lines`, which reads lines, on `siri_script` for what they say and for the texts of views and items, and on
-//! `siri_view`, whose consumer is shown. It knows no wire.
+//! The contract of `consume` says which calls of the outside are made, what is asked for, what each connection is answered, what is
+//! sent to the producer, what is counted and written, and which status ends the run.
+//!
+//! Stands on `siri_ends` for a turn, on `siri_network` for the calls of the outside, on `siri_lines` and `siri_script` for lines and for the
+//! texts of views and items. It knows no socket and no file.
 #![tactic(auto)]
 
+mod consuming;
+mod opening;
 mod reading;
+mod turns;
 mod views;
 mod wanted_lines;
 
+pub use consuming::consume;
 pub use reading::read_wanted;
 pub use views::write_views;
