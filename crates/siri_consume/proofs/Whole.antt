@@ -18,8 +18,10 @@ use Rattle.siri_network.specs.Calls.{Outside, Told, outside_of}
 use Rattle.siri_network.specs.Errors.{status_of}
 use Rattle.siri_network.specs.Turns.{Running, running}
 use Rattle.siri_network.specs.declared.network_error.NetworkError.{NetworkError}
+use Rattle.siri_network.specs.declared.network_error.NetworkError.TheVariants as error
 use Rattle.siri_consume.specs.Consumption.{Asks, AsksSome, Consumption, ConsumesTurns, EndsInTurns, Target, after_asking, requests}
-use Rattle.siri_consume.specs.Opening.{Opens, opened}
+use Rattle.siri_consume.specs.Opening.{opened}
+use Rattle.siri_consume.specs.Reading.{EndsReading}
 use Rattle.siri_consume.specs.Runs.{ConsumeRun, ConsumesAll, ConsumesNot}
 use Rattle.siri_consume.specs.inner.Steps.{OpensConsumer}
 use Rattle.siri_consume.proofs.Made.{state_of}
@@ -115,10 +117,73 @@ front_of a b text more some = record {
 
 -- ---- by the status
 
+-- a run that ends early ends with neither of these
+abbrev IsEarly : Status → Type 0
+IsEarly status.Done = ⊥
+IsEarly status.WriteFault = ⊥
+IsEarly other = Unit {0}
+
+error_early : (e : NetworkError) → IsEarly (status_of e)
+error_early error.WireFault = tt
+error_early error.ClockFault = tt
+error_early error.KeeperFault = tt
+error_early error.OutOfMemory = tt
+
+reading_early : (end : Status) → EndsReading end → IsEarly end
+reading_early status.Done ends = ends
+reading_early status.Refused ends = tt
+reading_early status.Usage ends = tt
+reading_early (status.Script n why) ends = tt
+reading_early status.ReadFault ends = tt
+reading_early (status.Limit n) ends = tt
+reading_early status.WireFault ends = tt
+reading_early status.OutOfMemory ends = tt
+reading_early status.WriteFault ends = ends
+reading_early status.ClockFault ends = tt
+reading_early status.KeeperFault ends = tt
+
+by_error : (e : NetworkError) (end : Status) → end ≡ status_of e → IsEarly end
+by_error e end is = subst IsEarly (sym is) (error_early e)
+
+no_memory : (end : Status) → end ≡ status.OutOfMemory → IsEarly end
+no_memory end is = subst IsEarly (sym is) tt
+
+early : (name listen : List ℕ) (target : Target) (count : ℕ) (input left : Bytes) (end : Status) (from to : Outside) → ConsumesNot name listen target count input left end from to → IsEarly end
+early name listen target count input left end from to (inl (inl raise)) = by_error raise.error end raise.end_is
+early name listen target count input left end from to (inl (inr (inl read))) = reading_early end read.ends
+early name listen target count input left end from to (inl (inr (inr (inl tell)))) = by_error tell.error end tell.end_is
+early name listen target count input left end from to (inl (inr (inr (inr (inl fails))))) = by_error fails.error end fails.end_is
+early name listen target count input left end from to (inl (inr (inr (inr (inr none))))) = no_memory end none.end_is
+early name listen target count input left end from to (inr (inl ask)) = no_memory end ask.end_is
+early name listen target count input left end from to (inr (inr turn)) = by_error turn.error end turn.end_is
+
 -- it ended before every connection was answered
 pub run_ended : (name listen : List ℕ) (target : Target) (count : ℕ) (input left : Bytes) (from to : Outside) (held : Bytes) (end : Status) → ConsumesNot name listen target count input left end from to → ConsumeRun name listen target count input left from to held held end
-run_ended name listen target count input left from to held status.Done ends = absurd (not_done name listen target count input left from to ends)
-  where
-    not_done : (name listen : List ℕ) (target : Target) (count : ℕ) (input left : Bytes) (from to : Outside) → ConsumesNot name listen target count input left status.Done from to → ⊥
-    not_done name listen target count input left from to ends = ?
-run_ended name listen target count input left from to held end ends = ?
+run_ended name listen target count input left from to held status.Done ends = absurd (early name listen target count input left status.Done from to ends)
+run_ended name listen target count input left from to held status.WriteFault ends = absurd (early name listen target count input left status.WriteFault from to ends)
+run_ended name listen target count input left from to held status.OutOfMemory ends = inr (ends, refl)
+run_ended name listen target count input left from to held status.Refused ends = (ends, refl)
+run_ended name listen target count input left from to held status.Usage ends = (ends, refl)
+run_ended name listen target count input left from to held (status.Script n why) ends = (ends, refl)
+run_ended name listen target count input left from to held status.ReadFault ends = (ends, refl)
+run_ended name listen target count input left from to held (status.Limit n) ends = (ends, refl)
+run_ended name listen target count input left from to held status.WireFault ends = (ends, refl)
+run_ended name listen target count input left from to held status.ClockFault ends = (ends, refl)
+run_ended name listen target count input left from to held status.KeeperFault ends = (ends, refl)
+
+-- when each fault comes
+
+pub not_write : (name listen : List ℕ) (target : Target) (count : ℕ) (input left : Bytes) (from to : Outside) (end : Status) → ConsumesNot name listen target count input left end from to → end ≡ status.WriteFault → ⊥
+not_write name listen target count input left from to end ends is = subst IsEarly is (early name listen target count input left end from to ends)
+
+pub not_done : (name listen : List ℕ) (target : Target) (count : ℕ) (input left : Bytes) (from to : Outside) (end : Status) → ConsumesNot name listen target count input left end from to → end ≡ status.Done → ⊥
+not_done name listen target count input left from to end ends is = subst IsEarly is (early name listen target count input left end from to ends)
+
+pub wire_fault : (name listen : List ℕ) (target : Target) (count : ℕ) (input left : Bytes) (from to : Outside) (end : Status) → ConsumesNot name listen target count input left end from to → end ≡ status.WireFault → Rose from.wire.faults to.wire.faults
+wire_fault name listen target count input left from to end ends is = wire_rose name listen target count input left from to (subst (λ e. ConsumesNot name listen target count input left e from to) is ends)
+
+pub clock_fault : (name listen : List ℕ) (target : Target) (count : ℕ) (input left : Bytes) (from to : Outside) (end : Status) → ConsumesNot name listen target count input left end from to → end ≡ status.ClockFault → Rose from.clock.faults to.clock.faults
+clock_fault name listen target count input left from to end ends is = clock_rose name listen target count input left from to (subst (λ e. ConsumesNot name listen target count input left e from to) is ends)
+
+pub keeper_fault : (name listen : List ℕ) (target : Target) (count : ℕ) (input left : Bytes) (from to : Outside) (end : Status) → ConsumesNot name listen target count input left end from to → end ≡ status.KeeperFault → Rose from.keeper.faults to.keeper.faults
+keeper_fault name listen target count input left from to end ends is = keeper_rose name listen target count input left from to (subst (λ e. ConsumesNot name listen target count input left e from to) is ends)

@@ -23,6 +23,7 @@ const NOT_POST: &str =
 
 /// What is handed to a run beside its words: the number that is kept, the moments to come, the connections to come and to be
 /// dialled, and what the source has.
+#[derive(Clone, Copy)]
 struct Handed<'a> {
     kept: u64,
     moments: &'a [i64],
@@ -33,6 +34,7 @@ struct Handed<'a> {
 
 /// What comes of it: what is written to the connections, in the order in which they came, where it is listened and dialled, what is
 /// written at the end, and the status with its text.
+#[derive(Clone, Copy)]
 struct Comes<'a> {
     answered: &'a [&'a str],
     named: &'a [&'a str],
