@@ -17,19 +17,18 @@ fn are_near(alloc: Global, departures: (i64, i64), slack: i64) -> Result<bool, F
     is_near(alloc, &item, departures.1, slack)
 }
 
+// The departures of two visits, the slack, and whether they are near.
+const NEARNESS: [((i64, i64), i64, bool); 3] = [
+    ((TEN_PAST, TEN_PAST), 0, true),
+    ((TEN_PAST, TEN_PAST + 60_000), 60_000, false),
+    ((TEN_PAST, TEN_PAST + 60_000), 60_001, true),
+];
+
 #[test]
 fn visits_are_near_below_the_slack(rt: HostRuntime) -> Result<(), Fail> {
-    for (apart, slack, wanted) in [
-        (0, 0, true),
-        (60_000, 60_000, false),
-        (60_000, 60_001, true),
-    ] {
-        let departures = (TEN_PAST, TEN_PAST + apart);
-        assert_eq!(rt;
-            are_near(rt.alloc(), departures, slack)?,
-            wanted,
-            "{apart}, {slack}"
-        );
+    for (departures, slack, wanted) in &NEARNESS {
+        let near = are_near(rt.alloc(), *departures, *slack)?;
+        assert!(rt; near == *wanted, "{slack}");
     }
     Ok(())
 }

@@ -60,32 +60,59 @@ fn a_sink_goes_no_further_than_its_next_failure(rt: HostRuntime) {
     }
 }
 
-// In one function, so that it is seen that a connection is there for each read and write.
+fn listen(wire: &mut InMemoryWire, alloc: Global) -> Result<(), Fail> {
+    let here = Name::new(alloc, "0.0.0.0:8080")?;
+    Ok(wire.listen(&here)?)
+}
+
+// Whether the first connection gives `one`, two bytes at a time, and takes an answer. Each of these opens its connection, so that it
+// is seen that one is there for each read and write.
+fn serves_the_first(wire: &mut InMemoryWire) -> Result<bool, Fail> {
+    let mut room = [0; 2];
+    wire.accept()?;
+    if wire.read(&mut room)? != 2 || room != *b"on" {
+        return Ok(false);
+    }
+    if wire.read(&mut room)? != 1 || room[0] != b'e' {
+        return Ok(false);
+    }
+    Ok(wire.read(&mut room)? == 0 && wire.write(b"yes")? == 3)
+}
+
+// Whether the second comes after it, and nothing was written to that.
+fn goes_on_to_the_second(wire: &mut InMemoryWire) -> Result<bool, Fail> {
+    wire.accept()?;
+    Ok(wire.written(0) == Some(b"yes".as_slice()) && wire.written(1) == Some(b"".as_slice()))
+}
+
+// Whether a dialled connection gives `three`, of which two bytes are read.
+fn dials(wire: &mut InMemoryWire, alloc: Global) -> Result<bool, Fail> {
+    let there = Name::new(alloc, "peer:80")?;
+    let mut room = [0; 2];
+    wire.dial(&there)?;
+    Ok(wire.read(&mut room)? == 2 && room == *b"th")
+}
+
+// Whether none is left to accept, and both addresses were kept.
+fn has_no_more(wire: &mut InMemoryWire) -> bool {
+    wire.hang_up();
+    wire.accept() == Err(OutsideError::Failed) && wire.addresses().len() == 2
+}
+
+fn takes_in_turn(wire: &mut InMemoryWire, alloc: Global) -> Result<bool, Fail> {
+    listen(wire, alloc)?;
+    let served = serves_the_first(wire)? && goes_on_to_the_second(wire)?;
+    Ok(served && dials(wire, alloc)? && has_no_more(wire))
+}
+
 #[test]
 fn a_wire_takes_its_connections_in_turn(rt: HostRuntime) -> Result<(), Fail> {
-    let here = Name::new(rt.alloc(), "0.0.0.0:8080")?;
-    let there = Name::new(rt.alloc(), "peer:80")?;
     let to_accept: [&[u8]; 2] = [b"one", b"two"];
     let to_dial: [&[u8]; 1] = [b"three"];
     let mut wire = InMemoryWire::new(rt.alloc(), &to_accept, &to_dial);
-    let mut room = [0; 2];
-    wire.listen(&here)?;
-    wire.accept()?;
-    assert_eq!(rt; wire.read(&mut room)?, 2);
-    assert!(rt; room == *b"on");
-    assert_eq!(rt; wire.read(&mut room)?, 1);
-    assert_eq!(rt; room[0], b'e');
-    assert_eq!(rt; wire.read(&mut room)?, 0);
-    assert_eq!(rt; wire.write(b"yes")?, 3);
-    wire.accept()?;
-    assert!(rt; wire.written(0).ok_or("a text")? == b"yes".as_slice());
-    assert!(rt; wire.written(1).ok_or("a text")?.is_empty());
-    wire.dial(&there)?;
-    assert_eq!(rt; wire.read(&mut room)?, 2);
-    assert!(rt; room == *b"th");
-    wire.hang_up();
-    assert_eq!(rt; wire.accept(), Err(OutsideError::Failed));
-    assert_eq!(rt; wire.addresses().len(), 2);
+    let told = takes_in_turn(&mut wire, rt.alloc());
+    drop(wire);
+    assert!(rt; told?);
     Ok(())
 }
 

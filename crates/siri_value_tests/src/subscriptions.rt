@@ -38,32 +38,43 @@ fn fill(table: &mut Table<u8>, alloc: Global) -> Result<(), Fail> {
     Ok(())
 }
 
+// A number, when its subscription ends, and the answer at 100.
+const DECISIONS: [(u8, i64, Result<Accepted, AcceptError>); 4] = [
+    (5, 101, Ok(Accepted::New)),
+    (5, 100, Ok(Accepted::Again)),
+    (4, 100, Err(AcceptError::PastTermination)),
+    (4, 101, Err(AcceptError::Superseded { held: 5 })),
+];
+
+// Whether each number gets the answer that is wanted: the table holds 5, which ends under a greater number.
+fn decides(table: &mut Table<u8>, alloc: Global) -> Result<bool, Fail> {
+    for (number, termination, wanted) in &DECISIONS {
+        if ask(table, alloc, "S", *number, *termination)? != *wanted {
+            return Ok(false);
+        }
+    }
+    Ok(
+        end(table, alloc, "S", 5)? == Err(EndError::UnknownSubscription)
+            && end(table, alloc, "S", 6)? == Ok(()),
+    )
+}
+
+// Whether 200 subscriptions are held and one more is refused.
+fn fills(table: &mut Table<u8>, alloc: Global) -> Result<bool, Fail> {
+    fill(table, alloc)?;
+    Ok(table.len() == 200 && ask(table, alloc, "S", 1, 101)? == Err(AcceptError::TableFull))
+}
+
+fn decides_and_fills(table: &mut Table<u8>, alloc: Global) -> Result<bool, Fail> {
+    Ok(decides(table, alloc)? && fills(table, alloc)?)
+}
+
 #[test]
 fn numbers_decide(rt: HostRuntime) -> Result<(), Fail> {
     let mut table = Table::new(rt.alloc())?;
-    for (number, termination, wanted) in [
-        (5, 101, Ok(Accepted::New)),
-        (5, 100, Ok(Accepted::Again)),
-        (4, 100, Err(AcceptError::PastTermination)),
-        (4, 101, Err(AcceptError::Superseded { held: 5 })),
-    ] {
-        assert_eq!(rt;
-            ask(&mut table, rt.alloc(), "S", number, termination)?,
-            wanted,
-            "number {number}"
-        );
-    }
-    assert_eq!(rt;
-        end(&mut table, rt.alloc(), "S", 5)?,
-        Err(EndError::UnknownSubscription)
-    );
-    assert_eq!(rt; end(&mut table, rt.alloc(), "S", 6)?, Ok(()));
-    fill(&mut table, rt.alloc())?;
-    assert_eq!(rt; table.len(), 200);
-    assert_eq!(rt;
-        ask(&mut table, rt.alloc(), "S", 1, 101)?,
-        Err(AcceptError::TableFull)
-    );
+    let told = decides_and_fills(&mut table, rt.alloc());
+    drop(table);
+    assert!(rt; told?);
     Ok(())
 }
 
@@ -85,17 +96,28 @@ fn slot_at(table: &Table<u8>, place: usize) -> Option<u8> {
     }
 }
 
-#[test]
-fn slots_are_kept(rt: HostRuntime) -> Result<(), Fail> {
-    let mut table = Table::new(rt.alloc())?;
-    let _ = ask(&mut table, rt.alloc(), "a", 1, 150)?;
-    let _ = ask(&mut table, rt.alloc(), "b", 2, 151)?;
-    assert!(rt; set_slot(&mut table, rt.alloc(), "a", 8)?);
+// Whether a slot that is set, and one that is changed in its place, are the ones that are left.
+fn keeps(table: &mut Table<u8>, alloc: Global) -> Result<bool, Fail> {
+    let _ = ask(table, alloc, "a", 1, 150)?;
+    let _ = ask(table, alloc, "b", 2, 151)?;
+    if !set_slot(table, alloc, "a", 8)? {
+        return Ok(false);
+    }
     if let Some(slot) = table.at_mut(1) {
         *slot = 9;
     }
-    assert_eq!(rt; slot_at(&table, 0), Some(8));
+    if slot_at(table, 0) != Some(8) {
+        return Ok(false);
+    }
     table.expire(moment(150)?);
-    assert_eq!(rt; slot_at(&table, 0), Some(9));
+    Ok(slot_at(table, 0) == Some(9))
+}
+
+#[test]
+fn slots_are_kept(rt: HostRuntime) -> Result<(), Fail> {
+    let mut table = Table::new(rt.alloc())?;
+    let told = keeps(&mut table, rt.alloc());
+    drop(table);
+    assert!(rt; told?);
     Ok(())
 }
