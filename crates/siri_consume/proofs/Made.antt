@@ -60,3 +60,7 @@ consumed_next target n m from mid to is turns turn = turns_next (ConsumesTurn ta
 -- the next turn ended the run
 pub ended_next : (target : Target) (n count : ℕ) (e : NetworkError) (from last : Running Consumption) (to : Outside) → n < count → ConsumesTurns target n from last → EndsAtTurn target e last to → EndsInTurns target count e from to
 ended_next target n count e from last to fewer turns ends = record { made = n; fewer = fewer; last = last; turns = turns; ends = ends }
+
+-- the same number of turns
+pub consumed_same : (target : Target) (n m : ℕ) (from to : Running Consumption) → n ≡ m → ConsumesTurns target n from to → ConsumesTurns target m from to
+consumed_same target n m from to is some = subst (λ k. ConsumesTurns target k from to) is some
