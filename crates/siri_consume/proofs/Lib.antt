@@ -1,3 +1,4 @@
 pub mod Wanted
 pub mod Pieces
 pub mod Held
+pub mod Shown
