@@ -1,0 +1,10 @@
+use Rattle.std.proofs.Common.{◌≤◌, take}
+use Rattle.std.specs.Io.KnownBytes.{Appends}
+use Rattle.siri_consume.specs.Views.{items_text}
+use Rattle.siri_consume.proofs.views.write_items.Given as goal
+
+abbrev pub invariant-loop-place : goal.invariant-loop-place
+invariant-loop-place g l = record {
+  written : Appends (g.K.Sink.held l.fn.sink) (g.K.Sink.held l.sink) (items_text (take l.place l.view));
+  later : g.K.Sink.faults l.fn.sink ≤ g.K.Sink.faults l.sink;
+}

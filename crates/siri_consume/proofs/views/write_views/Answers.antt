@@ -1,0 +1,24 @@
+use Rattle.std.proofs.Common.{arith}
+use Rattle.siri_script.proofs.Results.{on_err}
+use Rattle.siri_consume.specs.inner.Shown.{shown}
+use Rattle.siri_consume.proofs.Pieces.{pieces_all, pieces_cut, pieces_more}
+use Rattle.siri_consume.proofs.Shown.{front_are, lines_are, lines_of}
+use Rattle.siri_consume.proofs.views.write_views.Goals as goal
+
+pub returns-in_err-write_view-clause-err : goal.returns-in_err-write_view-clause-err
+returns-in_err-write_view-clause-err g c =
+    let name = c.args.consumer.now.name in
+    on_err c.from_residual.result (pieces_cut shown (lines_of name) _ _ _ c.args.consumer.now.held c.loop-place.place _ c.in-Some.ensures c.loop-place.invariant.written
+    (front_are _ _ c.name.result.now name (c.in-Some.identifier.now, c.in-Some.held, c.in-Some.view.now) c.name.ensures c.in_err-write_view.ensures.err))
+
+pub loop-place-preserved : goal.loop-place-preserved
+loop-place-preserved g c =
+    let name = c.args.consumer.now.name in
+    record {
+      written = pieces_more shown (lines_of name) _ _ _ c.args.consumer.now.held c.loop-place.place _ c.in-Some.ensures c.loop-place.invariant.written
+          (lines_are _ _ c.name.result.now name (c.in-Some.identifier.now, c.in-Some.held, c.in-Some.view.now) c.name.ensures c.in_ok-write_view.ensures.ok);
+      later = omega (arith, c.loop-place.invariant.later, c.write_view.ensures.cause.later);
+    }
+
+pub returns-in_default-clause-ok : goal.returns-in_default-clause-ok
+returns-in_default-clause-ok g c = pieces_all shown (lines_of c.args.consumer.now.name) _ _ c.args.consumer.now.held c.loop-place.place c.in_default.ensures c.loop-place.invariant.written
