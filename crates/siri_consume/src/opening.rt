@@ -3,7 +3,7 @@ ghost use Rattle.std.specs.Prelude.{◌≡◌, ◌≤◌, ◌*◌, length, IfErr
 ghost use Rattle.siri_base.specs.Causes.{Rose};
 ghost use Rattle.siri_lines.specs.Ends.{ReadsAll};
 ghost use Rattle.siri_network.specs.Calls.{outside_of, told_by};
-ghost use Rattle.siri_consume.specs.Opening.{FailsToOpen, own_address};
+ghost use Rattle.siri_consume.specs.Opening.{FailsToOpen, opened, own_address};
 ghost use Rattle.siri_consume.specs.inner.Steps.{OpensConsumer};
 
 use crate::reading::read_wanted;

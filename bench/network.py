@@ -1,0 +1,89 @@
+#!/usr/bin/env python3
+"""Measures `siri serve` on loopback beside a server over std's TcpListener that answers the same bytes from memory:
+`network.py SIRI YARDSTICK FOLDER`. One client after the other, each connection closed after one answer, as the profile wants."""
+import json
+import os
+import resource
+import socket
+import subprocess
+import sys
+import time
+from datetime import datetime, timedelta, timezone
+
+ASKS = 500
+
+
+def post(port, body):
+    """The body of the answer to a POST, and the seconds that it took."""
+    start = time.perf_counter()
+    with socket.create_connection(("127.0.0.1", port)) as connection:
+        connection.sendall(b"POST / HTTP/1.1\r\nContent-Length: %d\r\n\r\n" % len(body) + body)
+        answer = b"".join(iter(lambda: connection.recv(65536), b""))
+    head, _, told = answer.partition(b"\r\n\r\n")
+    assert head.startswith(b"HTTP/1.1 200"), head
+    return told, time.perf_counter() - start
+
+
+def visit(number, moment):
+    call = {"StopPointRef": "Q%d" % number, "ExpectedDepartureTime": moment, "AimedDepartureTime": moment, "DepartureStatus": "onTime"}
+    journey = {"LineRef": "L%d" % (number % 40), "DirectionRef": "outbound", "DestinationName": "Market Square", "MonitoredCall": call}
+    return {"ItemIdentifier": "%06d" % number, "MonitoringRef": "S%d" % (number // 200), "RecordedAtTime": moment, "MonitoredVehicleJourney": journey}
+
+
+def feed(visits):
+    return json.dumps({"Siri": {"ServiceDelivery": {"StopMonitoringDelivery": [{"MonitoredStopVisit": visits}]}}}).encode()
+
+
+def free_port():
+    with socket.socket() as probe:
+        probe.bind(("127.0.0.1", 0))
+        return probe.getsockname()[1]
+
+
+def await_port(port):
+    for _ in range(200):
+        try:
+            socket.create_connection(("127.0.0.1", port)).close()
+            return
+        except OSError:
+            time.sleep(0.05)
+    raise SystemExit("nobody listens")
+
+
+def served(command, folder, exchanges):
+    """The answers of a server that is started so, the seconds of its exchanges, and its processor seconds."""
+    port = free_port()
+    before = resource.getrusage(resource.RUSAGE_CHILDREN)
+    server = subprocess.Popen(command(port, sum(count for _, count in exchanges) + 1), cwd=folder, stdin=subprocess.DEVNULL, stdout=subprocess.DEVNULL)
+    await_port(port)
+    told = []
+    for body, count in exchanges:
+        answers = [post(port, body) for _ in range(count)]
+        told.append((answers[-1][0], sum(seconds for _, seconds in answers)))
+    server.wait(30)
+    after = resource.getrusage(resource.RUSAGE_CHILDREN)
+    return told, after.ru_utime + after.ru_stime - before.ru_utime - before.ru_stime
+
+
+def main(siri, yardstick, folder):
+    moment = (datetime.now(timezone.utc) + timedelta(hours=2)).strftime("%Y-%m-%dT%H:%M:%SZ")
+    ask = json.dumps({"Siri": {"ServiceRequest": {"StopMonitoringRequest": [{"MonitoringRef": "S0"}]}}}).encode()
+    serve = lambda port, count: [siri, "serve", "p", "127.0.0.1:%d" % port, str(count)]
+    row = "%-34s %10s %10s %7s"
+    print(row % ("one client after the other", "siri", "yardstick", "ratio"))
+    for shown in (1, 200):
+        given = feed([visit(number, moment) for number in range(shown)])
+        told, processor = served(serve, folder, [(given, 1), (ask, ASKS)])
+        path = os.path.join(folder, "answer.%d" % shown)
+        with open(path, "wb") as answer:
+            answer.write(told[1][0])
+        theirs, their_processor = served(lambda port, count: [yardstick, str(port), path, str(count)], folder, [(ask, ASKS)])
+        ours, other = told[1][1] / ASKS * 1e6, theirs[0][1] / ASKS * 1e6
+        print(row % ("us a response of %d visits" % shown, "%.0f" % ours, "%.0f" % other, "%.2f" % (ours / other)))
+        print(row % ("us of processor time", "%.0f" % (processor / ASKS * 1e6), "%.0f" % (their_processor / ASKS * 1e6), ""))
+    large = feed([visit(number, moment) for number in range(16_000)])
+    told, processor = served(serve, folder, [(large, 1)])
+    print("a feed of %.1f MB: %.2f s, %.1f MB/s; %.2f s of processor time" % (len(large) / 1e6, told[0][1], len(large) / 1e6 / told[0][1], processor))
+
+
+main(*sys.argv[1:])
