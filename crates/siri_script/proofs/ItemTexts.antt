@@ -14,8 +14,11 @@ use Rattle.siri_records.specs.declared.item.Item.{Item}
 use Rattle.siri_records.specs.declared.item.Item.TheVariants as item
 use Rattle.siri_tables.specs.Writing.{Row, written_moment}
 use Rattle.siri_tables.proofs.Sorted.{with_rows_sorted}
+use Rattle.siri_items.specs.Situations.{written_situation}
+use Rattle.siri_items.specs.Vehicles.{written_vehicle}
+use Rattle.siri_items.specs.Visits.{written_visit}
+use Rattle.siri_items.specs.Journeys.{rows_of_journey, written_journey, written_timed_journey}
 use Rattle.siri_items.specs.declared.names.TheConstants.{RECORDED_AT_TIME}
-use Rattle.siri_items.specs.Written.{rows_of_journey, written_visit, written_journey, written_timed_journey, written_vehicle, written_situation}
 use Rattle.siri_script.specs.Items.{item_members, item_name, item_object, item_text}
 
 time_row : Journey → Row

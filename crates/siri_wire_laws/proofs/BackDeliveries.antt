@@ -18,18 +18,19 @@ use Rattle.siri_messages.specs.declared.deliveries.ServiceDelivery.{ServiceDeliv
 use Rattle.siri_items.specs.declared.names.TheConstants.{DATA_FRAME_REF, DATED_VEHICLE_JOURNEY_REF, DIRECTION_REF, LINE_REF, MONITORING_REF, PARTICIPANT_REF, RECORDED_AT_TIME, SITUATION_NUMBER}
 use Rattle.siri_tables.specs.Refusals.{Refusal}
 use Rattle.siri_tables.specs.Rules.{name, moment, number, table, required_value, entries_from, list_of, list, list_inside, or_empty}
-use Rattle.siri_items.specs.Journeys.{journey}
-use Rattle.siri_items.specs.Vehicles.{vehicle}
-use Rattle.siri_items.specs.Situations.{situation}
-use Rattle.siri_items.specs.Visits.{visit}
+use Rattle.siri_items.specs.Journeys.{journey, rows_of_journey, written_journey}
+use Rattle.siri_items.specs.Vehicles.{vehicle, vehicle_table, written_vehicle}
+use Rattle.siri_items.specs.Situations.{situation, situation_table, written_situation}
+use Rattle.siri_items.specs.Visits.{visit, visit_table, written_visit}
 use Rattle.siri_tables.specs.Proper.{IsName, IsNumber}
 use Rattle.siri_items.specs.Proper.{IsProperJourney}
 use Rattle.siri_tables.specs.Writing.{Row, with_rows, row_object, array_unless_empty, written_list, written_text, written_moment, written_number, written_flag}
-use Rattle.siri_items.specs.Written.{rows_of_visit, written_visit, rows_of_vehicle, written_vehicle, rows_of_journey, written_journey, rows_of_situation, written_situation}
+use Rattle.siri_tables.specs.Tables.{all_written}
 use Rattle.siri_tables.proofs.Back.{found_again, GivesBack, in_rows, member_again, row_again}
 use Rattle.siri_tables.proofs.BackValues.{name_back, some_name_back, number_back, some_moment_back}
 use Rattle.siri_tables.proofs.BackLists.{object_back_or_empty, same_as_empty, EntryBack, table_entry, read_again, list_again, list_back, list_inside_back}
-use Rattle.siri_items.proofs.BackTables.{visit_back, vehicle_back, situation_back, journey_back, without_time}
+use Rattle.siri_items.proofs.ItemTables.{visit_kind, vehicle_kind, situation_kind}
+use Rattle.siri_items.proofs.ItemLaws.{journey_back, without_time}
 use Rattle.siri_tables.proofs.RowSpells.{row_ok, required_row_ok, bind_ok}
 use Rattle.siri_wire.specs.declared.names.TheConstants.{ERROR_CONDITION, ESTIMATED_JOURNEY_VERSION_FRAME, ESTIMATED_TIMETABLE_DELIVERY, ESTIMATED_VEHICLE_JOURNEY, EXTENSIONS, ITEM_REF, MONITORED_STOP_VISIT, MONITORED_STOP_VISIT_CANCELLATION, MORE_DATA, PART, PRODUCER_REF, PT_SITUATION_ELEMENT, REMOVED, REQUEST_MESSAGE_REF, RESPONSE_MESSAGE_IDENTIFIER, RESPONSE_TIMESTAMP, ROUND, SITUATIONS, SITUATION_EXCHANGE_DELIVERY, START, STATUS, STOP_MONITORING_DELIVERY, SUBSCRIBER_REF, SUBSCRIPTION_REF, VEHICLE_ACTIVITY, VEHICLE_ACTIVITY_CANCELLATION, VEHICLE_MONITORING_DELIVERY}
 use Rattle.siri_wire.specs.declared.read_parts.DeliveryExtensions.{DeliveryExtensions}
@@ -69,8 +70,8 @@ rows_again rows ms x back =
 visit_entry : (i : Item) → IsProperOf service.Stop i → EntryBack (table visit_item) item_writing i
 unfolding written_visit visit_item
 visit_entry (item.Visit v) p =
-    let ms = with_rows no_members (rows_of_visit v) in
-    table_entry visit_item item_writing ms (item.Visit v) refl (rw (rows_again visit ms v (visit_back v p.proper)) refl)
+    let ms = with_rows no_members (all_written visit_table v) in
+    table_entry visit_item item_writing ms (item.Visit v) refl (rw (rows_again visit ms v (visit_kind.back v p.proper)) refl)
 visit_entry (item.Journey j) p = absurd (cc p.of_service)
 visit_entry (item.Vehicle v) p = absurd (cc p.of_service)
 visit_entry (item.Situation s) p = absurd (cc p.of_service)
@@ -78,8 +79,8 @@ visit_entry (item.Situation s) p = absurd (cc p.of_service)
 vehicle_entry : (i : Item) → IsProperOf service.Vehicle i → EntryBack (table vehicle_item) item_writing i
 unfolding written_vehicle vehicle_item
 vehicle_entry (item.Vehicle v) p =
-    let ms = with_rows no_members (rows_of_vehicle v) in
-    table_entry vehicle_item item_writing ms (item.Vehicle v) refl (rw (rows_again vehicle ms v (vehicle_back v p.proper)) refl)
+    let ms = with_rows no_members (all_written vehicle_table v) in
+    table_entry vehicle_item item_writing ms (item.Vehicle v) refl (rw (rows_again vehicle ms v (vehicle_kind.back v p.proper)) refl)
 vehicle_entry (item.Visit v) p = absurd (cc p.of_service)
 vehicle_entry (item.Journey j) p = absurd (cc p.of_service)
 vehicle_entry (item.Situation s) p = absurd (cc p.of_service)
@@ -87,8 +88,8 @@ vehicle_entry (item.Situation s) p = absurd (cc p.of_service)
 situation_entry : (i : Item) → IsProperOf service.Situation i → EntryBack (table situation_item) item_writing i
 unfolding written_situation situation_item
 situation_entry (item.Situation s) p =
-    let ms = with_rows no_members (rows_of_situation s) in
-    table_entry situation_item item_writing ms (item.Situation s) refl (rw (rows_again situation ms s (situation_back s p.proper)) refl)
+    let ms = with_rows no_members (all_written situation_table s) in
+    table_entry situation_item item_writing ms (item.Situation s) refl (rw (rows_again situation ms s (situation_kind.back s p.proper)) refl)
 situation_entry (item.Visit v) p = absurd (cc p.of_service)
 situation_entry (item.Journey j) p = absurd (cc p.of_service)
 situation_entry (item.Vehicle v) p = absurd (cc p.of_service)
@@ -103,7 +104,7 @@ frame_again : (j : Journey) → IsProperJourney j → SpellsFrame (as_texts (row
 unfolding written_journey
 frame_again j p = record {
   recorded_at_time = j.recorded_at_time;
-  spelled = row_again moment RECORDED_AT_TIME.now (rows_of_frame (item.Journey j)) _ j.recorded_at_time refl (some_moment_back j.recorded_at_time p.recorded_at_time);
+  spelled = row_again moment RECORDED_AT_TIME.now (rows_of_frame (item.Journey j)) _ j.recorded_at_time refl (some_moment_back j.recorded_at_time p.0.0);
   inside = without_time j ∷ [];
   journeys = journey_inside _ (with_rows no_members (rows_of_journey j)) (without_time j) (member_again ESTIMATED_VEHICLE_JOURNEY.now (rows_of_frame (item.Journey j)) _ refl) (journey_back j p);
   are = refl;

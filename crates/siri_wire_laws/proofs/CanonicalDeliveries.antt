@@ -17,7 +17,7 @@ use Rattle.siri_items.specs.Proper.{IsProper}
 use Rattle.siri_tables.specs.Writing.{Row, row_object, written_list}
 use Rattle.siri_items.specs.Written.{written_item}
 use Rattle.siri_tables.proofs.CanonicalParts.{IsCanonicalWithin, MayBeWithin, IsRowWithin, deeper, text_within, some_text_within, some_flag_within, some_number_within, some_moment_within, row_within, ◌then◌, object_within, object_unless_empty_within, array_unless_empty_within, list_within}
-use Rattle.siri_items.proofs.CanonicalTables.{item_within}
+use Rattle.siri_items.proofs.ItemLaws.{item_within}
 use Rattle.siri_wire.specs.declared.names.TheConstants.{ERROR_CONDITION, ESTIMATED_JOURNEY_VERSION_FRAME, ESTIMATED_TIMETABLE_DELIVERY, ESTIMATED_VEHICLE_JOURNEY, EXTENSIONS, ITEM_REF, MONITORED_STOP_VISIT, MONITORED_STOP_VISIT_CANCELLATION, MORE_DATA, PART, PRODUCER_REF, PT_SITUATION_ELEMENT, REMOVED, REQUEST_MESSAGE_REF, RESPONSE_MESSAGE_IDENTIFIER, RESPONSE_TIMESTAMP, ROUND, SITUATIONS, SITUATION_EXCHANGE_DELIVERY, START, STATUS, STOP_MONITORING_DELIVERY, SUBSCRIBER_REF, SUBSCRIPTION_REF, VEHICLE_ACTIVITY, VEHICLE_ACTIVITY_CANCELLATION, VEHICLE_MONITORING_DELIVERY}
 use Rattle.siri_wire_laws.specs.ProperDeliveries.{IsProperOf, IsProperRemoval, IsProperDelivery, IsProperServiceDelivery}
 use Rattle.siri_wire.specs.WrittenDeliveries.{item_writing, frame_time, rows_of_frame, written_frame, written_situations, rows_of_removal, written_removal, rows_of_place, written_place, written_removed, rows_of_delivery, written_stop_delivery, written_timetable_delivery, written_vehicle_delivery, written_situation_delivery, rows_of_service_delivery, written_service_delivery}
@@ -31,7 +31,7 @@ items_within s items p = list_within 7 item_writing items (all_map _ _ (λ i is.
 
 frame_time_proper : (i : Item) → IsProper i → IfSome (frame_time i) IsMoment
 frame_time_proper (item.Visit v) p = tt
-frame_time_proper (item.Journey j) p = p.recorded_at_time
+frame_time_proper (item.Journey j) p = p.0.0
 frame_time_proper (item.Vehicle v) p = tt
 frame_time_proper (item.Situation s) p = tt
 

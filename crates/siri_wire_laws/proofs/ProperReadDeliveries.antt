@@ -24,16 +24,18 @@ use Rattle.siri_messages.specs.declared.supplies.Mark.{Mark}
 use Rattle.siri_items.specs.declared.names.TheConstants.{MONITORING_REF, LINE_REF, DIRECTION_REF, DATA_FRAME_REF, DATED_VEHICLE_JOURNEY_REF, PARTICIPANT_REF, SITUATION_NUMBER, RECORDED_AT_TIME}
 use Rattle.siri_tables.specs.Refusals.{Refusal, refused}
 use Rattle.siri_tables.specs.Rules.{name, moment, number, table, row, required_row, list_of}
-use Rattle.siri_items.specs.Visits.{visit}
-use Rattle.siri_items.specs.Vehicles.{vehicle}
+use Rattle.siri_items.specs.Visits.{visit, visit_table}
+use Rattle.siri_items.specs.Vehicles.{vehicle, vehicle_table}
 use Rattle.siri_items.specs.Journeys.{journey}
-use Rattle.siri_items.specs.Situations.{situation}
+use Rattle.siri_items.specs.Situations.{situation, situation_table}
 use Rattle.siri_tables.specs.Proper.{IsName, IsMoment, IsNumber, IsListWithin}
-use Rattle.siri_items.specs.Proper.{IsProperVisit, IsProperVehicle, IsProperJourney, IsProperSituation}
+use Rattle.siri_items.specs.Proper.{IsProperJourney}
+use Rattle.siri_tables.specs.Tables.{AllProper}
+use Rattle.siri_tables.proofs.TableLaws.{read_proper}
 use Rattle.siri_json.specs.TextsOfTrees.{TextsAreUtf8}
 use Rattle.siri_tables.proofs.ProperParts.{OnRead, Yields, reads_to, on_ok, on_map, on_bind, name_yields, moment_yields, number_yields, table_yields, row_on, row_is, inside_on, AreRead, list_of_on, at_name, lists_inside_on}
-use Rattle.siri_items.proofs.ProperTables.{visit_proper, vehicle_proper, journey_proper, situation_proper}
-use Rattle.siri_items.proofs.ReadImpliesSpells.{visit_spelled, vehicle_spelled, journey_spelled, situation_spelled}
+use Rattle.siri_items.proofs.ItemTables.{visit_laws, vehicle_laws, situation_laws}
+use Rattle.siri_items.proofs.ItemLaws.{journey_yields}
 use Rattle.siri_wire.specs.declared.names.TheConstants.{CONSUMER_REF, ESTIMATED_JOURNEY_VERSION_FRAME, ESTIMATED_TIMETABLE_DELIVERY, ESTIMATED_VEHICLE_JOURNEY, EXTENSIONS, ITEM_REF, MESSAGE_IDENTIFIER, MONITORED_STOP_VISIT, MONITORED_STOP_VISIT_CANCELLATION, NUMBER, PART, PRODUCER_REF, PT_SITUATION_ELEMENT, REMOVED, REQUESTOR_REF, REQUEST_MESSAGE_REF, REQUEST_TIMESTAMP, RESPONSE_MESSAGE_IDENTIFIER, RESPONSE_TIMESTAMP, ROUND, SERVICE_STARTED_TIME, SITUATIONS, SITUATION_EXCHANGE_DELIVERY, START, STOP_MONITORING_DELIVERY, SUBSCRIBER_REF, SUBSCRIPTION_REF, VEHICLE_ACTIVITY, VEHICLE_ACTIVITY_CANCELLATION, VEHICLE_MONITORING_DELIVERY}
 use Rattle.siri_wire.specs.declared.read_parts.DeliveryExtensions.{DeliveryExtensions}
 use Rattle.siri_wire.specs.declared.read_parts.RoundPosition.{RoundPosition}
@@ -131,52 +133,30 @@ heartbeat_proper d h u s_ = record {
 -- ---- items
 
 visit_item_on : (d : Data) → TextsAreUtf8 d → OnRead (visit_item d) (IsProperOf service.Stop)
-unfolding visit_item
+unfolding visit_item visit
 visit_item_on d u =
-    on_bind IsProperVisit (IsProperOf service.Stop) (visit d) _ (reads_to IsProperVisit (visit d) (λ v e. visit_proper d v u (visit_spelled d v e))) (λ v is. record { proper = is; of_service = refl })
+    on_bind (AllProper visit_table) (IsProperOf service.Stop) (visit d) _ (reads_to (AllProper visit_table) (visit d) (λ v e. read_proper visit_laws d v u e)) (λ v is. record { proper = is; of_service = refl })
 
 vehicle_item_on : (d : Data) → TextsAreUtf8 d → OnRead (vehicle_item d) (IsProperOf service.Vehicle)
-unfolding vehicle_item
+unfolding vehicle_item vehicle
 vehicle_item_on d u =
-    on_bind IsProperVehicle (IsProperOf service.Vehicle) (vehicle d) _ (reads_to IsProperVehicle (vehicle d) (λ v e. vehicle_proper d v u (vehicle_spelled d v e)))
+    on_bind (AllProper vehicle_table) (IsProperOf service.Vehicle) (vehicle d) _ (reads_to (AllProper vehicle_table) (vehicle d) (λ v e. read_proper vehicle_laws d v u e))
     (λ v is. record { proper = is; of_service = refl })
 
 situation_item_on : (d : Data) → TextsAreUtf8 d → OnRead (situation_item d) (IsProperOf service.Situation)
-unfolding situation_item
+unfolding situation_item situation
 situation_item_on d u =
-    on_bind IsProperSituation (IsProperOf service.Situation) (situation d) _ (reads_to IsProperSituation (situation d) (λ v e. situation_proper d v u (situation_spelled d v e)))
+    on_bind (AllProper situation_table) (IsProperOf service.Situation) (situation d) _ (reads_to (AllProper situation_table) (situation d) (λ v e. read_proper situation_laws d v u e))
     (λ v is. record { proper = is; of_service = refl })
 
 -- ---- frames of journeys
-
-journey_yields : Yields (table journey) IsProperJourney
-journey_yields = spelled_yields journey IsProperJourney (λ d j u e. let s_ = journey_spelled d j e in journey_proper d j u s_.rows s_.timed)
 
 own_is : (own frame : Option ℕ) → IfSome own IsMoment → IfSome frame IsMoment → IfSome (own_or own frame) IsMoment
 own_is None frame o f = f
 own_is (Some own) frame o f = o
 
 framed_ref_is : (t : Option ℕ) (j : Journey) → IfSome t IsMoment → IsProperJourney j → IsProperOf service.Timetable (journey_of_frame t j)
-framed_ref_is t j f is = record {
-  proper = record {
-    recorded_at_time = own_is j.recorded_at_time t is.recorded_at_time f;
-    line_ref = is.line_ref;
-    direction_ref = is.direction_ref;
-    data_frame_ref = is.data_frame_ref;
-    dated_vehicle_journey_ref = is.dated_vehicle_journey_ref;
-    published_line_name = is.published_line_name;
-    operator_ref = is.operator_ref;
-    destination_ref = is.destination_ref;
-    destination_name = is.destination_name;
-    vehicle_ref = is.vehicle_ref;
-    occupancy = is.occupancy;
-    delay = is.delay;
-    recorded_calls = is.recorded_calls;
-    estimated_calls = is.estimated_calls;
-    timed = is.timed;
-  };
-  of_service = refl;
-}
+framed_ref_is t j f is = record { proper = ((own_is j.recorded_at_time t is.0.0 f, is.0.1), is.1); of_service = refl }
 
 abbrev AreJourneys : List Item → Type 0
 AreJourneys items = AllByRecursion (IsProperOf service.Timetable) items
