@@ -5,16 +5,23 @@
 //!
 //! ```text
 //! words -> Command           source -> replay -> sink
-//!          (words.rt)                  (siri_replay)
+//!          (siri_words)                (siri_replay)
 //!
 //!                            source -> document -> message or refusal -> answer -> sink
 //!                            (document.rt)         (check.rt, convert.rt)
 //!
 //!                                      load   -> sink
 //!                                      (siri_load)
+//!
+//!              wire, clock, keeper <-> serve  -> sink
+//!                                      (siri_serve)
+//!
+//!   source ->  wire, clock, keeper <-> consume -> sink
+//!                                      (siri_consume)
 //! ```
 //!
-//! Stands on `siri_replay` and `siri_load` for scripts, on `siri_wire` for documents, and on `siri_lines` for what a run leaves in its sink.
+//! Stands on a crate for each command but `check` and `convert`, which it does itself over `siri_wire`, and on `siri_lines` for what a
+//! run leaves in its sink.
 #![tactic(auto)]
 
 mod check;
