@@ -12,8 +12,7 @@ use std::io::Write;
 use std::process::ExitCode;
 
 /// What is listed where the words are no command.
-const COMMANDS: &str =
-    "siri replay < SCRIPT
+const COMMANDS: &str = "siri replay < SCRIPT
 siri check < DOCUMENT
 siri convert < DOCUMENT
 siri load SEED COUNT

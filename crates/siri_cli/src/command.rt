@@ -59,14 +59,14 @@ pub fn run<S: Source, K: Sink, W: Wire, C: Clock, E: Keeper>(
         → Writes (load_text seed count) (K.held sink.old) (K.held sink.new) result }
     ensures serve { (name listen : List ℕ) (count : ℕ) → command_of (map string_bytes words.now) ≡ Some (Command.Serve name listen count)
         → ServeRun name listen count
-            (outside_of (told_by (W.tells wire.old) (W.faults wire.old)) (told_by (C.tells clock.old) (C.faults clock.old)) (told_by (E.tells keeper.old) (E.faults keeper.old)))
-            (outside_of (told_by (W.tells wire.new) (W.faults wire.new)) (told_by (C.tells clock.new) (C.faults clock.new)) (told_by (E.tells keeper.new) (E.faults keeper.new)))
-            (K.held sink.old) (K.held sink.new) result }
+        (outside_of (told_by (W.tells wire.old) (W.faults wire.old)) (told_by (C.tells clock.old) (C.faults clock.old)) (told_by (E.tells keeper.old) (E.faults keeper.old)))
+        (outside_of (told_by (W.tells wire.new) (W.faults wire.new)) (told_by (C.tells clock.new) (C.faults clock.new)) (told_by (E.tells keeper.new) (E.faults keeper.new)))
+        (K.held sink.old) (K.held sink.new) result }
     ensures consume { (name listen : List ℕ) (producer : Target) (count : ℕ) → command_of (map string_bytes words.now) ≡ Some (Command.Consume name listen producer count)
         → ConsumeRun name listen (producer.host, producer.path) count (S.left source.old) (S.left source.new)
-            (outside_of (told_by (W.tells wire.old) (W.faults wire.old)) (told_by (C.tells clock.old) (C.faults clock.old)) (told_by (E.tells keeper.old) (E.faults keeper.old)))
-            (outside_of (told_by (W.tells wire.new) (W.faults wire.new)) (told_by (C.tells clock.new) (C.faults clock.new)) (told_by (E.tells keeper.new) (E.faults keeper.new)))
-            (K.held sink.old) (K.held sink.new) result }
+        (outside_of (told_by (W.tells wire.old) (W.faults wire.old)) (told_by (C.tells clock.old) (C.faults clock.old)) (told_by (E.tells keeper.old) (E.faults keeper.old)))
+        (outside_of (told_by (W.tells wire.new) (W.faults wire.new)) (told_by (C.tells clock.new) (C.faults clock.new)) (told_by (E.tells keeper.new) (E.faults keeper.new)))
+        (K.held sink.old) (K.held sink.new) result }
 
     // What was read, and where nothing was done.
     ensures all { ReadsInput (command_of (map string_bytes words.now)) → ReadsAll (S.left source.new) result }
@@ -91,24 +91,27 @@ pub fn run<S: Source, K: Sink, W: Wire, C: Clock, E: Keeper>(
     ensures unused { UsesNone (command_of (map string_bytes words.now))
         → (wire.new ≡ wire.old) × (clock.new ≡ clock.old) × (keeper.new ≡ keeper.old) }
 {
-    match Command::read(alloc, words) {
-        Err(OutOfMemory) => Status::OutOfMemory,
-        Ok(None) => Status::Usage,
-        Ok(Some(Command::Replay)) => replay(alloc, source, sink),
-        Ok(Some(Command::Check)) => answer_document::<Check, S, K>(alloc, source, sink),
-        Ok(Some(Command::Convert)) => answer_document::<Convert, S, K>(alloc, source, sink),
-        Ok(Some(Command::Load { seed, count })) => load(alloc, sink, seed, count),
-        Ok(Some(Command::Serve {
+    let command = match Command::read(alloc, words) {
+        Ok(Some(command)) => command,
+        Ok(None) => return Status::Usage,
+        Err(OutOfMemory) => return Status::OutOfMemory,
+    };
+    match command {
+        Command::Replay => replay(alloc, source, sink),
+        Command::Check => answer_document::<Check, S, K>(alloc, source, sink),
+        Command::Convert => answer_document::<Convert, S, K>(alloc, source, sink),
+        Command::Load { seed, count } => load(alloc, sink, seed, count),
+        Command::Serve {
             name,
             listen,
             count,
-        })) => serve(alloc, name, &listen, count, sink, wire, clock, keeper),
-        Ok(Some(Command::Consume {
+        } => serve(alloc, name, &listen, count, sink, wire, clock, keeper),
+        Command::Consume {
             name,
             listen,
             producer,
             count,
-        })) => consume(
+        } => consume(
             alloc, name, &listen, &producer, count, source, sink, wire, clock, keeper,
         ),
     }

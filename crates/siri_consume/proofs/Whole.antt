@@ -1,5 +1,6 @@
 -- A run, whole.
-use Rattle.std.proofs.Common.{◌≡◌, ◌⊎◌, ℕ, List, ◌++◌, refl, sym, ◌∙◌, subst, append_assoc, inl, inr}
+use Rattle.std.proofs.Common.{◌≡◌, ◌⊎◌, ℕ, List, ◌++◌, refl, sym, ◌∙◌, subst, append_assoc, inl, inr, Result, Ok, Err}
+use Rattle.std.specs.Prelude.{OnErr}
 use Rattle.std.specs.Io.KnownBytes.{Appends}
 use Rattle.std.proofs.KnownBytes.{Appends-trans}
 use Rattle.siri_base.specs.Causes.{Rose}
@@ -114,6 +115,16 @@ front_of a b text more some = record {
   parts = subst (λ t. t ++ more ≡ some.front ++ (some.rest ++ more)) (sym some.parts) (append_assoc some.front some.rest more);
   written = some.written;
 }
+
+-- what holds anyway holds after an error
+pub on_err : {T E : Type 0} (result : Result T E) (P : Type 0) → P → OnErr result P
+on_err (Ok value) P p = tt
+on_err (Err error) P p = p
+
+-- what follows from what holds after an error
+pub on_err_with : {T E P Q : Type 0} (result : Result T E) → (P → Q) → OnErr result P → OnErr result Q
+on_err_with (Ok value) follows p = tt
+on_err_with (Err error) follows p = follows p
 
 -- ---- by the status
 

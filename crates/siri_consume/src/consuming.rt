@@ -110,7 +110,13 @@ fn consume_all<S: Source, W: Wire, C: Clock, E: Keeper>(
         Err(OutOfMemory) => return Err(Status::OutOfMemory),
     }
     consume_connections(
-        alloc, count, producer, wire, clock, &mut consumer, &mut tally,
+        alloc,
+        count,
+        producer,
+        wire,
+        clock,
+        &mut consumer,
+        &mut tally,
     )?;
     Ok(Consumed { consumer, tally })
 }

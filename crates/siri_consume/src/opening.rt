@@ -7,7 +7,7 @@ ghost use Rattle.siri_consume.specs.Opening.{FailsToOpen, opened, own_address};
 ghost use Rattle.siri_consume.specs.inner.Steps.{OpensConsumer};
 
 use crate::reading::read_wanted;
-use siri_base::{Clock, Keeper, List, Moment, Name, OutOfMemory, Source, Status, TextError, Wire, append};
+use siri_base::{Clock, Keeper, List, Moment, Name, OutOfMemory, Source, Status, Wire};
 use siri_network::{listen, now, raise};
 use siri_view::Consumer;
 use siri_wire::Wanted;

@@ -66,12 +66,7 @@ fn was_used(wire: &InMemoryWire<'_>, comes: &Comes<'_>) -> bool {
 }
 
 /// Whether this comes of these words.
-fn comes_of(
-    alloc: Global,
-    words: &[&str],
-    handed: &Handed<'_>,
-    comes: &Comes<'_>,
-) -> Option<bool> {
+fn comes_of(alloc: Global, words: &[&str], handed: &Handed<'_>, comes: &Comes<'_>) -> Option<bool> {
     let moments = moments_of(alloc, handed.moments)?;
     let mut wire = InMemoryWire::new(alloc, handed.to_accept, handed.to_dial);
     let mut sink = InMemorySink::new(alloc);

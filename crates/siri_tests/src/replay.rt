@@ -259,7 +259,28 @@ fn refused_lines_end_the_report(rt: HostRuntime) -> Result<(), Fail> {
 
 #[test]
 fn words_of_no_command_are_a_usage(rt: HostRuntime) -> Result<(), Fail> {
-    let wrong: [&[&str]; 2] = [&["serve"], &[]];
+    let wrong: [&[&str]; 14] = [
+        &["serve"],
+        &[],
+        &["Replay"],
+        &["replay", "replay"],
+        &["--", "replay"],
+        &["--help"],
+        &["load", "7", "20001"],
+        &["load", "7", "01"],
+        &["serve", "-n", "localhost:8080", "1"],
+        &["serve", "n", "localhost", "1"],
+        &["serve", "n", "localhost:65536", "1"],
+        &["serve", "n", "localhost:8080", "1000001"],
+        &["consume", "c", "localhost:8081", "localhost:8080", "1"],
+        &[
+            "consume",
+            "c",
+            "localhost:8081",
+            "http://localhost:8080",
+            "0",
+        ],
+    ];
     for (place, words) in wrong.iter().enumerate() {
         assert!(rt;
             brings(rt.alloc(), words, EIGHT.as_bytes(), "", 64, "siri: usage")?,

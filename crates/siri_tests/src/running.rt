@@ -50,10 +50,7 @@ pub fn end_over<S: Source, K: Sink, W: Wire, C: Clock, E: Keeper>(
     keeper: &mut E,
 ) -> Result<Ended, OutOfMemory> {
     let words = words_of(alloc, words)?;
-    told_of(
-        alloc,
-        run(alloc, &words, source, sink, wire, clock, keeper),
-    )
+    told_of(alloc, run(alloc, &words, source, sink, wire, clock, keeper))
 }
 
 /// How the command of these words ends over a source and a sink, with nothing to come from a wire, a clock and a keeper.
