@@ -1,5 +1,5 @@
 -- A run, whole.
-use Rattle.std.proofs.Common.{◌≡◌, ◌⊎◌, ℕ, List, ◌++◌, refl, sym, ◌∙◌, subst, append_assoc, inl, inr, Result, Ok, Err}
+use Rattle.std.proofs.Common.{◌≡◌, ◌⊎◌, ℕ, List, ◌++◌, refl, sym, ◌∙◌, subst, append_assoc, inl, inr, Option, None, Some, Result, Ok, Err}
 use Rattle.std.specs.Prelude.{OnErr}
 use Rattle.std.specs.Io.KnownBytes.{Appends}
 use Rattle.std.proofs.KnownBytes.{Appends-trans}
@@ -12,7 +12,7 @@ use Rattle.siri_exchange.specs.declared.tally.Tally.{Tally}
 use Rattle.siri_exchange.specs.Tallies.{nothing_yet}
 use Rattle.siri_ends.specs.At.{consumer_at}
 use Rattle.siri_ends.specs.SendingUp.{FirstSendsUp, SendsUp}
-use Rattle.siri_lines.specs.Ends.{AppendsFront, Bytes}
+use Rattle.siri_lines.specs.Ends.{AppendsFront, Bytes, ReadsAll}
 use Rattle.siri_view.specs.Consuming.{Consuming}
 use Rattle.siri_wire.specs.declared.wanted.Wanted.{Wanted}
 use Rattle.siri_network.specs.Calls.{Outside, Told, outside_of}
@@ -198,3 +198,21 @@ clock_fault name listen target count input left from to end ends is = clock_rose
 
 pub keeper_fault : (name listen : List ℕ) (target : Target) (count : ℕ) (input left : Bytes) (from to : Outside) (end : Status) → ConsumesNot name listen target count input left end from to → end ≡ status.KeeperFault → Rose from.keeper.faults to.keeper.faults
 keeper_fault name listen target count input left from to end ends is = keeper_rose name listen target count input left from to (subst (λ e. ConsumesNot name listen target count input left e from to) is ends)
+
+-- nothing is said of what is left where the work wasn't done
+reads_unless : (left : Bytes) (end : Status) → (end ≡ status.Done → ⊥) → ReadsAll left end
+reads_unless None end not = tt
+reads_unless (Some left) status.Done not = absurd (not refl)
+reads_unless (Some left) status.Refused not = tt
+reads_unless (Some left) status.Usage not = tt
+reads_unless (Some left) (status.Script n why) not = tt
+reads_unless (Some left) status.ReadFault not = tt
+reads_unless (Some left) (status.Limit n) not = tt
+reads_unless (Some left) status.WireFault not = tt
+reads_unless (Some left) status.OutOfMemory not = tt
+reads_unless (Some left) status.WriteFault not = tt
+reads_unless (Some left) status.ClockFault not = tt
+reads_unless (Some left) status.KeeperFault not = tt
+
+pub reads_early : (name listen : List ℕ) (target : Target) (count : ℕ) (input left : Bytes) (from to : Outside) (end : Status) → ConsumesNot name listen target count input left end from to → ReadsAll left end
+reads_early name listen target count input left from to end ends = reads_unless left end (not_done name listen target count input left from to end ends)

@@ -1,0 +1,17 @@
+use Rattle.siri_consume.proofs.Whole.{clock_fault, keeper_fault, reads_early, run_ended, wire_fault}
+use Rattle.siri_consume.proofs.consuming.consume.Goals as goal
+
+pub returns-clause-run : goal.returns-clause-run
+returns-clause-run g c = run_ended _ _ _ _ _ _ _ _ _ c.in-Err.end c.in-Err.ensures.err
+
+pub returns-clause-all : goal.returns-clause-all
+returns-clause-all g c = reads_early _ _ _ _ _ _ _ _ c.in-Err.end c.in-Err.ensures.err
+
+pub returns-clause-wire_fault : goal.returns-clause-wire_fault
+returns-clause-wire_fault g c = wire_fault _ _ _ _ _ _ _ _ c.in-Err.end c.in-Err.ensures.err
+
+pub returns-clause-clock_fault : goal.returns-clause-clock_fault
+returns-clause-clock_fault g c = clock_fault _ _ _ _ _ _ _ _ c.in-Err.end c.in-Err.ensures.err
+
+pub returns-clause-keeper_fault : goal.returns-clause-keeper_fault
+returns-clause-keeper_fault g c = keeper_fault _ _ _ _ _ _ _ _ c.in-Err.end c.in-Err.ensures.err
