@@ -1,12 +1,16 @@
 -- Where there was no memory for the words, nothing was done; and what bounds a LISTEN.
-use Rattle.std.proofs.Common.{◌≡◌, ◌⊎◌, ◌≤◌, ℕ, List, [], ◌++◌, Bool, true, false, Option, None, Some, Err, length, refl, arith, inl, inr}
+use Rattle.std.proofs.Common.{◌≡◌, ◌⊎◌, ◌≤◌, ℕ, List, [], ◌∷◌, ◌++◌, Bool, true, false, Option, None, Some, Err, length, codes, refl, sym, subst, arith, inl, inr}
 use Rattle.std.specs.Prelude.{◌&&◌, if◌then◌else◌, option_map, nat_le}
+use Rattle.std.specs.List.{list_any}
 use Rattle.std.proofs.KnownBytes.{Appends-nil}
+use Rattle.std.proofs.lemmas.Bool.{and_parts, leb-true}
 use Rattle.siri_base.specs.Causes.{HasOutsideCause}
 use Rattle.siri_base.specs.OutsideCalls.{KeeperState, RaisesNumber, WhereTold}
 use Rattle.siri_base.specs.declared.errors.OutsideError.TheVariants as outside
 use Rattle.siri_base.specs.declared.status.Status.TheVariants as status
-use Rattle.siri_http.specs.declared.address.Address.{Address}
+use Rattle.siri_http.specs.Addresses.{is_host_with_port}
+use Rattle.siri_http.specs.Bodies.{number_of}
+use Rattle.siri_http.specs.declared.address.Address.{Address as Producer}
 use Rattle.siri_lines.specs.Ends.{AppendsFront, Bytes}
 use Rattle.siri_network.specs.Calls.{Fails, Outside, Told}
 use Rattle.siri_network.specs.Errors.{keeper_error}
@@ -14,6 +18,10 @@ use Rattle.siri_network.specs.declared.network_error.NetworkError.TheVariants as
 use Rattle.siri_serve.specs.Runs.{ServeRun}
 use Rattle.siri_consume.specs.Consumption.{Target}
 use Rattle.siri_consume.specs.Runs.{ConsumeRun}
+use Rattle.siri_words.specs.Arguments.{count_of, is_listen, is_name, producer_of}
+use Rattle.siri_words.specs.Commands.{begins_with_minus, command_by, command_named, command_of, command_with, consume_by, consume_of, consume_with, is_word, load_by, load_of, load_with, plain_of, serve_by, serve_of}
+use Rattle.siri_words.specs.declared.command.Command.{Command}
+use Rattle.siri_words.specs.declared.command.Command.TheVariants.{Replay, Check, Convert, Load, Serve, Consume}
 
 -- no text was written
 pub no_text : (held : Bytes) (text : List ℕ) → AppendsFront held held text
@@ -36,3 +44,90 @@ nothing_served name listen count o held = inr (inl (inl (record { raises = no_nu
 
 pub nothing_consumed : (name listen : List ℕ) (target : Target) (count : ℕ) (input : Bytes) (o : Outside) (held : Bytes) → ConsumeRun name listen target count input input o o held held status.OutOfMemory
 nothing_consumed name listen target count input o held = inr (inl (inl (record { error = errors.OutOfMemory; end_is = refl; raises = no_number o.keeper; rest = refl })), refl)
+
+-- ---- a LISTEN is of at most 247 bytes
+
+abbrev Bounded : Option Command → Type 0
+Bounded (Some (Consume name listen producer count)) = nat_le (length listen) 247 ≡ true
+Bounded other = Unit {0}
+
+bounded_where : (good : Bool) (command : Option Command) → (good ≡ true → Bounded command) → Bounded (if good then command else None)
+bounded_where true command bounded = bounded refl
+bounded_where false command bounded = tt
+
+bounded_load : (seed count : Option ℕ) → Bounded (load_with seed count)
+bounded_load (Some seed) (Some count) = tt
+bounded_load (Some seed) None = tt
+bounded_load None count = tt
+
+bounded_loads : (arguments : List (List ℕ)) → Bounded (load_of arguments)
+unfolding load_by
+bounded_loads [] = tt
+bounded_loads (seed ∷ []) = tt
+bounded_loads (seed ∷ count ∷ []) = bounded_load (number_of seed) (count_of 0 20000 count)
+bounded_loads (seed ∷ count ∷ more ∷ rest) = tt
+
+bounded_serve : (name listen : List ℕ) (count : Option ℕ) → Bounded (option_map (Serve name listen) count)
+bounded_serve name listen (Some count) = tt
+bounded_serve name listen None = tt
+
+bounded_serves : (arguments : List (List ℕ)) → Bounded (serve_of arguments)
+unfolding serve_by
+bounded_serves [] = tt
+bounded_serves (name ∷ []) = tt
+bounded_serves (name ∷ listen ∷ []) = tt
+bounded_serves (name ∷ listen ∷ count ∷ []) = bounded_where (is_name name && is_listen listen) (option_map (Serve name listen) (count_of 1 1000000 count)) (λ good. bounded_serve name listen (count_of 1 1000000 count))
+bounded_serves (name ∷ listen ∷ count ∷ more ∷ rest) = tt
+
+bounded_consume : (name listen : List ℕ) (producer : Option Producer) (count : Option ℕ) → nat_le (length listen) 247 ≡ true → Bounded (consume_with name listen producer count)
+bounded_consume name listen (Some producer) (Some count) short = short
+bounded_consume name listen (Some producer) None short = tt
+bounded_consume name listen None count short = tt
+
+short_listen : (name listen : List ℕ) → is_name name && is_listen listen ≡ true → nat_le (length listen) 247 ≡ true
+short_listen name listen good =
+    (and_parts (nat_le (length listen) 247) (is_host_with_port listen)
+        (and_parts (nat_le 1 (length listen)) (nat_le (length listen) 247 && is_host_with_port listen) (and_parts (is_name name) (is_listen listen) good).1).1).0
+
+bounded_consumes : (arguments : List (List ℕ)) → Bounded (consume_of arguments)
+unfolding consume_by
+bounded_consumes [] = tt
+bounded_consumes (name ∷ []) = tt
+bounded_consumes (name ∷ listen ∷ []) = tt
+bounded_consumes (name ∷ listen ∷ producer ∷ []) = tt
+bounded_consumes (name ∷ listen ∷ producer ∷ count ∷ []) =
+    bounded_where (is_name name && is_listen listen) (consume_with name listen (producer_of producer) (count_of 1 1000000 count))
+        (λ good. bounded_consume name listen (producer_of producer) (count_of 1 1000000 count) (short_listen name listen good))
+bounded_consumes (name ∷ listen ∷ producer ∷ count ∷ more ∷ rest) = tt
+
+bounded_either : (test : Bool) (one other : Option Command) → Bounded one → Bounded other → Bounded (if test then one else other)
+bounded_either true one other is is' = is
+bounded_either false one other is is' = is'
+
+bounded_named : (word : List ℕ) → Bounded (command_named word)
+bounded_named word =
+    bounded_either (is_word word (codes "replay")) (Some Replay) _ tt
+        (bounded_either (is_word word (codes "check")) (Some Check) _ tt
+            (bounded_either (is_word word (codes "convert")) (Some Convert) None tt tt))
+
+bounded_plain : (word : List ℕ) (arguments : List (List ℕ)) → Bounded (plain_of word arguments)
+bounded_plain word [] = bounded_named word
+bounded_plain word (first ∷ rest) = tt
+
+bounded_with : (word : List ℕ) (arguments : List (List ℕ)) → Bounded (command_with word arguments)
+unfolding command_with
+bounded_with word arguments =
+    bounded_either (is_word word (codes "load")) (load_of arguments) _ (bounded_loads arguments)
+        (bounded_either (is_word word (codes "serve")) (serve_of arguments) _ (bounded_serves arguments)
+            (bounded_either (is_word word (codes "consume")) (consume_of arguments) (plain_of word arguments) (bounded_consumes arguments) (bounded_plain word arguments)))
+
+bounded_by : (words : List (List ℕ)) → Bounded (command_by words)
+bounded_by [] = tt
+bounded_by (word ∷ arguments) = bounded_with word arguments
+
+bounded : (words : List (List ℕ)) → Bounded (command_of words)
+unfolding command_of
+bounded words = bounded_either (list_any begins_with_minus words) None (command_by words) tt (bounded_by words)
+
+pub listen_bound : (words : List (List ℕ)) (name listen : List ℕ) (producer : Producer) (count : ℕ) → Some (Consume name listen producer count) ≡ command_of words → length listen ≤ 247
+listen_bound words name listen producer count is = leb-true (length listen) 247 (subst Bounded (sym is) (bounded words))
