@@ -87,7 +87,7 @@ bounded_consume name listen None count short = tt
 short_listen : (name listen : List ℕ) → is_name name && is_listen listen ≡ true → nat_le (length listen) 247 ≡ true
 short_listen name listen good =
     (and_parts (nat_le (length listen) 247) (is_host_with_port listen)
-        (and_parts (nat_le 1 (length listen)) (nat_le (length listen) 247 && is_host_with_port listen) (and_parts (is_name name) (is_listen listen) good).1).1).0
+    (and_parts (nat_le 1 (length listen)) (nat_le (length listen) 247 && is_host_with_port listen) (and_parts (is_name name) (is_listen listen) good).1).1).0
 
 bounded_consumes : (arguments : List (List ℕ)) → Bounded (consume_of arguments)
 unfolding consume_by
@@ -97,7 +97,7 @@ bounded_consumes (name ∷ listen ∷ []) = tt
 bounded_consumes (name ∷ listen ∷ producer ∷ []) = tt
 bounded_consumes (name ∷ listen ∷ producer ∷ count ∷ []) =
     bounded_where (is_name name && is_listen listen) (consume_with name listen (producer_of producer) (count_of 1 1000000 count))
-        (λ good. bounded_consume name listen (producer_of producer) (count_of 1 1000000 count) (short_listen name listen good))
+    (λ good. bounded_consume name listen (producer_of producer) (count_of 1 1000000 count) (short_listen name listen good))
 bounded_consumes (name ∷ listen ∷ producer ∷ count ∷ more ∷ rest) = tt
 
 bounded_either : (test : Bool) (one other : Option Command) → Bounded one → Bounded other → Bounded (if test then one else other)
@@ -107,8 +107,8 @@ bounded_either false one other is is' = is'
 bounded_named : (word : List ℕ) → Bounded (command_named word)
 bounded_named word =
     bounded_either (is_word word (codes "replay")) (Some Replay) _ tt
-        (bounded_either (is_word word (codes "check")) (Some Check) _ tt
-            (bounded_either (is_word word (codes "convert")) (Some Convert) None tt tt))
+    (bounded_either (is_word word (codes "check")) (Some Check) _ tt
+    (bounded_either (is_word word (codes "convert")) (Some Convert) None tt tt))
 
 bounded_plain : (word : List ℕ) (arguments : List (List ℕ)) → Bounded (plain_of word arguments)
 bounded_plain word [] = bounded_named word
@@ -118,8 +118,8 @@ bounded_with : (word : List ℕ) (arguments : List (List ℕ)) → Bounded (comm
 unfolding command_with
 bounded_with word arguments =
     bounded_either (is_word word (codes "load")) (load_of arguments) _ (bounded_loads arguments)
-        (bounded_either (is_word word (codes "serve")) (serve_of arguments) _ (bounded_serves arguments)
-            (bounded_either (is_word word (codes "consume")) (consume_of arguments) (plain_of word arguments) (bounded_consumes arguments) (bounded_plain word arguments)))
+    (bounded_either (is_word word (codes "serve")) (serve_of arguments) _ (bounded_serves arguments)
+    (bounded_either (is_word word (codes "consume")) (consume_of arguments) (plain_of word arguments) (bounded_consumes arguments) (bounded_plain word arguments)))
 
 bounded_by : (words : List (List ℕ)) → Bounded (command_by words)
 bounded_by [] = tt
