@@ -1,5 +1,5 @@
 #!/usr/bin/env bash
-# Measures six things, each beside a yardstick in the same run, and prints processor seconds (user and system, the least
+# Measures seven things, each beside a yardstick in the same run, and prints processor seconds (user and system, the least
 # of 5 runs, of 15 for phases and documents), megabytes of input a second, and the peak memory:
 #
 # - `siri replay` on two kinds of script, at half the size and at the whole one, beside `grep -c '^#'` over the script of
@@ -11,7 +11,8 @@
 #   visits as trees: time and memory of a fed visit and time of an ask, as differences of runs;
 # - `siri replay` of visits, subscriptions and changes of one visit in which every packet is delivered, beside python's json over
 #   the documents of the changes: time of a change and memory, as differences of runs;
-# - `siri load` at three sizes, with no yardstick.
+# - `siri load` at three sizes, with no yardstick;
+# - `siri serve` on 127.0.0.1, beside a server over std's TcpListener that answers the same bytes from memory.
 set -eu
 here=$(dirname -- "$(readlink -f -- "${BASH_SOURCE[0]}")")
 "$here/../siri" build
@@ -33,3 +34,4 @@ done
 
 echo "commit $(git -C "$here" rev-parse --short HEAD); $(nproc) cores, load $(cut -d' ' -f1 /proc/loadavg); $(rt version)"
 python3 "$here/measure.py" "$here/../crates" "$here/yardstick/target/release/yardstick" "$inputs"
+python3 "$here/network.py" "$here/../crates/siri/out/siri" "$here/yardstick/target/release/http" "$inputs"

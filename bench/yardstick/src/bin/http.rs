@@ -16,7 +16,8 @@ fn main() -> io::Result<()> {
     let count = count.parse().map_err(|_| io::ErrorKind::InvalidInput)?;
     let listener = TcpListener::bind(format!("127.0.0.1:{port}"))?;
     for stream in listener.incoming().take(count) {
-        answer(stream?, &body)?;
+        // a client that went away is passed over, as `siri serve` does
+        let _ = answer(stream?, &body);
     }
     Ok(())
 }
