@@ -1,33 +1,12 @@
--- Inner words: cited by private functions alone. What a wire in memory tells, by what it holds.
-use Rattle.siri_base.specs.Wires.{Present, WireState, connections, unfailing}
-use Rattle.siri_base.specs.declared.in_memory.wire.Last.{Last}
+-- Inner words: cited by private functions alone. What the wires in memory tell.
+use Rattle.siri_base.specs.InMemoryLines.{connection_of}
+use Rattle.siri_base.specs.Wires.{WireState, connections}
+use Rattle.siri_base.specs.declared.in_memory.wire.FailingWire.{FailingWire}
 use Rattle.siri_base.specs.declared.in_memory.wire.InMemoryWire.{InMemoryWire}
-use Rattle.std.specs.Prelude.{ℕ, List, [], ◌∷◌, ◌++◌, option_map, map, drop, IsSome, Option, None, Some}
+use Rattle.std.specs.Prelude.{map}
 
--- the connection that came last, where it is still there
-abbrev pub present_of : Option Last → Option Present
-present_of None = None
-present_of (Some last) = option_map (λ input. record { left = unfailing input.now; written = last.written.items }) last.input
+abbrev pub in_memory : InMemoryWire → WireState
+in_memory wire = record wire.line.wire { to_accept = connections wire.to_accept.now; to_dial = connections wire.to_dial.now }
 
--- what was written to the connection that came last, where it is over
-abbrev pub last_over : Option Last → List (List ℕ)
-last_over None = []
-last_over (Some last) = elim last.input [ None ↦ last.written.items ∷ [] | Some input ↦ [] ]
-
--- what a wire tells
-abbrev pub wire_of : InMemoryWire → WireState
-wire_of wire = record {
-  to_accept = drop wire.accepted (connections wire.to_accept.now);
-  to_dial = drop wire.dialled (connections wire.to_dial.now);
-  present = present_of wire.last;
-  over = map (λ text. text.items) wire.before.items ++ last_over wire.last;
-  named = wire.addresses.items;
-  listen_fails = [];
-  accept_fails = [];
-  dial_fails = [];
-}
-
--- the connection that came last is still there
-abbrev pub is_open : Option Last → Type 0
-is_open None = ⊥
-is_open (Some last) = IsSome last.input
+abbrev pub failing : FailingWire → WireState
+failing wire = record wire.line.wire { to_accept = map connection_of wire.to_accept.now; to_dial = map connection_of wire.to_dial.now }

@@ -3,12 +3,14 @@
 mod clock;
 mod failures;
 mod keeper;
+mod line;
 mod sink;
 mod source;
 mod wire;
 
 pub use clock::{FailingClock, InMemoryClock};
 pub use keeper::{FailingKeeper, InMemoryKeeper};
+pub use line::{FailingCalls, FailingConnection};
 pub use sink::{FailingSink, InMemorySink};
 pub use source::{FailingSource, InMemorySource};
-pub use wire::InMemoryWire;
+pub use wire::{FailingWire, InMemoryWire};

@@ -39,22 +39,32 @@ impl<'a> Failures<'a> {
         }
     }
 
+    /// Whether the next call fails.
+    pub fn is_due(&self) -> bool
+        ensures { IsTrue result ↔ IsDue self.now }
+    {
+        self.next == Some(0)
+    }
+
+    /// Counts a call; the failure that was due is over then.
+    pub fn count(&mut self)
+        ensures { self.new ≡ after_call self.old }
+    {
+        match self.next {
+            None => {}
+            Some(0) => *self = Failures::new(self.later),
+            Some(before) => self.next = Some(before - 1),
+        }
+    }
+
     /// Counts a call, and tells whether it fails.
     pub fn call(&mut self) -> bool
         ensures due { IsTrue result ↔ IsDue self.old }
         ensures counted { self.new ≡ after_call self.old }
     {
-        match self.next {
-            None => false,
-            Some(0) => {
-                *self = Failures::new(self.later);
-                true
-            }
-            Some(before) => {
-                self.next = Some(before - 1);
-                false
-            }
-        }
+        let due = self.is_due();
+        self.count();
+        due
     }
 
     /// Whether a call over so many bytes fails; the failure that was due is over then.
