@@ -1,5 +1,5 @@
 // Clocks in memory.
-ghost use Rattle.std.specs.Prelude.{◌≡◌, ◌∷◌, Some, []};
+ghost use Rattle.std.specs.Prelude.{◌≡◌, Some, []};
 
 use super::failures::Failures;
 use crate::{Clock, Failed, Moment};

@@ -1,5 +1,5 @@
 // Failures that are named beforehand.
-ghost use Rattle.std.specs.Prelude.{◌≡◌, ℕ, ◌<◌, ◌≤◌, ◌↔◌, List, [], IsTrue, MatchBool};
+ghost use Rattle.std.specs.Prelude.{◌≡◌, ℕ, ◌<◌, ◌≤◌, ◌↔◌, List, IsTrue, MatchBool};
 ghost use Rattle.siri_base.specs.Failures.{IsDue, after_call, Passes, Came};
 ghost use Rattle.siri_base.specs.InMemoryFailures.{Reaches};
 

@@ -1,5 +1,5 @@
 // Keepers of the start number in memory.
-ghost use Rattle.std.specs.Prelude.{◌≡◌, ◌≤◌, ◌+◌, Some, []};
+ghost use Rattle.std.specs.Prelude.{◌≡◌, Some, []};
 
 use super::failures::Failures;
 use crate::{Keeper, OutsideError};

@@ -1,5 +1,5 @@
 // Sinks in memory.
-ghost use Rattle.std.specs.Prelude.{◌≡◌, Some, [], ◌++◌};
+ghost use Rattle.std.specs.Prelude.{◌≡◌, Some, []};
 
 use super::failures::Failures;
 use crate::{OutsideError, Sink};

@@ -1,5 +1,5 @@
 // Sources in memory.
-ghost use Rattle.std.specs.Prelude.{◌≡◌, Some, drop, []};
+ghost use Rattle.std.specs.Prelude.{◌≡◌, Some, []};
 
 use super::failures::Failures;
 use crate::{Failed, Source};
