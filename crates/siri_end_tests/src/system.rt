@@ -1,7 +1,10 @@
 // The adapters over TCP, the system's clock and the file of the start number.
-use siri_base::{Clock, Keeper, Name, Wire};
+use siri_base::{Clock, Keeper, Moment, Name, Wire};
+use siri_ends::{Tally, serve_one};
+use siri_producer::Producer;
 use siri_system::{FileKeeper, SystemClock, TcpWire};
 use std::fs;
+use std::test::Fail;
 
 /// Where the test listens. The connection is made before it is accepted, so one thread serves both ends.
 const ADDRESS: &str = "127.0.0.1:47113";
@@ -25,6 +28,47 @@ fn bytes_go_both_ways_over_tcp(rt: HostRuntime) {
     assert_eq!(rt; client.read(&mut told).expect(&rt, "a read"), 4);
     assert_eq!(rt; told[..4], *b"told".as_slice());
     assert_eq!(rt; client.read(&mut told).expect(&rt, "the end"), 0);
+}
+
+/// What is asked for a producer's status, and what `p` answers that started at 07:00 and stands at 08:00.
+const CHECK: &[u8] =
+    b"POST / HTTP/1.1\r\nHost: a\r\nContent-Length: 34\r\n\r\n{\"Siri\":{\"CheckStatusRequest\":{}}}";
+
+const CHECKED: &[u8] =
+    b"HTTP/1.1 200 OK\r\nContent-Type: application/json\r\nContent-Length: 153\r\nConnection: close\r\n\r\n{\"Siri\":{\"CheckStatusResponse\":{\"ProducerRef\":\"p\",\"ResponseTimestamp\":\"2024-05-01T08:00:00Z\",\"ServiceStartedTime\":\"2024-05-01T07:00:00Z\",\"Status\":true}}}";
+
+/// Serves the connection that is there.
+fn serve(rt: &HostRuntime, wire: &mut TcpWire) -> Result<Tally, Fail> {
+    let alloc = rt.alloc();
+    let started = Moment::new(1_714_546_800_000).ok_or("no moment")?;
+    let now = Moment::new(1_714_550_400_000).ok_or("no moment")?;
+    let mut tally = Tally::new();
+    let mut producer = Producer::new(alloc, Name::new(alloc, "p")?, 1, started)?;
+    producer.clock(now);
+    let served = serve_one(alloc, wire, &mut producer, &mut tally);
+    drop(producer);
+    served?;
+    Ok(tally)
+}
+
+#[test]
+fn a_request_is_served_over_tcp(rt: HostRuntime) -> Result<(), Fail> {
+    let address = Name::new(rt.alloc(), "127.0.0.1:47114")?;
+    let mut server = TcpWire::new(rt);
+    let mut client = TcpWire::new(rt);
+    server.listen(&address)?;
+    client.dial(&address)?;
+    assert_eq!(rt; client.write(CHECK)?, CHECK.len());
+    server.accept()?;
+    let tally = serve(&rt, &mut server)?;
+    assert_eq!(rt;
+        [tally.served, tally.refused, tally.dropped, tally.unsent],
+        [1, 0, 0, 0]
+    );
+    let mut told = [0u8; 512];
+    let count = client.read(&mut told)?;
+    assert_eq!(rt; told[..count], *CHECKED);
+    Ok(())
 }
 
 #[test]
