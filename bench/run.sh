@@ -1,5 +1,5 @@
 #!/usr/bin/env bash
-# Measures seven things, each beside a yardstick in the same run, and prints processor seconds (user and system, the least
+# Measures seven things, all but phases and loads beside a yardstick in the same run, and prints processor seconds (user and system, the least
 # of 5 runs, of 15 for phases and documents), megabytes of input a second, and the peak memory:
 #
 # - `siri replay` on two kinds of script, at half the size and at the whole one, beside `grep -c '^#'` over the script of
