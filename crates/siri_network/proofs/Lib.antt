@@ -1,2 +1,4 @@
 pub mod Causes
 pub mod Turns
+pub mod Enough
+pub mod Exchanges
