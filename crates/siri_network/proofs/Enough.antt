@@ -1,10 +1,10 @@
 -- Where the outside has enough for so many connections, no call of it ends a run but for want of memory.
-use Rattle.std.proofs.Common.{◌≡◌, ◌<◌, ◌≤◌, ◌+◌, ◌-◌, ◌⊎◌, ℕ, zero, suc, Bool, true, false, List, [], ◌∷◌, length, Option, None, Some, Ok, Err, refl, sym, ap, ◌∙◌, subst, arith, inl, inr}
+use Rattle.std.proofs.Common.{◌≡◌, ◌≤◌, ◌+◌, ◌-◌, ◌⊎◌, ℕ, zero, suc, Bool, true, false, List, [], ◌∷◌, length, Option, None, Some, Ok, Err, refl, sym, ap, ◌∙◌, subst, arith, inl, inr}
 use Rattle.std.specs.Prelude.{IsSome, IsSomeAnd, if◌then◌else◌, nat_eq}
 use Rattle.std.proofs.lemmas.Bool.{eqb-true}
 use Rattle.siri_base.specs.Failures.{IsDue, after_call}
 use Rattle.siri_base.specs.OutsideCalls.{ClockState, GivesMoment, KeeperState, RaisesNumber, WhereTold}
-use Rattle.siri_base.specs.Wires.{Accepts, Connection, Listens, TakesComing, WireState, accept_called, listened, with_connection}
+use Rattle.siri_base.specs.Wires.{Accepts, Connection, Listens, TakesComing, WireState, accept_called}
 use Rattle.siri_base.specs.declared.errors.OutsideError.{OutsideError}
 use Rattle.siri_base.specs.declared.errors.OutsideError.TheVariants as outside
 use Rattle.siri_base.specs.declared.status.Status.{Status}

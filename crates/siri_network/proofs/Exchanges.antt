@@ -2,10 +2,10 @@
 use Rattle.std.proofs.Common.{◌≡◌, ℕ, Bool, true, false, List, [], ◌∷◌, Option, None, Some, refl, sym, subst}
 use Rattle.std.specs.Prelude.{IsSome, IsSomeAnd}
 use Rattle.siri_base.specs.OutsideCalls.{WhereTold}
-use Rattle.siri_base.specs.Wires.{Connection, Present, WireState, dial_called, hung_up, with_connection}
+use Rattle.siri_base.specs.Wires.{Connection, Present, WireState, hung_up}
 use Rattle.siri_http.specs.Connections.{OnConnection}
 use Rattle.siri_http.specs.Texts.{request_text}
-use Rattle.siri_exchange.specs.Posts.{ByDial, Posts, PostsTo, Talked, dialled_of, is_due}
+use Rattle.siri_exchange.specs.Posts.{ByDial, Posts, PostsTo, dialled_of, is_due}
 use Rattle.siri_exchange.specs.Responses.{Responded, Responds}
 use Rattle.siri_exchange.specs.declared.posting.Sent.{Sent}
 use Rattle.siri_network.specs.Enough.{HasConnections}

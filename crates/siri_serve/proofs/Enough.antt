@@ -1,6 +1,6 @@
 -- Where the outside has enough for so many connections, a run of `serve` that ends before every connection was served ends for
 -- want of memory.
-use Rattle.std.proofs.Common.{◌≡◌, ◌⊎◌, ℕ, zero, suc, List, [], ◌∷◌, ◌++◌, Option, None, Some, sym, subst, inl, inr}
+use Rattle.std.proofs.Common.{◌≡◌, ℕ, zero, suc, List, [], ◌∷◌, ◌++◌, Option, None, Some, sym, subst, inl, inr}
 use Rattle.std.specs.Prelude.{IsSomeAnd}
 use Rattle.siri_base.specs.declared.status.Status.{Status}
 use Rattle.siri_http.specs.Texts.{response_text}
