@@ -1,3 +1,4 @@
+mod Examples
 pub mod Causes
 pub mod Turns
 pub mod Enough
