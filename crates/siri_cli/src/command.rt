@@ -10,9 +10,11 @@ ghost use Rattle.siri_cli.specs.Run.{EndsDocument, EndsEarly, IsLoad, IsOnNetwor
 ghost use Rattle.siri_load.specs.Load.{load_text};
 ghost use Rattle.siri_load.specs.Runs.{EndsLoad, Writes};
 ghost use Rattle.siri_network.specs.Calls.{outside_of, told_by};
+ghost use Rattle.siri_network.specs.Enough.{EndsWhole, HasEnough};
 ghost use Rattle.siri_replay.specs.Report.{report};
 ghost use Rattle.siri_replay.specs.Views.{ReportsViews};
 ghost use Rattle.siri_serve.specs.Runs.{ServeRun};
+ghost use Rattle.siri_consume.specs.Reading.{TellsWanted};
 ghost use Rattle.siri_consume.specs.Runs.{ConsumeRun};
 ghost use Rattle.siri_words.specs.Commands.{command_of};
 
@@ -67,6 +69,15 @@ pub fn run<S: Source, K: Sink, W: Wire, C: Clock, E: Keeper>(
         (outside_of (told_by (W.tells wire.old) (W.faults wire.old)) (told_by (C.tells clock.old) (C.faults clock.old)) (told_by (E.tells keeper.old) (E.faults keeper.old)))
         (outside_of (told_by (W.tells wire.new) (W.faults wire.new)) (told_by (C.tells clock.new) (C.faults clock.new)) (told_by (E.tells keeper.new) (E.faults keeper.new)))
         (K.held sink.old) (K.held sink.new) result }
+
+    // A run over the network does its work whole where there is enough for so many connections, whatever happens within one.
+    ensures serve_whole { (name listen : List ℕ) (count : ℕ) → command_of (map string_bytes words.now) ≡ Some (Command.Serve name listen count)
+        → HasEnough count (outside_of (told_by (W.tells wire.old) (W.faults wire.old)) (told_by (C.tells clock.old) (C.faults clock.old)) (told_by (E.tells keeper.old) (E.faults keeper.old)))
+        → ¬ (Rose (K.faults sink.old) (K.faults sink.new)) → EndsWhole result }
+    ensures consume_whole { (name listen : List ℕ) (producer : Target) (count : ℕ) → command_of (map string_bytes words.now) ≡ Some (Command.Consume name listen producer count)
+        → HasEnough count (outside_of (told_by (W.tells wire.old) (W.faults wire.old)) (told_by (C.tells clock.old) (C.faults clock.old)) (told_by (E.tells keeper.old) (E.faults keeper.old)))
+        → TellsWanted name (S.left source.old)
+        → ¬ (Rose (S.faults source.old) (S.faults source.new)) → ¬ (Rose (K.faults sink.old) (K.faults sink.new)) → EndsWhole result }
 
     // What was read, and where nothing was done.
     ensures all { ReadsInput (command_of (map string_bytes words.now)) → ReadsAll (S.left source.new) result }

@@ -1,8 +1,6 @@
 -- A run that ends with a fault has raised a count.
-use Rattle.std.proofs.Common.{◌≡◌, ◌≤◌, ◌⊎◌, ℕ, zero, suc, List, [], ◌∷◌, ◌++◌, Option, None, Some, refl, sym, ap, ◌∙◌, subst, arith, inl, inr}
+use Rattle.std.proofs.Common.{◌≡◌, ◌≤◌, ℕ, zero, suc, List, [], ◌∷◌, ◌++◌, Option, None, Some, refl, sym, ap, ◌∙◌, subst, arith, inl, inr}
 use Rattle.siri_base.specs.Causes.{Rose}
-use Rattle.siri_base.specs.Wires.{WireState}
-use Rattle.siri_base.specs.declared.errors.OutsideError.{OutsideError}
 use Rattle.siri_base.specs.declared.status.Status.TheVariants as status
 use Rattle.siri_messages.specs.declared.message.Message.{Message}
 use Rattle.siri_ends.specs.declared.response.Response.{Response}
@@ -10,10 +8,10 @@ use Rattle.siri_ends.specs.Answering.{AnswersWith}
 use Rattle.siri_ends.specs.At.{ConsumerAt, Surroundings, around_consumer}
 use Rattle.siri_ends.specs.Consuming.{consumer_response, further_replies}
 use Rattle.siri_ends.specs.InTurn.{InTurn}
-use Rattle.siri_ends.specs.SendingUp.{LeavesUnsentUp, SendsOneUp, SendsUp, replies_after}
+use Rattle.siri_ends.specs.SendingUp.{LeavesUnsentUp, SendsOneUp, replies_after}
 use Rattle.siri_lines.specs.Ends.{Bytes}
-use Rattle.siri_network.specs.Calls.{Outside, Told}
-use Rattle.siri_network.specs.Errors.{clock_error, keeper_error, status_of, wire_error}
+use Rattle.siri_network.specs.Calls.{Outside}
+use Rattle.siri_network.specs.Errors.{status_of}
 use Rattle.siri_network.specs.declared.network_error.NetworkError.{NetworkError}
 use Rattle.siri_network.specs.declared.network_error.NetworkError.TheVariants as error
 use Rattle.siri_network.proofs.Causes.{AnswersLater, clock_failed, keeper_failed, no_clock_of_keeper, no_clock_of_wire, no_keeper_of_clock, no_keeper_of_wire, no_wire_of_clock, no_wire_of_keeper, rose_since, turns_clock_rose, turns_keeper_not, turns_wire_rose, wire_failed}

@@ -3,5 +3,6 @@ pub mod Pieces
 pub mod Held
 pub mod Shown
 mod Causes
+mod Enough
 mod Made
 mod Whole

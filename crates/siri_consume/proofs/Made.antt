@@ -1,13 +1,12 @@
 -- The turns of a run, and the run as a whole.
-use Rattle.std.proofs.Common.{◌≡◌, ◌<◌, ◌+◌, ℕ, List, Option, Ok, refl, sym, ◌∙◌, subst, inl, inr}
+use Rattle.std.proofs.Common.{◌≡◌, ◌<◌, ◌+◌, ℕ, Ok, refl, subst, inr}
 use Rattle.siri_base.specs.OutsideCalls.{ClockState, GivesMoment, KeeperState}
 use Rattle.siri_base.specs.Wires.{Accepts, WireState}
 use Rattle.siri_exchange.specs.declared.tally.Tally.{Tally}
 use Rattle.siri_view.specs.Consuming.{Consuming, clocked}
 use Rattle.siri_ends.specs.At.{consumer_at}
 use Rattle.siri_ends.specs.Consuming.{ConsumesOne, ConsumesSome}
-use Rattle.siri_network.specs.Calls.{Call, Fails, Outside, Told, outside_of}
-use Rattle.siri_network.specs.Errors.{clock_error, wire_error}
+use Rattle.siri_network.specs.Calls.{Call, Outside, Told, outside_of}
 use Rattle.siri_network.specs.Turns.{Running, running}
 use Rattle.siri_network.specs.declared.network_error.NetworkError.{NetworkError}
 use Rattle.siri_network.specs.declared.network_error.NetworkError.TheVariants as error

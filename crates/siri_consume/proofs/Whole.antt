@@ -1,5 +1,5 @@
 -- A run, whole.
-use Rattle.std.proofs.Common.{◌≡◌, ◌⊎◌, ℕ, List, ◌++◌, refl, sym, ◌∙◌, subst, append_assoc, inl, inr, Option, None, Some, Result, Ok, Err}
+use Rattle.std.proofs.Common.{◌≡◌, ◌⊎◌, ℕ, List, ◌++◌, refl, sym, subst, append_assoc, inl, inr, None, Some, Result, Ok, Err}
 use Rattle.std.specs.Prelude.{OnErr}
 use Rattle.std.specs.Io.KnownBytes.{Appends}
 use Rattle.std.proofs.KnownBytes.{Appends-trans}
@@ -17,10 +17,10 @@ use Rattle.siri_view.specs.Consuming.{Consuming}
 use Rattle.siri_wire.specs.declared.wanted.Wanted.{Wanted}
 use Rattle.siri_network.specs.Calls.{Outside, Told, outside_of}
 use Rattle.siri_network.specs.Errors.{status_of}
-use Rattle.siri_network.specs.Turns.{Running, running}
+use Rattle.siri_network.specs.Turns.{running}
 use Rattle.siri_network.specs.declared.network_error.NetworkError.{NetworkError}
 use Rattle.siri_network.specs.declared.network_error.NetworkError.TheVariants as error
-use Rattle.siri_consume.specs.Consumption.{Asks, AsksSome, Consumption, ConsumesTurns, EndsInTurns, Target, after_asking, requests}
+use Rattle.siri_consume.specs.Consumption.{Asks, ConsumesTurns, EndsInTurns, Target, after_asking, requests}
 use Rattle.siri_consume.specs.Opening.{opened}
 use Rattle.siri_consume.specs.Reading.{EndsReading}
 use Rattle.siri_consume.specs.Runs.{ConsumeRun, ConsumesAll, ConsumesNot}

@@ -1,5 +1,5 @@
 -- A consumer that answers connections (EN 15531-2 for what is said, RFC 9112 for how).
-use Rattle.std.specs.Prelude.{◌≡◌, ◌⊎◌, ℕ, List, [], ◌∷◌, map, Option}
+use Rattle.std.specs.Prelude.{◌≡◌, ◌⊎◌, ℕ, List, [], ◌∷◌, map}
 use Rattle.siri_base.specs.Wires.{WireState}
 use Rattle.siri_exchange.specs.Tallies.{nothing_yet}
 use Rattle.siri_exchange.specs.declared.tally.Tally.{Tally}

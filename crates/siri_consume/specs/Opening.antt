@@ -1,6 +1,6 @@
 -- How a run of `consume` opens: the number of its start is raised, its lines are read, the clock tells its first moment, and it
 -- listens.
-use Rattle.std.specs.Prelude.{◌≡◌, ◌⊎◌, ◌*◌, ℕ, List, [], ◌∷◌, ◌++◌, codes, Option, Some, Ok, Err}
+use Rattle.std.specs.Prelude.{◌≡◌, ◌⊎◌, ◌*◌, ℕ, List, [], ◌++◌, codes, Some, Ok}
 use Rattle.siri_base.specs.OutsideCalls.{GivesMoment, RaisesNumber}
 use Rattle.siri_base.specs.Wires.{Listens}
 use Rattle.siri_base.specs.declared.status.Status.{Status}

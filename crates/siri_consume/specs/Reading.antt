@@ -1,5 +1,5 @@
 -- What the reading of a source gives.
-use Rattle.std.specs.Prelude.{◌≡◌, ℕ, List, ◌++◌, None, Some, Ok, Err}
+use Rattle.std.specs.Prelude.{◌≡◌, ℕ, List, ◌++◌, None, Some, Ok, Err, IsOk, IsSomeAnd}
 use Rattle.siri_base.specs.declared.status.Status.{Status}
 use Rattle.siri_base.specs.declared.status.Status.TheVariants as status
 use Rattle.siri_life.specs.Named.{Name}
@@ -13,6 +13,11 @@ pub record Wants (subscriber : Name) (input : Bytes) (list : List Wanted) : Type
   pub bytes : List ℕ
   pub read : IsInput input bytes
   pub are : all_wanted subscriber bytes ≡ Ok list
+
+-- the source tells its text, and this is all good: at most 200 lines within the limits, each the text of a wanted subscription,
+-- empty, or a comment
+abbrev pub TellsWanted : Name → Bytes → Type 0
+TellsWanted subscriber input = IsSomeAnd input (λ bytes. IsOk (all_wanted subscriber bytes))
 
 -- the source failed: each line that was read whole before is good. Of the last line some bytes were read, and no line feed.
 pub record WantsWhole (subscriber : Name) (input : List ℕ) (left : Bytes) : Type 0 where

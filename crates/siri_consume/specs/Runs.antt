@@ -4,7 +4,6 @@ use Rattle.std.specs.Io.KnownBytes.{Appends}
 use Rattle.siri_base.specs.declared.status.Status.{Status}
 use Rattle.siri_base.specs.declared.status.Status.TheVariants as status
 use Rattle.siri_lines.specs.Ends.{AppendsFront, Bytes}
-use Rattle.siri_view.specs.Consuming.{Consuming}
 use Rattle.siri_wire.specs.declared.wanted.Wanted.{Wanted}
 use Rattle.siri_network.specs.Calls.{Outside}
 use Rattle.siri_network.specs.Errors.{status_of}

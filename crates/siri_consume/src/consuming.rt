@@ -1,16 +1,18 @@
 // The command `consume`.
-ghost use Rattle.std.specs.Prelude.{◌≡◌, ◌≤◌, ◌++◌, length, IfErr, IfOk, OnErr, OnOk};
+ghost use Rattle.std.specs.Prelude.{◌≡◌, ◌≤◌, length, IfErr, IfOk, OnErr, OnOk};
 ghost use Rattle.std.specs.Io.KnownBytes.{Appends};
 ghost use Rattle.siri_base.specs.Causes.{HasOutsideCause, Rose};
 ghost use Rattle.siri_lines.specs.Ends.{AppendsFront, ReadsAll};
 ghost use Rattle.siri_network.specs.Calls.{outside_of, told_by};
+ghost use Rattle.siri_network.specs.Enough.{EndsWhole, HasEnough};
+ghost use Rattle.siri_consume.specs.Reading.{TellsWanted};
 ghost use Rattle.siri_consume.specs.Runs.{ConsumeRun, ConsumesAll, ConsumesNot, EndsConsuming, end_text};
 
 use crate::opening::{Opened, open};
 use crate::turns::{ask_all, consume_connections};
 use crate::views::write_views;
 use siri_base::{Clock, Keeper, Name, OutOfMemory, OutsideError, Sink, Source, Status, Wire};
-use siri_ends::{Tally, send_up};
+use siri_ends::Tally;
 use siri_http::Address;
 use siri_network::write_summary;
 use siri_view::Consumer;
@@ -49,6 +51,10 @@ pub fn consume<S: Source, K: Sink, W: Wire, C: Clock, E: Keeper>(
         (K.held sink.old) (K.held sink.new) result }
     ensures all { ReadsAll (S.left source.new) result }
     ensures unwritten { EndsConsuming result → sink.new ≡ sink.old }
+    // Where there is enough for so many connections, all lines are good, and neither the source nor the sink fails.
+    ensures complete { HasEnough count (outside_of (told_by (W.tells wire.old) (W.faults wire.old)) (told_by (C.tells clock.old) (C.faults clock.old)) (told_by (E.tells keeper.old) (E.faults keeper.old)))
+        → TellsWanted name (S.left source.old)
+        → ¬ (Rose (S.faults source.old) (S.faults source.new)) → ¬ (Rose (K.faults sink.old) (K.faults sink.new)) → EndsWhole result }
     // When each fault comes.
     ensures read_fault { result ≡ Status.ReadFault → Rose (S.faults source.old) (S.faults source.new) }
     ensures write_fault { result ≡ Status.WriteFault → Rose (K.faults sink.old) (K.faults sink.new) }

@@ -1,5 +1,5 @@
 // Reads what a consumer is to ask for.
-ghost use Rattle.std.specs.Prelude.{◌≡◌, ◌≤◌, length, IfOk, IfErr, IsErrOf};
+ghost use Rattle.std.specs.Prelude.{◌≤◌, length, IfOk, IfErr, IsErrOf};
 ghost use Rattle.siri_base.specs.Causes.{Rose};
 ghost use Rattle.siri_lines.specs.Ends.{ReadsAll};
 ghost use Rattle.siri_consume.specs.Reading.{EndsReading, StopsAt, Wants};

@@ -6,9 +6,9 @@ ghost use Rattle.siri_ends.specs.SendingUp.{FirstSendsUp, SendsUp};
 ghost use Rattle.siri_network.specs.Calls.{Told, outside_of, told_by};
 ghost use Rattle.siri_network.specs.Turns.{running};
 ghost use Rattle.siri_consume.specs.Consumption as definition;
-ghost use Rattle.siri_consume.specs.Consumption.{ConsumesTurn, ConsumesTurns, EndsAtTurn, EndsInTurns, after_asking, asking, requests, subscriptions};
+ghost use Rattle.siri_consume.specs.Consumption.{ConsumesTurn, ConsumesTurns, EndsAtTurn, EndsInTurns, after_asking, requests, subscriptions};
 
-use siri_base::{Clock, Copies, List, OutOfMemory, Span, Wire};
+use siri_base::{Clock, Copies, List, OutOfMemory, Wire};
 use siri_ends::{Tally, consume_one, send_up};
 use siri_http::Address;
 use siri_messages::Message;

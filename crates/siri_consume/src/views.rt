@@ -3,7 +3,6 @@ ghost use Rattle.std.specs.Prelude.{◌≡◌, ◌++◌, length, option_map, sli
 ghost use Rattle.std.specs.Io.KnownBytes.{Appends};
 ghost use Rattle.siri_base.specs.Causes.{HasOutsideCause};
 ghost use Rattle.siri_lines.specs.Ends.{AppendsFront};
-ghost use Rattle.siri_view.specs.Consuming.{held_by};
 ghost use Rattle.siri_script.specs.Spaced.{line_feed};
 ghost use Rattle.siri_script.specs.ViewLines.{view_line};
 ghost use Rattle.siri_consume.specs.Views.{items_text, views_text};

@@ -1,10 +1,10 @@
 -- Counts of faults never fall, so a run that ends with a fault has raised one.
-use Rattle.std.proofs.Common.{◌≡◌, ◌≤◌, ◌⊎◌, ℕ, zero, suc, Ok, Err, refl, sym, ◌∙◌, subst, arith, inl, inr}
+use Rattle.std.proofs.Common.{◌≡◌, ◌≤◌, ℕ, zero, suc, Err, refl, sym, ◌∙◌, subst, arith, inl, inr}
 use Rattle.siri_base.specs.Causes.{HasOutsideCause, Rose}
 use Rattle.siri_base.specs.Wires.{WireState}
 use Rattle.siri_base.specs.declared.errors.OutsideError.{OutsideError}
 use Rattle.siri_base.specs.declared.errors.OutsideError.TheVariants as outside
-use Rattle.siri_network.specs.Calls.{Call, Fails, Outside, Told}
+use Rattle.siri_network.specs.Calls.{Outside, Told}
 use Rattle.siri_network.specs.Errors.{clock_error, keeper_error, wire_error}
 use Rattle.siri_network.specs.Turns.{Running, Turn, TurnFails, Turns, TurnsFail}
 use Rattle.siri_network.specs.declared.network_error.NetworkError.{NetworkError}

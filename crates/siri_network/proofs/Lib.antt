@@ -1,2 +1,5 @@
+mod Examples
 pub mod Causes
 pub mod Turns
+pub mod Enough
+pub mod Exchanges

@@ -1,5 +1,5 @@
 // The calls of the outside that end a run where they fail.
-ghost use Rattle.std.specs.Prelude.{◌≡◌, ◌≤◌, IfOk, OnOk};
+ghost use Rattle.std.specs.Prelude.{◌≤◌, IfOk, OnOk};
 ghost use Rattle.siri_base.specs.OutsideCalls.{GivesMoment, RaisesNumber};
 ghost use Rattle.siri_base.specs.Wires.{Accepts, Listens};
 ghost use Rattle.siri_network.specs.Calls.{Comes, told_by};

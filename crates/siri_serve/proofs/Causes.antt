@@ -1,7 +1,6 @@
 -- A run that ends with a fault has raised a count.
-use Rattle.std.proofs.Common.{◌≡◌, ◌≤◌, ◌⊎◌, ℕ, zero, suc, List, [], ◌∷◌, ◌++◌, Option, None, Some, ap, arith, inl, inr}
+use Rattle.std.proofs.Common.{◌≤◌, ℕ, zero, suc, List, [], ◌∷◌, ◌++◌, Option, None, Some, ap, arith, inl, inr}
 use Rattle.siri_base.specs.Causes.{Rose}
-use Rattle.siri_base.specs.Wires.{WireState}
 use Rattle.siri_settle.specs.declared.outs.Out.{Out}
 use Rattle.siri_ends.specs.declared.response.Response.{Response}
 use Rattle.siri_ends.specs.Answering.{AnswersWith}
@@ -9,8 +8,7 @@ use Rattle.siri_ends.specs.At.{At, Surroundings, around}
 use Rattle.siri_ends.specs.InTurn.{InTurn}
 use Rattle.siri_ends.specs.Responses.{response_to}
 use Rattle.siri_ends.specs.Sending.{SendsOut, settled_by}
-use Rattle.siri_ends.specs.Serving.{ServesOne}
-use Rattle.siri_network.specs.Calls.{Outside, Told}
+use Rattle.siri_network.specs.Calls.{Outside}
 use Rattle.siri_network.specs.declared.network_error.NetworkError.TheVariants as error
 use Rattle.siri_network.proofs.Causes.{AnswersLater, clock_failed, keeper_failed, no_clock_of_keeper, no_clock_of_wire, no_keeper_of_clock, no_keeper_of_wire, no_wire_of_clock, no_wire_of_keeper, rose_since, turns_clock_rose, turns_keeper_not, turns_wire_rose, wire_failed}
 use Rattle.siri_serve.specs.Opening.{FailsToOpen, opened}

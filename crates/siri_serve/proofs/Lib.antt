@@ -1,3 +1,4 @@
 mod Causes
+mod Enough
 mod Made
 mod Runs

@@ -1,16 +1,15 @@
 -- The turns of a run.
-use Rattle.std.proofs.Common.{◌≡◌, ◌<◌, ◌+◌, ℕ, List, [], ◌∷◌, ◌++◌, Ok, refl, ◌∙◌, subst, inl, inr}
+use Rattle.std.proofs.Common.{◌≡◌, ◌<◌, ◌+◌, ℕ, [], ◌∷◌, ◌++◌, Ok, refl, ◌∙◌, subst, inl, inr}
 use Rattle.siri_base.specs.OutsideCalls.{ClockState, GivesMoment, KeeperState}
 use Rattle.siri_base.specs.Wires.{Accepts, WireState}
 use Rattle.siri_exchange.specs.declared.tally.Tally.{Tally}
-use Rattle.siri_model.specs.History.{Clock, History}
-use Rattle.siri_producer.specs.Known.{Known, StandsFor, GoesOn}
+use Rattle.siri_model.specs.History.{Clock}
+use Rattle.siri_producer.specs.Known.{Known, GoesOn}
 use Rattle.siri_ends.specs.At as ends
 use Rattle.siri_ends.specs.At.{end_of}
 use Rattle.siri_ends.specs.Serving.{ServesOne, ServesSome}
 use Rattle.siri_network.specs.Calls.{Call, Fails, Outside, Told, outside_of}
 use Rattle.siri_network.specs.Errors.{clock_error, wire_error}
-use Rattle.siri_network.specs.Turns.{Running}
 use Rattle.siri_network.specs.declared.network_error.NetworkError.{NetworkError}
 use Rattle.siri_network.specs.declared.network_error.NetworkError.TheVariants as error
 use Rattle.siri_network.proofs.Turns.{turns_next, turns_none}

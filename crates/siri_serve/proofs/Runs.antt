@@ -1,5 +1,5 @@
 -- A run, whole.
-use Rattle.std.proofs.Common.{◌≡◌, ℕ, List, [], ◌∷◌, refl, sym, ◌∙◌, subst, inl, inr}
+use Rattle.std.proofs.Common.{◌≡◌, ℕ, List, [], ◌∷◌, refl, sym, ◌∙◌, subst, inr}
 use Rattle.siri_base.specs.Causes.{Rose}
 use Rattle.siri_base.specs.declared.status.Status.{Status}
 use Rattle.siri_base.specs.declared.status.Status.TheVariants as status
@@ -13,7 +13,7 @@ use Rattle.siri_network.specs.Errors.{status_of}
 use Rattle.siri_network.specs.declared.network_error.NetworkError.{NetworkError}
 use Rattle.siri_network.specs.declared.network_error.NetworkError.TheVariants as error
 use Rattle.siri_serve.specs.Opening.{opened}
-use Rattle.siri_serve.specs.Runs.{FailsToServe, ServeRun, ServesAll, ServesNot}
+use Rattle.siri_serve.specs.Runs.{ServeRun, ServesAll, ServesNot}
 use Rattle.siri_serve.specs.Serving.{EndsInTurns, ServesTurns}
 use Rattle.siri_serve.specs.Steps.{Ends, Goes, OpensProducer, running_of, server_of}
 use Rattle.siri_serve.proofs.Causes.{clock_rose, keeper_rose, wire_rose}

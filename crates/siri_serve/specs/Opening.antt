@@ -1,9 +1,9 @@
 -- How a run of `serve` opens: the number of its start is raised, it listens, and the clock tells its first moment.
-use Rattle.std.specs.Prelude.{◌≡◌, ◌⊎◌, ℕ, List, [], ◌∷◌, Ok, Err}
+use Rattle.std.specs.Prelude.{◌≡◌, ◌⊎◌, ℕ, List, [], ◌∷◌, Ok}
 use Rattle.siri_base.specs.OutsideCalls.{GivesMoment, RaisesNumber}
 use Rattle.siri_base.specs.Wires.{Listens}
 use Rattle.siri_exchange.specs.Tallies.{nothing_yet}
-use Rattle.siri_model.specs.History.{History, Start}
+use Rattle.siri_model.specs.History.{Start}
 use Rattle.siri_network.specs.Calls.{Call, Fails, Outside}
 use Rattle.siri_network.specs.Errors.{clock_error, keeper_error, wire_error}
 use Rattle.siri_network.specs.declared.network_error.NetworkError.{NetworkError}

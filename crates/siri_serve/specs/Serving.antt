@@ -1,5 +1,5 @@
 -- A producer that serves connections (EN 15531-2 for what is said, RFC 9112 for how).
-use Rattle.std.specs.Prelude.{◌≡◌, ◌⊎◌, ℕ, List, [], ◌∷◌, ◌++◌, Option}
+use Rattle.std.specs.Prelude.{◌⊎◌, ℕ, List, [], ◌∷◌, ◌++◌, Option}
 use Rattle.siri_base.specs.Wires.{WireState}
 use Rattle.siri_exchange.specs.declared.tally.Tally.{Tally}
 use Rattle.siri_model.specs.History.{Clock, History}

@@ -1,3 +1,4 @@
+use Rattle.siri_consume.proofs.Enough.{ends_whole}
 use Rattle.siri_consume.proofs.Whole.{clock_fault, keeper_fault, reads_early, run_ended, wire_fault}
 use Rattle.siri_consume.proofs.consuming.consume.Goals as goal
 
@@ -15,3 +16,6 @@ returns-clause-clock_fault g c = clock_fault _ _ _ _ _ _ _ _ c.in-Err.end c.in-E
 
 pub returns-clause-keeper_fault : goal.returns-clause-keeper_fault
 returns-clause-keeper_fault g c = keeper_fault _ _ _ _ _ _ _ _ c.in-Err.end c.in-Err.ensures.err
+
+pub returns-clause-complete : goal.returns-clause-complete
+returns-clause-complete g c = λ has wanted unread _. ends_whole _ _ _ _ _ _ _ _ c.in-Err.end c.in-Err.ensures.err has wanted (λ e. unread (c.in-Err.ensures.read e))

@@ -1,3 +1,4 @@
+use Rattle.siri_serve.proofs.Enough.{ends_whole}
 use Rattle.siri_serve.proofs.Runs.{clock_fault, keeper_fault, no_write_fault, run_ended, wire_fault}
 use Rattle.siri_serve.proofs.serving.serve.Goals as goal
 
@@ -12,3 +13,6 @@ returns-in-Err-clause-clock_fault g c = clock_fault _ _ _ _ _ c.in-Err.error c.f
 
 pub returns-in-Err-clause-keeper_fault : goal.returns-in-Err-clause-keeper_fault
 returns-in-Err-clause-keeper_fault g c = keeper_fault _ _ _ _ _ c.in-Err.error c.from.result c.from.ensures c.in-Err.ensures.err
+
+pub returns-in-Err-clause-complete : goal.returns-in-Err-clause-complete
+returns-in-Err-clause-complete g c = λ has _. ends_whole _ _ _ _ _ c.in-Err.error c.from.result c.from.ensures c.in-Err.ensures.err has
