@@ -21,7 +21,7 @@
 //! ```
 //!
 //! Stands on a crate for each command but `check` and `convert`, which it does itself over `siri_wire`, and on `siri_lines` for what a
-//! run leaves in its sink.
+//! run leaves in its sink. It looks into no line, into no document but the one of `check` and `convert`, and knows no socket.
 #![tactic(auto)]
 
 mod check;
