@@ -5,7 +5,6 @@ use Rattle.std.specs.Prelude.{IsSomeAnd}
 use Rattle.siri_base.specs.declared.status.Status.{Status}
 use Rattle.siri_http.specs.Texts.{response_text}
 use Rattle.siri_settle.specs.declared.outs.Out.{Out}
-use Rattle.siri_wire.specs.Canonical.{canonical}
 use Rattle.siri_exchange.specs.Requests.{Asks}
 use Rattle.siri_ends.specs.declared.response.Response.{Response}
 use Rattle.siri_ends.specs.Answering.{AnswersWith}
@@ -31,7 +30,7 @@ unfolding InTurn
 sends_only name zero n outs at end has is = subst (λ (a : At). IsSomeAnd a.wire (HasConnections n)) (sym is) has
 sends_only name (suc limit) n [] at end has is = subst (λ (a : At). IsSomeAnd a.wire (HasConnections n)) (sym is) has
 sends_only name (suc limit) n (out ∷ rest) at end has some =
-    sends_only name limit n (rest ++ settled_by name some.0 at.history) some.1 end (post_to_only (target_of out.address) (canonical out.message) some.0 n at.wire some.1.wire has some.2.told) some.3
+    sends_only name limit n (rest ++ settled_by name some.0 at.history) some.1 end (post_to_only (target_of out.address) _ some.0 n at.wire some.1.wire has some.2.told) some.3
 
 answer_only : (response : Option Response) (n : ℕ) (at mid : Surroundings) → IsSomeAnd at.wire (HasAccepted n) → AnswersWith response at mid → IsSomeAnd mid.wire (HasConnections n)
 answer_only None n at mid has answers = hung_up_only n at.wire mid.wire has answers.told

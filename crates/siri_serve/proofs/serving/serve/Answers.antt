@@ -1,5 +1,5 @@
 use Rattle.siri_serve.proofs.Enough.{ends_whole}
-use Rattle.siri_serve.proofs.Runs.{clock_fault, keeper_fault, no_write_fault, run_ended, wire_fault}
+use Rattle.siri_serve.proofs.Runs.{clock_fault, keeper_fault, run_ended, wire_fault}
 use Rattle.siri_serve.proofs.serving.serve.Goals as goal
 
 pub returns-in-Err-clause-run : goal.returns-in-Err-clause-run
