@@ -37,9 +37,10 @@ const CHECK: &[u8] =
 const CHECKED: &[u8] =
     b"HTTP/1.1 200 OK\r\nContent-Type: application/json\r\nContent-Length: 153\r\nConnection: close\r\n\r\n{\"Siri\":{\"CheckStatusResponse\":{\"ProducerRef\":\"p\",\"ResponseTimestamp\":\"2024-05-01T08:00:00Z\",\"ServiceStartedTime\":\"2024-05-01T07:00:00Z\",\"Status\":true}}}";
 
-/// Serves the connection that is there.
-fn serve(rt: &HostRuntime, wire: &mut TcpWire) -> Result<Tally, Fail> {
+/// Accepts a connection and serves it.
+fn serve_next(rt: &HostRuntime, wire: &mut TcpWire) -> Result<Tally, Fail> {
     let alloc = rt.alloc();
+    wire.accept()?;
     let started = Moment::new(1_714_546_800_000).ok_or("no moment")?;
     let now = Moment::new(1_714_550_400_000).ok_or("no moment")?;
     let mut tally = Tally::new();
@@ -59,8 +60,7 @@ fn a_request_is_served_over_tcp(rt: HostRuntime) -> Result<(), Fail> {
     server.listen(&address)?;
     client.dial(&address)?;
     assert_eq!(rt; client.write(CHECK)?, CHECK.len());
-    server.accept()?;
-    let tally = serve(&rt, &mut server)?;
+    let tally = serve_next(&rt, &mut server)?;
     assert_eq!(rt;
         [tally.served, tally.refused, tally.dropped, tally.unsent],
         [1, 0, 0, 0]
