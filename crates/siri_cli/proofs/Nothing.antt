@@ -1,10 +1,9 @@
 -- Where there was no memory for the words, nothing was done; and what bounds a LISTEN.
-use Rattle.std.proofs.Common.{◌≡◌, ◌⊎◌, ◌≤◌, ℕ, List, [], ◌∷◌, ◌++◌, Bool, true, false, Option, None, Some, Err, length, codes, refl, sym, subst, arith, inl, inr}
+use Rattle.std.proofs.Common.{◌≡◌, ◌≤◌, ℕ, List, [], ◌∷◌, Bool, true, false, Option, None, Some, Err, length, codes, refl, sym, subst, arith, inl, inr}
 use Rattle.std.specs.Prelude.{◌&&◌, if◌then◌else◌, option_map, nat_le}
 use Rattle.std.specs.List.{list_any}
 use Rattle.std.proofs.KnownBytes.{Appends-nil}
 use Rattle.std.proofs.lemmas.Bool.{and_parts, leb-true}
-use Rattle.siri_base.specs.Causes.{HasOutsideCause}
 use Rattle.siri_base.specs.OutsideCalls.{KeeperState, RaisesNumber, WhereTold}
 use Rattle.siri_base.specs.declared.errors.OutsideError.TheVariants as outside
 use Rattle.siri_base.specs.declared.status.Status.TheVariants as status
@@ -21,7 +20,7 @@ use Rattle.siri_consume.specs.Runs.{ConsumeRun}
 use Rattle.siri_words.specs.Arguments.{count_of, is_listen, is_name, producer_of}
 use Rattle.siri_words.specs.Commands.{begins_with_minus, command_by, command_named, command_of, command_with, consume_by, consume_of, consume_with, is_word, load_by, load_of, load_with, plain_of, serve_by, serve_of}
 use Rattle.siri_words.specs.declared.command.Command.{Command}
-use Rattle.siri_words.specs.declared.command.Command.TheVariants.{Replay, Check, Convert, Load, Serve, Consume}
+use Rattle.siri_words.specs.declared.command.Command.TheVariants.{Replay, Check, Convert, Serve, Consume}
 
 -- no text was written
 pub no_text : (held : Bytes) (text : List ℕ) → AppendsFront held held text

@@ -1,9 +1,9 @@
 -- The statuses of a run.
-use Rattle.std.specs.Prelude.{Option, Some, None}
+use Rattle.std.specs.Prelude.{Option, Some}
 use Rattle.siri_base.specs.declared.status.Status.{Status}
 use Rattle.siri_base.specs.declared.status.Status.TheVariants as status
 use Rattle.siri_words.specs.declared.command.Command.{Command}
-use Rattle.siri_words.specs.declared.command.Command.TheVariants.{Replay, Check, Convert, Load, Serve, Consume}
+use Rattle.siri_words.specs.declared.command.Command.TheVariants.{Check, Convert, Load, Serve, Consume}
 
 -- the statuses that a command over one document may end with
 abbrev pub EndsDocument : Status → Type 0
