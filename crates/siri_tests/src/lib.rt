@@ -11,6 +11,8 @@
 #[cfg(test)]
 mod documents;
 #[cfg(test)]
+mod failing;
+#[cfg(test)]
 mod items;
 #[cfg(test)]
 mod network;

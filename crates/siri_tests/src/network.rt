@@ -1,52 +1,28 @@
 // The commands over the network: `serve` and `consume` over forms in memory.
 use crate::running::end_over;
 use siri_base::{
-    FailingCalls, FailingClock, FailingConnection, FailingKeeper, FailingWire, InMemorySink,
-    InMemorySource, Moment,
+    InMemoryClock, InMemoryKeeper, InMemorySink, InMemorySource, InMemoryWire, Moment,
 };
 use std::alloc::Global;
 
 /// 2024-05-01T07:00:00Z, and an hour after it.
-const SEVEN: i64 = 1_714_546_800_000;
+pub const SEVEN: i64 = 1_714_546_800_000;
 
-const EIGHT: i64 = SEVEN + 3_600_000;
+pub const EIGHT: i64 = SEVEN + 3_600_000;
 
 /// A request for a producer's status, of which the last line has 34 bytes.
-const CHECK: &str =
+pub const CHECK: &str =
     "POST / HTTP/1.1\r\nHost: a\r\nContent-Length: 34\r\n\r\n{\"Siri\":{\"CheckStatusRequest\":{}}}";
 
 /// What `p` answers to it that started at 7 and stands at 8.
-const CHECKED: &str =
+pub const CHECKED: &str =
     "HTTP/1.1 200 OK\r\nContent-Type: application/json\r\nContent-Length: 153\r\nConnection: close\r\n\r\n{\"Siri\":{\"CheckStatusResponse\":{\"ProducerRef\":\"p\",\"ResponseTimestamp\":\"2024-05-01T08:00:00Z\",\"ServiceStartedTime\":\"2024-05-01T07:00:00Z\",\"Status\":true}}}";
 
 const NOT_POST: &str =
     "HTTP/1.1 405 Method Not Allowed\r\nContent-Type: text/plain\r\nContent-Length: 8\r\nConnection: close\r\n\r\nNotPost\n";
 
-/// What fails of what is handed to a run: calls, each by how many of that name come before it, and the first connection that comes, by
-/// how many bytes are read or written before.
-#[derive(Clone, Copy)]
-struct Fails<'a> {
-    raise: &'a [usize],
-    listen: &'a [usize],
-    accept: &'a [usize],
-    now: &'a [usize],
-    dial: &'a [usize],
-    read: &'a [usize],
-    write: &'a [usize],
-}
-
-const NEVER: Fails<'static> = Fails {
-    raise: &[],
-    listen: &[],
-    accept: &[],
-    now: &[],
-    dial: &[],
-    read: &[],
-    write: &[],
-};
-
 /// What is handed to a run beside its words: the number that is kept, the moments to come, the connections to come and to be
-/// dialled, what the source has, and what fails.
+/// dialled, and what the source has.
 #[derive(Clone, Copy)]
 struct Handed<'a> {
     kept: u64,
@@ -54,7 +30,6 @@ struct Handed<'a> {
     to_accept: &'a [&'a [u8]],
     to_dial: &'a [&'a [u8]],
     input: &'a [u8],
-    fails: Fails<'a>,
 }
 
 /// What comes of it: what is written to the connections, in the order in which they came, where it is listened and dialled, what is
@@ -68,7 +43,7 @@ struct Comes<'a> {
     text: &'a str,
 }
 
-fn moments_of(alloc: Global, moments: &[i64]) -> Option<Vec<Moment>> {
+pub fn moments_of(alloc: Global, moments: &[i64]) -> Option<Vec<Moment>> {
     let mut all = Vec::new(alloc);
     for moment in moments {
         all.push(Moment::new(*moment)?).ok()?;
@@ -76,24 +51,8 @@ fn moments_of(alloc: Global, moments: &[i64]) -> Option<Vec<Moment>> {
     Some(all)
 }
 
-/// These connections, of which the first fails so.
-fn connections_of<'a>(
-    alloc: Global,
-    texts: &[&'a [u8]],
-    first: FailingConnection<'a>,
-) -> Option<Vec<FailingConnection<'a>>> {
-    let mut all = Vec::new(alloc);
-    let mut next = first;
-    for text in texts {
-        next.input = *text;
-        all.push(next).ok()?;
-        next = FailingConnection::of(b"");
-    }
-    Some(all)
-}
-
 /// Whether a wire was written to and named its addresses so.
-fn was_used(wire: &FailingWire<'_>, comes: &Comes<'_>) -> bool {
+fn was_used(wire: &InMemoryWire<'_>, comes: &Comes<'_>) -> bool {
     let mut same = wire.addresses().len() == comes.named.len();
     for (address, named) in wire.addresses().iter().zip(comes.named) {
         same = same && address.text() == *named;
@@ -108,21 +67,8 @@ fn was_used(wire: &FailingWire<'_>, comes: &Comes<'_>) -> bool {
 
 /// Whether this comes of these words.
 fn comes_of(alloc: Global, words: &[&str], handed: &Handed<'_>, comes: &Comes<'_>) -> Option<bool> {
-    let fails = handed.fails;
-    let first = FailingConnection {
-        input: b"",
-        read_fails: fails.read,
-        write_fails: fails.write,
-    };
-    let to_accept = connections_of(alloc, handed.to_accept, first)?;
-    let to_dial = connections_of(alloc, handed.to_dial, FailingConnection::of(b""))?;
-    let calls = FailingCalls {
-        listen: fails.listen,
-        accept: fails.accept,
-        dial: fails.dial,
-    };
     let moments = moments_of(alloc, handed.moments)?;
-    let mut wire = FailingWire::new(alloc, &to_accept, &to_dial, calls);
+    let mut wire = InMemoryWire::new(alloc, handed.to_accept, handed.to_dial);
     let mut sink = InMemorySink::new(alloc);
     let ended = end_over(
         alloc,
@@ -130,8 +76,8 @@ fn comes_of(alloc: Global, words: &[&str], handed: &Handed<'_>, comes: &Comes<'_
         &mut InMemorySource::new(handed.input),
         &mut sink,
         &mut wire,
-        &mut FailingClock::new(&moments, fails.now),
-        &mut FailingKeeper::new(handed.kept, fails.raise),
+        &mut InMemoryClock::new(&moments),
+        &mut InMemoryKeeper::new(handed.kept),
     )
     .ok()?;
     Some(
@@ -245,99 +191,6 @@ fn a_producer_serves_connections(rt: HostRuntime) {
             to_accept: *to_accept,
             to_dial: &[],
             input: b"",
-            fails: NEVER,
-        };
-        let words = ["serve", "p", "127.0.0.1:7001", *count];
-        assert_eq!(rt; comes_of(rt.alloc(), &words, &handed, comes), Some(true));
-    }
-}
-
-/// What comes of a run that fails before a connection is answered.
-fn ends_with(
-    answered: &'static [&'static str],
-    named: &'static [&'static str],
-    number: u8,
-    text: &'static str,
-) -> Comes<'static> {
-    Comes {
-        answered,
-        named,
-        output: "",
-        number,
-        text,
-    }
-}
-
-#[test]
-fn failing_calls_end_a_producer_or_drop_a_connection(rt: HostRuntime) {
-    const LISTEN: &[&str] = &["127.0.0.1:7001"];
-    let rows: [(&str, Fails<'_>, Comes<'_>); 6] = [
-        (
-            "1",
-            Fails {
-                raise: &[0],
-                ..NEVER
-            },
-            ends_with(&[], &[], 76, "siri: keeper fault"),
-        ),
-        (
-            "1",
-            Fails {
-                listen: &[0],
-                ..NEVER
-            },
-            ends_with(&[], LISTEN, 69, "siri: wire fault"),
-        ),
-        (
-            "2",
-            Fails {
-                accept: &[1],
-                ..NEVER
-            },
-            ends_with(&[CHECKED], LISTEN, 69, "siri: wire fault"),
-        ),
-        (
-            "1",
-            Fails { now: &[1], ..NEVER },
-            ends_with(&[""], LISTEN, 75, "siri: clock fault"),
-        ),
-        (
-            "2",
-            Fails {
-                read: &[0],
-                ..NEVER
-            },
-            Comes {
-                answered: &["", CHECKED],
-                named: LISTEN,
-                output: "served 2 refused 0 dropped 1 unsent 0\n",
-                number: 0,
-                text: "",
-            },
-        ),
-        (
-            "1",
-            Fails {
-                write: &[0],
-                ..NEVER
-            },
-            Comes {
-                answered: &[""],
-                named: LISTEN,
-                output: "served 1 refused 0 dropped 1 unsent 0\n",
-                number: 0,
-                text: "",
-            },
-        ),
-    ];
-    for (count, fails, comes) in &rows {
-        let handed = Handed {
-            kept: 0,
-            moments: &[SEVEN, EIGHT, EIGHT],
-            to_accept: &[CHECK.as_bytes(), CHECK.as_bytes()],
-            to_dial: &[],
-            input: b"",
-            fails: *fails,
         };
         let words = ["serve", "p", "127.0.0.1:7001", *count];
         assert_eq!(rt; comes_of(rt.alloc(), &words, &handed, comes), Some(true));
@@ -363,15 +216,10 @@ const ACKNOWLEDGED: &str =
 #[test]
 fn a_consumer_asks_and_answers(rt: HostRuntime) {
     let named = ["127.0.0.1:7002", "127.0.0.1:7001"];
-    let failing = Fails {
-        dial: &[0],
-        ..NEVER
-    };
-    let rows: [(&str, &[&[u8]], Fails<'_>, Comes<'_>); 5] = [
+    let rows: [(&str, &[&[u8]], Comes<'_>); 4] = [
         (
             WANTED,
             &[b"HTTP/1.1 200 OK\r\nContent-Length: 0\r\n\r\n"],
-            NEVER,
             Comes {
                 answered: &[REQUEST, ACKNOWLEDGED],
                 named: &named,
@@ -383,7 +231,6 @@ fn a_consumer_asks_and_answers(rt: HostRuntime) {
         (
             WANTED,
             &[],
-            NEVER,
             Comes {
                 answered: &[ACKNOWLEDGED],
                 named: &named,
@@ -395,7 +242,6 @@ fn a_consumer_asks_and_answers(rt: HostRuntime) {
         (
             WANTED,
             &[b"HTTP/1.1 500 Internal Server Error\r\nContent-Length: 0\r\n\r\n"],
-            NEVER,
             Comes {
                 answered: &[REQUEST, ACKNOWLEDGED],
                 named: &named,
@@ -405,21 +251,8 @@ fn a_consumer_asks_and_answers(rt: HostRuntime) {
             },
         ),
         (
-            WANTED,
-            &[b"HTTP/1.1 200 OK\r\nContent-Length: 0\r\n\r\n"],
-            failing,
-            Comes {
-                answered: &[ACKNOWLEDGED],
-                named: &named,
-                output: "view c S number 1000000 start 1 round 1 items 0\nserved 1 refused 0 dropped 0 unsent 1\n",
-                number: 0,
-                text: "",
-            },
-        ),
-        (
             "# nothing\n{\"StopMonitoringSubscriptionRequest\":{}}\n",
             &[],
-            NEVER,
             Comes {
                 answered: &[],
                 named: &[],
@@ -429,14 +262,13 @@ fn a_consumer_asks_and_answers(rt: HostRuntime) {
             },
         ),
     ];
-    for (input, to_dial, fails, comes) in &rows {
+    for (input, to_dial, comes) in &rows {
         let handed = Handed {
             kept: 0,
             moments: &[EIGHT, EIGHT],
             to_accept: &[ROUND.as_bytes()],
             to_dial: *to_dial,
             input: input.as_bytes(),
-            fails: *fails,
         };
         let words = [
             "consume",
