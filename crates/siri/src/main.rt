@@ -1,12 +1,12 @@
 //! The command `siri`: makes the adapters over the system, does what its words say, and tells how it ended.
 //!
-//! Stands on `siri_cli`, whose `run` is the whole of the work, and on `siri_system` for the network, the clock and the start
-//! number.
+//! Stands on `siri_cli`, whose `run` is the whole of the work, and on `siri_system` for the network, the clock, the start number
+//! and standard error.
 #![tactic(auto)]
 
 use siri_base::{Input, Output, Status};
 use siri_cli::run;
-use siri_system::{FileKeeper, SystemClock, TcpWire};
+use siri_system::{FileKeeper, SystemClock, TcpWire, report_status};
 use std::env;
 use std::io::Write;
 use std::process::ExitCode;
@@ -23,6 +23,9 @@ siri consume NAME HOST:PORT PRODUCER COUNT < SUBSCRIPTIONS
 fn main(rt: HostRuntime) -> ExitCode {
     let status = run_command(&rt);
     report_status(&rt, &status);
+    if matches!(status, Status::Usage) {
+        list_commands(&rt);
+    }
     ExitCode::from(status.number())
 }
 
@@ -46,17 +49,7 @@ fn run_command(rt: &HostRuntime) -> Status {
     )
 }
 
-/// Writes the status's text and a line end to standard error, where it has one, and after `siri: usage` the commands, a line
-/// each.
-fn report_status(rt: &HostRuntime, status: &Status) {
-    if let Ok(text) = status.text(rt.alloc()) {
-        if text.len() > 0 {
-            let mut errors = rt.stderr();
-            let _ = errors.write_all(text.slice());
-            let _ = errors.write_all(b"\n");
-            if matches!(status, Status::Usage) {
-                let _ = errors.write_all(COMMANDS.as_bytes());
-            }
-        }
-    }
+/// Lists the commands, a line each, on standard error.
+fn list_commands(rt: &HostRuntime) {
+    let _ = rt.stderr().write_all(COMMANDS.as_bytes());
 }

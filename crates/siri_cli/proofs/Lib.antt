@@ -1,2 +1,1 @@
-pub mod Nothing
-pub mod OneDocument
+pub mod Listens

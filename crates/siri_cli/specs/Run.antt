@@ -5,15 +5,6 @@ use Rattle.siri_base.specs.declared.status.Status.TheVariants as status
 use Rattle.siri_words.specs.declared.command.Command.{Command}
 use Rattle.siri_words.specs.declared.command.Command.TheVariants.{Check, Convert, Load, Serve, Consume}
 
--- the statuses that a command over one document may end with
-abbrev pub EndsDocument : Status → Type 0
-EndsDocument status.Done = Unit {0}
-EndsDocument status.Refused = Unit {0}
-EndsDocument status.ReadFault = Unit {0}
-EndsDocument status.OutOfMemory = Unit {0}
-EndsDocument status.WriteFault = Unit {0}
-EndsDocument other = ⊥
-
 -- the command reads one document
 abbrev pub TakesDocument : Option Command → Type 0
 TakesDocument (Some Check) = Unit {0}

@@ -3,10 +3,10 @@ ghost use Rattle.std.specs.Prelude.{◌≡◌, ◌↔◌, ℕ, List, map, string
 ghost use Rattle.siri_base.specs.Causes.{Rose};
 ghost use Rattle.siri_http.specs.declared.address.Address.{Address as Target};
 ghost use Rattle.siri_lines.specs.Ends.{ReadsAll};
-ghost use Rattle.siri_cli.specs.OneDocument.{Answers, check_text, convert_text};
+ghost use Rattle.siri_document.specs.OneDocument.{Answers, EndsDocument, check_text, convert_text};
 ghost use Rattle.siri_lines.specs.Reports.{Reports};
 ghost use Rattle.siri_lines.specs.Stops.{EndsReading};
-ghost use Rattle.siri_cli.specs.Run.{EndsDocument, EndsEarly, IsLoad, IsOnNetwork, ReadsInput, ReadsNothing, TakesDocument, UsesNone};
+ghost use Rattle.siri_cli.specs.Run.{EndsEarly, IsLoad, IsOnNetwork, ReadsInput, ReadsNothing, TakesDocument, UsesNone};
 ghost use Rattle.siri_load.specs.Load.{load_text};
 ghost use Rattle.siri_load.specs.Runs.{EndsLoad, Writes};
 ghost use Rattle.siri_network.specs.Calls.{outside_of, told_by};
@@ -18,11 +18,9 @@ ghost use Rattle.siri_consume.specs.Reading.{TellsWanted};
 ghost use Rattle.siri_consume.specs.Runs.{ConsumeRun};
 ghost use Rattle.siri_words.specs.Commands.{command_of};
 
-use crate::check::Check;
-use crate::convert::Convert;
-use crate::document::answer_document;
 use siri_base::{Clock, Keeper, OutOfMemory, Sink, Source, Status, Wire};
 use siri_consume::consume;
+use siri_document::{Check, Convert, answer_document};
 use siri_load::load;
 use siri_replay::replay;
 use siri_serve::serve;

@@ -4,29 +4,26 @@
 //! which status ends the run.
 //!
 //! ```text
-//! words -> Command           source -> replay -> sink
+//! words -> Command           source -> replay         -> sink
 //!          (siri_words)                (siri_replay)
 //!
-//!                            source -> document -> message or refusal -> answer -> sink
-//!                            (document.rt)         (check.rt, convert.rt)
+//!                            source -> check, convert -> sink
+//!                                      (siri_document)
 //!
-//!                                      load   -> sink
+//!                                      load           -> sink
 //!                                      (siri_load)
 //!
-//!              wire, clock, keeper <-> serve  -> sink
+//!              wire, clock, keeper <-> serve          -> sink
 //!                                      (siri_serve)
 //!
-//!   source ->  wire, clock, keeper <-> consume -> sink
+//!   source ->  wire, clock, keeper <-> consume        -> sink
 //!                                      (siri_consume)
 //! ```
 //!
-//! Stands on a crate for each command but `check` and `convert`, which it does itself over `siri_wire`, and on `siri_lines` for what a
-//! run leaves in its sink. It looks into no line, into no document but the one of `check` and `convert`, and knows no socket.
+//! Stands on a crate for each command, and on `siri_words` for what the words ask for. It looks into no line and no document, and
+//! knows no socket.
 #![tactic(auto)]
 
-mod check;
 mod command;
-mod convert;
-mod document;
 
 pub use command::run;

@@ -2,7 +2,7 @@
 
 ghost use Rattle.std.specs.Prelude.{◌≡◌, ℕ, ◌≤◌, List, length};
 ghost use Rattle.siri_base.specs.declared.status.Status.TheVariants as status;
-ghost use Rattle.siri_cli.specs.OneDocument.{convert_text};
+ghost use Rattle.siri_document.specs.OneDocument.{convert_text};
 
 /// Converting twice is converting once: where a document is converted and what is written of it, its line feed included,
 /// has at most 8,388,608 bytes, converting that text writes the same text and ends with the same status.

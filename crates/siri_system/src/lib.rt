@@ -4,6 +4,7 @@
 //!   a run  -->  Wire    [`TcpWire`]      std::net
 //!          -->  Clock   [`SystemClock`]  std::time
 //!          -->  Keeper  [`FileKeeper`]   std::fs, the file `siri-start`
+//!   its status  --> [`report_status`]    standard error
 //! ```
 //!
 //! These are the trusted edge: a few lines over the standard library each, which raise a count at each failure and tell
@@ -14,8 +15,10 @@
 
 mod clock;
 mod keeper;
+mod status;
 mod wire;
 
 pub use clock::SystemClock;
 pub use keeper::FileKeeper;
+pub use status::report_status;
 pub use wire::TcpWire;

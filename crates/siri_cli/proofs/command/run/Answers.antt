@@ -1,5 +1,5 @@
 use Rattle.std.proofs.Common.{Some, sym, ap, ◌∙◌}
-use Rattle.siri_cli.proofs.Nothing.{listen_bound}
+use Rattle.siri_cli.proofs.Listens.{listen_bound}
 use Rattle.siri_cli.proofs.command.run.Goals as goal
 
 -- src/command.rt:114:14

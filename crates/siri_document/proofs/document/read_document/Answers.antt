@@ -1,6 +1,6 @@
 use Rattle.std.proofs.Common.{arith, ap, ◌∙◌, length}
-use Rattle.siri_cli.proofs.OneDocument.{lent_whole, taken_more}
-use Rattle.siri_cli.proofs.document.read_document.Goals as goal
+use Rattle.siri_document.proofs.OneDocument.{lent_whole, taken_more}
+use Rattle.siri_document.proofs.document.read_document.Goals as goal
 
 pub loop-filled-preserved : goal.loop-filled-preserved
 loop-filled-preserved g c =

@@ -5,10 +5,9 @@ ghost use Rattle.siri_base.specs.Causes.{Rose, HasOutsideCause};
 ghost use Rattle.siri_messages.specs.declared.message.Message.{Message as Msg};
 ghost use Rattle.siri_wire.specs.Documents.{Decodes, message_of};
 ghost use Rattle.siri_lines.specs.Ends.{ReadsAll};
-ghost use Rattle.siri_cli.specs.inner.DocumentParts.{IsDocument, Tells};
-ghost use Rattle.siri_cli.specs.OneDocument.{Answers, refused_told, told_by};
+ghost use Rattle.siri_document.specs.inner.DocumentParts.{IsDocument, Tells};
+ghost use Rattle.siri_document.specs.OneDocument.{Answers, EndsDocument, refused_told, told_by};
 ghost use Rattle.siri_script.specs.Spaced.{line_feed};
-ghost use Rattle.siri_cli.specs.Run.{EndsDocument};
 
 use siri_base::{OutOfMemory, OutsideError, Sink, Source, Status, append};
 use siri_json::MAX_DOCUMENT;
@@ -43,7 +42,7 @@ struct Answer {
 
 impl Model for Answer {
     ghost use Rattle.siri_lines.specs.RunResult.{RunResult};
-    ghost use Rattle.siri_cli.specs.inner.DocumentParts.{status_where};
+    ghost use Rattle.siri_document.specs.inner.DocumentParts.{status_where};
 
     ghost Value = { RunResult };
 

@@ -53,3 +53,12 @@ Answers told None left old new end = Unit {0}
 Answers told (Some input) left old new end = MatchBool (is_cut end)
     (AppendsFront old new (told input).text)
     (Answered (told input) input left old new end)
+
+-- the statuses that a command over one document may end with
+abbrev pub EndsDocument : Status → Type 0
+EndsDocument status.Done = Unit {0}
+EndsDocument status.Refused = Unit {0}
+EndsDocument status.ReadFault = Unit {0}
+EndsDocument status.OutOfMemory = Unit {0}
+EndsDocument status.WriteFault = Unit {0}
+EndsDocument other = ⊥

@@ -1,50 +1,15 @@
--- Where there was no memory for the words, nothing was done; and what bounds a LISTEN.
-use Rattle.std.proofs.Common.{◌≡◌, ◌≤◌, ℕ, List, [], ◌∷◌, Bool, true, false, Option, None, Some, Err, length, codes, refl, sym, subst, arith, inl, inr}
+-- A LISTEN is of at most 247 bytes.
+use Rattle.std.proofs.Common.{◌≡◌, ◌≤◌, ℕ, List, [], ◌∷◌, Bool, true, false, Option, None, Some, length, codes, refl, sym, subst}
 use Rattle.std.specs.Prelude.{◌&&◌, if◌then◌else◌, option_map, nat_le}
 use Rattle.std.specs.List.{list_any}
-use Rattle.std.proofs.KnownBytes.{Appends-nil}
 use Rattle.std.proofs.lemmas.Bool.{and_parts, leb-true}
-use Rattle.siri_base.specs.OutsideCalls.{KeeperState, RaisesNumber, WhereTold}
-use Rattle.siri_base.specs.declared.errors.OutsideError.TheVariants as outside
-use Rattle.siri_base.specs.declared.status.Status.TheVariants as status
 use Rattle.siri_http.specs.Addresses.{is_host_with_port}
 use Rattle.siri_http.specs.Bodies.{number_of}
 use Rattle.siri_http.specs.declared.address.Address.{Address as Producer}
-use Rattle.siri_lines.specs.Ends.{AppendsFront, Bytes}
-use Rattle.siri_network.specs.Calls.{Fails, Outside, Told}
-use Rattle.siri_network.specs.Errors.{keeper_error}
-use Rattle.siri_network.specs.declared.network_error.NetworkError.TheVariants as errors
-use Rattle.siri_serve.specs.Runs.{ServeRun}
-use Rattle.siri_consume.specs.Consumption.{Target}
-use Rattle.siri_consume.specs.Runs.{ConsumeRun}
 use Rattle.siri_words.specs.Arguments.{count_of, is_listen, is_name, producer_of}
 use Rattle.siri_words.specs.Commands.{begins_with_minus, command_by, command_named, command_of, command_with, consume_by, consume_of, consume_with, is_word, load_by, load_of, load_with, plain_of, serve_by, serve_of}
 use Rattle.siri_words.specs.declared.command.Command.{Command}
 use Rattle.siri_words.specs.declared.command.Command.TheVariants.{Replay, Check, Convert, Serve, Consume}
-
--- no text was written
-pub no_text : (held : Bytes) (text : List ℕ) → AppendsFront held held text
-no_text held text = record { front = []; rest = text; parts = refl; written = Appends-nil held }
-
--- a number that wasn't raised
-unraised : (tells : Option KeeperState) → WhereTold tells tells (λ before after. RaisesNumber before after (Err outside.OutOfMemory))
-unraised None = tt
-unraised (Some state) = refl
-
-no_number : (keeper : Told KeeperState) → Fails RaisesNumber keeper_error errors.OutOfMemory keeper keeper
-no_number keeper = record {
-  failure = outside.OutOfMemory;
-  error_is = refl;
-  call = record { does = unraised keeper.tells; cause = record { later = omega arith; failed = λ is. cc } };
-}
-
-pub nothing_served : (name listen : List ℕ) (count : ℕ) (o : Outside) (held : Bytes) → ServeRun name listen count o o held held status.OutOfMemory
-nothing_served name listen count o held = inr (inl (inl (record { raises = no_number o.keeper; rest = refl })), refl)
-
-pub nothing_consumed : (name listen : List ℕ) (target : Target) (count : ℕ) (input : Bytes) (o : Outside) (held : Bytes) → ConsumeRun name listen target count input input o o held held status.OutOfMemory
-nothing_consumed name listen target count input o held = inr (inl (inl (record { error = errors.OutOfMemory; end_is = refl; raises = no_number o.keeper; rest = refl })), refl)
-
--- ---- a LISTEN is of at most 247 bytes
 
 abbrev Bounded : Option Command → Type 0
 Bounded (Some (Consume name listen producer count)) = nat_le (length listen) 247 ≡ true

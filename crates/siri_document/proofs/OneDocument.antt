@@ -14,8 +14,8 @@ use Rattle.siri_wire.specs.Documents.{message_of}
 use Rattle.siri_wire.proofs.Documents.{document_too_long}
 use Rattle.siri_lines.specs.RunResult.{RunResult}
 use Rattle.siri_lines.specs.Ends.{Bytes, Ends, AppendsFront, ReadsAll, is_cut}
-use Rattle.siri_cli.specs.inner.DocumentParts.{IsDocument, Tells}
-use Rattle.siri_cli.specs.OneDocument.{Answered, Answers, told_by, told_of}
+use Rattle.siri_document.specs.inner.DocumentParts.{IsDocument, Tells}
+use Rattle.siri_document.specs.OneDocument.{Answered, Answers, told_by, told_of}
 
 -- a buffer after its whole was lent and came back
 pub lent_whole : (n : ℕ) (lent items : List ℕ) → length lent ≡ length items → n ≡ length items → take n (lent ++ drop (length lent) items) ≡ lent
