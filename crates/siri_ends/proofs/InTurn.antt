@@ -10,10 +10,6 @@ use Rattle.siri_ends.specs.Turns.{StopsAt}
 pub record Leads {M At : Type 0} (Sends : M → Sent → At → At → Type 0) (brings : Sent → At → List M) (Leaves : List M → At → At → Type 0) (limit : ℕ) (list : List M) (start : At) (left : ℕ) (queue : List M) (now : At) : Type 0 where
   pub comes : (end : At) → InTurn Sends brings Leaves left queue now end → InTurn Sends brings Leaves limit list start end
 
-pub leads_first : {M At : Type 0} (Sends : M → Sent → At → At → Type 0) (brings : Sent → At → List M) (Leaves : List M → At → At → Type 0) (limit : ℕ) (list queue : List M) (start : At)
-    → queue ≡ list → Leads Sends brings Leaves limit list start limit queue start
-leads_first Sends brings Leaves limit list queue start same = record { comes = λ end p. subst (λ q. InTurn Sends brings Leaves limit q start end) same p }
-
 one_sent : {M At : Type 0} (Sends : M → Sent → At → At → Type 0) (brings : Sent → At → List M) (Leaves : List M → At → At → Type 0) (less : ℕ) (first : M) (rest : List M) (outcome : Sent) (now next end : At)
     → Sends first outcome now next → InTurn Sends brings Leaves less (rest ++ brings outcome now) next end → InTurn Sends brings Leaves (suc less) (first ∷ rest) now end
 unfolding InTurn
@@ -57,10 +53,6 @@ leads_full Sends brings Leaves limit list queue start now end left led none p =
 -- Some messages were sent: whatever the first of the other sends come to is what the first of all of them come to.
 pub record FirstLeads {M End : Type 0} (Posts : M → Option Sent → (before after : Option WireState) → Type 0) (brings : Sent → End → List M) (after : Sent → End → End) (limit : ℕ) (list : List M) (start : End) (before : Option WireState) (left : ℕ) (queue : List M) (end : End) (wire : Option WireState) : Type 0 where
   pub comes : (now : Option WireState) → FirstInTurn Posts brings after left queue end wire now → FirstInTurn Posts brings after limit list start before now
-
-pub first_leads_first : {M End : Type 0} (Posts : M → Option Sent → (before after : Option WireState) → Type 0) (brings : Sent → End → List M) (after : Sent → End → End) (limit : ℕ) (list queue : List M) (start : End) (before : Option WireState)
-    → queue ≡ list → FirstLeads Posts brings after limit list start before limit queue start before
-first_leads_first Posts brings after limit list queue start before same = record { comes = λ now p. subst (λ q. FirstInTurn Posts brings after limit q start before now) same p }
 
 first_one_sent : {M End : Type 0} (Posts : M → Option Sent → (before after : Option WireState) → Type 0) (brings : Sent → End → List M) (after : Sent → End → End) (less : ℕ) (first : M) (rest : List M) (outcome : Sent) (end : End) (wire next now : Option WireState)
     → Posts first (Some outcome) wire next → FirstInTurn Posts brings after less (rest ++ brings outcome end) (after outcome end) next now → FirstInTurn Posts brings after (suc less) (first ∷ rest) end wire now

@@ -1,9 +1,7 @@
 -- Messages that are sent, one after the other.
-use Rattle.std.proofs.Common.{◌≡◌, ℕ, suc, List, [], ◌∷◌, ◌++◌, length, Option, None, Some, refl, sym, ap, ◌∙◌, subst, append-nil, append_assoc, inl, inr}
-use Rattle.siri_messages.specs.declared.message.Message.{Message}
-use Rattle.siri_model.specs.History.{History, Take, Settle}
-use Rattle.siri_producer.specs.Known.{Known, StandsFor, GoesOn, SendsFor}
-use Rattle.siri_producer.specs.Sends.{sends}
+use Rattle.std.proofs.Common.{◌≡◌, ℕ, suc, List, [], ◌∷◌, ◌++◌, length, Option, None, Some, refl, sym, ap, ◌∙◌, subst, append-nil, inl, inr}
+use Rattle.siri_model.specs.History.{History}
+use Rattle.siri_producer.specs.Known.{Known, StandsFor}
 use Rattle.siri_settle.specs.declared.outs.Out.{Out}
 use Rattle.siri_base.specs.OutsideCalls.{WhereTold}
 use Rattle.siri_base.specs.Wires.{WireState}
@@ -13,7 +11,7 @@ use Rattle.siri_exchange.specs.Tallies.{with_unsent}
 use Rattle.siri_ends.specs.At.{At, End, Goes, at_of}
 use Rattle.siri_ends.specs.Sending.{LeavesUnsent, PostsOut, SendsOne, SendsAll, SendsSome, history_after, settled_by, target_of}
 use Rattle.siri_ends.specs.Turns.{Hears, SendsNext, StopsAt}
-use Rattle.siri_ends.proofs.InTurn.{FirstLeads, Leads, first_leads_first, first_leads_next, first_leads_stop, leads_first, leads_full, leads_last, leads_next}
+use Rattle.siri_ends.proofs.InTurn.{FirstLeads, Leads, first_leads_next, first_leads_stop, leads_full, leads_last, leads_next}
 
 -- without an acknowledgement nothing is taken
 pub hears_nothing : (known : Known) → Hears known known None []
@@ -21,14 +19,6 @@ hears_nothing known = record {
   name = refl;
   stands = λ h s. subst (StandsFor known) (sym (append-nil h)) s;
   outs_are = λ h s. refl;
-}
-
--- an acknowledgement is taken and settled
-pub hears_message : (old mid new : Known) (m : Message) (outs : List Out) → GoesOn old mid (Take m) → mid.responder.name ≡ old.responder.name → GoesOn mid new Settle → new.responder.name ≡ mid.responder.name → SendsFor mid outs → Hears old new (Some m) outs
-hears_message old mid new m outs takes took settles settled sent = record {
-  name = settled ∙ took;
-  stands = λ h s. subst (StandsFor new) (append_assoc h (Take m ∷ []) (Settle ∷ [])) (settles (h ++ Take m ∷ []) (takes h s));
-  outs_are = λ h s. sent (h ++ Take m ∷ []) (takes h s) ∙ ap (λ name. sends name (h ++ Take m ∷ [])) took;
 }
 
 -- nothing of an exchange was made
@@ -47,12 +37,6 @@ pub record Comes (outs : List Out) (start now : End) (left : ℕ) (queue : List 
   pub comes : (h : History) → StandsFor start.producer h → (after : History) × StandsFor now.producer after
       × Leads SendsOne (λ outcome at. settled_by start.producer.responder.name outcome at.history) LeavesUnsent 100000 outs (at_of start h) left queue (at_of now after)
       × FirstLeads PostsOut (settled_by start.producer.responder.name) history_after 100000 outs h start.wire left queue after now.wire
-
-pub comes_first : (outs queue : List Out) (start : End) → queue ≡ outs → Comes outs start start 100000 queue
-comes_first outs queue start same = record {
-  name = refl;
-  comes = λ h s. (h, s, leads_first SendsOne _ LeavesUnsent 100000 outs queue (at_of start h) same, first_leads_first PostsOut _ history_after 100000 outs queue h start.wire same);
-}
 
 pub comes_next : (outs queue later : List Out) (start now next : End) (left less : ℕ) (out : Out) (rest more : List Out) → Comes outs start now left queue → queue ≡ out ∷ rest → left ≡ suc less → SendsNext out more now next → later ≡ rest ++ more → Comes outs start next less later
 comes_next outs queue later start now next left less out rest more c front one s last = record {

@@ -6,7 +6,7 @@ use Rattle.siri_exchange.specs.Tallies.{with_unsent}
 use Rattle.siri_ends.specs.At.{ConsumerAt}
 use Rattle.siri_ends.specs.SendingUp.{FirstSendsUp, LeavesUnsentUp, PostsUp, SendsOneUp, SendsUp, consumer_after, replies_after}
 use Rattle.siri_ends.specs.Turns.{SendsNextUp, StopsAt}
-use Rattle.siri_ends.proofs.InTurn.{FirstLeads, Leads, first_leads_first, first_leads_next, first_leads_stop, leads_first, leads_full, leads_last, leads_next}
+use Rattle.siri_ends.proofs.InTurn.{FirstLeads, Leads, first_leads_next, first_leads_stop, leads_full, leads_last, leads_next}
 
 -- nothing of an exchange was made
 up_still : (host path : List ℕ) (message : Message) (wire : Option WireState) → PostsUp host path message None wire wire
@@ -17,12 +17,6 @@ up_still host path message (Some wire) = inl refl
 pub record ComesUp (host path : List ℕ) (list : List Message) (start now : ConsumerAt) (left : ℕ) (queue : List Message) : Type 0 where
   pub sends : Leads (SendsOneUp host path) (λ outcome at. replies_after outcome at.consumer) LeavesUnsentUp 100000 list start left queue now
   pub first : FirstLeads (PostsUp host path) replies_after consumer_after 100000 list start.consumer start.wire left queue now.consumer now.wire
-
-pub up_first : (host path : List ℕ) (list queue : List Message) (start : ConsumerAt) → queue ≡ list → ComesUp host path list start start 100000 queue
-up_first host path list queue start same = record {
-  sends = leads_first (SendsOneUp host path) _ LeavesUnsentUp 100000 list queue start same;
-  first = first_leads_first (PostsUp host path) replies_after consumer_after 100000 list queue start.consumer start.wire same;
-}
 
 pub up_next : (host path : List ℕ) (list queue later : List Message) (start now next : ConsumerAt) (left less : ℕ) (message : Message) (rest more : List Message)
     → ComesUp host path list start now left queue → queue ≡ message ∷ rest → left ≡ suc less → SendsNextUp host path message more now next → later ≡ rest ++ more → ComesUp host path list start next less later

@@ -1,5 +1,5 @@
 // Sends messages to where they are for.
-ghost use Rattle.std.specs.Prelude.{◌≡◌, IfOk, OnOk, OnErr, Some};
+ghost use Rattle.std.specs.Prelude.{IfOk, OnOk, OnErr, Some};
 ghost use Rattle.siri_wire.specs.Documents.{message_of};
 ghost use Rattle.siri_exchange.specs.Causes.{HasSentCause, outcome};
 ghost use Rattle.siri_ends.specs.Responses.{message_in};

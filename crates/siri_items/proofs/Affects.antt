@@ -105,10 +105,6 @@ all_lines_back lines le =
     let few : nat_le (sum_by (λ (n : Network). n.entries) (one ∷ [])) 2000 ≡ true = le-leb _ _ (omega (arith, total)) in
     rw (few, append-nil lines) refl
 
-network_lines_none : network_lines (object no_members) ≡ Ok []
-unfolding network_lines member_of
-network_lines_none = refl
-
 network_lines_back : (net : Members) (lines : List (List ℕ)) → network (as_texts (object net)) ≡ Ok (record { lines = lines; entries = length lines }) → length lines ≤ 2000
     → network_lines (as_texts (row_object ((AFFECTED_NETWORK.now, array_unless_empty (object net ∷ [])) ∷ []))) ≡ Ok lines
 unfolding network_lines lines_of list_of entries_of entries_from required_value

@@ -19,7 +19,6 @@ use Rattle.siri_items.specs.Items.{item_of}
 use Rattle.siri_tables.specs.Writing.{with_rows}
 use Rattle.siri_tables.proofs.Back.{GivesBack}
 use Rattle.siri_tables.proofs.BackValues.{table_back}
-use Rattle.siri_tables.proofs.BackLists.{EntryBack, table_entry}
 use Rattle.siri_tables.proofs.RowSpells.{bind_ok, done, ok_is, table_is, found_map, table_ok}
 use Rattle.serde_json.specs.Written.{compact_text}
 use Rattle.siri_json.specs.Tree.{tree_of}
@@ -150,14 +149,6 @@ item_back (item.Visit v) p = rw (table_given visit (with_rows no_members (all_wr
 item_back (item.Journey j) p = rw (table_given journey (with_rows no_members (rows_of_journey j)) (without_time j) (journey_back j p)) refl
 item_back (item.Vehicle v) p = rw (table_given vehicle (with_rows no_members (all_written vehicle_table v)) v (vehicle_kind.back v p)) refl
 item_back (item.Situation s) p = rw (table_given situation (with_rows no_members (all_written situation_table s)) s (situation_kind.back s p)) refl
-
-pub item_entry : {A : Type 0} (rows : Data → Result A Refusal) (writing : A → Option Data) (x : A) (i : Item)
-    → writing x ≡ Some (written_item i) → rows (as_texts (written_item i)) ≡ Ok x → EntryBack (table rows) writing x
-unfolding written_visit written_journey written_vehicle written_situation
-item_entry rows writing x (item.Visit v) written is = table_entry rows writing (with_rows no_members (all_written visit_table v)) x written is
-item_entry rows writing x (item.Journey j) written is = table_entry rows writing (with_rows no_members (rows_of_journey j)) x written is
-item_entry rows writing x (item.Vehicle v) written is = table_entry rows writing (with_rows no_members (all_written vehicle_table v)) x written is
-item_entry rows writing x (item.Situation s) written is = table_entry rows writing (with_rows no_members (all_written situation_table s)) x written is
 
 -- ---- what is written is canonical
 

@@ -1,6 +1,5 @@
 //! Reading items.
 
-ghost use Rattle.std.specs.Prelude.{◌≡◌};
 ghost use Rattle.siri_json.specs.Shown.{shown};
 ghost use Rattle.siri_tables.specs.Refusals.{Gives, at_path};
 ghost use Rattle.siri_items.specs.Items.{item_of};

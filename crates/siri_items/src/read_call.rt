@@ -1,10 +1,9 @@
 //! Reading calls at stops, and the parts that the journeys of all services have.
 
 ghost use Rattle.std.specs.Prelude.{◌≡◌, Option};
-ghost use Rattle.serde_json.specs.Data.{Data};
 ghost use Rattle.siri_json.specs.Shown.{shown};
 ghost use Rattle.siri_tables.specs.Refusals.{Gives};
-ghost use Rattle.siri_tables.specs.Rules.{table, table_unless_blank};
+ghost use Rattle.siri_tables.specs.Rules.{table_unless_blank};
 ghost use Rattle.siri_items.specs.Calls.{stop_call, call_is_blank, framed_ref, read_framed_ref_rows, framed_ref_of, plain_journey_ref, journey_ref, required_journey_ref, location, location_is_blank, optional_location, optional_call};
 
 use crate::names;

@@ -1,12 +1,11 @@
 //! Reading journeys.
 
 ghost use Rattle.std.specs.Prelude.{◌≡◌, IsTrue};
-ghost use Rattle.serde_json.specs.Data.{Data};
 ghost use Rattle.siri_json.specs.Shown.{shown};
 ghost use Rattle.siri_tables.specs.Refusals.{Gives, is_key};
 ghost use Rattle.siri_tables.specs.Rules.{list, list_inside, table};
 ghost use Rattle.siri_items.specs.Calls.{stop_call};
-ghost use Rattle.siri_items.specs.Journeys.{read_journey_rows, has_time, with_time, journey};
+ghost use Rattle.siri_items.specs.Journeys.{read_journey_rows, has_time, journey};
 
 use crate::journey_fields::JourneyFields;
 use crate::names;

@@ -1,7 +1,6 @@
 //! Reading situations.
 
-ghost use Rattle.std.specs.Prelude.{◌≡◌, Some, flat_map, sum_by, nat_le, OnOk, ◌++◌, IfOk};
-ghost use Rattle.serde_json.specs.Data.{Data};
+ghost use Rattle.std.specs.Prelude.{◌≡◌, Some, flat_map, sum_by, nat_le, IfOk};
 ghost use Rattle.siri_json.specs.Shown.{shown};
 ghost use Rattle.siri_tables.specs.Refusals.{Gives};
 ghost use Rattle.siri_tables.specs.Rules.{list_inside};

@@ -1,9 +1,5 @@
 //! Reading vehicle activities.
 
-ghost use Rattle.std.specs.Prelude.{◌≡◌};
-ghost use Rattle.serde_json.specs.Data.{Data};
-ghost use Rattle.siri_json.specs.Shown.{shown};
-ghost use Rattle.siri_tables.specs.Refusals.{Gives};
 ghost use Rattle.siri_items.specs.Vehicles.{vehicle_journey, vehicle};
 
 use crate::journey_fields::JourneyFields;

@@ -1,7 +1,6 @@
 //! Writing calls at stops, locations and how a journey is named.
 
 ghost use Rattle.std.specs.Prelude.{◌≡◌, ◌++◌, Option, OnOk, option_and_then};
-ghost use Rattle.serde_json.specs.Data.{Data};
 ghost use Rattle.siri_json.specs.Tokens.{tokens_of};
 ghost use Rattle.siri_tables.specs.Appended.{row_tokens};
 ghost use Rattle.siri_tables.specs.Writing.{row_object, written_text};

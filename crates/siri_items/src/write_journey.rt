@@ -1,9 +1,7 @@
 //! Writing visits, vehicle activities and journeys.
 
-ghost use Rattle.std.specs.Prelude.{◌≡◌, ◌++◌, Option, Some, OnOk, option_and_then};
-ghost use Rattle.serde_json.specs.Data.{Data};
+ghost use Rattle.std.specs.Prelude.{◌≡◌, ◌++◌, Option, Some, OnOk};
 ghost use Rattle.siri_json.specs.Tokens.{tokens_of};
-ghost use Rattle.siri_tables.specs.Appended.{row_tokens};
 ghost use Rattle.siri_items.specs.Written.{written_visit_journey, written_visit, written_vehicle_journey, written_vehicle, written_timed_journey};
 
 use crate::names;

@@ -1,10 +1,9 @@
 //! Writing situations.
 
-ghost use Rattle.std.specs.Prelude.{◌≡◌, ◌∷◌, ◌++◌, Option, Some, OnOk, option_and_then};
-ghost use Rattle.serde_json.specs.Data.{Data};
+ghost use Rattle.std.specs.Prelude.{◌≡◌, ◌∷◌, ◌++◌, Some, OnOk};
 ghost use Rattle.siri_json.specs.Tokens.{tokens_of};
-ghost use Rattle.siri_tables.specs.Appended.{row_tokens, Appends};
-ghost use Rattle.siri_tables.specs.Writing.{row_object, written_list, written_name};
+ghost use Rattle.siri_tables.specs.Appended.{row_tokens};
+ghost use Rattle.siri_tables.specs.Writing.{row_object, written_name};
 ghost use Rattle.siri_tables.proofs.Sorted.{any_written};
 ghost use Rattle.siri_items.specs.declared.names.TheConstants.{AFFECTED_OPERATOR, AFFECTED_STOP_POINT, AFFECTS, LINE_REF, NETWORKS, OPERATORS, OPERATOR_REF, STOP_POINTS, STOP_POINT_REF};
 ghost use Rattle.siri_items.specs.Written.{rows_of_period, written_period, written_names, written_networks, rows_of_affects, written_affects, written_situation};

@@ -5,7 +5,7 @@ use Rattle.std.specs.Prelude.{⊤}
 use Rattle.json.specs.Token.{Token, begin_object, end_object, begin_array, end_array, key, string, number, boolean, null, bad}
 use Rattle.json.specs.Lex.{Lexeme, token, comma, colon, between, lex, begins_colon, Place, fresh, after_value, after_comma, after_key, may_begin, may_close, if_allowed, punctuate, tokens}
 use Rattle.json.specs.Json as json
-use Rattle.json.specs.Json.{Json, Items, Members, Parse, parse_map, after_end_array, read_key, items_step, members_step, items, members, value_with, value, if_last}
+use Rattle.json.specs.Json.{Json, Items, Members, Parse, parse_map, after_end_array, read_key, items_step, members_step, items, members, value_with, value}
 use Rattle.siri_json.specs.Quoted.{quoted}
 use Rattle.serde_json.specs.Read.{max_depth}
 use Rattle.siri_json.specs.Shown.{whole}

@@ -111,10 +111,6 @@ null_same = step 117 (108 ∷ 108 ∷ []) refl refl (step 108 (108 ∷ []) refl 
 
 -- ---- words
 
-good_name : (b : Bool) (t : Token) (ls ms : List Lexeme) → (b ≡ true → Alike ls ms) → Alike (token (cond b t bad) ∷ ls) (token (cond b t bad) ∷ ms)
-good_name true t ls ms h = alike_one (token t) ls ms (h refl)
-good_name false t ls ms h = alike_bad ls ms
-
 named : (b c : Bool) (t : Token) (ls ms : List Lexeme) → c ≡ b → (b ≡ true → c ≡ true → Alike ls ms) → Alike (token (cond b t bad) ∷ ls) (token (cond c t bad) ∷ ms)
 named true true t ls ms e h = alike_one (token t) ls ms (h refl refl)
 named false false t ls ms e h = alike_bad ls ms

@@ -3,7 +3,7 @@ use Rattle.std.proofs.Common.{◌≡◌, ℕ, zero, suc, ◌<◌, ◌≤◌, Lis
 use Rattle.std.specs.Prelude.{⊤}
 use Rattle.json.specs.Token.{Token, begin_object, end_object, begin_array, end_array, key, string, number, boolean, null, bad}
 use Rattle.json.specs.Json as json
-use Rattle.json.specs.Json.{Json, Items, Members, Parse, parse_map, after_end_array, read_key, items_step, members_step, items, members, value_with, value, if_last}
+use Rattle.json.specs.Json.{Json, Items, Members, Parse, parse_map, after_end_array, read_key, items_step, members_step, items, members, value_with, value}
 use Rattle.json.proofs.Grammar.{left, skip_value-shorter, read_key-shorter}
 use Rattle.serde_json.specs.Data.{Data, object as data_object, array as data_array, Members as DataMembers, no_members, item as data_item, put}
 use Rattle.siri_json.specs.Shown.{data_of, items_data, members_data, whole}

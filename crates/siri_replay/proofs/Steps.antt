@@ -1,5 +1,5 @@
 -- A script that is taken line by line.
-use Rattle.std.proofs.Common.{◌≡◌, ℕ, List, [], None, Some, refl}
+use Rattle.std.proofs.Common.{[]}
 use Rattle.siri_base.specs.declared.status.Status.{Status}
 use Rattle.siri_base.specs.declared.status.Status.TheVariants as status
 use Rattle.siri_lines.specs.Ends.{Bytes}

@@ -2,7 +2,6 @@
 use Rattle.std.specs.Prelude.{ℕ, List, Bool, true, false, if◌then◌else◌, Option, Some, None, Result, Ok, Err, option_and_then}
 use Rattle.siri_base.specs.declared.reason.ScriptReason.{ScriptReason}
 use Rattle.siri_base.specs.declared.reason.ScriptReason.TheVariants as reason
-use Rattle.siri_wire.specs.declared.wanted.Wanted.{Wanted}
 use Rattle.siri_world_model.specs.declared.event.Event.{Event}
 use Rattle.siri_world_model.specs.declared.event.Event.TheVariants as event
 use Rattle.siri_replay.specs.declared.script_words.ScriptWord.{ScriptWord}

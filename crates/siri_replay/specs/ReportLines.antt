@@ -1,5 +1,5 @@
 -- The texts of the lines of a report.
-use Rattle.std.specs.Prelude.{ℕ, List, [], ◌∷◌, ◌++◌, Bool, true, false, codes, flat_map, Option, Some, None}
+use Rattle.std.specs.Prelude.{ℕ, List, [], ◌++◌, Bool, true, false, codes, flat_map, Option, Some, None}
 use Rattle.std.specs.Fmt.{decimal}
 use Rattle.siri_base.specs.declared.place.Place.{Place}
 use Rattle.siri_responder.specs.declared.feeding.Fed.{Fed as Counts}

@@ -1,7 +1,7 @@
 // The arguments of a script's words.
 ghost use Rattle.std.specs.Prelude.{◌≡◌, option_map};
 ghost use Rattle.std.specs.List.{list_all};
-ghost use Rattle.siri_replay.specs.Arguments.{asked_request, consumer_in, delivery_in, document_in, fed_delivery, identifier_in, is_consumer, is_consumer_byte, is_consumer_word, moment_in, name_of, number_in, request_in, wanted_in};
+ghost use Rattle.siri_replay.specs.Arguments.{consumer_in, delivery_in, document_in, identifier_in, is_consumer, is_consumer_byte, is_consumer_word, moment_in, name_of, number_in, request_in, wanted_in};
 ghost use Rattle.siri_script.specs.Reads.{Reads};
 
 use siri_base::{Moment, Name, ScriptReason, TextError};

@@ -1,11 +1,8 @@
 // The lines of a report.
-ghost use Rattle.std.specs.Prelude.{◌≡◌, ◌++◌, IfOk, OnOk, OnErr, codes};
-ghost use Rattle.std.specs.Fmt.{decimal};
-ghost use Rattle.std.specs.Option.{option_copied};
+ghost use Rattle.std.specs.Prelude.{◌≡◌, ◌++◌, IfOk, OnOk, OnErr};
 ghost use Rattle.std.specs.Io.KnownBytes.{Appends};
 ghost use Rattle.siri_base.specs.Causes.{HasOutsideCause};
 ghost use Rattle.siri_lines.specs.Ends.{AppendsFront};
-ghost use Rattle.siri_wire.specs.Canonical.{canonical};
 ghost use Rattle.siri_world_model.specs.Lines as line;
 ghost use Rattle.siri_world_model.specs.Lines.{told_line, told_lines};
 ghost use Rattle.siri_replay.specs.ReportLines.{ask_text, line_text, lines_text, packet_text, state_text, told_text, view_text};

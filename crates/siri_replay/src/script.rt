@@ -1,5 +1,5 @@
 // What takes the lines of a script.
-ghost use Rattle.std.specs.Prelude.{◌≡◌, ◌++◌, [], ◌∷◌, ◌||◌, IfOk, OnOk, Err};
+ghost use Rattle.std.specs.Prelude.{◌≡◌, [], ◌||◌, IfOk, Err};
 ghost use Rattle.siri_lines.specs.Brings.{Brings, StopCause};
 ghost use Rattle.siri_world_model.specs.Told.{is_start, told, world_after};
 ghost use Rattle.siri_replay.specs.Report.{World as Happened, by_told, event};

@@ -1,5 +1,5 @@
 -- The turns of a run.
-use Rattle.std.proofs.Common.{◌≡◌, ◌<◌, ◌+◌, ℕ, [], ◌∷◌, ◌++◌, Ok, refl, ◌∙◌, subst, inl, inr}
+use Rattle.std.proofs.Common.{◌≡◌, ◌<◌, ◌+◌, ℕ, [], ◌∷◌, ◌++◌, Ok, refl, ◌∙◌, subst, inr}
 use Rattle.siri_base.specs.OutsideCalls.{ClockState, GivesMoment, KeeperState}
 use Rattle.siri_base.specs.Wires.{Accepts, WireState}
 use Rattle.siri_exchange.specs.declared.tally.Tally.{Tally}
@@ -8,8 +8,7 @@ use Rattle.siri_producer.specs.Known.{Known, GoesOn}
 use Rattle.siri_ends.specs.At as ends
 use Rattle.siri_ends.specs.At.{end_of}
 use Rattle.siri_ends.specs.Serving.{ServesOne, ServesSome}
-use Rattle.siri_network.specs.Calls.{Call, Fails, Outside, Told, outside_of}
-use Rattle.siri_network.specs.Errors.{clock_error, wire_error}
+use Rattle.siri_network.specs.Calls.{Call, Outside, Told, outside_of}
 use Rattle.siri_network.specs.declared.network_error.NetworkError.{NetworkError}
 use Rattle.siri_network.specs.declared.network_error.NetworkError.TheVariants as error
 use Rattle.siri_network.proofs.Turns.{turns_next, turns_none}
@@ -40,17 +39,6 @@ turn_made first timed last old new before accepted after clock later keeper mome
         },
       );
 }
-
--- the wire failed to accept
-pub turn_unaccepted : (first : Known) (old : Tally) (before after : Told WireState) (clock : Told ClockState) (keeper : Told KeeperState) (e : NetworkError)
-    → Fails {T = Unit {0}} Accepts wire_error e before after → Ends (λ name. EndsAtTurn name e) (server_of first old (outside_of before clock keeper)) (outside_of after clock keeper)
-turn_unaccepted first old before after clock keeper e fails h stands = inl (record { accepts = fails; rest = refl })
-
--- the clock failed
-pub turn_untold : (first : Known) (old : Tally) (before accepted : Told WireState) (clock later : Told ClockState) (keeper : Told KeeperState) (e : NetworkError)
-    → Call Accepts (Ok (tt {0})) before accepted → Fails GivesMoment clock_error e clock later
-    → Ends (λ name. EndsAtTurn name e) (server_of first old (outside_of before clock keeper)) (outside_of accepted later keeper)
-turn_untold first old before accepted clock later keeper e accepts fails h stands = inr (inl (record { accepts = accepts; tells = fails; keeper = refl }))
 
 -- there was no memory for the rest of the turn
 pub turn_stopped : (first timed : Known) (old : Tally) (before accepted after : Told WireState) (clock later : Told ClockState) (keeper : Told KeeperState) (moment : ℕ) (e : NetworkError)

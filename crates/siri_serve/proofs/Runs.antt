@@ -88,10 +88,3 @@ keeper_by name listen count from to error.OutOfMemory ends is = absurd (cc is)
 
 pub keeper_fault : (name listen : List ℕ) (count : ℕ) (from to : Outside) (e : NetworkError) (end : Status) → end ≡ status_of e → ServesNot name listen count e from to → end ≡ status.KeeperFault → Rose from.keeper.faults to.keeper.faults
 keeper_fault name listen count from to e end is ends at = keeper_by name listen count from to e ends (sym is ∙ at)
-
--- no other status comes of an error
-pub no_write_fault : (e : NetworkError) (end : Status) → end ≡ status_of e → end ≡ status.WriteFault → ⊥
-no_write_fault error.WireFault end is at = cc (is, at)
-no_write_fault error.ClockFault end is at = cc (is, at)
-no_write_fault error.KeeperFault end is at = cc (is, at)
-no_write_fault error.OutOfMemory end is at = cc (is, at)

@@ -53,19 +53,11 @@ some_name_back (Some t) is = name_back t is
 pub text_back : (t : List ℕ) → IsText t → GivesBack text (written_text t) (Some t)
 text_back t is = within_again 16384 t is
 
-pub some_text_back : (o : Option (List ℕ)) → IfSome o IsText → GivesBack text (option_and_then written_text o) o
-some_text_back None is = refl
-some_text_back (Some t) is = text_back t is
-
 -- ---- flags
 
 pub flag_back : (b : Bool) → GivesBack flag (written_flag b) (Some b)
 unfolding flag flag_in
 flag_back b = refl
-
-pub some_flag_back : (o : Option Bool) → GivesBack flag (option_and_then written_flag o) o
-some_flag_back None = refl
-some_flag_back (Some b) = flag_back b
 
 -- ---- numbers
 
@@ -100,20 +92,12 @@ some_moment_back (Some m) is = moment_back m is
 pub span_back : (s : ℤ) → IsSpan s → GivesBack span (written_span s) (Some s)
 span_back s is = text_again (λ t. span_or (span_of t)) (span_text s) s (span_text_nonempty s) (ap span_or (span_of-span_text s is))
 
-pub some_span_back : (o : Option ℤ) → IfSome o IsSpan → GivesBack span (option_and_then written_span o) o
-some_span_back None is = refl
-some_span_back (Some s) is = span_back s is
-
 -- a span that isn't negative
 pub non_negative_span_back : (n : ℕ) → IsSpan (pos n) → GivesBack non_negative_span (written_span (pos n)) (Some (pos n))
 non_negative_span_back n is = text_again _ (span_text (pos n)) (pos n) (span_text_nonempty (pos n)) (rw (span_of-span_text (pos n) is) refl)
 
 pub decimal_back : (z : ℤ) → IsDecimal z → GivesBack decimal (written_decimal z) (Some z)
 decimal_back z is = text_again (λ t. or_refused _ (decimal_of t)) (decimal_text z) z (decimal_text_nonempty z is) (ap (or_refused _) (decimal_of-decimal_text z is))
-
-pub some_decimal_back : (o : Option ℤ) → IfSome o IsDecimal → GivesBack decimal (option_and_then written_decimal o) o
-some_decimal_back None is = refl
-some_decimal_back (Some z) is = decimal_back z is
 
 -- ---- objects of a table
 

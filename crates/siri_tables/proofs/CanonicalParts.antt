@@ -69,10 +69,6 @@ some_span_within most (Some s) is = span_within most s is
 pub decimal_within : (most : ℕ) (z : ℤ) → IsDecimal z → MayBeWithin most (written_decimal z)
 decimal_within most z is = text_within most (decimal_text z) (IsUtf8-from_ascii (decimal_text z) (IsAscii-decimal_text z (omega (arith, is))))
 
-pub some_decimal_within : (most : ℕ) (o : Option ℤ) → IfSome o IsDecimal → MayBeWithin most (option_and_then written_decimal o)
-some_decimal_within most None is = tt
-some_decimal_within most (Some z) is = decimal_within most z is
-
 -- ---- objects
 
 depth_put_at : (most : ℕ) (k l : List ℕ) (d e : Data) (ms : Members) (o : Ordering) → depth d ≤ most → members_depth (one_member l e ms) ≤ most → members_depth (put k d ms) ≤ most

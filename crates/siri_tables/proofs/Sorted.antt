@@ -47,9 +47,6 @@ RowsAscend (r ∷ rs) = IsBelow r.0 (members_as_they_stand rs) × RowsAscend rs
 
 -- ---- a row that isn't written changes nothing
 
-later_none : (o : Option Data) → later o None ≡ o
-later_none o = refl
-
 none_at : (k l : List ℕ) (o : Option Data) (ss : List Row) (c : Ordering) → members_as_they_stand ss ≡ members_as_they_stand (insert (k, None) ss)
     → add_row l o (members_as_they_stand ss) ≡ members_as_they_stand (match_ordering c ((k, None) ∷ (l, o) ∷ ss) ((l, later o None) ∷ ss) ((l, o) ∷ insert (k, None) ss))
 none_at k l o ss Less rest = refl

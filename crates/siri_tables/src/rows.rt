@@ -1,9 +1,8 @@
 //! Rows of tables: what a member of an object is read as under a rule, where it may be absent, has to be there, or is a list.
 
-ghost use Rattle.std.specs.Prelude.{◌≡◌, ◌∷◌, ◌++◌, [], Result, Option, Ok, Err, IsTrue, map, count_by, not, option_to_list, OnOk};
+ghost use Rattle.std.specs.Prelude.{◌≡◌, ◌++◌, Result, Option, Ok, IsTrue, map, count_by, not, option_to_list, OnOk};
 ghost use Rattle.siri_json.specs.Shown.{shown};
-ghost use Rattle.siri_json.specs.Values.{entries_of};
-ghost use Rattle.siri_tables.specs.Refusals.{Refusal, Gives, is_key};
+ghost use Rattle.siri_tables.specs.Refusals.{Gives, is_key};
 ghost use Rattle.siri_tables.specs.Rules.{name, at_most, row, required_row, required_value, is_null, entry_count, entries_from, found_from, list_of, names_of, list, nonempty_list, inside, names, list_inside};
 
 use crate::refusal::{TableError, below, below_place, refuse, refuse_at};

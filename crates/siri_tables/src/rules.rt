@@ -1,7 +1,7 @@
 //! The rules of rows: what a value in a tree is read as. A rule is a type, so that one type of values may have several rules
 //! and tables of other crates may be rules too.
 
-ghost use Rattle.std.specs.Prelude.{◌≡◌, Result, Option};
+ghost use Rattle.std.specs.Prelude.{Result, Option};
 ghost use Rattle.serde_json.specs.Data.{Data};
 ghost use Rattle.siri_json.specs.Shown.{shown};
 ghost use Rattle.siri_tables.specs.Refusals.{Refusal, Gives};

@@ -1,4 +1,4 @@
-use Rattle.std.proofs.Common.{refl, sym, ap, ◌∙◌, length}
+use Rattle.std.proofs.Common.{refl, length}
 use Rattle.std.proofs.lemmas.Str.{is_utf8-from_IsUtf8}
 use Rattle.siri_replay.proofs.Texts.{name_bounds}
 use Rattle.siri_script.proofs.Texts.{not_utf8}

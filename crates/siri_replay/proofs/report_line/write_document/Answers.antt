@@ -1,7 +1,6 @@
-use Rattle.std.proofs.Common.{◌≡◌, ◌++◌, codes, append_assoc, subst, sym}
-use Rattle.siri_script.specs.Spaced.{line_feed, space, spaced}
+use Rattle.std.proofs.Common.{append_assoc}
+use Rattle.siri_script.specs.Spaced.{line_feed, space}
 use Rattle.siri_script.proofs.Results.{on_err, on_err_with}
-use Rattle.siri_lines.specs.Ends.{AppendsFront}
 use Rattle.siri_lines.proofs.Written.{front_longer, front_more}
 use Rattle.siri_replay.proofs.report_line.write_document.Goals as goal
 
