@@ -6,7 +6,7 @@ use Rattle.siri_tables.specs.Refusals.{Refusal}
 use Rattle.siri_wire.specs.Canonical.{canonical}
 use Rattle.siri_wire.specs.Documents.{message_of}
 use Rattle.siri_wire_laws.proofs.ProperReadMessages.{converted_line_read}
-use Rattle.siri_cli.specs.OneDocument.{told_of, told_by, convert_text}
+use Rattle.siri_document.specs.OneDocument.{told_of, told_by, convert_text}
 
 converted_of : (document : List ℕ) (read : Result Message Refusal) → message_of document ≡ read → (told_of canonical read).status ≡ status.Done → length (told_of canonical read).text ≤ 8388608
     → told_of canonical (message_of (told_of canonical read).text) ≡ told_of canonical read

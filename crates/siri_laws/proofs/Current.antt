@@ -80,7 +80,7 @@ Feeds d = AllByRecursion IsProperEntry (entries_in d)
 
 each_feeds : (s : Service) (ds : List FunctionalDelivery) → AllByRecursion (IsProperDelivery s) ds → AllByRecursion Feeds ds
 each_feeds s [] p = tt
-each_feeds s (d ∷ ds) p = (both (map Observed d.items) (map Withdrawn d.removals) (observed s d.items p.0.items.each) (withdrawn d.removals), each_feeds s ds p.1)
+each_feeds s (d ∷ ds) p = (both (map Observed d.items) (map Withdrawn d.removals) (observed s d.items p.0.1.1.0.each) (withdrawn d.removals), each_feeds s ds p.1)
 
 all_feed : (ds others : List FunctionalDelivery) → AllByRecursion Feeds ds → AllByRecursion Feeds others → AllByRecursion Feeds (ds ++ others)
 all_feed [] others p q = q
@@ -92,10 +92,11 @@ entries_feed (d ∷ ds) p = both (entries_in d) (flat_map entries_in ds) p.0 (en
 
 pub entries_proper : (d : ServiceDelivery) → IsProperServiceDelivery d → AllByRecursion IsProperEntry (entries_of d)
 entries_proper d p =
-    let stop = each_feeds service.Stop d.stop_monitoring_delivery p.stop_monitoring_delivery.each in
-    let timetable = each_feeds service.Timetable d.estimated_timetable_delivery p.estimated_timetable_delivery.each in
-    let vehicle = each_feeds service.Vehicle d.vehicle_monitoring_delivery p.vehicle_monitoring_delivery.each in
-    let situation = each_feeds service.Situation d.situation_exchange_delivery p.situation_exchange_delivery.each in
+    let lists = p.1.1.1.1.1.1.1 in
+    let stop = each_feeds service.Stop d.stop_monitoring_delivery lists.0.each in
+    let timetable = each_feeds service.Timetable d.estimated_timetable_delivery lists.1.0.each in
+    let vehicle = each_feeds service.Vehicle d.vehicle_monitoring_delivery lists.1.1.0.each in
+    let situation = each_feeds service.Situation d.situation_exchange_delivery lists.1.1.1.0.each in
     entries_feed (d.stop_monitoring_delivery ++ d.estimated_timetable_delivery ++ d.vehicle_monitoring_delivery ++ d.situation_exchange_delivery)
     (all_feed (d.stop_monitoring_delivery ++ d.estimated_timetable_delivery ++ d.vehicle_monitoring_delivery) d.situation_exchange_delivery
     (all_feed (d.stop_monitoring_delivery ++ d.estimated_timetable_delivery) d.vehicle_monitoring_delivery (all_feed d.stop_monitoring_delivery d.estimated_timetable_delivery stop timetable) vehicle)

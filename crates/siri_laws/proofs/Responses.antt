@@ -127,19 +127,19 @@ answering_proper s t now items p all few =
 
 answer_proper : (s : Service) (now : ℕ) (items : List (Key × Item)) → IsMoment now → AreProper items → length items ≤ 20000 → (t : Topic) → IsProperTopic s t → IsProperDelivery s (answer now items t)
 unfolding answer
-answer_proper s now items moment all few t p = record {
-  response_timestamp = moment;
-  subscriber_ref = tt;
-  subscription_ref = tt;
-  error_condition = tt;
-  start = tt;
-  round = tt;
-  part = tt;
-  start_stands = refl;
-  part_stands = refl;
-  items = answering_proper s t now items p all few;
-  removals = record { bound = omega arith; each = tt };
-}
+answer_proper s now items moment all few t p = (
+  (moment, (tt, (tt, (tt, (tt, tt))))),
+  (
+    record { start = tt; round = tt; part = tt; start_stands = refl; part_stands = refl },
+    (
+      answering_proper s t now items p all few,
+      (
+        record { bound = omega arith; each = tt },
+        tt,
+      ),
+    ),
+  ),
+)
 
 answers_proper : (s : Service) (now : ℕ) (items : List (Key × Item)) (topics : List Topic) → IsMoment now → AreProper items → length items ≤ 20000 → IsListWithin 100 (IsProperTopic s) topics
     → IsListWithin 100 (IsProperDelivery s) (map (answer now items) topics)
@@ -155,17 +155,40 @@ answers_proper s now items topics moment all few p =
 pub of_items : (name : List ℕ) (now : ℕ) (items : List (Key × Item)) (request : ServiceRequest) → IsName name → IsMoment now → AreProper items → length items ≤ 20000 → IsProperServiceRequest request
     → IsProperServiceDelivery (response name now items request)
 unfolding response
-of_items name now items request named moment all few p = record {
-  response_timestamp = moment;
-  producer_ref = named;
-  response_message_identifier = tt;
-  request_message_ref = p.message_identifier;
-  error_condition = tt;
-  stop_monitoring_delivery = answers_proper service.Stop now items request.stop_monitoring_request moment all few p.stop_monitoring_request;
-  estimated_timetable_delivery = answers_proper service.Timetable now items request.estimated_timetable_request moment all few p.estimated_timetable_request;
-  vehicle_monitoring_delivery = answers_proper service.Vehicle now items request.vehicle_monitoring_request moment all few p.vehicle_monitoring_request;
-  situation_exchange_delivery = answers_proper service.Situation now items request.situation_exchange_request moment all few p.situation_exchange_request;
-}
+of_items name now items request named moment all few p = (
+  moment,
+  (
+    named,
+    (
+      tt,
+      (
+        p.0.1.1.0,
+        (
+          tt,
+          (
+            tt,
+            (
+              tt,
+              (
+                answers_proper service.Stop now items request.stop_monitoring_request moment all few p.0.1.1.1.0,
+                (
+                  answers_proper service.Timetable now items request.estimated_timetable_request moment all few p.0.1.1.1.1.0,
+                  (
+                    answers_proper service.Vehicle now items request.vehicle_monitoring_request moment all few p.0.1.1.1.1.1.0,
+                    (
+                      answers_proper service.Situation now items request.situation_exchange_request moment all few p.0.1.1.1.1.1.1.0,
+                      tt,
+                    ),
+                  ),
+                ),
+              ),
+            ),
+          ),
+        ),
+      ),
+    ),
+  ),
+)
 
 -- those of the items that aren't dead
 abbrev alive : ℕ → List (Key × Item) → List (Key × Item)

@@ -1,5 +1,5 @@
 -- The line of an item.
-use Rattle.std.specs.Prelude.{ℕ, List, [], ◌∷◌, codes, Option, Some, option_and_then}
+use Rattle.std.specs.Prelude.{ℕ, List, [], ◌∷◌, codes, Some, option_and_then}
 use Rattle.serde_json.specs.Data.{Data, object}
 use Rattle.serde_json.specs.Written.{compact_text}
 use Rattle.siri_records.specs.declared.item.Item.{Item}
@@ -8,7 +8,7 @@ use Rattle.siri_tables.specs.Writing.{Row, row_object, with_rows, written_moment
 use Rattle.siri_items.specs.Written.{written_item}
 use Rattle.siri_items.specs.declared.names.TheConstants.{RECORDED_AT_TIME}
 use Rattle.siri_wire.specs.declared.names.TheConstants.{ESTIMATED_VEHICLE_JOURNEY, MONITORED_STOP_VISIT, PT_SITUATION_ELEMENT, VEHICLE_ACTIVITY}
-use Rattle.siri_wire.specs.WrittenDeliveries.{frame_time}
+use Rattle.siri_wire.specs.Frames.{frame_time}
 use Rattle.siri_script.specs.Spaced.{spaced}
 
 -- the name under which a delivery lists items of its kind (EN 15531-3; CEN/TS 15531-5)

@@ -11,8 +11,9 @@ use Rattle.siri_tables.specs.Appended.{row_tokens}
 use Rattle.siri_time.specs.SpanText.{span_text}
 use Rattle.siri_tables.proofs.Sorted.{rows_onto, sorted, object_in_order, any_written, written_object, left_out}
 use Rattle.siri_messages.specs.declared.supplies.Mark.{Mark}
+use Rattle.siri_tables.specs.Tables.{all_written}
 use Rattle.siri_tables.specs.Writing.{Row, array_unless_empty, row_object, written_list, written_span, written_text}
-use Rattle.siri_wire.specs.declared.names.TheConstants.{DELIVERY_METHOD, ERROR_TEXT, ESTIMATED_JOURNEY_VERSION_FRAME, ESTIMATED_TIMETABLE_REQUEST, ESTIMATED_VEHICLE_JOURNEY, EXTENSIONS, HEARTBEAT_INTERVAL, MONITORED_STOP_VISIT, MONITORED_STOP_VISIT_CANCELLATION, OTHER_ERROR, REMOVED, SIRI, SITUATIONS, SITUATION_EXCHANGE_REQUEST, STOP_MONITORING_REQUEST, SUBSCRIPTION_CONTEXT, VEHICLE_ACTIVITY, VEHICLE_ACTIVITY_CANCELLATION, VEHICLE_MONITORING_REQUEST}
+use Rattle.siri_wire.specs.declared.names.TheConstants.{DELIVERY_METHOD, ERROR_TEXT, ESTIMATED_VEHICLE_JOURNEY, EXTENSIONS, HEARTBEAT_INTERVAL, OTHER_ERROR, REMOVED, SIRI, SUBSCRIPTION_CONTEXT}
 use Rattle.siri_messages.specs.declared.requests.ServiceRequest.{ServiceRequest}
 use Rattle.siri_messages.specs.declared.supplies.DataReadyNotification.{DataReadyNotification}
 use Rattle.siri_messages.specs.declared.supplies.DataReadyAcknowledgement.{DataReadyAcknowledgement}
@@ -34,106 +35,113 @@ use Rattle.siri_messages.specs.declared.terminations.TerminateSubscriptionReques
 use Rattle.siri_messages.specs.declared.terminations.TerminateSubscriptionResponse.{TerminateSubscriptionResponse}
 use Rattle.siri_messages.specs.declared.terminations.TerminationResponseStatus.{TerminationResponseStatus}
 use Rattle.siri_records.specs.declared.item.Item.{Item}
+use Rattle.siri_records.specs.declared.item.Service.TheVariants as service
 use Rattle.siri_records.specs.declared.key.Key.{Key}
 use Rattle.siri_messages.specs.declared.deliveries.FunctionalDelivery.{FunctionalDelivery}
 use Rattle.siri_messages.specs.declared.deliveries.ServiceDelivery.{ServiceDelivery}
 use Rattle.siri_messages.specs.declared.message.Message.{Message}
 use Rattle.siri_messages.specs.Kinds.{kind_of}
-use Rattle.siri_wire.specs.WrittenRequests.{rows_of_check_status, rows_of_data_ready, rows_of_heartbeat, rows_of_ready_acknowledgement, rows_of_received, rows_of_service_request, rows_of_status_response, rows_of_supply, written_check_status, written_data_ready, written_heartbeat, written_ready_acknowledgement, written_received, written_service_request, written_status_response, written_supply}
-use Rattle.siri_wire.specs.WrittenDeliveries.{item_writing, rows_of_delivery, rows_of_frame, rows_of_place, rows_of_removal, rows_of_service_delivery, written_frame, written_place, written_removal, written_removed, written_service_delivery, written_situations}
-use Rattle.siri_wire.specs.WrittenSubscriptions.{rows_of_response_status, rows_of_subscription, rows_of_subscription_request, rows_of_subscription_response, rows_of_termination, rows_of_termination_response, rows_of_termination_status, written_subscription_request, written_subscription_response, written_termination, written_termination_response, written_method}
-use Rattle.siri_wire.specs.WrittenValues.{rows_of_mark}
-use Rattle.siri_wire.specs.WrittenTopics.{rows_of_stop_topic, written_stop_topic, rows_of_line_direction, rows_of_timetable_topic, written_timetable_topic, rows_of_vehicle_topic, written_vehicle_topic, rows_of_situation_topic, written_situation_topic}
+use Rattle.siri_wire.specs.Supplies.{ready_table, written_data_ready, ready_acknowledgement_table, written_ready_acknowledgement, supply_table, written_supply, received_table, written_received}
+use Rattle.siri_wire.specs.Statuses.{check_table, written_check_status, check_response_table, written_status_response, heartbeat_table, written_heartbeat}
+use Rattle.siri_wire.specs.Requests.{service_request_table, written_service_request}
+use Rattle.siri_wire.specs.Removals.{rows_of_removal, written_removal}
+use Rattle.siri_wire.specs.Frames.{rows_of_frame}
+use Rattle.siri_wire.specs.Parts.{rows_of_place, written_position, written_place, written_extensions, written_removed}
+use Rattle.siri_wire.specs.Deliveries.{stop_delivery_table, timetable_delivery_table, vehicle_delivery_table, situation_delivery_table, service_delivery_table, written_service_delivery}
+use Rattle.siri_wire.specs.Subscriptions.{written_method, subscription_table, subscription_request_table, written_subscription_request, response_status_table, subscription_response_table, written_subscription_response}
+use Rattle.siri_wire.specs.Terminations.{termination_table, written_termination, termination_status_table, termination_response_table, written_termination_response}
+use Rattle.siri_wire.specs.WrittenValues.{mark_table}
+use Rattle.siri_wire.specs.Topics.{stop_topic_table, written_stop_topic, line_direction_table, timetable_topic_table, written_timetable_topic, vehicle_topic_table, written_vehicle_topic, situation_topic_table, written_situation_topic}
 use Rattle.siri_wire.specs.Canonical.{written_body, written_message, canonical}
 use Rattle.siri_records.specs.declared.key.Key.TheVariants as keys
 
-pub mark_in_order : (old : List Token) (m : Mark) → rows_onto (old ++ begin_object ∷ []) (sorted (rows_of_mark m)) ++ end_object ∷ [] ≡ old ++ tokens_of (row_object (rows_of_mark m))
-mark_in_order old m = object_in_order old (rows_of_mark m)
+pub mark_in_order : (old : List Token) (m : Mark) → rows_onto (old ++ begin_object ∷ []) (sorted (all_written mark_table m)) ++ end_object ∷ [] ≡ old ++ tokens_of (row_object (all_written mark_table m))
+mark_in_order old m = object_in_order old (all_written mark_table m)
 
-pub check_status_in_order : (old : List Token) (c : CheckStatusRequest) → rows_onto (old ++ begin_object ∷ []) (sorted (rows_of_check_status c)) ++ end_object ∷ [] ≡ old ++ tokens_of (written_check_status c)
+pub check_status_in_order : (old : List Token) (c : CheckStatusRequest) → rows_onto (old ++ begin_object ∷ []) (sorted (all_written check_table c)) ++ end_object ∷ [] ≡ old ++ tokens_of (written_check_status c)
 unfolding written_check_status
-check_status_in_order old c = object_in_order old (rows_of_check_status c)
+check_status_in_order old c = object_in_order old (all_written check_table c)
 
-pub status_response_in_order : (old : List Token) (r : CheckStatusResponse) → rows_onto (old ++ begin_object ∷ []) (sorted (rows_of_status_response r)) ++ end_object ∷ [] ≡ old ++ tokens_of (written_status_response r)
+pub status_response_in_order : (old : List Token) (r : CheckStatusResponse) → rows_onto (old ++ begin_object ∷ []) (sorted (all_written check_response_table r)) ++ end_object ∷ [] ≡ old ++ tokens_of (written_status_response r)
 unfolding written_status_response
-status_response_in_order old r = object_in_order old (rows_of_status_response r)
+status_response_in_order old r = object_in_order old (all_written check_response_table r)
 
-pub heartbeat_in_order : (old : List Token) (h : HeartbeatNotification) → rows_onto (old ++ begin_object ∷ []) (sorted (rows_of_heartbeat h)) ++ end_object ∷ [] ≡ old ++ tokens_of (written_heartbeat h)
+pub heartbeat_in_order : (old : List Token) (h : HeartbeatNotification) → rows_onto (old ++ begin_object ∷ []) (sorted (all_written heartbeat_table h)) ++ end_object ∷ [] ≡ old ++ tokens_of (written_heartbeat h)
 unfolding written_heartbeat
-heartbeat_in_order old h = object_in_order old (rows_of_heartbeat h)
+heartbeat_in_order old h = object_in_order old (all_written heartbeat_table h)
 
-pub service_request_in_order : (old : List Token) (r : ServiceRequest) → rows_onto (old ++ begin_object ∷ []) (sorted (rows_of_service_request r)) ++ end_object ∷ [] ≡ old ++ tokens_of (written_service_request r)
+pub service_request_in_order : (old : List Token) (r : ServiceRequest) → rows_onto (old ++ begin_object ∷ []) (sorted (all_written service_request_table r)) ++ end_object ∷ [] ≡ old ++ tokens_of (written_service_request r)
 unfolding written_service_request
-service_request_in_order old r = object_in_order old (rows_of_service_request r)
+service_request_in_order old r = object_in_order old (all_written service_request_table r)
 
-pub data_ready_in_order : (old : List Token) (n : DataReadyNotification) → rows_onto (old ++ begin_object ∷ []) (sorted (rows_of_data_ready n)) ++ end_object ∷ [] ≡ old ++ tokens_of (written_data_ready n)
+pub data_ready_in_order : (old : List Token) (n : DataReadyNotification) → rows_onto (old ++ begin_object ∷ []) (sorted (all_written ready_table n)) ++ end_object ∷ [] ≡ old ++ tokens_of (written_data_ready n)
 unfolding written_data_ready
-data_ready_in_order old n = object_in_order old (rows_of_data_ready n)
+data_ready_in_order old n = object_in_order old (all_written ready_table n)
 
-pub ready_acknowledgement_in_order : (old : List Token) (a : DataReadyAcknowledgement) → rows_onto (old ++ begin_object ∷ []) (sorted (rows_of_ready_acknowledgement a)) ++ end_object ∷ [] ≡ old ++ tokens_of (written_ready_acknowledgement a)
+pub ready_acknowledgement_in_order : (old : List Token) (a : DataReadyAcknowledgement) → rows_onto (old ++ begin_object ∷ []) (sorted (all_written ready_acknowledgement_table a)) ++ end_object ∷ [] ≡ old ++ tokens_of (written_ready_acknowledgement a)
 unfolding written_ready_acknowledgement
-ready_acknowledgement_in_order old a = object_in_order old (rows_of_ready_acknowledgement a)
+ready_acknowledgement_in_order old a = object_in_order old (all_written ready_acknowledgement_table a)
 
-pub supply_in_order : (old : List Token) (r : DataSupplyRequest) → rows_onto (old ++ begin_object ∷ []) (sorted (rows_of_supply r)) ++ end_object ∷ [] ≡ old ++ tokens_of (written_supply r)
+pub supply_in_order : (old : List Token) (r : DataSupplyRequest) → rows_onto (old ++ begin_object ∷ []) (sorted (all_written supply_table r)) ++ end_object ∷ [] ≡ old ++ tokens_of (written_supply r)
 unfolding written_supply
-supply_in_order old r = object_in_order old (rows_of_supply r)
+supply_in_order old r = object_in_order old (all_written supply_table r)
 
-pub received_in_order : (old : List Token) (a : DataReceivedAcknowledgement) → rows_onto (old ++ begin_object ∷ []) (sorted (rows_of_received a)) ++ end_object ∷ [] ≡ old ++ tokens_of (written_received a)
+pub received_in_order : (old : List Token) (a : DataReceivedAcknowledgement) → rows_onto (old ++ begin_object ∷ []) (sorted (all_written received_table a)) ++ end_object ∷ [] ≡ old ++ tokens_of (written_received a)
 unfolding written_received
-received_in_order old a = object_in_order old (rows_of_received a)
+received_in_order old a = object_in_order old (all_written received_table a)
 
-pub stop_topic_in_order : (old : List Token) (t : StopTopic) → rows_onto (old ++ begin_object ∷ []) (sorted (rows_of_stop_topic t)) ++ end_object ∷ [] ≡ old ++ tokens_of (written_stop_topic t)
+pub stop_topic_in_order : (old : List Token) (t : StopTopic) → rows_onto (old ++ begin_object ∷ []) (sorted (all_written stop_topic_table t)) ++ end_object ∷ [] ≡ old ++ tokens_of (written_stop_topic t)
 unfolding written_stop_topic
-stop_topic_in_order old t = object_in_order old (rows_of_stop_topic t)
+stop_topic_in_order old t = object_in_order old (all_written stop_topic_table t)
 
-pub line_direction_in_order : (old : List Token) (l : LineDirection) → rows_onto (old ++ begin_object ∷ []) (sorted (rows_of_line_direction l)) ++ end_object ∷ [] ≡ old ++ tokens_of (row_object (rows_of_line_direction l))
-line_direction_in_order old l = object_in_order old (rows_of_line_direction l)
+pub line_direction_in_order : (old : List Token) (l : LineDirection) → rows_onto (old ++ begin_object ∷ []) (sorted (all_written line_direction_table l)) ++ end_object ∷ [] ≡ old ++ tokens_of (row_object (all_written line_direction_table l))
+line_direction_in_order old l = object_in_order old (all_written line_direction_table l)
 
-pub timetable_topic_in_order : (old : List Token) (t : TimetableTopic) → rows_onto (old ++ begin_object ∷ []) (sorted (rows_of_timetable_topic t)) ++ end_object ∷ [] ≡ old ++ tokens_of (written_timetable_topic t)
+pub timetable_topic_in_order : (old : List Token) (t : TimetableTopic) → rows_onto (old ++ begin_object ∷ []) (sorted (all_written timetable_topic_table t)) ++ end_object ∷ [] ≡ old ++ tokens_of (written_timetable_topic t)
 unfolding written_timetable_topic
-timetable_topic_in_order old t = object_in_order old (rows_of_timetable_topic t)
+timetable_topic_in_order old t = object_in_order old (all_written timetable_topic_table t)
 
-pub vehicle_topic_in_order : (old : List Token) (t : VehicleTopic) → rows_onto (old ++ begin_object ∷ []) (sorted (rows_of_vehicle_topic t)) ++ end_object ∷ [] ≡ old ++ tokens_of (written_vehicle_topic t)
+pub vehicle_topic_in_order : (old : List Token) (t : VehicleTopic) → rows_onto (old ++ begin_object ∷ []) (sorted (all_written vehicle_topic_table t)) ++ end_object ∷ [] ≡ old ++ tokens_of (written_vehicle_topic t)
 unfolding written_vehicle_topic
-vehicle_topic_in_order old t = object_in_order old (rows_of_vehicle_topic t)
+vehicle_topic_in_order old t = object_in_order old (all_written vehicle_topic_table t)
 
-pub situation_topic_in_order : (old : List Token) (t : SituationTopic) → rows_onto (old ++ begin_object ∷ []) (sorted (rows_of_situation_topic t)) ++ end_object ∷ [] ≡ old ++ tokens_of (written_situation_topic t)
+pub situation_topic_in_order : (old : List Token) (t : SituationTopic) → rows_onto (old ++ begin_object ∷ []) (sorted (all_written situation_topic_table t)) ++ end_object ∷ [] ≡ old ++ tokens_of (written_situation_topic t)
 unfolding written_situation_topic
-situation_topic_in_order old t = object_in_order old (rows_of_situation_topic t)
+situation_topic_in_order old t = object_in_order old (all_written situation_topic_table t)
 
-pub stop_subscription_in_order : (old : List Token) (w : Subscription) → rows_onto (old ++ begin_object ∷ []) (sorted (rows_of_subscription STOP_MONITORING_REQUEST.now (written_span w.slack) w)) ++ end_object ∷ [] ≡ old ++ tokens_of (row_object (rows_of_subscription STOP_MONITORING_REQUEST.now (written_span w.slack) w))
-stop_subscription_in_order old w = object_in_order old (rows_of_subscription STOP_MONITORING_REQUEST.now (written_span w.slack) w)
+pub stop_subscription_in_order : (old : List Token) (w : Subscription) → rows_onto (old ++ begin_object ∷ []) (sorted (all_written (subscription_table service.Stop None) w)) ++ end_object ∷ [] ≡ old ++ tokens_of (row_object (all_written (subscription_table service.Stop None) w))
+stop_subscription_in_order old w = object_in_order old (all_written (subscription_table service.Stop None) w)
 
-pub timetable_subscription_in_order : (old : List Token) (w : Subscription) → rows_onto (old ++ begin_object ∷ []) (sorted (rows_of_subscription ESTIMATED_TIMETABLE_REQUEST.now (written_span w.slack) w)) ++ end_object ∷ [] ≡ old ++ tokens_of (row_object (rows_of_subscription ESTIMATED_TIMETABLE_REQUEST.now (written_span w.slack) w))
-timetable_subscription_in_order old w = object_in_order old (rows_of_subscription ESTIMATED_TIMETABLE_REQUEST.now (written_span w.slack) w)
+pub timetable_subscription_in_order : (old : List Token) (w : Subscription) → rows_onto (old ++ begin_object ∷ []) (sorted (all_written (subscription_table service.Timetable None) w)) ++ end_object ∷ [] ≡ old ++ tokens_of (row_object (all_written (subscription_table service.Timetable None) w))
+timetable_subscription_in_order old w = object_in_order old (all_written (subscription_table service.Timetable None) w)
 
-pub vehicle_subscription_in_order : (old : List Token) (w : Subscription) → rows_onto (old ++ begin_object ∷ []) (sorted (rows_of_subscription VEHICLE_MONITORING_REQUEST.now (written_span w.slack) w)) ++ end_object ∷ [] ≡ old ++ tokens_of (row_object (rows_of_subscription VEHICLE_MONITORING_REQUEST.now (written_span w.slack) w))
-vehicle_subscription_in_order old w = object_in_order old (rows_of_subscription VEHICLE_MONITORING_REQUEST.now (written_span w.slack) w)
+pub vehicle_subscription_in_order : (old : List Token) (w : Subscription) → rows_onto (old ++ begin_object ∷ []) (sorted (all_written (subscription_table service.Vehicle None) w)) ++ end_object ∷ [] ≡ old ++ tokens_of (row_object (all_written (subscription_table service.Vehicle None) w))
+vehicle_subscription_in_order old w = object_in_order old (all_written (subscription_table service.Vehicle None) w)
 
-pub situation_subscription_in_order : (old : List Token) (w : Subscription) → rows_onto (old ++ begin_object ∷ []) (sorted (rows_of_subscription SITUATION_EXCHANGE_REQUEST.now None w)) ++ end_object ∷ [] ≡ old ++ tokens_of (row_object (rows_of_subscription SITUATION_EXCHANGE_REQUEST.now None w))
-situation_subscription_in_order old w = object_in_order old (rows_of_subscription SITUATION_EXCHANGE_REQUEST.now None w)
+pub situation_subscription_in_order : (old : List Token) (w : Subscription) → rows_onto (old ++ begin_object ∷ []) (sorted (all_written (subscription_table service.Situation None) w)) ++ end_object ∷ [] ≡ old ++ tokens_of (row_object (all_written (subscription_table service.Situation None) w))
+situation_subscription_in_order old w = object_in_order old (all_written (subscription_table service.Situation None) w)
 
-pub subscription_request_in_order : (old : List Token) (r : SubscriptionRequest) → rows_onto (old ++ begin_object ∷ []) (sorted (rows_of_subscription_request r)) ++ end_object ∷ [] ≡ old ++ tokens_of (written_subscription_request r)
+pub subscription_request_in_order : (old : List Token) (r : SubscriptionRequest) → rows_onto (old ++ begin_object ∷ []) (sorted (all_written (subscription_request_table r.requestor_ref) r)) ++ end_object ∷ [] ≡ old ++ tokens_of (written_subscription_request r)
 unfolding written_subscription_request
-subscription_request_in_order old r = object_in_order old (rows_of_subscription_request r)
+subscription_request_in_order old r = object_in_order old (all_written (subscription_request_table r.requestor_ref) r)
 
-pub response_status_in_order : (old : List Token) (s : ResponseStatus) → rows_onto (old ++ begin_object ∷ []) (sorted (rows_of_response_status s)) ++ end_object ∷ [] ≡ old ++ tokens_of (row_object (rows_of_response_status s))
-response_status_in_order old s = object_in_order old (rows_of_response_status s)
+pub response_status_in_order : (old : List Token) (s : ResponseStatus) → rows_onto (old ++ begin_object ∷ []) (sorted (all_written response_status_table s)) ++ end_object ∷ [] ≡ old ++ tokens_of (row_object (all_written response_status_table s))
+response_status_in_order old s = object_in_order old (all_written response_status_table s)
 
-pub subscription_response_in_order : (old : List Token) (r : SubscriptionResponse) → rows_onto (old ++ begin_object ∷ []) (sorted (rows_of_subscription_response r)) ++ end_object ∷ [] ≡ old ++ tokens_of (written_subscription_response r)
+pub subscription_response_in_order : (old : List Token) (r : SubscriptionResponse) → rows_onto (old ++ begin_object ∷ []) (sorted (all_written subscription_response_table r)) ++ end_object ∷ [] ≡ old ++ tokens_of (written_subscription_response r)
 unfolding written_subscription_response
-subscription_response_in_order old r = object_in_order old (rows_of_subscription_response r)
+subscription_response_in_order old r = object_in_order old (all_written subscription_response_table r)
 
-pub termination_in_order : (old : List Token) (r : TerminateSubscriptionRequest) → rows_onto (old ++ begin_object ∷ []) (sorted (rows_of_termination r)) ++ end_object ∷ [] ≡ old ++ tokens_of (written_termination r)
+pub termination_in_order : (old : List Token) (r : TerminateSubscriptionRequest) → rows_onto (old ++ begin_object ∷ []) (sorted (all_written termination_table r)) ++ end_object ∷ [] ≡ old ++ tokens_of (written_termination r)
 unfolding written_termination
-termination_in_order old r = object_in_order old (rows_of_termination r)
+termination_in_order old r = object_in_order old (all_written termination_table r)
 
-pub termination_status_in_order : (old : List Token) (s : TerminationResponseStatus) → rows_onto (old ++ begin_object ∷ []) (sorted (rows_of_termination_status s)) ++ end_object ∷ [] ≡ old ++ tokens_of (row_object (rows_of_termination_status s))
-termination_status_in_order old s = object_in_order old (rows_of_termination_status s)
+pub termination_status_in_order : (old : List Token) (s : TerminationResponseStatus) → rows_onto (old ++ begin_object ∷ []) (sorted (all_written termination_status_table s)) ++ end_object ∷ [] ≡ old ++ tokens_of (row_object (all_written termination_status_table s))
+termination_status_in_order old s = object_in_order old (all_written termination_status_table s)
 
-pub termination_response_in_order : (old : List Token) (r : TerminateSubscriptionResponse) → rows_onto (old ++ begin_object ∷ []) (sorted (rows_of_termination_response r)) ++ end_object ∷ [] ≡ old ++ tokens_of (written_termination_response r)
+pub termination_response_in_order : (old : List Token) (r : TerminateSubscriptionResponse) → rows_onto (old ++ begin_object ∷ []) (sorted (all_written termination_response_table r)) ++ end_object ∷ [] ≡ old ++ tokens_of (written_termination_response r)
 unfolding written_termination_response
-termination_response_in_order old r = object_in_order old (rows_of_termination_response r)
+termination_response_in_order old r = object_in_order old (all_written termination_response_table r)
 
 pub frame_in_order : (old : List Token) (i : Item) → rows_onto (old ++ begin_object ∷ []) (sorted (rows_of_frame i)) ++ end_object ∷ [] ≡ old ++ tokens_of (row_object (rows_of_frame i))
 frame_in_order old i = object_in_order old (rows_of_frame i)
@@ -156,21 +164,21 @@ place_in_order old d = object_in_order old (rows_of_place d [])
 pub removed_in_order : (old : List Token) (d : FunctionalDelivery) → rows_onto (old ++ begin_object ∷ []) (sorted (rows_of_place d ((REMOVED.now, written_list written_removal d.removals) ∷ []))) ++ end_object ∷ [] ≡ old ++ tokens_of (row_object (rows_of_place d ((REMOVED.now, written_list written_removal d.removals) ∷ [])))
 removed_in_order old d = object_in_order old (rows_of_place d ((REMOVED.now, written_list written_removal d.removals) ∷ []))
 
-pub stop_delivery_in_order : (old : List Token) (d : FunctionalDelivery) → rows_onto (old ++ begin_object ∷ []) (sorted (rows_of_delivery d (written_place d) ((MONITORED_STOP_VISIT.now, written_list item_writing d.items) ∷ (MONITORED_STOP_VISIT_CANCELLATION.now, written_list written_removal d.removals) ∷ []))) ++ end_object ∷ [] ≡ old ++ tokens_of (row_object (rows_of_delivery d (written_place d) ((MONITORED_STOP_VISIT.now, written_list item_writing d.items) ∷ (MONITORED_STOP_VISIT_CANCELLATION.now, written_list written_removal d.removals) ∷ [])))
-stop_delivery_in_order old d = object_in_order old (rows_of_delivery d (written_place d) ((MONITORED_STOP_VISIT.now, written_list item_writing d.items) ∷ (MONITORED_STOP_VISIT_CANCELLATION.now, written_list written_removal d.removals) ∷ []))
+pub stop_delivery_in_order : (old : List Token) (d : FunctionalDelivery) → rows_onto (old ++ begin_object ∷ []) (sorted (all_written stop_delivery_table d)) ++ end_object ∷ [] ≡ old ++ tokens_of (row_object (all_written stop_delivery_table d))
+stop_delivery_in_order old d = object_in_order old (all_written stop_delivery_table d)
 
-pub timetable_delivery_in_order : (old : List Token) (d : FunctionalDelivery) → rows_onto (old ++ begin_object ∷ []) (sorted (rows_of_delivery d (written_removed d) ((ESTIMATED_JOURNEY_VERSION_FRAME.now, written_list written_frame d.items) ∷ []))) ++ end_object ∷ [] ≡ old ++ tokens_of (row_object (rows_of_delivery d (written_removed d) ((ESTIMATED_JOURNEY_VERSION_FRAME.now, written_list written_frame d.items) ∷ [])))
-timetable_delivery_in_order old d = object_in_order old (rows_of_delivery d (written_removed d) ((ESTIMATED_JOURNEY_VERSION_FRAME.now, written_list written_frame d.items) ∷ []))
+pub timetable_delivery_in_order : (old : List Token) (d : FunctionalDelivery) → rows_onto (old ++ begin_object ∷ []) (sorted (all_written timetable_delivery_table d)) ++ end_object ∷ [] ≡ old ++ tokens_of (row_object (all_written timetable_delivery_table d))
+timetable_delivery_in_order old d = object_in_order old (all_written timetable_delivery_table d)
 
-pub vehicle_delivery_in_order : (old : List Token) (d : FunctionalDelivery) → rows_onto (old ++ begin_object ∷ []) (sorted (rows_of_delivery d (written_place d) ((VEHICLE_ACTIVITY.now, written_list item_writing d.items) ∷ (VEHICLE_ACTIVITY_CANCELLATION.now, written_list written_removal d.removals) ∷ []))) ++ end_object ∷ [] ≡ old ++ tokens_of (row_object (rows_of_delivery d (written_place d) ((VEHICLE_ACTIVITY.now, written_list item_writing d.items) ∷ (VEHICLE_ACTIVITY_CANCELLATION.now, written_list written_removal d.removals) ∷ [])))
-vehicle_delivery_in_order old d = object_in_order old (rows_of_delivery d (written_place d) ((VEHICLE_ACTIVITY.now, written_list item_writing d.items) ∷ (VEHICLE_ACTIVITY_CANCELLATION.now, written_list written_removal d.removals) ∷ []))
+pub vehicle_delivery_in_order : (old : List Token) (d : FunctionalDelivery) → rows_onto (old ++ begin_object ∷ []) (sorted (all_written vehicle_delivery_table d)) ++ end_object ∷ [] ≡ old ++ tokens_of (row_object (all_written vehicle_delivery_table d))
+vehicle_delivery_in_order old d = object_in_order old (all_written vehicle_delivery_table d)
 
-pub situation_delivery_in_order : (old : List Token) (d : FunctionalDelivery) → rows_onto (old ++ begin_object ∷ []) (sorted (rows_of_delivery d (written_removed d) ((SITUATIONS.now, written_situations d.items) ∷ []))) ++ end_object ∷ [] ≡ old ++ tokens_of (row_object (rows_of_delivery d (written_removed d) ((SITUATIONS.now, written_situations d.items) ∷ [])))
-situation_delivery_in_order old d = object_in_order old (rows_of_delivery d (written_removed d) ((SITUATIONS.now, written_situations d.items) ∷ []))
+pub situation_delivery_in_order : (old : List Token) (d : FunctionalDelivery) → rows_onto (old ++ begin_object ∷ []) (sorted (all_written situation_delivery_table d)) ++ end_object ∷ [] ≡ old ++ tokens_of (row_object (all_written situation_delivery_table d))
+situation_delivery_in_order old d = object_in_order old (all_written situation_delivery_table d)
 
-pub service_delivery_in_order : (old : List Token) (d : ServiceDelivery) → rows_onto (old ++ begin_object ∷ []) (sorted (rows_of_service_delivery d)) ++ end_object ∷ [] ≡ old ++ tokens_of (written_service_delivery d)
+pub service_delivery_in_order : (old : List Token) (d : ServiceDelivery) → rows_onto (old ++ begin_object ∷ []) (sorted (all_written service_delivery_table d)) ++ end_object ∷ [] ≡ old ++ tokens_of (written_service_delivery d)
 unfolding written_service_delivery
-service_delivery_in_order old d = object_in_order old (rows_of_service_delivery d)
+service_delivery_in_order old d = object_in_order old (all_written service_delivery_table d)
 
 -- ---- values and objects in forms of their own
 
@@ -210,24 +218,24 @@ journey_row_is old d = regroup_row old (tokens_of d) (key ESTIMATED_VEHICLE_JOUR
 -- ---- Extensions that are left out where they would be empty
 
 pub place_left_out : (old : List Token) (d : FunctionalDelivery) → any_written (rows_of_place d []) ≡ false → old ≡ old ++ row_tokens EXTENSIONS.now (written_place d)
-unfolding written_place
+unfolding written_position
 place_left_out old d is = rw (left_out (rows_of_place d []) is) (sym (append-nil old))
 
 pub place_written : (old : List Token) (d : FunctionalDelivery) → any_written (rows_of_place d []) ≡ true
     → (old ++ key EXTENSIONS.now ∷ []) ++ tokens_of (row_object (rows_of_place d [])) ≡ old ++ row_tokens EXTENSIONS.now (written_place d)
-unfolding written_place
+unfolding written_position
 place_written old d is = rw (written_object (rows_of_place d []) is) (append_assoc old (key EXTENSIONS.now ∷ []) (tokens_of (row_object (rows_of_place d []))))
 
 rows_of_removed : FunctionalDelivery → List Row
 rows_of_removed d = rows_of_place d ((REMOVED.now, written_list written_removal d.removals) ∷ [])
 
 pub removed_left_out : (old : List Token) (d : FunctionalDelivery) → any_written (rows_of_place d ((REMOVED.now, written_list written_removal d.removals) ∷ [])) ≡ false → old ≡ old ++ row_tokens EXTENSIONS.now (written_removed d)
-unfolding written_removed rows_of_removed
+unfolding written_extensions rows_of_removed
 removed_left_out old d is = rw (left_out (rows_of_removed d) is) (sym (append-nil old))
 
 pub removed_written : (old : List Token) (d : FunctionalDelivery) → any_written (rows_of_place d ((REMOVED.now, written_list written_removal d.removals) ∷ [])) ≡ true
     → (old ++ key EXTENSIONS.now ∷ []) ++ tokens_of (row_object (rows_of_place d ((REMOVED.now, written_list written_removal d.removals) ∷ []))) ≡ old ++ row_tokens EXTENSIONS.now (written_removed d)
-unfolding written_removed rows_of_removed
+unfolding written_extensions rows_of_removed
 removed_written old d is = rw (written_object (rows_of_removed d) is) (append_assoc old (key EXTENSIONS.now ∷ []) (tokens_of (row_object (rows_of_removed d))))
 
 pub any_removed : (keys : List Key) → is_some (written_list written_removal keys) ≡ nat_lt 0 (length keys)

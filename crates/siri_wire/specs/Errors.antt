@@ -10,5 +10,5 @@ unfoldable pub other_error : Data → Result (Option (List ℕ)) Refusal
 other_error d = inside (inside text ERROR_TEXT.now) OTHER_ERROR.now d
 
 -- the text of an error
-unfoldable pub error_condition : Data → Result (Option (List ℕ)) Refusal
+abbrev pub error_condition : Data → Result (Option (List ℕ)) Refusal
 error_condition d = row other_error ERROR_CONDITION.now d

@@ -1,5 +1,5 @@
 -- The table of EstimatedJourneyVersionFrame (EN 15531-3): the journeys of all frames as one list.
-use Rattle.std.specs.Prelude.{ℕ, List, length, map, flat_map, nat_le, if◌then◌else◌, Option, Some, None, Result, Ok}
+use Rattle.std.specs.Prelude.{ℕ, List, [], ◌∷◌, length, map, flat_map, nat_le, if◌then◌else◌, Option, Some, None, option_and_then, Result, Ok}
 use Rattle.serde_json.specs.Data.{Data}
 use Rattle.siri_base.specs.declared.reason.Reason.TheVariants.{TooMany}
 use Rattle.siri_json.specs.Values.{member_of}
@@ -9,6 +9,8 @@ use Rattle.siri_records.specs.declared.item.Item.TheVariants as item
 use Rattle.siri_records.specs.declared.journey.Journey.{Journey}
 use Rattle.siri_tables.specs.Refusals.{Refusal, ◌>>=◌, refused, below}
 use Rattle.siri_tables.specs.Rules.{moment, table, row, list_of, or_empty}
+use Rattle.siri_tables.specs.Writing.{Row, row_object, array_unless_empty, written_moment}
+use Rattle.siri_items.specs.Written.{written_item}
 use Rattle.siri_items.specs.Journeys.{journey}
 use Rattle.siri_items.specs.declared.names.TheConstants.{RECORDED_AT_TIME}
 use Rattle.siri_wire.specs.declared.names.TheConstants.{ESTIMATED_VEHICLE_JOURNEY, ESTIMATED_JOURNEY_VERSION_FRAME}
@@ -47,3 +49,19 @@ frames_of d = list_of (table frame) d >>= λ frames. few_in_all (concat_frames f
 
 unfoldable pub journeys_of_frames : Data → Result (List Item) Refusal
 journeys_of_frames d = below (Member ESTIMATED_JOURNEY_VERSION_FRAME.now) (or_empty frames_of (member_of ESTIMATED_JOURNEY_VERSION_FRAME.now d))
+
+-- ---- what is written of it
+
+-- the RecordedAtTime of a journey's frame
+abbrev pub frame_time : Item → Option ℕ
+frame_time (item.Journey j) = j.recorded_at_time
+frame_time other = None
+
+-- EstimatedJourneyVersionFrame: each journey in one of its own, whose RecordedAtTime is the journey's
+abbrev pub rows_of_frame : Item → List Row
+rows_of_frame i =
+    (RECORDED_AT_TIME.now, option_and_then written_moment (frame_time i)) ∷
+    (ESTIMATED_VEHICLE_JOURNEY.now, array_unless_empty (written_item i ∷ [])) ∷ []
+
+unfoldable pub written_frame : Item → Option Data
+written_frame i = Some (row_object (rows_of_frame i))

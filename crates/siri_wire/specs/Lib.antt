@@ -1,5 +1,7 @@
 pub mod Names
 pub mod Errors
+pub mod WrittenValues
+pub mod Rows
 pub mod Topics
 pub mod Requests
 pub mod Subscribers
@@ -13,9 +15,4 @@ pub mod Frames
 pub mod Deliveries
 pub mod Documents
 pub mod Wanted
-pub mod WrittenValues
-pub mod WrittenTopics
-pub mod WrittenDeliveries
-pub mod WrittenSubscriptions
-pub mod WrittenRequests
 pub mod Canonical

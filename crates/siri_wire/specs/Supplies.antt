@@ -1,6 +1,6 @@
 -- The tables of the messages by which rounds are announced, fetched and acknowledged (EN 15531-2). Their Extensions hold a
 -- mark, which is this profile's own.
-use Rattle.std.specs.Prelude.{ℕ, List, [], ◌∷◌, Bool, true, false, ◌&&◌, if◌then◌else◌, Option, Some, None, unwrap_or, Result, Ok, Err}
+use Rattle.std.specs.Prelude.{ℕ, List, [], ◌∷◌, Bool, true, false, ◌&&◌, if◌then◌else◌, Option, Some, None, Result, Ok, Err}
 use Rattle.serde_json.specs.Data.{Data}
 use Rattle.siri_base.specs.declared.reason.Reason.TheVariants.{NotCarried}
 use Rattle.siri_json.specs.declared.path.Step.TheVariants.{Member}
@@ -11,19 +11,22 @@ use Rattle.siri_messages.specs.declared.supplies.DataReadyAcknowledgement.{DataR
 use Rattle.siri_messages.specs.declared.supplies.DataSupplyRequest.{DataSupplyRequest}
 use Rattle.siri_messages.specs.declared.supplies.DataReceivedAcknowledgement.{DataReceivedAcknowledgement}
 use Rattle.siri_tables.specs.Refusals.{Refusal, ◌>>=◌}
-use Rattle.siri_tables.specs.Rules.{name, moment, number, flag, table, unless_wrong, maybe, row, required_row}
-use Rattle.siri_wire.specs.Errors.{error_condition}
-use Rattle.siri_wire.specs.declared.names.TheConstants.{SUBSCRIPTION_REF, NUMBER, START, ROUND, PART, REQUEST_TIMESTAMP, RESPONSE_TIMESTAMP, PRODUCER_REF, CONSUMER_REF, REQUEST_MESSAGE_REF, STATUS, ALL_DATA, EXTENSIONS}
+use Rattle.siri_tables.specs.Rules.{table, unless_wrong, maybe}
+use Rattle.siri_tables.specs.Tables.{Kind, optional, mandatory, a_name, a_moment, a_flag, Table, Maker, read_all, AllProper, all_written}
+use Rattle.siri_tables.specs.Writing.{row_object}
+use Rattle.siri_wire.specs.Rows.{an_error, with_default, flag_where_true}
+use Rattle.siri_wire.specs.WrittenValues.{mark_table, written_mark}
+use Rattle.siri_wire.specs.declared.names.TheConstants.{SUBSCRIPTION_REF, NUMBER, START, ROUND, PART, REQUEST_TIMESTAMP, RESPONSE_TIMESTAMP, PRODUCER_REF, CONSUMER_REF, REQUEST_MESSAGE_REF, STATUS, ERROR_CONDITION, ALL_DATA, EXTENSIONS}
+
+abbrev pub make_mark : Maker mark_table
+make_mark = λ subscription number start round part. record { number = number; start = start; round = round; part = part; subscription = subscription }
 
 -- Mark: which part of which round of a subscription is meant
 unfoldable pub mark : Data → Result Mark Refusal
-mark d = do
-  subscription ← required_row name SUBSCRIPTION_REF.now d
-  subscription_number ← required_row number NUMBER.now d
-  start ← required_row number START.now d
-  round ← required_row number ROUND.now d
-  part ← required_row number PART.now d
-  Ok (record { number = subscription_number; start = start; round = round; part = part; subscription = subscription })
+mark d = read_all mark_table make_mark d
+
+abbrev pub a_mark : Kind Mark
+a_mark = record { rule = table mark; writing = written_mark; Is = AllProper mark_table }
 
 -- ---- a mark that need not be there
 
@@ -52,54 +55,91 @@ mark_if_any d = if lacks_mark d then Ok None else mark d >>= λ m. Ok (Some m)
 unfoldable pub optional_mark : Data → Result (Option Mark) Refusal
 optional_mark d = unless_wrong (object_in d) >>= maybe mark_if_any
 
+abbrev pub an_optional_mark : Kind Mark
+an_optional_mark = record { rule = optional_mark; writing = written_mark; Is = AllProper mark_table }
+
 -- ---- the messages
 
 -- DataReadyNotification: a part of a round is ready
+abbrev pub ready_table : Table DataReadyNotification
+ready_table =
+    optional a_moment REQUEST_TIMESTAMP.now (λ n. n.request_timestamp) ∷
+    optional a_name PRODUCER_REF.now (λ n. n.producer_ref) ∷
+    mandatory a_mark EXTENSIONS.now (λ n. n.extensions) ∷ []
+
+abbrev pub make_ready : Maker ready_table
+make_ready = λ request_timestamp producer_ref extensions. record { request_timestamp = request_timestamp; producer_ref = producer_ref; extensions = extensions }
+
 unfoldable pub data_ready_notification : Data → Result DataReadyNotification Refusal
-data_ready_notification d = do
-  request_timestamp ← row moment REQUEST_TIMESTAMP.now d
-  producer_ref ← row name PRODUCER_REF.now d
-  extensions ← required_row (table mark) EXTENSIONS.now d
-  Ok (record { request_timestamp = request_timestamp; producer_ref = producer_ref; extensions = extensions })
+data_ready_notification d = read_all ready_table make_ready d
+
+unfoldable pub written_data_ready : DataReadyNotification → Data
+written_data_ready n = row_object (all_written ready_table n)
 
 -- DataReadyAcknowledgement: the notification was taken
+abbrev pub ready_acknowledgement_table : Table DataReadyAcknowledgement
+ready_acknowledgement_table =
+    optional a_moment RESPONSE_TIMESTAMP.now (λ a. a.response_timestamp) ∷
+    optional a_name CONSUMER_REF.now (λ a. a.consumer_ref) ∷
+    with_default a_flag true STATUS.now (λ a. a.status) ∷ []
+
+abbrev pub make_ready_acknowledgement : Maker ready_acknowledgement_table
+make_ready_acknowledgement = λ response_timestamp consumer_ref status. record { response_timestamp = response_timestamp; consumer_ref = consumer_ref; status = status }
+
 unfoldable pub data_ready_acknowledgement : Data → Result DataReadyAcknowledgement Refusal
-data_ready_acknowledgement d = do
-  response_timestamp ← row moment RESPONSE_TIMESTAMP.now d
-  consumer_ref ← row name CONSUMER_REF.now d
-  status ← row flag STATUS.now d
-  Ok (record { response_timestamp = response_timestamp; consumer_ref = consumer_ref; status = unwrap_or status true })
+data_ready_acknowledgement d = read_all ready_acknowledgement_table make_ready_acknowledgement d
+
+unfoldable pub written_ready_acknowledgement : DataReadyAcknowledgement → Data
+written_ready_acknowledgement a = row_object (all_written ready_acknowledgement_table a)
+
+-- DataSupplyRequest: a part of a round is fetched
+abbrev pub supply_table : Table DataSupplyRequest
+supply_table =
+    optional a_moment REQUEST_TIMESTAMP.now (λ s. s.request_timestamp) ∷
+    mandatory a_name CONSUMER_REF.now (λ s. s.consumer_ref) ∷
+    flag_where_true ALL_DATA.now (λ s. s.all_data) ∷
+    mandatory a_mark EXTENSIONS.now (λ s. s.extensions) ∷ []
+
+abbrev pub make_supply : Maker supply_table
+make_supply = λ request_timestamp consumer_ref all_data extensions. record { request_timestamp = request_timestamp; consumer_ref = consumer_ref; all_data = all_data; extensions = extensions }
 
 unfoldable pub read_supply_rows : Data → Result DataSupplyRequest Refusal
-read_supply_rows d = do
-  request_timestamp ← row moment REQUEST_TIMESTAMP.now d
-  consumer_ref ← required_row name CONSUMER_REF.now d
-  all_data ← row flag ALL_DATA.now d
-  extensions ← required_row (table mark) EXTENSIONS.now d
-  Ok (record { request_timestamp = request_timestamp; consumer_ref = consumer_ref; all_data = unwrap_or all_data false; extensions = extensions })
+read_supply_rows d = read_all supply_table make_supply d
 
 -- a request for everything and not the changes alone isn't carried
 abbrev pub unless_all : DataSupplyRequest → Result DataSupplyRequest Refusal
 unless_all m = if m.all_data then Err (record { path = Member ALL_DATA.now ∷ []; reason = NotCarried }) else Ok m
 
--- DataSupplyRequest: a part of a round is fetched
 unfoldable pub data_supply_request : Data → Result DataSupplyRequest Refusal
 data_supply_request d = read_supply_rows d >>= unless_all
 
+unfoldable pub written_supply : DataSupplyRequest → Data
+written_supply s = row_object (all_written supply_table s)
+
 -- DataReceivedAcknowledgement: a delivery was taken
+abbrev pub received_table : Table DataReceivedAcknowledgement
+received_table =
+    optional a_moment RESPONSE_TIMESTAMP.now (λ a. a.response_timestamp) ∷
+    optional a_name CONSUMER_REF.now (λ a. a.consumer_ref) ∷
+    optional a_name REQUEST_MESSAGE_REF.now (λ a. a.request_message_ref) ∷
+    with_default a_flag true STATUS.now (λ a. a.status) ∷
+    optional an_error ERROR_CONDITION.now (λ a. a.error_condition) ∷
+    optional an_optional_mark EXTENSIONS.now (λ a. a.extensions) ∷ []
+
+abbrev pub make_received : Maker received_table
+make_received =
+    λ response_timestamp consumer_ref request_message_ref status error_condition extensions.
+    record {
+      response_timestamp = response_timestamp;
+      consumer_ref = consumer_ref;
+      request_message_ref = request_message_ref;
+      status = status;
+      error_condition = error_condition;
+      extensions = extensions;
+    }
+
 unfoldable pub data_received_acknowledgement : Data → Result DataReceivedAcknowledgement Refusal
-data_received_acknowledgement d = do
-  response_timestamp ← row moment RESPONSE_TIMESTAMP.now d
-  consumer_ref ← row name CONSUMER_REF.now d
-  request_message_ref ← row name REQUEST_MESSAGE_REF.now d
-  status ← row flag STATUS.now d
-  error_condition ← error_condition d
-  extensions ← row optional_mark EXTENSIONS.now d
-  Ok (record {
-    response_timestamp = response_timestamp;
-    consumer_ref = consumer_ref;
-    request_message_ref = request_message_ref;
-    status = unwrap_or status true;
-    error_condition = error_condition;
-    extensions = extensions;
-  })
+data_received_acknowledgement d = read_all received_table make_received d
+
+unfoldable pub written_received : DataReceivedAcknowledgement → Data
+written_received a = row_object (all_written received_table a)

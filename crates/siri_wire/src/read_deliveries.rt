@@ -1,9 +1,5 @@
 //! Reading deliveries of items.
 
-ghost use Rattle.std.specs.Prelude.{◌≡◌};
-ghost use Rattle.serde_json.specs.Data.{Data};
-ghost use Rattle.siri_json.specs.Shown.{shown};
-ghost use Rattle.siri_tables.specs.Refusals.{Gives};
 ghost use Rattle.siri_wire.specs.Deliveries.{visit_item, vehicle_item, situation_item, stop_monitoring_delivery, estimated_timetable_delivery, vehicle_monitoring_delivery, situation_exchange_delivery, service_delivery};
 
 use crate::names;

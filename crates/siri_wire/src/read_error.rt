@@ -1,6 +1,6 @@
 //! Reading the texts of errors.
 
-ghost use Rattle.std.specs.Prelude.{◌≡◌, Result, Option};
+ghost use Rattle.std.specs.Prelude.{Result, Option};
 ghost use Rattle.siri_json.specs.Shown.{shown};
 ghost use Rattle.siri_tables.specs.Refusals.{Gives};
 ghost use Rattle.siri_wire.specs.Errors.{other_error, error_condition};

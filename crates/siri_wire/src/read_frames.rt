@@ -1,7 +1,6 @@
 //! Reading the journeys of all frames as one list.
 
 ghost use Rattle.std.specs.Prelude.{◌≡◌, map, IfOk};
-ghost use Rattle.serde_json.specs.Data.{Data};
 ghost use Rattle.siri_json.specs.Shown.{shown};
 ghost use Rattle.siri_tables.specs.Refusals.{Gives};
 ghost use Rattle.siri_wire.specs.Frames.{journey_of_frame, journeys, frame, concat_frames, frames_of, journeys_of_frames};

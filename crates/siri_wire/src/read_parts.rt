@@ -1,7 +1,6 @@
 //! Reading what the functional deliveries of all services have.
 
 ghost use Rattle.std.specs.Prelude.{◌≡◌};
-ghost use Rattle.serde_json.specs.Data.{Data};
 ghost use Rattle.siri_json.specs.Shown.{shown};
 ghost use Rattle.siri_tables.specs.Refusals.{Gives};
 ghost use Rattle.siri_wire.specs.Parts.{heading, no_round, within_round, round_position, delivery_extensions, extensions_or_empty, delivery_of};

@@ -1,9 +1,5 @@
 //! Reading cancellations, and removed journeys and situations.
 
-ghost use Rattle.std.specs.Prelude.{◌≡◌};
-ghost use Rattle.serde_json.specs.Data.{Data};
-ghost use Rattle.siri_json.specs.Shown.{shown};
-ghost use Rattle.siri_tables.specs.Refusals.{Gives};
 ghost use Rattle.siri_wire.specs.Removals.{visit_cancellation, vehicle_cancellation, removed_journey, removed_situation};
 
 use crate::names;

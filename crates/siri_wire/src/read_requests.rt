@@ -1,7 +1,6 @@
 //! Reading requests that are answered at once.
 
 ghost use Rattle.std.specs.Prelude.{◌≡◌};
-ghost use Rattle.serde_json.specs.Data.{Data};
 ghost use Rattle.siri_json.specs.Shown.{shown};
 ghost use Rattle.siri_tables.specs.Refusals.{Gives};
 ghost use Rattle.siri_wire.specs.Requests.{read_service_request_rows, asks_nothing, service_request};

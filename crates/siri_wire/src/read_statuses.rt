@@ -1,9 +1,5 @@
 //! Reading whether the producer is there.
 
-ghost use Rattle.std.specs.Prelude.{◌≡◌};
-ghost use Rattle.serde_json.specs.Data.{Data};
-ghost use Rattle.siri_json.specs.Shown.{shown};
-ghost use Rattle.siri_tables.specs.Refusals.{Gives};
 ghost use Rattle.siri_wire.specs.Statuses.{check_status_request, check_status_response, heartbeat_notification};
 
 use crate::names;

@@ -1,6 +1,5 @@
 //! Reading who subscribes.
 
-ghost use Rattle.std.specs.Prelude.{◌≡◌};
 ghost use Rattle.siri_json.specs.Shown.{shown};
 ghost use Rattle.siri_tables.specs.Refusals.{Gives};
 ghost use Rattle.siri_wire.specs.Subscribers.{subscriber_or};

@@ -1,7 +1,6 @@
 //! Reading requests for subscriptions, and their answers.
 
 ghost use Rattle.std.specs.Prelude.{◌≡◌, pos, IsTrue, Option, unwrap_or};
-ghost use Rattle.serde_json.specs.Data.{Data};
 ghost use Rattle.siri_json.specs.Shown.{shown};
 ghost use Rattle.siri_tables.specs.Refusals.{Gives, is_key};
 ghost use Rattle.siri_tables.specs.Rules.{list, table};

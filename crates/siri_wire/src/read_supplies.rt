@@ -1,7 +1,6 @@
 //! Reading the messages by which rounds are announced, fetched and acknowledged.
 
 ghost use Rattle.std.specs.Prelude.{◌≡◌, Result, Option};
-ghost use Rattle.serde_json.specs.Data.{Data};
 ghost use Rattle.siri_json.specs.Shown.{shown};
 ghost use Rattle.siri_tables.specs.Refusals.{Gives};
 ghost use Rattle.siri_wire.specs.Supplies.{mark, lacks, lacks_mark, mark_if_any, optional_mark, data_ready_notification, data_ready_acknowledgement, read_supply_rows, data_supply_request, data_received_acknowledgement};

@@ -1,9 +1,5 @@
 //! Reading requests to end subscriptions, and their answers.
 
-ghost use Rattle.std.specs.Prelude.{◌≡◌};
-ghost use Rattle.serde_json.specs.Data.{Data};
-ghost use Rattle.siri_json.specs.Shown.{shown};
-ghost use Rattle.siri_tables.specs.Refusals.{Gives};
 ghost use Rattle.siri_wire.specs.Terminations.{termination_request, termination_status, termination_response};
 
 use crate::names;

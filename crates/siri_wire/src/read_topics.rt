@@ -1,7 +1,5 @@
 //! Reading topics.
 
-ghost use Rattle.std.specs.Prelude.{◌≡◌};
-ghost use Rattle.serde_json.specs.Data.{Data};
 ghost use Rattle.siri_json.specs.Shown.{shown};
 ghost use Rattle.siri_tables.specs.Refusals.{Gives};
 ghost use Rattle.siri_wire.specs.Topics.{read_stop_topic_rows, stop_topic, subscribed_stop_topic, line_direction, timetable_topic, vehicle_topic, situation_topic};

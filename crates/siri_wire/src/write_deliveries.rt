@@ -1,13 +1,14 @@
 //! Writing deliveries.
 
-ghost use Rattle.std.specs.Prelude.{◌≡◌, [], ◌∷◌, ◌++◌, Option, OnOk, option_and_then};
-ghost use Rattle.serde_json.specs.Data.{Data};
+ghost use Rattle.std.specs.Prelude.{◌≡◌, [], ◌∷◌, ◌++◌, OnOk};
 ghost use Rattle.siri_json.specs.Tokens.{tokens_of};
-ghost use Rattle.siri_tables.specs.Appended.{row_tokens, Appends};
+ghost use Rattle.siri_tables.specs.Appended.{row_tokens};
 ghost use Rattle.siri_tables.specs.Writing.{row_object, written_list};
 ghost use Rattle.siri_tables.proofs.Sorted.{any_written};
 ghost use Rattle.siri_wire.specs.declared.names.TheConstants.{EXTENSIONS, REMOVED, SITUATIONS};
-ghost use Rattle.siri_wire.specs.WrittenDeliveries.{written_situations, rows_of_place, written_place, written_removal, written_removed, written_stop_delivery, written_timetable_delivery, written_vehicle_delivery, written_situation_delivery, written_service_delivery};
+ghost use Rattle.siri_wire.specs.Deliveries.{written_situations, written_stop_delivery, written_timetable_delivery, written_vehicle_delivery, written_situation_delivery, written_service_delivery};
+ghost use Rattle.siri_wire.specs.Parts.{rows_of_place, written_place, written_removed};
+ghost use Rattle.siri_wire.specs.Removals.{written_removal};
 
 use crate::names;
 use crate::write_entries::{FrameWriting, ItemWriting, RemovalWriting};
@@ -88,7 +89,7 @@ impl Written for StopDeliveryWriting {
 
     ghost writing = { written_stop_delivery };
 
-    #[tactic(auto, using(crate::proofs::InOrder::stop_delivery_in_order), unfolding(crate::specs::WrittenDeliveries::written_stop_delivery))]
+    #[tactic(auto, using(crate::proofs::InOrder::stop_delivery_in_order), unfolding(crate::specs::Deliveries::written_stop_delivery))]
     fn write(out: &mut Output, delivery: &FunctionalDelivery) -> Result<(), OutOfMemory> {
         out.begin_object()?;
         optional::<ErrorWriting>(out, names::ERROR_CONDITION, &delivery.error_condition)?;
@@ -114,7 +115,7 @@ impl Written for TimetableDeliveryWriting {
 
     ghost writing = { written_timetable_delivery };
 
-    #[tactic(auto, using(crate::proofs::InOrder::timetable_delivery_in_order), unfolding(crate::specs::WrittenDeliveries::written_timetable_delivery))]
+    #[tactic(auto, using(crate::proofs::InOrder::timetable_delivery_in_order), unfolding(crate::specs::Deliveries::written_timetable_delivery))]
     fn write(out: &mut Output, delivery: &FunctionalDelivery) -> Result<(), OutOfMemory> {
         out.begin_object()?;
         optional::<ErrorWriting>(out, names::ERROR_CONDITION, &delivery.error_condition)?;
@@ -135,7 +136,7 @@ impl Written for VehicleDeliveryWriting {
 
     ghost writing = { written_vehicle_delivery };
 
-    #[tactic(auto, using(crate::proofs::InOrder::vehicle_delivery_in_order), unfolding(crate::specs::WrittenDeliveries::written_vehicle_delivery))]
+    #[tactic(auto, using(crate::proofs::InOrder::vehicle_delivery_in_order), unfolding(crate::specs::Deliveries::written_vehicle_delivery))]
     fn write(out: &mut Output, delivery: &FunctionalDelivery) -> Result<(), OutOfMemory> {
         out.begin_object()?;
         optional::<ErrorWriting>(out, names::ERROR_CONDITION, &delivery.error_condition)?;
@@ -154,7 +155,7 @@ impl Written for VehicleDeliveryWriting {
     }
 }
 
-#[tactic(auto, unfolding(crate::specs::WrittenDeliveries::written_situations))]
+#[tactic(auto, unfolding(crate::specs::Deliveries::written_situations))]
 fn situations_row(out: &mut Output, items: &List<Item>) -> Result<(), OutOfMemory>
     ensures { OnOk result (out.new ≡ out.old ++ row_tokens SITUATIONS.now (written_situations items.now)) }
 {
@@ -168,7 +169,7 @@ impl Written for SituationDeliveryWriting {
 
     ghost writing = { written_situation_delivery };
 
-    #[tactic(auto, using(crate::proofs::InOrder::situation_delivery_in_order), unfolding(crate::specs::WrittenDeliveries::written_situation_delivery))]
+    #[tactic(auto, using(crate::proofs::InOrder::situation_delivery_in_order), unfolding(crate::specs::Deliveries::written_situation_delivery))]
     fn write(out: &mut Output, delivery: &FunctionalDelivery) -> Result<(), OutOfMemory> {
         out.begin_object()?;
         optional::<ErrorWriting>(out, names::ERROR_CONDITION, &delivery.error_condition)?;

@@ -1,13 +1,14 @@
 //! Writing the entries of functional deliveries: items, the frames of journeys, and removals.
 
-ghost use Rattle.std.specs.Prelude.{◌≡◌, [], ◌∷◌, ◌++◌, Some, Option, OnOk, option_and_then};
-ghost use Rattle.serde_json.specs.Data.{Data};
+ghost use Rattle.std.specs.Prelude.{◌≡◌, [], ◌∷◌, ◌++◌, Option, OnOk};
 ghost use Rattle.siri_json.specs.Tokens.{tokens_of};
-ghost use Rattle.siri_tables.specs.Appended.{row_tokens, Appends};
+ghost use Rattle.siri_tables.specs.Appended.{row_tokens};
 ghost use Rattle.siri_tables.specs.Writing.{row_object, array_unless_empty};
 ghost use Rattle.siri_items.specs.Written.{written_item};
 ghost use Rattle.siri_wire.specs.declared.names.TheConstants.{ESTIMATED_VEHICLE_JOURNEY};
-ghost use Rattle.siri_wire.specs.WrittenDeliveries.{item_writing, frame_time, written_frame, rows_of_removal, written_removal};
+ghost use Rattle.siri_wire.specs.Deliveries.{item_writing};
+ghost use Rattle.siri_wire.specs.Frames.{frame_time, written_frame};
+ghost use Rattle.siri_wire.specs.Removals.{rows_of_removal, written_removal};
 
 use crate::names;
 use siri_base::{Moment, Name, OutOfMemory};
@@ -57,7 +58,7 @@ impl Written for FrameWriting {
 
     ghost writing = { written_frame };
 
-    #[tactic(auto, using(crate::proofs::InOrder::frame_in_order), unfolding(crate::specs::WrittenDeliveries::written_frame))]
+    #[tactic(auto, using(crate::proofs::InOrder::frame_in_order), unfolding(crate::specs::Frames::written_frame))]
     fn write(out: &mut Output, item: &Item) -> Result<(), OutOfMemory> {
         out.begin_object()?;
         journey_row(out, item)?;
@@ -125,7 +126,7 @@ impl Written for RemovalWriting {
 
     ghost writing = { written_removal };
 
-    #[tactic(auto, unfolding(crate::specs::WrittenDeliveries::written_removal))]
+    #[tactic(auto, unfolding(crate::specs::Removals::written_removal))]
     fn write(out: &mut Output, key: &Key) -> Result<(), OutOfMemory> {
         match key {
             Key::Visit { monitoring, item } => removed_visit(out, monitoring, item),

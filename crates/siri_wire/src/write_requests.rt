@@ -1,9 +1,9 @@
 //! Writing requests that are answered at once, and how rounds are fetched and acknowledged.
 
-ghost use Rattle.std.specs.Prelude.{◌≡◌, ◌++◌, Option, OnOk, option_and_then};
+ghost use Rattle.std.specs.Prelude.{◌≡◌, ◌++◌, OnOk};
 ghost use Rattle.siri_json.specs.Tokens.{tokens_of};
-ghost use Rattle.siri_tables.specs.Appended.{row_tokens};
-ghost use Rattle.siri_wire.specs.WrittenRequests.{written_service_request, written_data_ready, written_ready_acknowledgement, written_supply, written_received};
+ghost use Rattle.siri_wire.specs.Requests.{written_service_request};
+ghost use Rattle.siri_wire.specs.Supplies.{written_data_ready, written_ready_acknowledgement, written_supply, written_received};
 
 use crate::names;
 use crate::write_topics::TopicWriting;

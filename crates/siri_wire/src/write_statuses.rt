@@ -1,9 +1,8 @@
 //! Writing whether the producer is there, and since when.
 
-ghost use Rattle.std.specs.Prelude.{◌≡◌, ◌++◌, Option, OnOk, option_and_then};
+ghost use Rattle.std.specs.Prelude.{◌≡◌, ◌++◌, OnOk};
 ghost use Rattle.siri_json.specs.Tokens.{tokens_of};
-ghost use Rattle.siri_tables.specs.Appended.{row_tokens};
-ghost use Rattle.siri_wire.specs.WrittenRequests.{written_check_status, written_status_response, written_heartbeat};
+ghost use Rattle.siri_wire.specs.Statuses.{written_check_status, written_status_response, written_heartbeat};
 
 use crate::names;
 use siri_base::OutOfMemory;

@@ -1,11 +1,11 @@
 //! Writing the messages that begin and end subscriptions.
 
-ghost use Rattle.std.specs.Prelude.{◌≡◌, ◌++◌, None, Option, OnOk, option_and_then};
-ghost use Rattle.serde_json.specs.Data.{Data};
+ghost use Rattle.std.specs.Prelude.{◌≡◌, ◌++◌, Option, OnOk};
 ghost use Rattle.siri_json.specs.Tokens.{tokens_of};
-ghost use Rattle.siri_tables.specs.Appended.{row_tokens, Appends};
+ghost use Rattle.siri_tables.specs.Appended.{row_tokens};
 ghost use Rattle.siri_wire.specs.declared.names.TheConstants.{EXTENSIONS, SUBSCRIPTION_CONTEXT};
-ghost use Rattle.siri_wire.specs.WrittenSubscriptions.{written_method, written_stop_subscription, written_timetable_subscription, written_vehicle_subscription, written_situation_subscription, written_context, written_subscription_request, written_response_status, written_subscription_response, written_termination, written_termination_status, written_termination_response};
+ghost use Rattle.siri_wire.specs.Subscriptions.{written_method, written_stop_subscription, written_timetable_subscription, written_vehicle_subscription, written_situation_subscription, written_context, written_subscription_request, written_response_status, written_subscription_response};
+ghost use Rattle.siri_wire.specs.Terminations.{written_termination, written_termination_status, written_termination_response};
 
 use crate::names;
 use crate::write_topics::TopicWriting;
@@ -41,7 +41,7 @@ impl Written for StopSubscriptionWriting {
 
     ghost writing = { written_stop_subscription };
 
-    #[tactic(auto, using(crate::proofs::InOrder::stop_subscription_in_order), unfolding(crate::specs::WrittenSubscriptions::written_stop_subscription, crate::specs::WrittenSubscriptions::written_subscription))]
+    #[tactic(auto, using(crate::proofs::InOrder::stop_subscription_in_order), unfolding(crate::specs::Subscriptions::written_stop_subscription, crate::specs::Subscriptions::written_subscription))]
     fn write(out: &mut Output, wanted: &Subscription) -> Result<(), OutOfMemory> {
         out.begin_object()?;
         required::<SpanRule>(out, names::CHANGE_BEFORE_UPDATES, &wanted.slack)?;
@@ -62,7 +62,7 @@ impl Written for TimetableSubscriptionWriting {
 
     ghost writing = { written_timetable_subscription };
 
-    #[tactic(auto, using(crate::proofs::InOrder::timetable_subscription_in_order), unfolding(crate::specs::WrittenSubscriptions::written_timetable_subscription, crate::specs::WrittenSubscriptions::written_subscription))]
+    #[tactic(auto, using(crate::proofs::InOrder::timetable_subscription_in_order), unfolding(crate::specs::Subscriptions::written_timetable_subscription, crate::specs::Subscriptions::written_subscription))]
     fn write(out: &mut Output, wanted: &Subscription) -> Result<(), OutOfMemory> {
         out.begin_object()?;
         required::<SpanRule>(out, names::CHANGE_BEFORE_UPDATES, &wanted.slack)?;
@@ -83,7 +83,7 @@ impl Written for VehicleSubscriptionWriting {
 
     ghost writing = { written_vehicle_subscription };
 
-    #[tactic(auto, using(crate::proofs::InOrder::vehicle_subscription_in_order), unfolding(crate::specs::WrittenSubscriptions::written_vehicle_subscription, crate::specs::WrittenSubscriptions::written_subscription))]
+    #[tactic(auto, using(crate::proofs::InOrder::vehicle_subscription_in_order), unfolding(crate::specs::Subscriptions::written_vehicle_subscription, crate::specs::Subscriptions::written_subscription))]
     fn write(out: &mut Output, wanted: &Subscription) -> Result<(), OutOfMemory> {
         out.begin_object()?;
         required::<SpanRule>(out, names::CHANGE_BEFORE_UPDATES, &wanted.slack)?;
@@ -104,7 +104,7 @@ impl Written for SituationSubscriptionWriting {
 
     ghost writing = { written_situation_subscription };
 
-    #[tactic(auto, using(crate::proofs::InOrder::situation_subscription_in_order), unfolding(crate::specs::WrittenSubscriptions::written_situation_subscription, crate::specs::WrittenSubscriptions::written_subscription))]
+    #[tactic(auto, using(crate::proofs::InOrder::situation_subscription_in_order), unfolding(crate::specs::Subscriptions::written_situation_subscription, crate::specs::Subscriptions::written_subscription))]
     fn write(out: &mut Output, wanted: &Subscription) -> Result<(), OutOfMemory> {
         out.begin_object()?;
         method_row(out, wanted.fetched)?;
@@ -117,7 +117,7 @@ impl Written for SituationSubscriptionWriting {
     }
 }
 
-#[tactic(auto, using(crate::proofs::InOrder::context_in_order), unfolding(crate::specs::WrittenSubscriptions::written_context))]
+#[tactic(auto, using(crate::proofs::InOrder::context_in_order), unfolding(crate::specs::Subscriptions::written_context))]
 fn context_row(out: &mut Output, heartbeat: &Option<Span>) -> Result<(), OutOfMemory>
     ensures { OnOk result (out.new ≡ out.old ++ row_tokens SUBSCRIPTION_CONTEXT.now (written_context heartbeat.now)) }
 {
@@ -174,7 +174,7 @@ impl Written for ResponseStatusWriting {
 
     ghost writing = { written_response_status };
 
-    #[tactic(auto, using(crate::proofs::InOrder::response_status_in_order), unfolding(crate::specs::WrittenSubscriptions::written_response_status))]
+    #[tactic(auto, using(crate::proofs::InOrder::response_status_in_order), unfolding(crate::specs::Subscriptions::written_response_status))]
     fn write(out: &mut Output, status: &ResponseStatus) -> Result<(), OutOfMemory> {
         out.begin_object()?;
         optional::<ErrorWriting>(out, names::ERROR_CONDITION, &status.error_condition)?;
@@ -229,7 +229,7 @@ impl Written for TerminationStatusWriting {
 
     ghost writing = { written_termination_status };
 
-    #[tactic(auto, using(crate::proofs::InOrder::termination_status_in_order), unfolding(crate::specs::WrittenSubscriptions::written_termination_status))]
+    #[tactic(auto, using(crate::proofs::InOrder::termination_status_in_order), unfolding(crate::specs::Terminations::written_termination_status))]
     fn write(out: &mut Output, status: &TerminationResponseStatus) -> Result<(), OutOfMemory> {
         out.begin_object()?;
         optional::<ErrorWriting>(out, names::ERROR_CONDITION, &status.error_condition)?;

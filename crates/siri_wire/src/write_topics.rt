@@ -1,11 +1,10 @@
 //! Writing topics.
 
-ghost use Rattle.std.specs.Prelude.{◌≡◌, ◌++◌, Option, OnOk, option_and_then};
-ghost use Rattle.serde_json.specs.Data.{Data};
+ghost use Rattle.std.specs.Prelude.{◌≡◌, ◌++◌, OnOk};
 ghost use Rattle.siri_json.specs.Tokens.{tokens_of};
-ghost use Rattle.siri_tables.specs.Appended.{row_tokens, Appends};
+ghost use Rattle.siri_tables.specs.Appended.{row_tokens};
 ghost use Rattle.siri_wire.specs.declared.names.TheConstants.{LINES};
-ghost use Rattle.siri_wire.specs.WrittenTopics.{written_stop_topic, written_line_direction, written_lines, written_timetable_topic, written_vehicle_topic, written_situation_topic, written_topic, topic_writing};
+ghost use Rattle.siri_wire.specs.Topics.{written_stop_topic, written_line_direction, written_lines, written_timetable_topic, written_vehicle_topic, written_situation_topic, written_topic, topic_writing};
 
 use crate::names;
 use siri_base::{List, OutOfMemory};
@@ -38,7 +37,7 @@ impl Written for LineDirectionWriting {
 
     ghost writing = { written_line_direction };
 
-    #[tactic(auto, using(crate::proofs::InOrder::line_direction_in_order), unfolding(crate::specs::WrittenTopics::written_line_direction))]
+    #[tactic(auto, using(crate::proofs::InOrder::line_direction_in_order), unfolding(crate::specs::Topics::written_line_direction))]
     fn write(out: &mut Output, line: &LineDirection) -> Result<(), OutOfMemory> {
         out.begin_object()?;
         optional::<NameRule>(out, item_names::DIRECTION_REF, &line.direction_ref)?;
@@ -47,7 +46,7 @@ impl Written for LineDirectionWriting {
     }
 }
 
-#[tactic(auto, unfolding(crate::specs::WrittenTopics::written_lines))]
+#[tactic(auto, unfolding(crate::specs::Topics::written_lines))]
 fn lines_row(out: &mut Output, lines: &List<LineDirection>) -> Result<(), OutOfMemory>
     ensures { OnOk result (out.new ≡ out.old ++ row_tokens LINES.now (written_lines lines.now)) }
 {
@@ -89,7 +88,7 @@ fn write_situation_topic(out: &mut Output, topic: &SituationTopic) -> Result<(),
     out.end_object()
 }
 
-#[tactic(auto, unfolding(crate::specs::WrittenTopics::written_topic))]
+#[tactic(auto, unfolding(crate::specs::Topics::written_topic))]
 fn write_topic(out: &mut Output, topic: &Topic) -> Result<(), OutOfMemory>
     ensures { OnOk result (out.new ≡ out.old ++ tokens_of (written_topic topic.now)) }
 {

@@ -1,8 +1,7 @@
 //! Writing what several messages have: errors, marks, and values in forms of their own.
 
-ghost use Rattle.std.specs.Prelude.{◌≡◌, ◌++◌, Option, OnOk, option_and_then};
-ghost use Rattle.serde_json.specs.Data.{Data};
-ghost use Rattle.siri_tables.specs.Appended.{row_tokens, Appends};
+ghost use Rattle.std.specs.Prelude.{◌≡◌, ◌++◌, OnOk};
+ghost use Rattle.siri_tables.specs.Appended.{row_tokens};
 ghost use Rattle.siri_wire.specs.WrittenValues.{written_identifier, written_where_true, written_error, written_mark};
 
 use crate::names;

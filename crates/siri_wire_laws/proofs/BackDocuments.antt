@@ -18,27 +18,24 @@ use Rattle.siri_tables.proofs.BackValues.{table_back}
 use Rattle.siri_tables.proofs.BackLists.{only_row}
 use Rattle.siri_tables.proofs.CanonicalParts.{are_ascii, IsCanonicalWithin, row_within, ◌then◌, object_within}
 use Rattle.siri_tables.proofs.RowSpells.{required_row_ok}
+use Rattle.siri_tables.proofs.TableLaws.{written_read, table_within}
 use Rattle.siri_wire.specs.declared.kinds.Kind.{Kind}
 use Rattle.siri_wire.specs.declared.names.TheConstants.{SIRI, CHECK_STATUS_REQUEST, CHECK_STATUS_RESPONSE, DATA_READY_ACKNOWLEDGEMENT, DATA_READY_NOTIFICATION, DATA_RECEIVED_ACKNOWLEDGEMENT, DATA_SUPPLY_REQUEST, HEARTBEAT_NOTIFICATION, SERVICE_DELIVERY, SERVICE_REQUEST, SUBSCRIPTION_REQUEST, SUBSCRIPTION_RESPONSE, TERMINATE_SUBSCRIPTION_REQUEST, TERMINATE_SUBSCRIPTION_RESPONSE}
 use Rattle.siri_wire.specs.Canonical.{written_body, written_message, canonical}
-use Rattle.siri_wire.specs.Deliveries.{service_delivery}
+use Rattle.siri_wire.specs.Deliveries.{service_delivery, written_service_delivery}
 use Rattle.siri_wire.specs.Documents.{kinds, name_of, message_at, is_member_there, holds, held, only, only_held, siri, root, message_of}
 use Rattle.siri_wire_laws.specs.ProperMessages.{IsProper}
-use Rattle.siri_wire.specs.Requests.{service_request}
+use Rattle.siri_wire.specs.Requests.{service_request, written_service_request}
 use Rattle.siri_wire_laws.specs.SpellingDocuments.{kind_in}
-use Rattle.siri_wire.specs.Statuses.{check_status_request, check_status_response, heartbeat_notification}
-use Rattle.siri_wire.specs.Subscriptions.{subscription_request, subscription_response}
-use Rattle.siri_wire.specs.Supplies.{data_ready_notification, data_ready_acknowledgement, data_supply_request, data_received_acknowledgement}
-use Rattle.siri_wire.specs.Terminations.{termination_request, termination_response}
-use Rattle.siri_wire.specs.WrittenDeliveries.{written_service_delivery}
-use Rattle.siri_wire.specs.WrittenRequests.{written_service_request, written_data_ready, written_ready_acknowledgement, written_supply, written_received, written_check_status, written_status_response, written_heartbeat}
-use Rattle.siri_wire.specs.WrittenSubscriptions.{written_subscription_request, written_subscription_response, written_termination, written_termination_response}
-use Rattle.siri_wire_laws.proofs.BackDeliveries.{service_delivery_back}
-use Rattle.siri_wire_laws.proofs.BackRequests.{service_request_back, subscription_request_back, subscription_response_back, termination_request_back, termination_response_back}
-use Rattle.siri_wire_laws.proofs.BackSupplies.{ready_back, ready_acknowledgement_back, supply_back, received_back, check_back, check_response_back, heartbeat_back}
-use Rattle.siri_wire_laws.proofs.CanonicalDeliveries.{service_delivery_within}
-use Rattle.siri_wire_laws.proofs.CanonicalRequests.{service_request_canonical, subscription_request_canonical, subscription_response_canonical, termination_request_canonical, termination_response_canonical}
-use Rattle.siri_wire_laws.proofs.CanonicalSupplies.{ready_within, ready_acknowledgement_within, supply_within, received_within, check_within, check_response_within, heartbeat_within}
+use Rattle.siri_wire.specs.Statuses.{check_status_request, check_status_response, heartbeat_notification, written_check_status, written_status_response, written_heartbeat}
+use Rattle.siri_wire.specs.Subscriptions.{subscription_request, subscription_response, written_subscription_request, written_subscription_response}
+use Rattle.siri_wire.specs.Supplies.{data_ready_notification, data_ready_acknowledgement, data_supply_request, data_received_acknowledgement, written_data_ready, written_ready_acknowledgement, written_supply, written_received}
+use Rattle.siri_wire.specs.Terminations.{termination_request, termination_response, written_termination, written_termination_response}
+use Rattle.siri_tables.proofs.TableLaws.{written_read, table_within}
+use Rattle.siri_wire_laws.proofs.DeliveryTables.{service_delivery_laws}
+use Rattle.siri_wire_laws.proofs.SupplyTables.{ready_laws, ready_acknowledgement_laws, supply_laws, supply_back, received_laws, check_laws, check_response_laws, heartbeat_laws}
+use Rattle.siri_wire_laws.proofs.RequestTables.{service_request_back, service_request_within, subscription_response_laws, termination_response_laws}
+use Rattle.siri_wire_laws.proofs.SubscriptionTables.{subscription_request_back, subscription_request_within, termination_laws}
 
 -- ---- the object of a message under its name
 
@@ -77,18 +74,7 @@ only_named key ms = ap only (held_named key ms kinds)
 kind_is : (m : Message) → kind_named (kind_of m) ≡ Some (kind_in m)
 unfolding kind_named
 kind_is (message.ServiceRequest m) = refl
-kind_is (message.ServiceDelivery m) = refl
-kind_is (message.SubscriptionRequest m) = refl
-kind_is (message.SubscriptionResponse m) = refl
-kind_is (message.TerminateSubscriptionRequest m) = refl
-kind_is (message.TerminateSubscriptionResponse m) = refl
-kind_is (message.DataReadyNotification m) = refl
-kind_is (message.DataReadyAcknowledgement m) = refl
-kind_is (message.DataSupplyRequest m) = refl
-kind_is (message.DataReceivedAcknowledgement m) = refl
-kind_is (message.CheckStatusRequest m) = refl
-kind_is (message.CheckStatusResponse m) = refl
-kind_is (message.HeartbeatNotification m) = refl
+kind_is m = refl
 
 required_named : {A : Type 0} (rows : Data → Result A Refusal) (key : List ℕ) (ms : Members) (x : A) → rows (as_texts (object ms)) ≡ Ok x → required_row (table rows) key (found_named key ms) ≡ Ok x
 required_named rows key ms x is =
@@ -99,37 +85,26 @@ object_read rows d ms x is read = subst (λ (e : Data). rows (as_texts e) ≡ Ok
 
 -- a message's own object is read as the message
 body_back : (m : Message) (ms : Members) → IsProper m → written_body m ≡ object ms → message_at (kind_in m) (found_named (kind_of m) ms) ≡ Ok m
-unfolding written_body
+unfolding written_body subscription_response termination_request termination_response written_subscription_response written_termination written_termination_response service_delivery written_service_delivery data_ready_notification written_data_ready data_ready_acknowledgement written_ready_acknowledgement data_received_acknowledgement written_received check_status_request written_check_status check_status_response written_status_response heartbeat_notification written_heartbeat
 body_back (message.ServiceRequest m) ms p is = rw (required_named service_request SERVICE_REQUEST.now ms m (object_read service_request (written_service_request m) ms m is (service_request_back m p))) refl
-body_back (message.ServiceDelivery m) ms p is = rw (required_named service_delivery SERVICE_DELIVERY.now ms m (object_read service_delivery (written_service_delivery m) ms m is (service_delivery_back m p))) refl
+body_back (message.ServiceDelivery m) ms p is = rw (required_named service_delivery SERVICE_DELIVERY.now ms m (object_read service_delivery (written_service_delivery m) ms m is (written_read service_delivery_laws m p))) refl
 body_back (message.SubscriptionRequest m) ms p is = rw (required_named subscription_request SUBSCRIPTION_REQUEST.now ms m (object_read subscription_request (written_subscription_request m) ms m is (subscription_request_back m p))) refl
-body_back (message.SubscriptionResponse m) ms p is = rw (required_named subscription_response SUBSCRIPTION_RESPONSE.now ms m (object_read subscription_response (written_subscription_response m) ms m is (subscription_response_back m p))) refl
-body_back (message.TerminateSubscriptionRequest m) ms p is = rw (required_named termination_request TERMINATE_SUBSCRIPTION_REQUEST.now ms m (object_read termination_request (written_termination m) ms m is (termination_request_back m p))) refl
-body_back (message.TerminateSubscriptionResponse m) ms p is = rw (required_named termination_response TERMINATE_SUBSCRIPTION_RESPONSE.now ms m (object_read termination_response (written_termination_response m) ms m is (termination_response_back m p))) refl
-body_back (message.DataReadyNotification m) ms p is = rw (required_named data_ready_notification DATA_READY_NOTIFICATION.now ms m (object_read data_ready_notification (written_data_ready m) ms m is (ready_back m p))) refl
-body_back (message.DataReadyAcknowledgement m) ms p is = rw (required_named data_ready_acknowledgement DATA_READY_ACKNOWLEDGEMENT.now ms m (object_read data_ready_acknowledgement (written_ready_acknowledgement m) ms m is (ready_acknowledgement_back m p))) refl
+body_back (message.SubscriptionResponse m) ms p is = rw (required_named subscription_response SUBSCRIPTION_RESPONSE.now ms m (object_read subscription_response (written_subscription_response m) ms m is (written_read subscription_response_laws m p))) refl
+body_back (message.TerminateSubscriptionRequest m) ms p is = rw (required_named termination_request TERMINATE_SUBSCRIPTION_REQUEST.now ms m (object_read termination_request (written_termination m) ms m is (written_read termination_laws m p))) refl
+body_back (message.TerminateSubscriptionResponse m) ms p is = rw (required_named termination_response TERMINATE_SUBSCRIPTION_RESPONSE.now ms m (object_read termination_response (written_termination_response m) ms m is (written_read termination_response_laws m p))) refl
+body_back (message.DataReadyNotification m) ms p is = rw (required_named data_ready_notification DATA_READY_NOTIFICATION.now ms m (object_read data_ready_notification (written_data_ready m) ms m is (written_read ready_laws m p))) refl
+body_back (message.DataReadyAcknowledgement m) ms p is = rw (required_named data_ready_acknowledgement DATA_READY_ACKNOWLEDGEMENT.now ms m (object_read data_ready_acknowledgement (written_ready_acknowledgement m) ms m is (written_read ready_acknowledgement_laws m p))) refl
 body_back (message.DataSupplyRequest m) ms p is = rw (required_named data_supply_request DATA_SUPPLY_REQUEST.now ms m (object_read data_supply_request (written_supply m) ms m is (supply_back m p))) refl
-body_back (message.DataReceivedAcknowledgement m) ms p is = rw (required_named data_received_acknowledgement DATA_RECEIVED_ACKNOWLEDGEMENT.now ms m (object_read data_received_acknowledgement (written_received m) ms m is (received_back m p))) refl
-body_back (message.CheckStatusRequest m) ms p is = rw (required_named check_status_request CHECK_STATUS_REQUEST.now ms m (object_read check_status_request (written_check_status m) ms m is (check_back m p))) refl
-body_back (message.CheckStatusResponse m) ms p is = rw (required_named check_status_response CHECK_STATUS_RESPONSE.now ms m (object_read check_status_response (written_status_response m) ms m is (check_response_back m p))) refl
-body_back (message.HeartbeatNotification m) ms p is = rw (required_named heartbeat_notification HEARTBEAT_NOTIFICATION.now ms m (object_read heartbeat_notification (written_heartbeat m) ms m is (heartbeat_back m p))) refl
+body_back (message.DataReceivedAcknowledgement m) ms p is = rw (required_named data_received_acknowledgement DATA_RECEIVED_ACKNOWLEDGEMENT.now ms m (object_read data_received_acknowledgement (written_received m) ms m is (written_read received_laws m p))) refl
+body_back (message.CheckStatusRequest m) ms p is = rw (required_named check_status_request CHECK_STATUS_REQUEST.now ms m (object_read check_status_request (written_check_status m) ms m is (written_read check_laws m p))) refl
+body_back (message.CheckStatusResponse m) ms p is = rw (required_named check_status_response CHECK_STATUS_RESPONSE.now ms m (object_read check_status_response (written_status_response m) ms m is (written_read check_response_laws m p))) refl
+body_back (message.HeartbeatNotification m) ms p is = rw (required_named heartbeat_notification HEARTBEAT_NOTIFICATION.now ms m (object_read heartbeat_notification (written_heartbeat m) ms m is (written_read heartbeat_laws m p))) refl
 
 -- it is an object
 body_members : (m : Message) → (ms : Members) × (written_body m ≡ object ms)
 unfolding written_body written_service_request written_service_delivery written_subscription_request written_subscription_response written_termination written_termination_response written_data_ready written_ready_acknowledgement written_supply written_received written_check_status written_status_response written_heartbeat
 body_members (message.ServiceRequest m) = (_, refl)
-body_members (message.ServiceDelivery m) = (_, refl)
-body_members (message.SubscriptionRequest m) = (_, refl)
-body_members (message.SubscriptionResponse m) = (_, refl)
-body_members (message.TerminateSubscriptionRequest m) = (_, refl)
-body_members (message.TerminateSubscriptionResponse m) = (_, refl)
-body_members (message.DataReadyNotification m) = (_, refl)
-body_members (message.DataReadyAcknowledgement m) = (_, refl)
-body_members (message.DataSupplyRequest m) = (_, refl)
-body_members (message.DataReceivedAcknowledgement m) = (_, refl)
-body_members (message.CheckStatusRequest m) = (_, refl)
-body_members (message.CheckStatusResponse m) = (_, refl)
-body_members (message.HeartbeatNotification m) = (_, refl)
+body_members m = (_, refl)
 
 siri_back : (m : Message) (ms : Members) → IsProper m → written_body m ≡ object ms → siri (found_named (kind_of m) ms) ≡ Ok m
 unfolding siri
@@ -151,35 +126,24 @@ message_back m p =
 -- ---- their one text
 
 pub body_within : (m : Message) → IsProper m → IsCanonicalWithin 13 (written_body m)
-unfolding written_body
-body_within (message.ServiceRequest m) p = let is = service_request_canonical m p in record { canonical = is.0; shallow = omega (arith, is.1) }
-body_within (message.ServiceDelivery m) p = service_delivery_within m p
-body_within (message.SubscriptionRequest m) p = let is = subscription_request_canonical m p in record { canonical = is.0; shallow = omega (arith, is.1) }
-body_within (message.SubscriptionResponse m) p = let is = subscription_response_canonical m p in record { canonical = is.0; shallow = omega (arith, is.1) }
-body_within (message.TerminateSubscriptionRequest m) p = let is = termination_request_canonical m p in record { canonical = is.0; shallow = omega (arith, is.1) }
-body_within (message.TerminateSubscriptionResponse m) p = let is = termination_response_canonical m p in record { canonical = is.0; shallow = omega (arith, is.1) }
-body_within (message.DataReadyNotification m) p = let is = ready_within m p in record { canonical = is.canonical; shallow = omega (arith, is.shallow) }
-body_within (message.DataReadyAcknowledgement m) p = let is = ready_acknowledgement_within m p in record { canonical = is.canonical; shallow = omega (arith, is.shallow) }
-body_within (message.DataSupplyRequest m) p = let is = supply_within m p in record { canonical = is.canonical; shallow = omega (arith, is.shallow) }
-body_within (message.DataReceivedAcknowledgement m) p = let is = received_within m p in record { canonical = is.canonical; shallow = omega (arith, is.shallow) }
-body_within (message.CheckStatusRequest m) p = let is = check_within m p in record { canonical = is.canonical; shallow = omega (arith, is.shallow) }
-body_within (message.CheckStatusResponse m) p = let is = check_response_within m p in record { canonical = is.canonical; shallow = omega (arith, is.shallow) }
-body_within (message.HeartbeatNotification m) p = let is = heartbeat_within m p in record { canonical = is.canonical; shallow = omega (arith, is.shallow) }
+unfolding written_body written_subscription_response written_termination written_termination_response written_service_delivery written_data_ready written_ready_acknowledgement written_supply written_received written_check_status written_status_response written_heartbeat
+body_within (message.ServiceRequest m) p = let is = service_request_within m p in record { canonical = is.canonical; shallow = omega (arith, is.shallow) }
+body_within (message.ServiceDelivery m) p = table_within service_delivery_laws m p
+body_within (message.SubscriptionRequest m) p = let is = subscription_request_within m p in record { canonical = is.canonical; shallow = omega (arith, is.shallow) }
+body_within (message.SubscriptionResponse m) p = let is = table_within subscription_response_laws m p in record { canonical = is.canonical; shallow = omega (arith, is.shallow) }
+body_within (message.TerminateSubscriptionRequest m) p = let is = table_within termination_laws m p in record { canonical = is.canonical; shallow = omega (arith, is.shallow) }
+body_within (message.TerminateSubscriptionResponse m) p = let is = table_within termination_response_laws m p in record { canonical = is.canonical; shallow = omega (arith, is.shallow) }
+body_within (message.DataReadyNotification m) p = let is = table_within ready_laws m p in record { canonical = is.canonical; shallow = omega (arith, is.shallow) }
+body_within (message.DataReadyAcknowledgement m) p = let is = table_within ready_acknowledgement_laws m p in record { canonical = is.canonical; shallow = omega (arith, is.shallow) }
+body_within (message.DataSupplyRequest m) p = let is = table_within supply_laws m p.0 in record { canonical = is.canonical; shallow = omega (arith, is.shallow) }
+body_within (message.DataReceivedAcknowledgement m) p = let is = table_within received_laws m p in record { canonical = is.canonical; shallow = omega (arith, is.shallow) }
+body_within (message.CheckStatusRequest m) p = let is = table_within check_laws m p in record { canonical = is.canonical; shallow = omega (arith, is.shallow) }
+body_within (message.CheckStatusResponse m) p = let is = table_within check_response_laws m p in record { canonical = is.canonical; shallow = omega (arith, is.shallow) }
+body_within (message.HeartbeatNotification m) p = let is = table_within heartbeat_laws m p in record { canonical = is.canonical; shallow = omega (arith, is.shallow) }
 
 ascii_kind : (m : Message) → are_ascii (kind_of m) ≡ true
 ascii_kind (message.ServiceRequest m) = refl
-ascii_kind (message.ServiceDelivery m) = refl
-ascii_kind (message.SubscriptionRequest m) = refl
-ascii_kind (message.SubscriptionResponse m) = refl
-ascii_kind (message.TerminateSubscriptionRequest m) = refl
-ascii_kind (message.TerminateSubscriptionResponse m) = refl
-ascii_kind (message.DataReadyNotification m) = refl
-ascii_kind (message.DataReadyAcknowledgement m) = refl
-ascii_kind (message.DataSupplyRequest m) = refl
-ascii_kind (message.DataReceivedAcknowledgement m) = refl
-ascii_kind (message.CheckStatusRequest m) = refl
-ascii_kind (message.CheckStatusResponse m) = refl
-ascii_kind (message.HeartbeatNotification m) = refl
+ascii_kind m = refl
 
 pub message_within : (m : Message) → IsProper m → IsCanonicalWithin 15 (written_message m)
 unfolding written_message

@@ -1,7 +1,7 @@
 -- A message that a document spells is proper, so that its canonical text is a document of it.
 use Rattle.std.proofs.Common.{◌≡◌, ℕ, ◌≤◌, Bool, true, false, nat_lt, List, [], ◌∷◌, ◌++◌, length, Option, Some, None, Ok, refl}
 use Rattle.std.specs.Prelude.{IfSome, IsSomeAnd, if◌then◌else◌}
-use Rattle.serde_json.specs.Data.{Data, null, boolean, number, string, array, object}
+use Rattle.serde_json.specs.Data.{Data, object}
 use Rattle.siri_base.specs.declared.reason.Reason.TheVariants.{TooLong}
 use Rattle.siri_json.specs.Tree.{tree_of}
 use Rattle.siri_json.specs.Values.{Found, found, absent, wrong, member_of, object_in}
@@ -12,31 +12,35 @@ use Rattle.siri_tables.specs.Refusals.{refused}
 use Rattle.siri_tables.specs.Spelling.{IfFound}
 use Rattle.siri_json.specs.TextsOfTrees.{TextsAreUtf8}
 use Rattle.siri_tables.proofs.ProperParts.{OnFound, member_is, object_is}
+use Rattle.siri_tables.proofs.TableLaws.{spelled_proper}
 use Rattle.siri_wire.specs.declared.names.TheConstants.{SIRI}
 use Rattle.siri_wire.specs.Canonical.{canonical}
 use Rattle.siri_wire.specs.Documents.{root, message_in, message_of}
 use Rattle.siri_wire_laws.specs.ProperMessages.{IsProper}
 use Rattle.siri_wire_laws.specs.SpellingDocuments.{HasObject, SpellsBody, SpellsSiri, SpellsRoot}
+use Rattle.siri_tables.proofs.TableLaws.{spelled_proper}
+use Rattle.siri_wire_laws.proofs.DeliveryTables.{service_delivery_laws}
+use Rattle.siri_wire_laws.proofs.SupplyTables.{ready_laws, ready_acknowledgement_laws, supply_laws, received_laws, check_laws, check_response_laws, heartbeat_laws}
 use Rattle.siri_wire_laws.proofs.BackDocuments.{canonical_read, line_read}
-use Rattle.siri_wire_laws.proofs.ProperReadDeliveries.{ready_proper, ready_acknowledgement_proper, supply_proper, received_proper, check_proper, check_response_proper, heartbeat_proper, service_delivery_proper}
-use Rattle.siri_wire_laws.proofs.ProperReadRequests.{service_request_proper, subscription_request_proper, subscription_response_proper, termination_request_proper, termination_response_proper}
+use Rattle.siri_wire_laws.proofs.SubscriptionTables.{subscription_request_proper, termination_laws}
+use Rattle.siri_wire_laws.proofs.RequestTables.{service_request_proper, subscription_response_laws, termination_response_laws}
 use Rattle.siri_wire_laws.proofs.ReadIffSpells.{root_spelled}
 use Rattle.siri_json.proofs.TreeTexts.{tree_is_utf8}
 
 body_proper : (d : Data) (m : Message) → TextsAreUtf8 d → SpellsBody d m → IsProper m
 body_proper d (message.ServiceRequest m) u s_ = service_request_proper d m u s_
-body_proper d (message.ServiceDelivery m) u s_ = service_delivery_proper d m u s_
+body_proper d (message.ServiceDelivery m) u s_ = spelled_proper service_delivery_laws d m u s_
 body_proper d (message.SubscriptionRequest m) u s_ = subscription_request_proper d m u s_
-body_proper d (message.SubscriptionResponse m) u s_ = subscription_response_proper d m u s_
-body_proper d (message.TerminateSubscriptionRequest m) u s_ = termination_request_proper d m u s_
-body_proper d (message.TerminateSubscriptionResponse m) u s_ = termination_response_proper d m u s_
-body_proper d (message.DataReadyNotification m) u s_ = ready_proper d m u s_
-body_proper d (message.DataReadyAcknowledgement m) u s_ = ready_acknowledgement_proper d m u s_
-body_proper d (message.DataSupplyRequest m) u s_ = supply_proper d m u s_
-body_proper d (message.DataReceivedAcknowledgement m) u s_ = received_proper d m u s_
-body_proper d (message.CheckStatusRequest m) u s_ = check_proper d m u s_
-body_proper d (message.CheckStatusResponse m) u s_ = check_response_proper d m u s_
-body_proper d (message.HeartbeatNotification m) u s_ = heartbeat_proper d m u s_
+body_proper d (message.SubscriptionResponse m) u s_ = spelled_proper subscription_response_laws d m u s_
+body_proper d (message.TerminateSubscriptionRequest m) u s_ = spelled_proper termination_laws d m u s_
+body_proper d (message.TerminateSubscriptionResponse m) u s_ = spelled_proper termination_response_laws d m u s_
+body_proper d (message.DataReadyNotification m) u s_ = spelled_proper ready_laws d m u s_
+body_proper d (message.DataReadyAcknowledgement m) u s_ = spelled_proper ready_acknowledgement_laws d m u s_
+body_proper d (message.DataSupplyRequest m) u s_ = (spelled_proper supply_laws d m u s_.0, s_.1)
+body_proper d (message.DataReceivedAcknowledgement m) u s_ = spelled_proper received_laws d m u s_
+body_proper d (message.CheckStatusRequest m) u s_ = spelled_proper check_laws d m u s_
+body_proper d (message.CheckStatusResponse m) u s_ = spelled_proper check_response_laws d m u s_
+body_proper d (message.HeartbeatNotification m) u s_ = spelled_proper heartbeat_laws d m u s_
 
 -- ---- objects at a name
 
@@ -59,11 +63,7 @@ siri_proper d m u s_ = object_then (kind_of m) d (λ o. SpellsBody o m) u s_.bod
 
 root_proper : (d : Data) (m : Message) → TextsAreUtf8 d → SpellsRoot d m → IsProper m
 root_proper (object ms) m u s_ = object_then SIRI.now (object ms) (λ o. SpellsSiri o m) u s_ (λ e v is. siri_proper e m v is)
-root_proper null m u s_ = absurd s_
-root_proper (boolean b) m u s_ = absurd s_
-root_proper (number n) m u s_ = absurd s_
-root_proper (string s) m u s_ = absurd s_
-root_proper (array ds) m u s_ = absurd s_
+root_proper d m u s_ = absurd s_
 
 -- what is read of a tree with UTF-8 texts is proper
 pub message_proper : (d : Data) (m : Message) → TextsAreUtf8 d → root d ≡ Ok m → IsProper m

@@ -67,7 +67,7 @@ unless_absent P false (Err e) is = tt
 
 -- ---- errors
 
-error_yields : Yields other_error IsText
+pub error_yields : Yields other_error IsText
 unfolding other_error
 error_yields = λ d u. inside_yields (inside text ERROR_TEXT.now) IsText (inside_yields text IsText text_yields ERROR_TEXT.now) OTHER_ERROR.now d u
 

@@ -2,7 +2,7 @@
 use Rattle.std.proofs.Common.{◌≡◌, ℕ, Bool, true, false, nat_lt, List, length, Option, Some, None, Result, Ok, refl, sym, ap, ◌∙◌, subst}
 use Rattle.std.specs.Prelude.{IsSomeAnd, if◌then◌else◌}
 use Rattle.std.proofs.lemmas.Bool.{le-ltb, ltb-false}
-use Rattle.serde_json.specs.Data.{Data, null, boolean, number, string, array, object}
+use Rattle.serde_json.specs.Data.{Data, object}
 use Rattle.siri_base.specs.declared.reason.Reason.TheVariants.{TooLong}
 use Rattle.siri_json.specs.Tree.{tree_of}
 use Rattle.siri_json.specs.Values.{Found, found, absent, wrong, member_of, object_in}
@@ -12,33 +12,27 @@ use Rattle.siri_messages.specs.Kinds.{kind_of}
 use Rattle.siri_tables.specs.Refusals.{Refusal, ◌>>=◌, refused, each}
 use Rattle.siri_tables.specs.Rules.{table, unless_wrong, maybe, required_row}
 use Rattle.siri_tables.specs.Spelling.{IfFound}
-use Rattle.siri_tables.proofs.RowSpells.{required_row_ok, bind_ok, required_row_spelled}
+use Rattle.siri_tables.specs.Tables.{AllSpelled}
+use Rattle.siri_tables.proofs.RowSpells.{some, done, ok_is, required_row_ok, bind_ok, required_row_spelled}
+use Rattle.siri_tables.proofs.TableLaws.{read_spelled, spelled_read}
 use Rattle.siri_wire.specs.declared.kinds.Kind.{Kind}
 use Rattle.siri_wire.specs.declared.kinds.Kind.TheVariants as kind
 use Rattle.siri_wire.specs.declared.names.TheConstants.{SIRI, CHECK_STATUS_REQUEST, CHECK_STATUS_RESPONSE, DATA_READY_ACKNOWLEDGEMENT, DATA_READY_NOTIFICATION, DATA_RECEIVED_ACKNOWLEDGEMENT, DATA_SUPPLY_REQUEST, HEARTBEAT_NOTIFICATION, SERVICE_DELIVERY, SERVICE_REQUEST, SUBSCRIPTION_REQUEST, SUBSCRIPTION_RESPONSE, TERMINATE_SUBSCRIPTION_REQUEST, TERMINATE_SUBSCRIPTION_RESPONSE}
-use Rattle.siri_wire.specs.Deliveries.{service_delivery}
+use Rattle.siri_wire.specs.Deliveries.{service_delivery_table, service_delivery}
 use Rattle.siri_wire.specs.Documents.{message_at, message_or, only_held, siri, root, message_in, message_of}
 use Rattle.siri_wire.specs.Requests.{service_request}
-use Rattle.siri_wire_laws.specs.SpellingDeliveries.{SpellsReady, SpellsReadyAcknowledgement, SpellsSupply, SpellsReceived, SpellsCheck, SpellsCheckResponse, SpellsHeartbeat, SpellsServiceDelivery}
+use Rattle.siri_wire_laws.specs.SpellingDeliveries.{SpellsSupply}
 use Rattle.siri_wire_laws.specs.SpellingRequests.{SpellsServiceRequest, SpellsSubscriptionRequest, SpellsSubscriptionResponse, SpellsTerminationRequest, SpellsTerminationResponse}
 use Rattle.siri_wire_laws.specs.SpellingDocuments.{HasObject, kind_in, SpellsBody, SpellsSiri, SpellsRoot, SpellsDocument}
-use Rattle.siri_wire.specs.Statuses.{check_status_request, check_status_response, heartbeat_notification}
+use Rattle.siri_wire.specs.Statuses.{check_table, check_response_table, heartbeat_table, check_status_request, check_status_response, heartbeat_notification}
 use Rattle.siri_wire.specs.Subscriptions.{subscription_request, subscription_response}
-use Rattle.siri_wire.specs.Supplies.{data_ready_notification, data_ready_acknowledgement, data_supply_request, data_received_acknowledgement}
+use Rattle.siri_wire.specs.Supplies.{ready_table, ready_acknowledgement_table, received_table, data_ready_notification, data_ready_acknowledgement, data_supply_request, data_received_acknowledgement}
 use Rattle.siri_wire.specs.Terminations.{termination_request, termination_response}
-use Rattle.siri_wire_laws.proofs.SpellsImpliesReadDeliveries.{ready_read, ready_acknowledgement_read, supply_request_read, received_read, check_read, check_response_read, heartbeat_read, service_delivery_read}
-use Rattle.siri_wire_laws.proofs.SpellsImpliesReadRequests.{service_request_read, subscription_request_read, subscription_response_read, termination_request_read, termination_response_read}
-use Rattle.siri_wire_laws.proofs.ReadImpliesSpellsDeliveries.{ready_spelled, ready_acknowledgement_spelled, supply_spelled, received_spelled, check_spelled, check_response_spelled, heartbeat_spelled, service_delivery_spelled}
-use Rattle.siri_wire_laws.proofs.ReadImpliesSpellsRequests.{service_request_spelled, subscription_request_spelled, subscription_response_spelled, termination_request_spelled, termination_response_spelled}
-
-abbrev some : {A : Type 0} → A → Option A
-some x = Some x
-
-abbrev done : {A : Type 0} → A → Result A Refusal
-done x = Ok x
-
-ok_is : {A : Type 0} (x y : A) → done x ≡ done y → x ≡ y
-ok_is x y e = cc
+use Rattle.siri_tables.proofs.TableLaws.{read_spelled, spelled_read}
+use Rattle.siri_wire_laws.proofs.DeliveryTables.{service_delivery_laws}
+use Rattle.siri_wire_laws.proofs.SupplyTables.{ready_laws, ready_acknowledgement_laws, supply_spelled, supply_reads, received_laws, check_laws, check_response_laws, heartbeat_laws}
+use Rattle.siri_wire_laws.proofs.RequestTables.{service_request_spelled, service_request_read, subscription_response_laws, termination_response_laws}
+use Rattle.siri_wire_laws.proofs.SubscriptionTables.{subscription_request_spelled, subscription_request_read, termination_laws}
 
 once_done : {A : Type 0} (x y : A) → done (some x) ≡ done (some y) → done x ≡ done y
 once_done x y e = cc
@@ -87,74 +81,45 @@ record SpellsAt (k : Kind) (d : Data) (m : Message) : Type 0 where
   of_kind : kind_in m ≡ k
   body : HasObject (kind_of m) d (λ o. SpellsBody o m)
 
+-- what is read at the name of a kind is a message of that kind, and spelled there
+kind_spelled : {A : Type 0} (rows : Data → Result A Refusal) (made : A → Message) (k : Kind) (key : List ℕ) (d : Data) (m : Message) → ((x : A) → kind_in (made x) ≡ k) → ((x : A) → kind_of (made x) ≡ key)
+    → ((o : Data) (x : A) → rows o ≡ Ok x → SpellsBody o (made x)) → (required_row (table rows) key d >>= λ x. done (made x)) ≡ Ok m → SpellsAt k d m
+kind_spelled rows made k key d m of_kind of_name h e =
+    let r = bind_ok (required_row (table rows) key d) _ m e in
+    let body : HasObject key d (λ o. SpellsBody o (made r.0)) = required_row_is rows (λ o x. SpellsBody o (made x)) key d r.0 (λ o is. h o r.0 is) r.1 in
+    subst (λ (x : Message). SpellsAt k d x) (ok_is (made r.0) m r.2) (record { of_kind = of_kind r.0; body = rw (of_name r.0) body })
+
 at_spelled : (k : Kind) (d : Data) (m : Message) → message_at k d ≡ Ok m → SpellsAt k d m
-at_spelled kind.ServiceRequest d m e =
-    let r = bind_ok (required_row (table service_request) SERVICE_REQUEST.now d) _ m e in
-    subst (λ (x : Message). SpellsAt kind.ServiceRequest d x) (ok_is (message.ServiceRequest r.0) m r.2)
-    (record { of_kind = refl; body = required_row_is service_request (λ o x. SpellsServiceRequest o x) SERVICE_REQUEST.now d r.0 (λ o is. service_request_spelled o r.0 is) r.1 })
-at_spelled kind.ServiceDelivery d m e =
-    let r = bind_ok (required_row (table service_delivery) SERVICE_DELIVERY.now d) _ m e in
-    subst (λ (x : Message). SpellsAt kind.ServiceDelivery d x) (ok_is (message.ServiceDelivery r.0) m r.2)
-    (record { of_kind = refl; body = required_row_is service_delivery (λ o x. SpellsServiceDelivery o x) SERVICE_DELIVERY.now d r.0 (λ o is. service_delivery_spelled o r.0 is) r.1 })
-at_spelled kind.SubscriptionRequest d m e =
-    let r = bind_ok (required_row (table subscription_request) SUBSCRIPTION_REQUEST.now d) _ m e in
-    subst (λ (x : Message). SpellsAt kind.SubscriptionRequest d x) (ok_is (message.SubscriptionRequest r.0) m r.2)
-    (record { of_kind = refl; body = required_row_is subscription_request (λ o x. SpellsSubscriptionRequest o x) SUBSCRIPTION_REQUEST.now d r.0 (λ o is. subscription_request_spelled o r.0 is) r.1 })
-at_spelled kind.SubscriptionResponse d m e =
-    let r = bind_ok (required_row (table subscription_response) SUBSCRIPTION_RESPONSE.now d) _ m e in
-    subst (λ (x : Message). SpellsAt kind.SubscriptionResponse d x) (ok_is (message.SubscriptionResponse r.0) m r.2)
-    (record { of_kind = refl; body = required_row_is subscription_response (λ o x. SpellsSubscriptionResponse o x) SUBSCRIPTION_RESPONSE.now d r.0 (λ o is. subscription_response_spelled o r.0 is) r.1 })
-at_spelled kind.TerminateSubscriptionRequest d m e =
-    let r = bind_ok (required_row (table termination_request) TERMINATE_SUBSCRIPTION_REQUEST.now d) _ m e in
-    subst (λ (x : Message). SpellsAt kind.TerminateSubscriptionRequest d x) (ok_is (message.TerminateSubscriptionRequest r.0) m r.2)
-    (record { of_kind = refl; body = required_row_is termination_request (λ o x. SpellsTerminationRequest o x) TERMINATE_SUBSCRIPTION_REQUEST.now d r.0 (λ o is. termination_request_spelled o r.0 is) r.1 })
-at_spelled kind.TerminateSubscriptionResponse d m e =
-    let r = bind_ok (required_row (table termination_response) TERMINATE_SUBSCRIPTION_RESPONSE.now d) _ m e in
-    subst (λ (x : Message). SpellsAt kind.TerminateSubscriptionResponse d x) (ok_is (message.TerminateSubscriptionResponse r.0) m r.2)
-    (record { of_kind = refl; body = required_row_is termination_response (λ o x. SpellsTerminationResponse o x) TERMINATE_SUBSCRIPTION_RESPONSE.now d r.0 (λ o is. termination_response_spelled o r.0 is) r.1 })
-at_spelled kind.DataReadyNotification d m e =
-    let r = bind_ok (required_row (table data_ready_notification) DATA_READY_NOTIFICATION.now d) _ m e in
-    subst (λ (x : Message). SpellsAt kind.DataReadyNotification d x) (ok_is (message.DataReadyNotification r.0) m r.2)
-    (record { of_kind = refl; body = required_row_is data_ready_notification (λ o x. SpellsReady o x) DATA_READY_NOTIFICATION.now d r.0 (λ o is. ready_spelled o r.0 is) r.1 })
-at_spelled kind.DataReadyAcknowledgement d m e =
-    let r = bind_ok (required_row (table data_ready_acknowledgement) DATA_READY_ACKNOWLEDGEMENT.now d) _ m e in
-    subst (λ (x : Message). SpellsAt kind.DataReadyAcknowledgement d x) (ok_is (message.DataReadyAcknowledgement r.0) m r.2)
-    (record { of_kind = refl; body = required_row_is data_ready_acknowledgement (λ o x. SpellsReadyAcknowledgement o x) DATA_READY_ACKNOWLEDGEMENT.now d r.0 (λ o is. ready_acknowledgement_spelled o r.0 is) r.1 })
-at_spelled kind.DataSupplyRequest d m e =
-    let r = bind_ok (required_row (table data_supply_request) DATA_SUPPLY_REQUEST.now d) _ m e in
-    subst (λ (x : Message). SpellsAt kind.DataSupplyRequest d x) (ok_is (message.DataSupplyRequest r.0) m r.2)
-    (record { of_kind = refl; body = required_row_is data_supply_request (λ o x. SpellsSupply o x) DATA_SUPPLY_REQUEST.now d r.0 (λ o is. supply_spelled o r.0 is) r.1 })
-at_spelled kind.DataReceivedAcknowledgement d m e =
-    let r = bind_ok (required_row (table data_received_acknowledgement) DATA_RECEIVED_ACKNOWLEDGEMENT.now d) _ m e in
-    subst (λ (x : Message). SpellsAt kind.DataReceivedAcknowledgement d x) (ok_is (message.DataReceivedAcknowledgement r.0) m r.2)
-    (record { of_kind = refl; body = required_row_is data_received_acknowledgement (λ o x. SpellsReceived o x) DATA_RECEIVED_ACKNOWLEDGEMENT.now d r.0 (λ o is. received_spelled o r.0 is) r.1 })
-at_spelled kind.CheckStatusRequest d m e =
-    let r = bind_ok (required_row (table check_status_request) CHECK_STATUS_REQUEST.now d) _ m e in
-    subst (λ (x : Message). SpellsAt kind.CheckStatusRequest d x) (ok_is (message.CheckStatusRequest r.0) m r.2)
-    (record { of_kind = refl; body = required_row_is check_status_request (λ o x. SpellsCheck o x) CHECK_STATUS_REQUEST.now d r.0 (λ o is. check_spelled o r.0 is) r.1 })
-at_spelled kind.CheckStatusResponse d m e =
-    let r = bind_ok (required_row (table check_status_response) CHECK_STATUS_RESPONSE.now d) _ m e in
-    subst (λ (x : Message). SpellsAt kind.CheckStatusResponse d x) (ok_is (message.CheckStatusResponse r.0) m r.2)
-    (record { of_kind = refl; body = required_row_is check_status_response (λ o x. SpellsCheckResponse o x) CHECK_STATUS_RESPONSE.now d r.0 (λ o is. check_response_spelled o r.0 is) r.1 })
-at_spelled kind.HeartbeatNotification d m e =
-    let r = bind_ok (required_row (table heartbeat_notification) HEARTBEAT_NOTIFICATION.now d) _ m e in
-    subst (λ (x : Message). SpellsAt kind.HeartbeatNotification d x) (ok_is (message.HeartbeatNotification r.0) m r.2)
-    (record { of_kind = refl; body = required_row_is heartbeat_notification (λ o x. SpellsHeartbeat o x) HEARTBEAT_NOTIFICATION.now d r.0 (λ o is. heartbeat_spelled o r.0 is) r.1 })
+unfolding subscription_response termination_request termination_response service_delivery data_ready_notification data_ready_acknowledgement data_received_acknowledgement check_status_request check_status_response heartbeat_notification
+at_spelled kind.ServiceRequest d m e = kind_spelled service_request (λ x. message.ServiceRequest x) _ _ d m (λ x. refl) (λ x. refl) (λ o x is. service_request_spelled o x is) e
+at_spelled kind.ServiceDelivery d m e = kind_spelled service_delivery (λ x. message.ServiceDelivery x) _ _ d m (λ x. refl) (λ x. refl) (λ o x is. read_spelled service_delivery_laws o x is) e
+at_spelled kind.SubscriptionRequest d m e = kind_spelled subscription_request (λ x. message.SubscriptionRequest x) _ _ d m (λ x. refl) (λ x. refl) (λ o x is. subscription_request_spelled o x is) e
+at_spelled kind.SubscriptionResponse d m e = kind_spelled subscription_response (λ x. message.SubscriptionResponse x) _ _ d m (λ x. refl) (λ x. refl) (λ o x is. read_spelled subscription_response_laws o x is) e
+at_spelled kind.TerminateSubscriptionRequest d m e = kind_spelled termination_request (λ x. message.TerminateSubscriptionRequest x) _ _ d m (λ x. refl) (λ x. refl) (λ o x is. read_spelled termination_laws o x is) e
+at_spelled kind.TerminateSubscriptionResponse d m e = kind_spelled termination_response (λ x. message.TerminateSubscriptionResponse x) _ _ d m (λ x. refl) (λ x. refl) (λ o x is. read_spelled termination_response_laws o x is) e
+at_spelled kind.DataReadyNotification d m e = kind_spelled data_ready_notification (λ x. message.DataReadyNotification x) _ _ d m (λ x. refl) (λ x. refl) (λ o x is. read_spelled ready_laws o x is) e
+at_spelled kind.DataReadyAcknowledgement d m e = kind_spelled data_ready_acknowledgement (λ x. message.DataReadyAcknowledgement x) _ _ d m (λ x. refl) (λ x. refl) (λ o x is. read_spelled ready_acknowledgement_laws o x is) e
+at_spelled kind.DataSupplyRequest d m e = kind_spelled data_supply_request (λ x. message.DataSupplyRequest x) _ _ d m (λ x. refl) (λ x. refl) (λ o x is. supply_spelled o x is) e
+at_spelled kind.DataReceivedAcknowledgement d m e = kind_spelled data_received_acknowledgement (λ x. message.DataReceivedAcknowledgement x) _ _ d m (λ x. refl) (λ x. refl) (λ o x is. read_spelled received_laws o x is) e
+at_spelled kind.CheckStatusRequest d m e = kind_spelled check_status_request (λ x. message.CheckStatusRequest x) _ _ d m (λ x. refl) (λ x. refl) (λ o x is. read_spelled check_laws o x is) e
+at_spelled kind.CheckStatusResponse d m e = kind_spelled check_status_response (λ x. message.CheckStatusResponse x) _ _ d m (λ x. refl) (λ x. refl) (λ o x is. read_spelled check_response_laws o x is) e
+at_spelled kind.HeartbeatNotification d m e = kind_spelled heartbeat_notification (λ x. message.HeartbeatNotification x) _ _ d m (λ x. refl) (λ x. refl) (λ o x is. read_spelled heartbeat_laws o x is) e
 
 at_read : (d : Data) (m : Message) → HasObject (kind_of m) d (λ o. SpellsBody o m) → message_at (kind_in m) d ≡ Ok m
+unfolding subscription_response termination_request termination_response service_delivery data_ready_notification data_ready_acknowledgement data_received_acknowledgement check_status_request check_status_response heartbeat_notification
 at_read d (message.ServiceRequest m) is = rw (is_required service_request (λ o x. SpellsServiceRequest o x) SERVICE_REQUEST.now d m (λ o s_. service_request_read o m s_) is) refl
-at_read d (message.ServiceDelivery m) is = rw (is_required service_delivery (λ o x. SpellsServiceDelivery o x) SERVICE_DELIVERY.now d m (λ o s_. service_delivery_read o m s_) is) refl
+at_read d (message.ServiceDelivery m) is = rw (is_required service_delivery (λ o x. AllSpelled service_delivery_table o x) SERVICE_DELIVERY.now d m (λ o s_. spelled_read service_delivery_laws o m s_) is) refl
 at_read d (message.SubscriptionRequest m) is = rw (is_required subscription_request (λ o x. SpellsSubscriptionRequest o x) SUBSCRIPTION_REQUEST.now d m (λ o s_. subscription_request_read o m s_) is) refl
-at_read d (message.SubscriptionResponse m) is = rw (is_required subscription_response (λ o x. SpellsSubscriptionResponse o x) SUBSCRIPTION_RESPONSE.now d m (λ o s_. subscription_response_read o m s_) is) refl
-at_read d (message.TerminateSubscriptionRequest m) is = rw (is_required termination_request (λ o x. SpellsTerminationRequest o x) TERMINATE_SUBSCRIPTION_REQUEST.now d m (λ o s_. termination_request_read o m s_) is) refl
-at_read d (message.TerminateSubscriptionResponse m) is = rw (is_required termination_response (λ o x. SpellsTerminationResponse o x) TERMINATE_SUBSCRIPTION_RESPONSE.now d m (λ o s_. termination_response_read o m s_) is) refl
-at_read d (message.DataReadyNotification m) is = rw (is_required data_ready_notification (λ o x. SpellsReady o x) DATA_READY_NOTIFICATION.now d m (λ o s_. ready_read o m s_) is) refl
-at_read d (message.DataReadyAcknowledgement m) is = rw (is_required data_ready_acknowledgement (λ o x. SpellsReadyAcknowledgement o x) DATA_READY_ACKNOWLEDGEMENT.now d m (λ o s_. ready_acknowledgement_read o m s_) is) refl
-at_read d (message.DataSupplyRequest m) is = rw (is_required data_supply_request (λ o x. SpellsSupply o x) DATA_SUPPLY_REQUEST.now d m (λ o s_. supply_request_read o m s_) is) refl
-at_read d (message.DataReceivedAcknowledgement m) is = rw (is_required data_received_acknowledgement (λ o x. SpellsReceived o x) DATA_RECEIVED_ACKNOWLEDGEMENT.now d m (λ o s_. received_read o m s_) is) refl
-at_read d (message.CheckStatusRequest m) is = rw (is_required check_status_request (λ o x. SpellsCheck o x) CHECK_STATUS_REQUEST.now d m (λ o s_. check_read o m s_) is) refl
-at_read d (message.CheckStatusResponse m) is = rw (is_required check_status_response (λ o x. SpellsCheckResponse o x) CHECK_STATUS_RESPONSE.now d m (λ o s_. check_response_read o m s_) is) refl
-at_read d (message.HeartbeatNotification m) is = rw (is_required heartbeat_notification (λ o x. SpellsHeartbeat o x) HEARTBEAT_NOTIFICATION.now d m (λ o s_. heartbeat_read o m s_) is) refl
+at_read d (message.SubscriptionResponse m) is = rw (is_required subscription_response (λ o x. SpellsSubscriptionResponse o x) SUBSCRIPTION_RESPONSE.now d m (λ o s_. spelled_read subscription_response_laws o m s_) is) refl
+at_read d (message.TerminateSubscriptionRequest m) is = rw (is_required termination_request (λ o x. SpellsTerminationRequest o x) TERMINATE_SUBSCRIPTION_REQUEST.now d m (λ o s_. spelled_read termination_laws o m s_) is) refl
+at_read d (message.TerminateSubscriptionResponse m) is = rw (is_required termination_response (λ o x. SpellsTerminationResponse o x) TERMINATE_SUBSCRIPTION_RESPONSE.now d m (λ o s_. spelled_read termination_response_laws o m s_) is) refl
+at_read d (message.DataReadyNotification m) is = rw (is_required data_ready_notification (λ o x. AllSpelled ready_table o x) DATA_READY_NOTIFICATION.now d m (λ o s_. spelled_read ready_laws o m s_) is) refl
+at_read d (message.DataReadyAcknowledgement m) is = rw (is_required data_ready_acknowledgement (λ o x. AllSpelled ready_acknowledgement_table o x) DATA_READY_ACKNOWLEDGEMENT.now d m (λ o s_. spelled_read ready_acknowledgement_laws o m s_) is) refl
+at_read d (message.DataSupplyRequest m) is = rw (is_required data_supply_request (λ o x. SpellsSupply o x) DATA_SUPPLY_REQUEST.now d m (λ o s_. supply_reads o m s_) is) refl
+at_read d (message.DataReceivedAcknowledgement m) is = rw (is_required data_received_acknowledgement (λ o x. AllSpelled received_table o x) DATA_RECEIVED_ACKNOWLEDGEMENT.now d m (λ o s_. spelled_read received_laws o m s_) is) refl
+at_read d (message.CheckStatusRequest m) is = rw (is_required check_status_request (λ o x. AllSpelled check_table o x) CHECK_STATUS_REQUEST.now d m (λ o s_. spelled_read check_laws o m s_) is) refl
+at_read d (message.CheckStatusResponse m) is = rw (is_required check_status_response (λ o x. AllSpelled check_response_table o x) CHECK_STATUS_RESPONSE.now d m (λ o s_. spelled_read check_response_laws o m s_) is) refl
+at_read d (message.HeartbeatNotification m) is = rw (is_required heartbeat_notification (λ o x. AllSpelled heartbeat_table o x) HEARTBEAT_NOTIFICATION.now d m (λ o s_. spelled_read heartbeat_laws o m s_) is) refl
 
 -- ---- documents
 
@@ -175,20 +140,12 @@ siri_read d m s_ = rw (s_.only) (at_read d m s_.body)
 pub root_spelled : (d : Data) (m : Message) → root d ≡ Ok m → SpellsRoot d m
 unfolding root
 root_spelled (object ms) m e = required_row_is siri (λ o x. SpellsSiri o x) SIRI.now (object ms) m (λ o is. siri_spelled o m is) e
-root_spelled null m e = absurd cc
-root_spelled (boolean b) m e = absurd cc
-root_spelled (number n) m e = absurd cc
-root_spelled (string s) m e = absurd cc
-root_spelled (array ds) m e = absurd cc
+root_spelled d m e = absurd cc
 
 root_read : (d : Data) (m : Message) → SpellsRoot d m → root d ≡ Ok m
 unfolding root
 root_read (object ms) m s_ = is_required siri (λ o x. SpellsSiri o x) SIRI.now (object ms) m (λ o is. siri_read o m is) s_
-root_read null m s_ = absurd s_
-root_read (boolean b) m s_ = absurd s_
-root_read (number n) m s_ = absurd s_
-root_read (string s) m s_ = absurd s_
-root_read (array ds) m s_ = absurd s_
+root_read d m s_ = absurd s_
 
 tree_spelled : (o : Option Data) (m : Message) → message_in o ≡ Ok m → IsSomeAnd o (λ d. SpellsRoot d m)
 tree_spelled None m e = absurd cc

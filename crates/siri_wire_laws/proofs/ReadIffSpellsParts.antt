@@ -1,35 +1,33 @@
--- What is read is spelled and the other way round: rows inside objects, errors, removals, and the journeys of frames.
+-- What is read is spelled and the other way round: rows inside objects, errors, removals, the journeys of frames, and where in a
+-- round a delivery stands.
 use Rattle.std.proofs.Common.{◌≡◌, ℕ, suc, ◌+◌, ◌≤◌, Bool, true, false, not, nat_le, List, [], ◌∷◌, length, filter, map, Option, Some, None, Result, Ok, Err, refl, sym, ap, ap₂, ◌∙◌, subst, arith, if◌then◌else◌}
 use Rattle.std.proofs.lemmas.Bool.{le-leb, leb-true}
 use Rattle.std.proofs.lemmas.List.Sums.{length-filter}
 use Rattle.serde_json.specs.Data.{Data}
 use Rattle.siri_base.specs.declared.reason.Reason.TheVariants.{TooMany}
-use Rattle.siri_json.specs.Values.{Found, found, absent, wrong, object_in, member_of, entries_of}
-use Rattle.siri_json.specs.declared.path.Step.{Step}
+use Rattle.siri_json.specs.Values.{Found, found, absent, wrong, object_in, member_of, entries_of, text_in}
 use Rattle.siri_json.specs.declared.path.Step.TheVariants.{Member, Place}
 use Rattle.siri_records.specs.declared.item.Item.{Item}
 use Rattle.siri_records.specs.declared.item.Service.TheVariants as service
 use Rattle.siri_records.specs.declared.journey.Journey.{Journey}
 use Rattle.siri_records.specs.declared.key.Key.{Key}
 use Rattle.siri_records.specs.declared.key.Key.TheVariants as key
-use Rattle.siri_items.specs.declared.names.TheConstants.{DATA_FRAME_REF, DATED_VEHICLE_JOURNEY_REF, DIRECTION_REF, LINE_REF, MONITORING_REF, PARTICIPANT_REF, SITUATION_NUMBER}
+use Rattle.siri_items.specs.declared.names.TheConstants.{DATA_FRAME_REF, DATED_VEHICLE_JOURNEY_REF, DIRECTION_REF, LINE_REF, MONITORING_REF, PARTICIPANT_REF, SITUATION_NUMBER, RECORDED_AT_TIME}
 use Rattle.siri_items.specs.Journeys.{journey}
-use Rattle.siri_tables.specs.Refusals.{Refusal, ◌>>=◌, refused, below}
-use Rattle.siri_tables.specs.Rules.{name, text, table, maybe, unless_wrong, required, row, required_row, inside, required_value, is_null, entry_count, entries_from, at_most, list_of, list, or_empty}
+use Rattle.siri_tables.specs.Refusals.{Refusal, ◌>>=◌, refused, below, each}
+use Rattle.siri_tables.specs.Rules.{name, text, table, maybe, unless_wrong, required, row, required_row, inside, required_value, is_null, entry_count, entries_from, at_most, list_of, list, or_empty, moment, number, read_from_text}
 use Rattle.siri_tables.specs.Spelling.{Spells}
-use Rattle.siri_tables.proofs.RowSpells.{bind_ok, row_spelled, required_row_spelled, row_ok, required_row_ok}
-use Rattle.siri_wire.specs.declared.names.TheConstants.{ERROR_TEXT, ESTIMATED_JOURNEY_VERSION_FRAME, ESTIMATED_VEHICLE_JOURNEY, ITEM_REF, OTHER_ERROR}
+use Rattle.siri_tables.proofs.RowSpells.{done, ok_is, below_ok, bind_ok, row_spelled, required_row_spelled, row_ok, required_row_ok}
+use Rattle.siri_wire.specs.declared.names.TheConstants.{ERROR_TEXT, ESTIMATED_JOURNEY_VERSION_FRAME, ESTIMATED_VEHICLE_JOURNEY, ITEM_REF, OTHER_ERROR, PART, REMOVED, ROUND, START}
 use Rattle.siri_wire.specs.Errors.{other_error}
 use Rattle.siri_wire.specs.Frames.{journeys, frame, concat_frames, few_in_all, frames_of, journeys_of_frames}
 use Rattle.siri_wire.specs.Removals.{visit_cancellation, vehicle_cancellation, removed_journey, removed_situation}
-use Rattle.siri_wire_laws.specs.SpellingDeliveries.{SpellsRemoval, SpellsJourneys, SpellsFrames}
+use Rattle.siri_wire_laws.specs.SpellingDeliveries.{SpellsRemoval, SpellsJourneys, SpellsFrames, SpellsRoundPosition, SpellsDeliveryExtensions, SpellsFrame, SpellsBeside}
 use Rattle.siri_wire_laws.specs.SpellingValues.{SpellsFound, SpellsInside, SpellsErrorCondition, SpellsEntries, SpellsList}
-
-abbrev done : {A : Type 0} → A → Result A Refusal
-done x = Ok x
-
-ok_is : {A : Type 0} (x y : A) → done x ≡ done y → x ≡ y
-ok_is x y e = cc
+use Rattle.siri_wire.specs.declared.read_parts.DeliveryExtensions.{DeliveryExtensions}
+use Rattle.siri_wire.specs.declared.read_parts.RoundPosition.{RoundPosition}
+use Rattle.siri_wire.specs.Parts.{no_round, within_round, round_position, delivery_extensions}
+use Rattle.siri_wire.specs.Supplies.{is_no_text, is_text_absent, lacks}
 
 -- ---- rows inside objects
 
@@ -75,9 +73,7 @@ pub visit_cancellation_read : (d : Data) (k : Key) → SpellsRemoval service.Sto
 unfolding visit_cancellation
 visit_cancellation_read d (key.Visit monitoring visit) is =
     rw (required_row_ok name ITEM_REF.now d visit is.0, required_row_ok name MONITORING_REF.now d monitoring is.1) refl
-visit_cancellation_read d (key.Journey line direction frame journey) is = absurd is
-visit_cancellation_read d (key.Vehicle vehicle) is = absurd is
-visit_cancellation_read d (key.Situation participant number) is = absurd is
+visit_cancellation_read d k is = absurd is
 
 pub vehicle_cancellation_spelled : (d : Data) (k : Key) → vehicle_cancellation d ≡ Ok k → SpellsRemoval service.Vehicle d k
 unfolding vehicle_cancellation
@@ -88,9 +84,7 @@ vehicle_cancellation_spelled d k e =
 pub vehicle_cancellation_read : (d : Data) (k : Key) → SpellsRemoval service.Vehicle d k → vehicle_cancellation d ≡ Ok k
 unfolding vehicle_cancellation
 vehicle_cancellation_read d (key.Vehicle vehicle) is = rw (required_row_ok name ITEM_REF.now d vehicle is) refl
-vehicle_cancellation_read d (key.Visit monitoring visit) is = absurd is
-vehicle_cancellation_read d (key.Journey line direction frame journey) is = absurd is
-vehicle_cancellation_read d (key.Situation participant number) is = absurd is
+vehicle_cancellation_read d k is = absurd is
 
 pub removed_journey_spelled : (d : Data) (k : Key) → removed_journey d ≡ Ok k → SpellsRemoval service.Timetable d k
 unfolding removed_journey
@@ -115,9 +109,7 @@ removed_journey_read d (key.Journey line direction frame journey) is =
       row_ok name DATA_FRAME_REF.now d frame is.2,
       required_row_ok name DATED_VEHICLE_JOURNEY_REF.now d journey is.3,
     ) refl
-removed_journey_read d (key.Visit monitoring visit) is = absurd is
-removed_journey_read d (key.Vehicle vehicle) is = absurd is
-removed_journey_read d (key.Situation participant number) is = absurd is
+removed_journey_read d k is = absurd is
 
 pub removed_situation_spelled : (d : Data) (k : Key) → removed_situation d ≡ Ok k → SpellsRemoval service.Situation d k
 unfolding removed_situation
@@ -131,19 +123,13 @@ pub removed_situation_read : (d : Data) (k : Key) → SpellsRemoval service.Situ
 unfolding removed_situation
 removed_situation_read d (key.Situation participant number) is =
     rw (row_ok name PARTICIPANT_REF.now d participant is.0, required_row_ok name SITUATION_NUMBER.now d number is.1) refl
-removed_situation_read d (key.Visit monitoring visit) is = absurd is
-removed_situation_read d (key.Journey line direction frame journey) is = absurd is
-removed_situation_read d (key.Vehicle vehicle) is = absurd is
+removed_situation_read d k is = absurd is
 
 -- ---- lists, entry by entry
 
 -- what is asked of the entries
 EachSpells : {A : Type 0} → (Data → Result (Option A) Refusal) → List Data → List A → Type 0
 EachSpells rule ds xs = map rule (filter (λ e. not (is_null e)) ds) ≡ map (λ x. done (Some x)) xs
-
-below_ok : {A : Type 0} (step : Step) (r : Result A Refusal) (x : A) → below step r ≡ Ok x → r ≡ Ok x
-below_ok step (Ok y) x e = e
-below_ok step (Err r) x e = absurd cc
 
 required_is : {A : Type 0} (r : Result (Option A) Refusal) (x : A) → (r >>= required []) ≡ Ok x → r ≡ Ok (Some x)
 required_is (Ok None) x e = absurd cc
@@ -300,3 +286,97 @@ frames_read (Some v) frames items is are few = rw (list_read (table frame) (Some
 pub journeys_of_frames_read : (d : Data) (items : List Item) → SpellsFrames d items → journeys_of_frames d ≡ Ok items
 unfolding journeys_of_frames
 journeys_of_frames_read d items s_ = rw (frames_read (member_of ESTIMATED_JOURNEY_VERSION_FRAME.now d) s_.frames items s_.spelled s_.are s_.few) refl
+
+-- a frame
+pub frame_spelled : (d : Data) (items : List Item) → frame d ≡ Ok items → SpellsFrame d items
+unfolding frame
+frame_spelled d items e =
+    let r1 = bind_ok (row moment RECORDED_AT_TIME.now d) _ items e in
+    let r2 = bind_ok (journeys d) _ items r1.2 in
+    subst (λ (x : List Item). SpellsFrame d x) (ok_is _ items r2.2)
+    (record { recorded_at_time = r1.0; spelled = row_spelled moment RECORDED_AT_TIME.now d r1.0 r1.1; inside = r2.0; journeys = r2.1; are = refl })
+
+pub frame_read : (d : Data) (items : List Item) → SpellsFrame d items → frame d ≡ Ok items
+unfolding frame
+frame_read d items s_ = rw (row_ok moment RECORDED_AT_TIME.now d s_.recorded_at_time s_.spelled, s_.journeys, s_.are) refl
+
+-- ---- texts that are absent, and texts that are there
+
+none_spelled : {A : Type 0} (read : List ℕ → Result A Refusal) (f : Found (List ℕ)) → is_no_text f ≡ true → (unless_wrong f >>= each read) ≡ Ok None
+none_spelled read (found t) e = absurd cc
+none_spelled read absent e = refl
+none_spelled read wrong e = absurd cc
+
+-- what is absent where a text is wanted spells nothing
+pub absent_spelled : {A : Type 0} (read : List ℕ → Result A Refusal) (o : Option Data) → is_text_absent o ≡ true → maybe (read_from_text read) o ≡ Ok None
+unfolding read_from_text
+absent_spelled read None e = refl
+absent_spelled read (Some d) e = none_spelled read (text_in d) e
+
+none_read : {A : Type 0} (read : List ℕ → Result A Refusal) (f : Found (List ℕ)) → (unless_wrong f >>= each read) ≡ Ok None → is_no_text f ≡ true
+none_read read (found t) e = let r = bind_ok (read t) _ None e in absurd (cc r.2)
+none_read read absent e = refl
+none_read read wrong e = absurd cc
+
+some_read : {A : Type 0} (read : List ℕ → Result A Refusal) (f : Found (List ℕ)) (x : A) → (unless_wrong f >>= each read) ≡ Ok (Some x) → is_no_text f ≡ false
+some_read read (found t) x e = refl
+some_read read absent x e = absurd cc
+some_read read wrong x e = refl
+
+-- what is spelled as nothing is absent where a text is wanted
+pub nothing_spelled : {A : Type 0} (read : List ℕ → Result A Refusal) (o : Option Data) → maybe (read_from_text read) o ≡ Ok None → is_text_absent o ≡ true
+unfolding read_from_text
+nothing_spelled read None e = refl
+nothing_spelled read (Some d) e = none_read read (text_in d) e
+
+-- what is spelled as something is there
+pub something_spelled : {A : Type 0} (read : List ℕ → Result A Refusal) (o : Option Data) (x : A) → maybe (read_from_text read) o ≡ Ok (Some x) → is_text_absent o ≡ false
+unfolding read_from_text
+something_spelled read None x e = absurd cc
+something_spelled read (Some d) x e = some_read read (text_in d) x e
+
+-- ---- where in a round a delivery stands
+
+round_position_cases : (d : Data) (s : RoundPosition) (b : Bool) → lacks ROUND.now d ≡ b → (if b then done no_round else within_round d) ≡ Ok s → SpellsRoundPosition d s
+unfolding lacks within_round
+round_position_cases d s true at_round e =
+    subst (λ (x : RoundPosition). SpellsRoundPosition d x) (ok_is no_round s e) (record { round = absent_spelled _ (member_of ROUND.now d) at_round; start = refl; part = refl })
+round_position_cases d s false at_round e =
+    let r1 = bind_ok (required_row number START.now d) _ s e in
+    let r2 = bind_ok (required_row number ROUND.now d) _ s r1.2 in
+    let r3 = bind_ok (required_row number PART.now d) _ s r2.2 in
+    subst (λ (x : RoundPosition). SpellsRoundPosition d x) (ok_is _ s r3.2) (record {
+      round = required_row_spelled number ROUND.now d r2.0 r2.1;
+      start = (required_row_spelled number START.now d r1.0 r1.1, refl);
+      part = (required_row_spelled number PART.now d r3.0 r3.1, refl);
+    })
+
+pub round_position_spelled : (d : Data) (s : RoundPosition) → round_position d ≡ Ok s → SpellsRoundPosition d s
+unfolding round_position
+round_position_spelled d s e = round_position_cases d s (lacks ROUND.now d) refl e
+
+pub delivery_extensions_spelled : (removed : Data → Result Key Refusal) (d : Data) (x : DeliveryExtensions) → delivery_extensions removed d ≡ Ok x → SpellsDeliveryExtensions removed d x
+unfolding delivery_extensions
+delivery_extensions_spelled removed d x e =
+    let r1 = bind_ok (round_position d) _ x e in
+    let r2 = bind_ok (list (table removed) 20000 REMOVED.now d) _ x r1.2 in
+    subst (λ (y : DeliveryExtensions). SpellsDeliveryExtensions removed d y) (ok_is _ x r2.2) (record { round_position = round_position_spelled d r1.0 r1.1; removals = r2.1 })
+
+round_position_at : (d : Data) (start round part : Option ℕ) → Spells number ROUND.now d round → SpellsBeside round START.now d start → SpellsBeside round PART.now d part
+    → round_position d ≡ Ok (record { start = start; round = round; part = part })
+unfolding round_position within_round lacks
+round_position_at d start None part at_round at_start at_part =
+    let no_round : is_text_absent (member_of ROUND.now d) ≡ true = nothing_spelled _ (member_of ROUND.now d) at_round in
+    rw (no_round, at_start, at_part) refl
+round_position_at d None (Some round) part at_round at_start at_part = absurd (cc at_start.1)
+round_position_at d (Some start) (Some round) None at_round at_start at_part = absurd (cc at_part.1)
+round_position_at d (Some start) (Some round) (Some part) at_round at_start at_part =
+    let a_round : is_text_absent (member_of ROUND.now d) ≡ false = something_spelled _ (member_of ROUND.now d) round at_round in
+    rw (a_round, required_row_ok number START.now d start at_start.0, required_row_ok number ROUND.now d round at_round, required_row_ok number PART.now d part at_part.0) refl
+
+pub round_position_read : (d : Data) (s : RoundPosition) → SpellsRoundPosition d s → round_position d ≡ Ok s
+round_position_read d s s_ = round_position_at d s.start s.round s.part s_.round s_.start s_.part
+
+pub delivery_extensions_read : (removed : Data → Result Key Refusal) (d : Data) (e : DeliveryExtensions) → SpellsDeliveryExtensions removed d e → delivery_extensions removed d ≡ Ok e
+unfolding delivery_extensions
+delivery_extensions_read removed d e s_ = rw (round_position_read d e.round_position s_.round_position, s_.removals) refl

@@ -8,11 +8,15 @@ use Rattle.siri_messages.specs.declared.message.Message.{Message}
 use Rattle.siri_messages.specs.declared.message.Message.TheVariants as message
 use Rattle.siri_messages.specs.Kinds.{kind_of}
 use Rattle.siri_tables.specs.Spelling.{IfFound}
+use Rattle.siri_tables.specs.Tables.{AllSpelled}
 use Rattle.siri_wire.specs.declared.kinds.Kind.{Kind}
 use Rattle.siri_wire.specs.declared.kinds.Kind.TheVariants as kind
 use Rattle.siri_wire.specs.declared.names.TheConstants.{SIRI}
 use Rattle.siri_wire.specs.Documents.{only_held}
-use Rattle.siri_wire_laws.specs.SpellingDeliveries.{SpellsReady, SpellsReadyAcknowledgement, SpellsSupply, SpellsReceived, SpellsCheck, SpellsCheckResponse, SpellsHeartbeat, SpellsServiceDelivery}
+use Rattle.siri_wire.specs.Deliveries.{service_delivery_table}
+use Rattle.siri_wire.specs.Supplies.{ready_table, ready_acknowledgement_table, received_table}
+use Rattle.siri_wire.specs.Statuses.{check_table, check_response_table, heartbeat_table}
+use Rattle.siri_wire_laws.specs.SpellingDeliveries.{SpellsSupply}
 use Rattle.siri_wire_laws.specs.SpellingRequests.{SpellsServiceRequest, SpellsSubscriptionRequest, SpellsSubscriptionResponse, SpellsTerminationRequest, SpellsTerminationResponse}
 
 -- the member of that name is an object of which P holds, or a list whose first entry is
@@ -38,18 +42,18 @@ kind_in (message.HeartbeatNotification m) = kind.HeartbeatNotification
 -- a message's own object
 abbrev pub SpellsBody : Data → Message → Type 0
 SpellsBody d (message.ServiceRequest m) = SpellsServiceRequest d m
-SpellsBody d (message.ServiceDelivery m) = SpellsServiceDelivery d m
+SpellsBody d (message.ServiceDelivery m) = AllSpelled service_delivery_table d m
 SpellsBody d (message.SubscriptionRequest m) = SpellsSubscriptionRequest d m
 SpellsBody d (message.SubscriptionResponse m) = SpellsSubscriptionResponse d m
 SpellsBody d (message.TerminateSubscriptionRequest m) = SpellsTerminationRequest d m
 SpellsBody d (message.TerminateSubscriptionResponse m) = SpellsTerminationResponse d m
-SpellsBody d (message.DataReadyNotification m) = SpellsReady d m
-SpellsBody d (message.DataReadyAcknowledgement m) = SpellsReadyAcknowledgement d m
+SpellsBody d (message.DataReadyNotification m) = AllSpelled ready_table d m
+SpellsBody d (message.DataReadyAcknowledgement m) = AllSpelled ready_acknowledgement_table d m
 SpellsBody d (message.DataSupplyRequest m) = SpellsSupply d m
-SpellsBody d (message.DataReceivedAcknowledgement m) = SpellsReceived d m
-SpellsBody d (message.CheckStatusRequest m) = SpellsCheck d m
-SpellsBody d (message.CheckStatusResponse m) = SpellsCheckResponse d m
-SpellsBody d (message.HeartbeatNotification m) = SpellsHeartbeat d m
+SpellsBody d (message.DataReceivedAcknowledgement m) = AllSpelled received_table d m
+SpellsBody d (message.CheckStatusRequest m) = AllSpelled check_table d m
+SpellsBody d (message.CheckStatusResponse m) = AllSpelled check_response_table d m
+SpellsBody d (message.HeartbeatNotification m) = AllSpelled heartbeat_table d m
 
 -- Siri, which has the message and no other
 pub record SpellsSiri (d : Data) (m : Message) : Type 0 where

@@ -1,6 +1,6 @@
--- The relation of trees and messages, for rows that items have none of: a row with a default, a row inside an object of its
--- own, errors, and lists place by place.
-use Rattle.std.specs.Prelude.{◌≡◌, ℕ, ◌≤◌, List, [], length, filter, map, not, Option, Some, None, unwrap_or, Result, Ok}
+-- The relation of trees and messages, for rows that items have none of: a row inside an object of its own, errors, and lists
+-- place by place.
+use Rattle.std.specs.Prelude.{◌≡◌, ℕ, ◌≤◌, List, [], length, filter, map, not, Option, Some, None, Result, Ok}
 use Rattle.serde_json.specs.Data.{Data}
 use Rattle.siri_json.specs.Values.{Found, found, absent, wrong, member_of, object_in, entries_of}
 use Rattle.siri_tables.specs.Refusals.{Refusal}
@@ -8,12 +8,6 @@ use Rattle.siri_tables.specs.Rules.{text, inside, is_null}
 use Rattle.siri_tables.specs.Spelling.{Spells}
 use Rattle.siri_wire.specs.declared.names.TheConstants.{ERROR_CONDITION, ERROR_TEXT, OTHER_ERROR}
 use Rattle.siri_wire.specs.Errors.{other_error}
-
--- the member of that name spells the value, or is absent where the value is what stands for an absent one
-pub record SpellsOr {A : Type 0} (rule : Data → Result (Option A) Refusal) (key : List ℕ) (d : Data) (otherwise value : A) : Type 0 where
-  pub given : Option A
-  pub spelled : Spells rule key d given
-  pub is : value ≡ unwrap_or given otherwise
 
 -- the text of an error
 abbrev pub SpellsError : Data → Option (List ℕ) → Type 0

@@ -1,9 +1,12 @@
-use Rattle.siri_wire_laws.proofs.SpellsImpliesReadDeliveries.{mark_read, round_position_read, delivery_extensions_read}
-use Rattle.siri_wire_laws.proofs.ReadImpliesSpellsDeliveries.{mark_spelled, round_position_spelled, delivery_extensions_spelled}
+use Rattle.siri_tables.proofs.TableLaws.{is_spelled}
+use Rattle.siri_wire.specs.Supplies.{mark}
+use Rattle.siri_wire_laws.proofs.SupplyTables.{mark_laws}
+use Rattle.siri_wire_laws.proofs.ReadIffSpellsParts.{round_position_read, delivery_extensions_read, round_position_spelled, delivery_extensions_spelled}
 use Rattle.siri_wire_laws.proofs.delivery_laws.places_are_spelled.Goals as goal
 
 pub returns-clause-of_mark : goal.returns-clause-of_mark
-returns-clause-of_mark c = λ d m. (mark_spelled d m, mark_read d m)
+unfolding mark
+returns-clause-of_mark c = λ d m. is_spelled mark_laws d m
 
 pub returns-clause-of_round_position : goal.returns-clause-of_round_position
 returns-clause-of_round_position c = λ d s. (round_position_spelled d s, round_position_read d s)

@@ -1,9 +1,13 @@
-use Rattle.siri_wire_laws.proofs.SpellsImpliesReadRequests.{response_status_read, termination_status_read}
-use Rattle.siri_wire_laws.proofs.ReadImpliesSpellsRequests.{response_status_spelled, termination_status_spelled}
+use Rattle.siri_tables.proofs.TableLaws.{is_spelled}
+use Rattle.siri_wire.specs.Subscriptions.{response_status}
+use Rattle.siri_wire.specs.Terminations.{termination_status}
+use Rattle.siri_wire_laws.proofs.RequestTables.{response_status_laws, termination_status_laws}
 use Rattle.siri_wire_laws.proofs.request_laws.statuses_are_spelled.Goals as goal
 
 pub returns-clause-of_begun : goal.returns-clause-of_begun
-returns-clause-of_begun c = λ d r. (response_status_spelled d r, response_status_read d r)
+unfolding response_status
+returns-clause-of_begun c = is_spelled response_status_laws
 
 pub returns-clause-of_ended : goal.returns-clause-of_ended
-returns-clause-of_ended c = λ d r. (termination_status_spelled d r, termination_status_read d r)
+unfolding termination_status
+returns-clause-of_ended c = is_spelled termination_status_laws

@@ -1,5 +1,4 @@
-use Rattle.siri_wire_laws.proofs.SpellsImpliesReadRequests.{subscription_read}
-use Rattle.siri_wire_laws.proofs.ReadImpliesSpellsRequests.{subscription_spelled}
+use Rattle.siri_wire_laws.proofs.SubscriptionTables.{subscription_spelled, subscription_read}
 use Rattle.siri_wire_laws.proofs.request_laws.subscriptions_are_spelled.Goals as goal
 
 pub returns : goal.returns
