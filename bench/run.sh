@@ -1,5 +1,5 @@
 #!/usr/bin/env bash
-# Measures seven things, all but phases and loads beside a yardstick in the same run, and prints processor seconds (user and system, the least
+# Measures eight things, all but phases and loads beside a yardstick in the same run, and prints processor seconds (user and system, the least
 # of 5 runs, of 15 for phases and documents), megabytes of input a second, and the peak memory:
 #
 # - `siri replay` on two kinds of script, at half the size and at the whole one, beside `grep -c '^#'` over the script of
@@ -12,7 +12,8 @@
 # - `siri replay` of visits, subscriptions and changes of one visit in which every packet is delivered, beside python's json over
 #   the documents of the changes: time of a change and memory, as differences of runs;
 # - `siri load` at three sizes, with no yardstick;
-# - `siri serve` on 127.0.0.1, beside a server over std's TcpListener that answers the same bytes from memory.
+# - `siri serve` on 127.0.0.1, beside a server over std's TcpListener that answers the same bytes from memory;
+# - where valgrind is there, the instructions of documents and of the producer, which no other work on the machine changes.
 set -eu
 here=$(dirname -- "$(readlink -f -- "${BASH_SOURCE[0]}")")
 "$here/../siri" build
@@ -35,3 +36,18 @@ done
 echo "commit $(git -C "$here" rev-parse --short HEAD); $(nproc) cores, load $(cut -d' ' -f1 /proc/loadavg); $(rt version)"
 python3 "$here/measure.py" "$here/../crates" "$here/yardstick/target/release/yardstick" "$inputs"
 python3 "$here/network.py" "$here/../crates/siri/out/siri" "$here/yardstick/target/release/http" "$inputs"
+
+# Millions of instructions of a program over its input.
+instructions() {
+  valgrind --tool=callgrind --callgrind-out-file=/dev/null "${@:2}" 2>&1 >/dev/null <"$inputs/$1" | awk '/refs:/ { gsub(",", "", $NF); printf "%.0f", $NF / 1e6 }'
+}
+if command -v valgrind >/dev/null; then
+  siri=$here/../crates/siri/out/siri yardstick=$here/yardstick/target/release/yardstick
+  printf '\n%-42s%8s%11s\n' "millions of instructions, by callgrind" siri yardstick
+  for command in convert check; do
+    printf '%-42s%8s%11s\n' "$command" "$(instructions delivery.8000 "$siri" "$command")" "$(instructions delivery.8000 "$yardstick" convert)"
+  done
+  for asks in 0 100; do
+    printf '%-42s%8s%11s\n' "20,000 visits in no order, $asks asks" "$(instructions "stops.20000.$asks" "$siri" replay)" "$(instructions "stops.20000.$asks" "$yardstick" replay)"
+  done
+fi
