@@ -8,6 +8,7 @@ ghost use Rattle.std.specs.Prelude.{◌≡◌, codes};
 ghost use Rattle.siri_document.specs.OneDocument.{Answers, check_text, convert_text};
 ghost use Rattle.siri_lines.specs.Reports.{Reports};
 ghost use Rattle.siri_replay.specs.Report.{report};
+ghost use Rattle.siri_replay.specs.Views.{ReportsViews};
 
 use siri_base::{Input, Output, Sink, Source, Status};
 use siri_document::{Check, Convert, answer_document};
@@ -57,6 +58,7 @@ fn report_status(rt: &HostRuntime, status: &Status) {
 /// Does what the word says, as the whole program does: what is written and which status ends the run are those of `siri`.
 fn look<S: Source, K: Sink>(alloc: Global, word: &str, source: &mut S, sink: &mut K) -> Status
     ensures replay { word.now ≡ codes "replay" → Reports report (S.left source.old) (S.left source.new) (K.held sink.old) (K.held sink.new) result }
+    ensures views { word.now ≡ codes "replay" → ReportsViews (S.left source.old) (S.left source.new) (K.held sink.old) (K.held sink.new) result }
     ensures check { word.now ≡ codes "check" → Answers check_text (S.left source.old) (S.left source.new) (K.held sink.old) (K.held sink.new) result }
     ensures convert { word.now ≡ codes "convert" → Answers convert_text (S.left source.old) (S.left source.new) (K.held sink.old) (K.held sink.new) result }
 {
