@@ -6,6 +6,7 @@ use Rattle.siri_records.specs.declared.visit.VehicleLocation.{VehicleLocation}
 use Rattle.siri_records.specs.declared.vehicle.VehicleJourney.{VehicleJourney}
 use Rattle.siri_records.specs.declared.journey.Journey.{Journey}
 use Rattle.siri_items.specs.declared.journey_fields.JourneyFields.{JourneyFields}
+use Rattle.siri_items.specs.declared.journey_fields.NamedJourneyFields.{NamedJourneyFields}
 use Rattle.siri_items.specs.declared.read_call.RequiredJourneyRef.{RequiredJourneyRef}
 
 -- no row was read
@@ -82,3 +83,7 @@ journey_of fields recorded_at_time line_ref journey_ref cancellation recorded_ca
   recorded_calls = recorded_calls;
   estimated_calls = estimated_calls;
 }
+
+-- no row was read but the line and the name of a journey that has both
+abbrev pub named_fields : List ℕ → RequiredJourneyRef → NamedJourneyFields
+named_fields line_ref journey_ref = record { line_ref = line_ref; journey_ref = journey_ref; fields = no_fields }

@@ -2,7 +2,7 @@
 //! here, so that a row that is refused lets go of one value of this kind and not of each field by itself.
 
 ghost use Rattle.std.specs.Prelude.{◌≡◌};
-ghost use Rattle.siri_items.specs.Parts.{no_fields, visit_journey_of, vehicle_journey_of, journey_of};
+ghost use Rattle.siri_items.specs.Parts.{no_fields, visit_journey_of, vehicle_journey_of, named_fields, journey_of};
 
 use crate::read_call::{JourneyRef, RequiredJourneyRef};
 use siri_base::{List, Moment, Name, Span, Text};
@@ -143,8 +143,8 @@ impl JourneyFields {
         }
     }
 
-    /// A journey with its calls. `self.line_ref` and `self.journey_ref` aren't looked at.
-    pub fn journey(
+    // A journey with its calls. `self.line_ref` and `self.journey_ref` aren't looked at.
+    fn journey(
         self,
         recorded_at_time: Option<Moment>,
         line_ref: Name,
@@ -186,5 +186,61 @@ impl JourneyFields {
             recorded_calls,
             estimated_calls,
         }
+    }
+}
+
+/// The fields of a journey that has to have a line and a name of its own, whose rows were read so far.
+pub struct NamedJourneyFields {
+    pub line_ref: Name,
+    pub journey_ref: RequiredJourneyRef,
+    /// The others; its `line_ref` and its `journey_ref` aren't looked at.
+    pub fields: JourneyFields,
+}
+
+impl Drop for NamedJourneyFields {
+    fn drop(self) {
+        let NamedJourneyFields {
+            line_ref: _,
+            journey_ref: _,
+            fields: _,
+        } = self;
+    }
+}
+
+impl NamedJourneyFields {
+    /// No row was read but these.
+    pub fn new(line_ref: Name, journey_ref: RequiredJourneyRef) -> NamedJourneyFields
+        ensures { result ≡ named_fields line_ref journey_ref }
+    {
+        NamedJourneyFields {
+            line_ref,
+            journey_ref,
+            fields: JourneyFields::new(),
+        }
+    }
+
+    /// A journey with its calls.
+    pub fn journey(
+        self,
+        recorded_at_time: Option<Moment>,
+        cancellation: Option<bool>,
+        recorded_calls: List<StopCall>,
+        estimated_calls: List<StopCall>,
+    ) -> Journey
+        ensures { result ≡ journey_of self.fields recorded_at_time self.line_ref self.journey_ref cancellation recorded_calls estimated_calls }
+    {
+        let NamedJourneyFields {
+            line_ref,
+            journey_ref,
+            fields,
+        } = self;
+        fields.journey(
+            recorded_at_time,
+            line_ref,
+            journey_ref,
+            cancellation,
+            recorded_calls,
+            estimated_calls,
+        )
     }
 }

@@ -7,7 +7,7 @@ ghost use Rattle.siri_tables.specs.Rules.{list, list_inside, table};
 ghost use Rattle.siri_items.specs.Calls.{stop_call};
 ghost use Rattle.siri_items.specs.Journeys.{read_journey_rows, has_time, journey};
 
-use crate::journey_fields::JourneyFields;
+use crate::journey_fields::NamedJourneyFields;
 use crate::names;
 use crate::read_call::{StopCallTable, required_journey_ref};
 use siri_base::{List, Reason};
@@ -37,30 +37,24 @@ fn calls_inside(
 fn read_journey_rows(alloc: Global, tree: &Tree<'_>) -> Result<Journey, TableError>
     ensures { Gives result (read_journey_rows (shown tree.now)) }
 {
-    let mut fields = JourneyFields::new();
     let recorded_at_time = row::<MomentRule>(alloc, tree, names::RECORDED_AT_TIME)?;
     let line_ref = required_row::<NameRule>(alloc, tree, names::LINE_REF)?;
-    fields.direction_ref = row::<NameRule>(alloc, tree, names::DIRECTION_REF)?;
+    let direction_ref = row::<NameRule>(alloc, tree, names::DIRECTION_REF)?;
     let journey_ref = required_journey_ref(alloc, tree)?;
+    let mut named = NamedJourneyFields::new(line_ref, journey_ref);
+    named.fields.direction_ref = direction_ref;
     let cancellation = row::<FlagRule>(alloc, tree, names::CANCELLATION)?;
-    fields.published_line_name = row::<TextRule>(alloc, tree, names::PUBLISHED_LINE_NAME)?;
-    fields.operator_ref = row::<NameRule>(alloc, tree, names::OPERATOR_REF)?;
-    fields.destination_ref = row::<NameRule>(alloc, tree, names::DESTINATION_REF)?;
-    fields.destination_name = row::<TextRule>(alloc, tree, names::DESTINATION_NAME)?;
-    fields.vehicle_ref = row::<NameRule>(alloc, tree, names::VEHICLE_REF)?;
-    fields.monitored = row::<FlagRule>(alloc, tree, names::MONITORED)?;
-    fields.occupancy = row::<TextRule>(alloc, tree, names::OCCUPANCY)?;
-    fields.delay = row::<SpanRule>(alloc, tree, names::DELAY)?;
+    named.fields.published_line_name = row::<TextRule>(alloc, tree, names::PUBLISHED_LINE_NAME)?;
+    named.fields.operator_ref = row::<NameRule>(alloc, tree, names::OPERATOR_REF)?;
+    named.fields.destination_ref = row::<NameRule>(alloc, tree, names::DESTINATION_REF)?;
+    named.fields.destination_name = row::<TextRule>(alloc, tree, names::DESTINATION_NAME)?;
+    named.fields.vehicle_ref = row::<NameRule>(alloc, tree, names::VEHICLE_REF)?;
+    named.fields.monitored = row::<FlagRule>(alloc, tree, names::MONITORED)?;
+    named.fields.occupancy = row::<TextRule>(alloc, tree, names::OCCUPANCY)?;
+    named.fields.delay = row::<SpanRule>(alloc, tree, names::DELAY)?;
     let recorded = calls_inside(alloc, tree, names::RECORDED_CALLS, names::RECORDED_CALL)?;
     let estimated = calls_inside(alloc, tree, names::ESTIMATED_CALLS, names::ESTIMATED_CALL)?;
-    Ok(fields.journey(
-        recorded_at_time,
-        line_ref,
-        journey_ref,
-        cancellation,
-        recorded,
-        estimated,
-    ))
+    Ok(named.journey(recorded_at_time, cancellation, recorded, estimated))
 }
 
 fn has_time(calls: &[StopCall]) -> bool

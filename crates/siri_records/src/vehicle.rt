@@ -46,21 +46,32 @@ impl Copies for Vehicle {
 
 impl Copies for VehicleJourney {
     fn copy(&self) -> Result<Self, OutOfMemory> {
-        Ok(VehicleJourney {
-            line_ref: self.line_ref.copy()?,
-            direction_ref: self.direction_ref.copy()?,
-            data_frame_ref: self.data_frame_ref.copy()?,
-            dated_vehicle_journey_ref: self.dated_vehicle_journey_ref.copy()?,
-            published_line_name: self.published_line_name.copy()?,
-            operator_ref: self.operator_ref.copy()?,
-            destination_ref: self.destination_ref.copy()?,
-            destination_name: self.destination_name.copy()?,
+        let mut copy = VehicleJourney {
+            line_ref: None,
+            direction_ref: None,
+            data_frame_ref: None,
+            dated_vehicle_journey_ref: None,
+            published_line_name: None,
+            operator_ref: None,
+            destination_ref: None,
+            destination_name: None,
             vehicle_ref: self.vehicle_ref.copy()?,
             monitored: self.monitored,
-            occupancy: self.occupancy.copy()?,
+            occupancy: None,
             delay: self.delay,
             vehicle_location: self.vehicle_location,
-            monitored_call: self.monitored_call.copy()?,
-        })
+            monitored_call: None,
+        };
+        copy.line_ref = self.line_ref.copy()?;
+        copy.direction_ref = self.direction_ref.copy()?;
+        copy.data_frame_ref = self.data_frame_ref.copy()?;
+        copy.dated_vehicle_journey_ref = self.dated_vehicle_journey_ref.copy()?;
+        copy.published_line_name = self.published_line_name.copy()?;
+        copy.operator_ref = self.operator_ref.copy()?;
+        copy.destination_ref = self.destination_ref.copy()?;
+        copy.destination_name = self.destination_name.copy()?;
+        copy.occupancy = self.occupancy.copy()?;
+        copy.monitored_call = self.monitored_call.copy()?;
+        Ok(copy)
     }
 }
