@@ -1,5 +1,9 @@
-// Documents, each with what `check` and `convert` write of it and the number of the status.
+// Documents, each with what `check` and `convert` write of it and the number of the status, and copies of messages.
 use crate::running::brings;
+use siri_base::Copies;
+use siri_wire::{decode, encode};
+use std::alloc::Global;
+use std::rc::Rc;
 use std::test::Fail;
 
 // A document, and what is written of it.
@@ -213,6 +217,24 @@ fn canonical_texts_of_every_kind_stay(rt: HostRuntime) -> Result<(), Fail> {
                 "{word} {kind}"
             );
         }
+    }
+    Ok(())
+}
+
+// Whether a copy of the message that a canonical text says, a line, is said by the same text. Messages are shared before they are
+// let go, since a message itself is dear to let go.
+fn has_equal_copy(alloc: Global, line: &str) -> Result<bool, Fail> {
+    let message = Rc::new(alloc, decode(alloc, line.as_bytes())?)?;
+    let copy = Rc::new(alloc, message.copy()?)?;
+    let mut text = encode(alloc, &copy)?;
+    text.push(b'\n')?;
+    Ok(text.as_slice() == line.as_bytes())
+}
+
+#[test]
+fn messages_of_every_kind_are_copied(rt: HostRuntime) -> Result<(), Fail> {
+    for (kind, document) in KINDS {
+        assert!(rt; has_equal_copy(rt.alloc(), document)?, "{kind}");
     }
     Ok(())
 }

@@ -2,7 +2,7 @@
 //! time for its tests.
 //!
 //! ```text
-//!     a row of plain data -> names, items, messages -> a call -> a number or a text, which is the row's
+//!     a row of plain data -> names, items, keys -> a call -> a number or a text, which is the row's
 //! ```
 //!
 //! Most calls answer exactly what a definition says. What no clause says stands here: that a call which takes memory answers
@@ -16,8 +16,6 @@
 mod items;
 #[cfg(test)]
 mod keys;
-#[cfg(test)]
-mod messages;
 #[cfg(test)]
 mod outside;
 #[cfg(test)]
