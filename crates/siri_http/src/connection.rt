@@ -1,5 +1,5 @@
 // Reads bytes of the connection that is there.
-ghost use Rattle.std.specs.Prelude.{◌≡◌, ◌≤◌, ◌<◌, ◌+◌, ◌++◌, ℕ, List, length, take, drop, [], IfOk, IfErr};
+ghost use Rattle.std.specs.Prelude.{◌≡◌, ◌≤◌, ◌<◌, ◌+◌, ℕ, List, length, take, drop, [], IfOk, IfErr};
 ghost use Rattle.siri_http.specs.Connections.{OnConnection};
 ghost use Rattle.siri_http.specs.HttpCauses.{HasReadCause};
 ghost use Rattle.siri_http.specs.inner.Reading.{Takes, Stops, HasHead, HasNoHead};

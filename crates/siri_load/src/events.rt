@@ -1,6 +1,6 @@
 // The events of a load. An event is shared as soon as it is made, since it is dear to let go in a proof; and the functions that
 // make a large value can't fail.
-ghost use Rattle.std.specs.Prelude.{◌≡◌, ◌≤◌, ◌++◌, ◌∷◌, [], length, pos, IfOk};
+ghost use Rattle.std.specs.Prelude.{◌≡◌, ◌≤◌, ◌++◌, length, pos, IfOk};
 ghost use Rattle.std.specs.Fmt.{decimal};
 ghost use Rattle.siri_load.specs.Events as definition;
 

@@ -2,7 +2,7 @@
 ghost use Rattle.std.specs.Prelude.{◌≡◌, ◌+◌, ◌<◌, ◌≤◌, IfOk, OnOk};
 ghost use Rattle.siri_load.specs.Load as definition;
 ghost use Rattle.siri_load.specs.Load.{Progress, fresh, world_of};
-ghost use Rattle.siri_load.specs.Playing.{Plays, Brings, Does, takes, Shown, IsUntold};
+ghost use Rattle.siri_load.specs.Playing.{Plays, Does, takes, Shown, IsUntold};
 
 use crate::events::{
     cancelling, clocking, delivering, feeding, first_moment, later, starting, subscribing, viewing,

@@ -1,5 +1,5 @@
 // The producer.
-ghost use Rattle.std.specs.Prelude.{◌≡◌, ◌+◌, ◌*◌, ◌≤◌, [], ◌∷◌, ◌++◌, length, IfOk, OnOk, OnErr, ℕ};
+ghost use Rattle.std.specs.Prelude.{◌≡◌, ◌+◌, ◌*◌, ◌≤◌, [], ◌∷◌, length, IfOk, OnOk, OnErr};
 ghost use Rattle.siri_direct.specs.Topics.{topics_in};
 ghost use Rattle.siri_model.specs.History.{History, Start, Clock, Feed, Take, Settle, entries_of};
 ghost use Rattle.siri_model.specs.Lives.{quiet_number};

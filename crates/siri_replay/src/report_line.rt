@@ -11,7 +11,6 @@ ghost use Rattle.siri_script.specs.Spaced.{line_feed, spaced};
 use crate::words_said::{append_fed, append_said};
 use siri_base::{Name, OutOfMemory, OutsideError, Sink, append};
 use siri_lines::write_text;
-use siri_messages::Message;
 use siri_producer::Fed;
 use siri_script::{append_count, append_word, item_line, view_line, write_whole};
 use siri_view::{AskError, Held};

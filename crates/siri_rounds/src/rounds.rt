@@ -1,9 +1,9 @@
 // The rounds of a subscription.
-ghost use Rattle.std.specs.Prelude.{◌≡◌, ◌≢◌, ◌↔◌, ◌<◌, ℕ, suc, Ok, Err, [], true, false, ◌&&◌, is_some, option_map, not, nat_lt, ◌+◌, ◌^◌, Some, None, OnErr};
+ghost use Rattle.std.specs.Prelude.{◌≡◌, ◌≢◌, ◌↔◌, ◌<◌, suc, Ok, Err, [], true, false, ◌&&◌, is_some, option_map, not, nat_lt, ◌+◌, ◌^◌, Some, None, OnErr};
 ghost use Rattle.siri_records.specs.Keyed.{Items};
 ghost use Rattle.siri_change.specs.Parts.{parts_count};
 ghost use Rattle.siri_life.specs.Life as definition;
-ghost use Rattle.siri_life.specs.Slot.{begun, sent, is_message_due, wants, with_acknowledgement, with_supply};
+ghost use Rattle.siri_life.specs.Slot.{begun, sent, is_message_due, with_acknowledgement, with_supply};
 ghost use Rattle.siri_rounds.specs.Kept.{IsWanting, outstanding_on};
 ghost use Rattle.siri_rounds.specs.Wanted.{round_on, wanted_place, wanted_part, part_sent, supply_answer};
 
@@ -13,7 +13,6 @@ use siri_base::{List, Moment, Place};
 use siri_change::{Change, View};
 use std::alloc::Global;
 use std::marker::Model;
-use std::mem::replace;
 
 /// The greatest number of a round.
 pub const GREATEST_ROUND: u64 = 999_999_999_999_999_999;

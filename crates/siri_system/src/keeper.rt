@@ -1,5 +1,5 @@
 // The start number in a file.
-ghost use Rattle.std.specs.Prelude.{ℕ, ◌≡◌, ◌≤◌, None, IfSome, IfOk};
+ghost use Rattle.std.specs.Prelude.{◌≡◌, ◌≤◌, None, IfSome};
 
 use siri_base::{Keeper, OutsideError};
 use std::fs::File;

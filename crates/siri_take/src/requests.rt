@@ -1,5 +1,5 @@
 // SubscriptionRequest.
-ghost use Rattle.std.specs.Prelude.{◌≡◌, IfOk, OnOk, OnErr, Some, option_map};
+ghost use Rattle.std.specs.Prelude.{◌≡◌, IfOk, OnOk, OnErr, Some};
 ghost use Rattle.siri_messages.specs.Asked.{asked_in};
 ghost use Rattle.siri_model.specs.Rows.{rows_asked};
 ghost use Rattle.siri_courses.specs.Courses.{kept_rows};

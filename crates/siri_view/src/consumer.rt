@@ -1,18 +1,16 @@
 // The consumer.
-ghost use Rattle.std.specs.Prelude.{◌≡◌, ◌≢◌, ◌↔◌, ◌<◌, ◌≤◌, ◌+◌, ◌^◌, [], length, suc, fold, Some, None, is_none, option_map, slice_get, Ok, IfOk, OnOk, OnErr, IsErr, IsErrOf};
+ghost use Rattle.std.specs.Prelude.{◌≡◌, ◌≢◌, ◌↔◌, ◌<◌, ◌≤◌, ◌+◌, [], length, suc, fold, Some, None, is_none, option_map, slice_get, Ok, IfOk, OnOk, OnErr, IsErr, IsErrOf};
 ghost use Rattle.std.specs.List.Sorted.{IsStrictlySortedBy};
 ghost use Rattle.std.specs.Map.{keys_of};
-ghost use Rattle.siri_view.specs.Consuming as definition;
 ghost use Rattle.siri_view.specs.Consuming.{with_request, requests_for, count_after, after_subscribe, after_terminate, request_for, termination_of, clocked, held_by};
 ghost use Rattle.siri_view.specs.Kept.{kept_of, name_cmp};
 ghost use Rattle.siri_view.specs.Sending.{check_request};
 
 use crate::asked::requests_for;
 use crate::asking::{first_of_each, subscription_request};
-use crate::hearing::{Heard, hear};
 use crate::holdings::Holdings;
 use crate::messages::{check_request, termination_request};
-use crate::{AskError, Held, Outcome, Seen};
+use crate::{AskError, Held};
 use siri_base::{List, Moment, Name, OutOfMemory, Span};
 use siri_change::View;
 use siri_messages::Message;

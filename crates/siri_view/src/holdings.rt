@@ -1,14 +1,12 @@
 // What is kept of each subscription that is held, in order of identifier.
-ghost use Rattle.std.specs.Prelude.{◌≡◌, ◌<◌, ◌≤◌, ◌+◌, ◌^◌, ℕ, [], length, map, fold, Some, None, is_some, option_map, slice_get, IfSome, OnOk, OnErr, IsOk, Ok, vec_len};
+ghost use Rattle.std.specs.Prelude.{◌≡◌, ◌<◌, ◌≤◌, ◌+◌, [], length, fold, Some, None, option_map, slice_get, IfSome, OnOk, OnErr, IsOk, Ok, vec_len};
 ghost use Rattle.std.specs.Vec.{vec_capacity};
 ghost use Rattle.std.specs.List.{filter};
 ghost use Rattle.std.specs.List.Sorted.{IsStrictlySortedBy};
 ghost use Rattle.std.specs.Map.{keys_of};
-ghost use Rattle.siri_records.specs.Places.{Finds, IsHere, set_value_at};
-ghost use Rattle.siri_life.specs.Link as life;
-ghost use Rattle.siri_life.specs.Link.{taken};
+ghost use Rattle.siri_records.specs.Places.{Finds};
 ghost use Rattle.siri_view.specs.Consuming.{with_request, is_new};
-ghost use Rattle.siri_view.specs.Kept.{meaning, name_cmp, kept_of, with_kept, without_kept};
+ghost use Rattle.siri_view.specs.Kept.{name_cmp, kept_of, with_kept, without_kept};
 ghost use Rattle.siri_view.specs.Marks.{mark_by};
 ghost use Rattle.siri_view.specs.Places.{Wants, with_taken, taken_at, asked_at};
 

@@ -1,5 +1,5 @@
 // The values of arguments, which clap reads of words that are a plain spelling.
-ghost use Rattle.std.specs.Prelude.{◌≡◌, ◌∷◌, true, is_some, map, IfOk, Some};
+ghost use Rattle.std.specs.Prelude.{◌≡◌, true, is_some, map, IfOk, Some};
 ghost use Rattle.clap.specs.Words.{App};
 ghost use Rattle.siri_words.specs.inner.Values.{IsOf, Takes, HasValuesOf, value_in};
 
