@@ -123,33 +123,36 @@ fn is_consumed(
     Ok(done.is_ok() && are_written(&wire, texts) && counted == counts)
 }
 
+// An input, the responses of the producer's connections, the texts that are written, and how many connections are served, refused,
+// dropped and unsent.
+const CONSUMED: [(&[u8], &[&[u8]], &[&[u8]], [u64; 4]); 5] = [
+    (DELIVERED, &[], &[ACKNOWLEDGED], [1, 0, 0, 0]),
+    (
+        NOTIFIED,
+        &[SUPPLIED, b"HTTP/1.1 200 OK\r\nContent-Length: 0\r\n\r\n"],
+        &[READY, SUPPLY, ACKNOWLEDGED_UP],
+        [1, 0, 0, 0],
+    ),
+    (NOTIFIED, &[], &[READY], [1, 0, 0, 1]),
+    (
+        b"POST / HTTP/1.1\r\nContent-Length: 2\r\n\r\n{}",
+        &[],
+        &[
+            b"HTTP/1.1 400 Bad Request\r\nContent-Type: text/plain\r\nContent-Length: 14\r\nConnection: close\r\n\r\nSiri: Missing\n",
+        ],
+        [1, 1, 0, 0],
+    ),
+    (
+        b"POST / HTTP/1.1\r\nContent-Length: 34\r\n\r\n{\"Siri\":{\"",
+        &[],
+        &[b""],
+        [1, 0, 1, 0],
+    ),
+];
+
 #[test]
 fn connections_are_answered_and_replies_sent_up(rt: HostRuntime) -> Result<(), Fail> {
-    let rows: [(&[u8], &[&[u8]], &[&[u8]], [u64; 4]); 5] = [
-        (DELIVERED, &[], &[ACKNOWLEDGED], [1, 0, 0, 0]),
-        (
-            NOTIFIED,
-            &[SUPPLIED, b"HTTP/1.1 200 OK\r\nContent-Length: 0\r\n\r\n"],
-            &[READY, SUPPLY, ACKNOWLEDGED_UP],
-            [1, 0, 0, 0],
-        ),
-        (NOTIFIED, &[], &[READY], [1, 0, 0, 1]),
-        (
-            b"POST / HTTP/1.1\r\nContent-Length: 2\r\n\r\n{}",
-            &[],
-            &[
-                b"HTTP/1.1 400 Bad Request\r\nContent-Type: text/plain\r\nContent-Length: 14\r\nConnection: close\r\n\r\nSiri: Missing\n",
-            ],
-            [1, 1, 0, 0],
-        ),
-        (
-            b"POST / HTTP/1.1\r\nContent-Length: 34\r\n\r\n{\"Siri\":{\"",
-            &[],
-            &[b""],
-            [1, 0, 1, 0],
-        ),
-    ];
-    for (input, responses, texts, counts) in rows {
+    for (input, responses, texts, counts) in CONSUMED {
         assert!(rt; is_consumed(rt.alloc(), input, responses, texts, counts)?);
     }
     Ok(())

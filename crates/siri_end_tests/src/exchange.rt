@@ -22,18 +22,20 @@ fn a_posted_body_is_read(rt: HostRuntime) {
     assert_eq!(rt; body.slice(), b"{}".as_slice());
 }
 
+// A request, why it is refused, and the status of its response.
+const REFUSED: [(&[u8], &str, u16); 3] = [
+    (b"GET / HTTP/1.1\r\n\r\n", "NotPost", 405),
+    (b"POST / HTTP/1.1\r\n\r\n", "NoLength", 411),
+    (
+        b"POST / HTTP/1.1\r\nTransfer-Encoding: chunked\r\n\r\n",
+        "TransferCoding",
+        501,
+    ),
+];
+
 #[test]
 fn refused_requests_say_why(rt: HostRuntime) {
-    let rows: [(&[u8], &str, u16); 3] = [
-        (b"GET / HTTP/1.1\r\n\r\n", "NotPost", 405),
-        (b"POST / HTTP/1.1\r\n\r\n", "NoLength", 411),
-        (
-            b"POST / HTTP/1.1\r\nTransfer-Encoding: chunked\r\n\r\n",
-            "TransferCoding",
-            501,
-        ),
-    ];
-    for (input, name, status) in rows {
+    for (input, name, status) in REFUSED {
         let Ok(Asked::Refused(bad)) = asked(&rt, input) else {
             panic!(rt; "not refused");
         };

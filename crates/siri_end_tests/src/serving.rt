@@ -31,56 +31,58 @@ fn is_served(rt: &HostRuntime, input: &[u8], answer: &[u8], counts: [u64; 3]) ->
     Some(wire.written(0) == Some(answer) && counted == counts && tally.unsent == 0)
 }
 
+// An input, its answer, and how many connections are served, refused and dropped.
+const SERVED: [(&[u8], &[u8], [u64; 3]); 9] = [
+    (
+        b"POST / HTTP/1.1\r\nHost: a\r\nContent-Length: 34\r\n\r\n{\"Siri\":{\"CheckStatusRequest\":{}}}",
+        b"HTTP/1.1 200 OK\r\nContent-Type: application/json\r\nContent-Length: 153\r\nConnection: close\r\n\r\n{\"Siri\":{\"CheckStatusResponse\":{\"ProducerRef\":\"p\",\"ResponseTimestamp\":\"2024-05-01T08:00:00Z\",\"ServiceStartedTime\":\"2024-05-01T07:00:00Z\",\"Status\":true}}}",
+        [1, 0, 0],
+    ),
+    (
+        b"POST / HTTP/1.1\r\nHost: a\r\nContent-Length: 34\r\n\r\n{\"Siri\":{\"",
+        b"",
+        [1, 0, 1],
+    ),
+    (
+        b"GET / HTTP/1.1\r\n\r\n",
+        b"HTTP/1.1 405 Method Not Allowed\r\nContent-Type: text/plain\r\nContent-Length: 8\r\nConnection: close\r\n\r\nNotPost\n",
+        [1, 1, 0],
+    ),
+    (
+        b"POST / HTTP/1.1\r\nContent-Length: 2\r\nContent-Length: 2\r\n\r\n{}",
+        b"HTTP/1.1 400 Bad Request\r\nContent-Type: text/plain\r\nContent-Length: 8\r\nConnection: close\r\n\r\nBadHead\n",
+        [1, 1, 0],
+    ),
+    (
+        b"POST / HTTP/1.1\r\nTransfer-Encoding: chunked\r\n\r\n",
+        b"HTTP/1.1 501 Not Implemented\r\nContent-Type: text/plain\r\nContent-Length: 15\r\nConnection: close\r\n\r\nTransferCoding\n",
+        [1, 1, 0],
+    ),
+    (
+        b"POST / HTTP/1.1\r\n\r\n",
+        b"HTTP/1.1 411 Length Required\r\nContent-Type: text/plain\r\nContent-Length: 9\r\nConnection: close\r\n\r\nNoLength\n",
+        [1, 1, 0],
+    ),
+    (
+        b"POST / HTTP/1.1\r\nContent-Length: 8388609\r\n\r\n",
+        b"HTTP/1.1 413 Payload Too Large\r\nContent-Type: text/plain\r\nContent-Length: 12\r\nConnection: close\r\n\r\nBodyTooLong\n",
+        [1, 1, 0],
+    ),
+    (
+        b"POST / HTTP/1.1\r\nContent-Length: 2\r\n\r\n{}",
+        b"HTTP/1.1 400 Bad Request\r\nContent-Type: text/plain\r\nContent-Length: 14\r\nConnection: close\r\n\r\nSiri: Missing\n",
+        [1, 1, 0],
+    ),
+    (
+        b"POST / HTTP/1.1\r\nContent-Length: 39\r\n\r\n{\"Siri\":{\"DataReceivedAcknowledgement\":{}}}",
+        b"HTTP/1.1 400 Bad Request\r\nContent-Type: text/plain\r\nContent-Length: 11\r\nConnection: close\r\n\r\n.: NotJson\n",
+        [1, 1, 0],
+    ),
+];
+
 #[test]
 fn connections_are_answered_and_counted(rt: HostRuntime) {
-    let rows: [(&[u8], &[u8], [u64; 3]); 9] = [
-        (
-            b"POST / HTTP/1.1\r\nHost: a\r\nContent-Length: 34\r\n\r\n{\"Siri\":{\"CheckStatusRequest\":{}}}",
-            b"HTTP/1.1 200 OK\r\nContent-Type: application/json\r\nContent-Length: 153\r\nConnection: close\r\n\r\n{\"Siri\":{\"CheckStatusResponse\":{\"ProducerRef\":\"p\",\"ResponseTimestamp\":\"2024-05-01T08:00:00Z\",\"ServiceStartedTime\":\"2024-05-01T07:00:00Z\",\"Status\":true}}}",
-            [1, 0, 0],
-        ),
-        (
-            b"POST / HTTP/1.1\r\nHost: a\r\nContent-Length: 34\r\n\r\n{\"Siri\":{\"",
-            b"",
-            [1, 0, 1],
-        ),
-        (
-            b"GET / HTTP/1.1\r\n\r\n",
-            b"HTTP/1.1 405 Method Not Allowed\r\nContent-Type: text/plain\r\nContent-Length: 8\r\nConnection: close\r\n\r\nNotPost\n",
-            [1, 1, 0],
-        ),
-        (
-            b"POST / HTTP/1.1\r\nContent-Length: 2\r\nContent-Length: 2\r\n\r\n{}",
-            b"HTTP/1.1 400 Bad Request\r\nContent-Type: text/plain\r\nContent-Length: 8\r\nConnection: close\r\n\r\nBadHead\n",
-            [1, 1, 0],
-        ),
-        (
-            b"POST / HTTP/1.1\r\nTransfer-Encoding: chunked\r\n\r\n",
-            b"HTTP/1.1 501 Not Implemented\r\nContent-Type: text/plain\r\nContent-Length: 15\r\nConnection: close\r\n\r\nTransferCoding\n",
-            [1, 1, 0],
-        ),
-        (
-            b"POST / HTTP/1.1\r\n\r\n",
-            b"HTTP/1.1 411 Length Required\r\nContent-Type: text/plain\r\nContent-Length: 9\r\nConnection: close\r\n\r\nNoLength\n",
-            [1, 1, 0],
-        ),
-        (
-            b"POST / HTTP/1.1\r\nContent-Length: 8388609\r\n\r\n",
-            b"HTTP/1.1 413 Payload Too Large\r\nContent-Type: text/plain\r\nContent-Length: 12\r\nConnection: close\r\n\r\nBodyTooLong\n",
-            [1, 1, 0],
-        ),
-        (
-            b"POST / HTTP/1.1\r\nContent-Length: 2\r\n\r\n{}",
-            b"HTTP/1.1 400 Bad Request\r\nContent-Type: text/plain\r\nContent-Length: 14\r\nConnection: close\r\n\r\nSiri: Missing\n",
-            [1, 1, 0],
-        ),
-        (
-            b"POST / HTTP/1.1\r\nContent-Length: 39\r\n\r\n{\"Siri\":{\"DataReceivedAcknowledgement\":{}}}",
-            b"HTTP/1.1 400 Bad Request\r\nContent-Type: text/plain\r\nContent-Length: 11\r\nConnection: close\r\n\r\n.: NotJson\n",
-            [1, 1, 0],
-        ),
-    ];
-    for (input, answer, counts) in rows {
+    for (input, answer, counts) in SERVED {
         assert_eq!(rt; is_served(&rt, input, answer, counts), Some(true));
     }
 }

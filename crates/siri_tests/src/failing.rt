@@ -128,12 +128,12 @@ const ROWS: [(&str, Fails, Comes); 6] = [
 fn two_connections(alloc: Global, fails: &Fails) -> Option<Vec<FailingConnection<'static>>> {
     let mut all = Vec::new(alloc);
     all.push(FailingConnection {
-        input: CHECK.as_bytes(),
+        input: CHECK,
         read_fails: fails.read,
         write_fails: fails.write,
     })
     .ok()?;
-    all.push(FailingConnection::of(CHECK.as_bytes())).ok()?;
+    all.push(FailingConnection::of(CHECK)).ok()?;
     Some(all)
 }
 

@@ -11,8 +11,11 @@ pub const SEVEN: i64 = 1_714_546_800_000;
 pub const EIGHT: i64 = SEVEN + 3_600_000;
 
 /// A request for a producer's status, of which the last line has 34 bytes.
-pub const CHECK: &str =
-    "POST / HTTP/1.1\r\nHost: a\r\nContent-Length: 34\r\n\r\n{\"Siri\":{\"CheckStatusRequest\":{}}}";
+pub const CHECK: &[u8] =
+    b"POST / HTTP/1.1\r\nHost: a\r\nContent-Length: 34\r\n\r\n{\"Siri\":{\"CheckStatusRequest\":{}}}";
+
+/// The same without its last 24 bytes.
+const CUT: &[u8] = b"POST / HTTP/1.1\r\nHost: a\r\nContent-Length: 34\r\n\r\n{\"Siri\":{\"";
 
 /// What `p` answers to it that started at 7 and stands at 8.
 pub const CHECKED: &str =
@@ -87,104 +90,106 @@ fn comes_of(alloc: Global, words: &[&str], handed: &Handed<'_>, comes: &Comes<'_
     )
 }
 
+const LISTEN: &str = "127.0.0.1:7001";
+
+// COUNT, the number that is kept, the moments and the connections to come, and what comes of it.
+const SERVED: [(&str, u64, &[i64], &[&[u8]], Comes<'static>); 7] = [
+    (
+        "1",
+        0,
+        &[SEVEN, EIGHT],
+        &[CHECK],
+        Comes {
+            answered: &[CHECKED],
+            named: &[LISTEN],
+            output: "served 1 refused 0 dropped 0 unsent 0\n",
+            number: 0,
+            text: "",
+        },
+    ),
+    (
+        "1",
+        0,
+        &[SEVEN, EIGHT],
+        &[CUT],
+        Comes {
+            answered: &[""],
+            named: &[LISTEN],
+            output: "served 1 refused 0 dropped 1 unsent 0\n",
+            number: 0,
+            text: "",
+        },
+    ),
+    (
+        "1",
+        0,
+        &[SEVEN, EIGHT],
+        &[b"GET / HTTP/1.1\r\n\r\n"],
+        Comes {
+            answered: &[NOT_POST],
+            named: &[LISTEN],
+            output: "served 1 refused 1 dropped 0 unsent 0\n",
+            number: 0,
+            text: "",
+        },
+    ),
+    (
+        "2",
+        0,
+        &[SEVEN, EIGHT, EIGHT],
+        &[CHECK],
+        Comes {
+            answered: &[CHECKED],
+            named: &[LISTEN],
+            output: "",
+            number: 69,
+            text: "siri: wire fault",
+        },
+    ),
+    (
+        "1",
+        0,
+        &[SEVEN],
+        &[CHECK],
+        Comes {
+            answered: &[""],
+            named: &[LISTEN],
+            output: "",
+            number: 75,
+            text: "siri: clock fault",
+        },
+    ),
+    (
+        "1",
+        99_999_999_999,
+        &[SEVEN, EIGHT],
+        &[CHECK],
+        Comes {
+            answered: &[],
+            named: &[],
+            output: "",
+            number: 76,
+            text: "siri: keeper fault",
+        },
+    ),
+    (
+        "0",
+        0,
+        &[SEVEN, EIGHT],
+        &[CHECK],
+        Comes {
+            answered: &[],
+            named: &[],
+            output: "",
+            number: 64,
+            text: "siri: usage",
+        },
+    ),
+];
+
 #[test]
 fn a_producer_serves_connections(rt: HostRuntime) {
-    let listen = ["127.0.0.1:7001"];
-    let cut = CHECK.as_bytes().split_at(CHECK.len() - 24).0;
-    let rows: [(&str, u64, &[i64], &[&[u8]], Comes<'_>); 7] = [
-        (
-            "1",
-            0,
-            &[SEVEN, EIGHT],
-            &[CHECK.as_bytes()],
-            Comes {
-                answered: &[CHECKED],
-                named: &listen,
-                output: "served 1 refused 0 dropped 0 unsent 0\n",
-                number: 0,
-                text: "",
-            },
-        ),
-        (
-            "1",
-            0,
-            &[SEVEN, EIGHT],
-            &[cut],
-            Comes {
-                answered: &[""],
-                named: &listen,
-                output: "served 1 refused 0 dropped 1 unsent 0\n",
-                number: 0,
-                text: "",
-            },
-        ),
-        (
-            "1",
-            0,
-            &[SEVEN, EIGHT],
-            &[b"GET / HTTP/1.1\r\n\r\n"],
-            Comes {
-                answered: &[NOT_POST],
-                named: &listen,
-                output: "served 1 refused 1 dropped 0 unsent 0\n",
-                number: 0,
-                text: "",
-            },
-        ),
-        (
-            "2",
-            0,
-            &[SEVEN, EIGHT, EIGHT],
-            &[CHECK.as_bytes()],
-            Comes {
-                answered: &[CHECKED],
-                named: &listen,
-                output: "",
-                number: 69,
-                text: "siri: wire fault",
-            },
-        ),
-        (
-            "1",
-            0,
-            &[SEVEN],
-            &[CHECK.as_bytes()],
-            Comes {
-                answered: &[""],
-                named: &listen,
-                output: "",
-                number: 75,
-                text: "siri: clock fault",
-            },
-        ),
-        (
-            "1",
-            99_999_999_999,
-            &[SEVEN, EIGHT],
-            &[CHECK.as_bytes()],
-            Comes {
-                answered: &[],
-                named: &[],
-                output: "",
-                number: 76,
-                text: "siri: keeper fault",
-            },
-        ),
-        (
-            "0",
-            0,
-            &[SEVEN, EIGHT],
-            &[CHECK.as_bytes()],
-            Comes {
-                answered: &[],
-                named: &[],
-                output: "",
-                number: 64,
-                text: "siri: usage",
-            },
-        ),
-    ];
-    for (count, kept, moments, to_accept, comes) in &rows {
+    for (count, kept, moments, to_accept, comes) in &SERVED {
         let handed = Handed {
             kept: *kept,
             moments: *moments,
@@ -192,7 +197,7 @@ fn a_producer_serves_connections(rt: HostRuntime) {
             to_dial: &[],
             input: b"",
         };
-        let words = ["serve", "p", "127.0.0.1:7001", *count];
+        let words = ["serve", "p", LISTEN, *count];
         assert_eq!(rt; comes_of(rt.alloc(), &words, &handed, comes), Some(true));
     }
 }
@@ -206,77 +211,74 @@ const REQUEST: &str =
     "POST / HTTP/1.1\r\nHost: 127.0.0.1:7001\r\nContent-Type: application/json\r\nContent-Length: 432\r\nConnection: close\r\n\r\n{\"Siri\":{\"SubscriptionRequest\":{\"ConsumerAddress\":\"http://127.0.0.1:7002/\",\"MessageIdentifier\":\"1000000\",\"RequestTimestamp\":\"2024-05-01T08:00:00Z\",\"RequestorRef\":\"c\",\"StopMonitoringSubscriptionRequest\":[{\"ChangeBeforeUpdates\":\"PT0S\",\"IncrementalUpdates\":true,\"InitialTerminationTime\":\"2024-05-01T20:00:00Z\",\"StopMonitoringRequest\":{\"MonitoringRef\":\"S1\",\"PreviewInterval\":\"PT1H\"},\"SubscriberRef\":\"c\",\"SubscriptionIdentifier\":\"S\"}]}}}";
 
 /// The first part of its first round, and nothing in it.
-const ROUND: &str =
-    "POST / HTTP/1.1\r\nContent-Length: 314\r\n\r\n{\"Siri\":{\"ServiceDelivery\":{\"ProducerRef\":\"producer\",\"RequestMessageRef\":\"1000000\",\"ResponseTimestamp\":\"2024-05-01T08:00:00Z\",\"Status\":true,\"StopMonitoringDelivery\":[{\"Extensions\":{\"Part\":1,\"Round\":1,\"Start\":1},\"ResponseTimestamp\":\"2024-05-01T08:00:00Z\",\"Status\":true,\"SubscriberRef\":\"c\",\"SubscriptionRef\":\"S\"}]}}}";
+const ROUND: &[u8] =
+    b"POST / HTTP/1.1\r\nContent-Length: 314\r\n\r\n{\"Siri\":{\"ServiceDelivery\":{\"ProducerRef\":\"producer\",\"RequestMessageRef\":\"1000000\",\"ResponseTimestamp\":\"2024-05-01T08:00:00Z\",\"Status\":true,\"StopMonitoringDelivery\":[{\"Extensions\":{\"Part\":1,\"Round\":1,\"Start\":1},\"ResponseTimestamp\":\"2024-05-01T08:00:00Z\",\"Status\":true,\"SubscriberRef\":\"c\",\"SubscriptionRef\":\"S\"}]}}}";
 
 /// What it answers to that.
 const ACKNOWLEDGED: &str =
     "HTTP/1.1 200 OK\r\nContent-Type: application/json\r\nContent-Length: 200\r\nConnection: close\r\n\r\n{\"Siri\":{\"DataReceivedAcknowledgement\":{\"ConsumerRef\":\"c\",\"Extensions\":{\"Number\":1000000,\"Part\":1,\"Round\":1,\"Start\":1,\"SubscriptionRef\":\"S\"},\"ResponseTimestamp\":\"2024-05-01T08:00:00Z\",\"Status\":true}}}";
 
+const CONSUMER: &str = "127.0.0.1:7002";
+
+// What the source has, the connections to be dialled, and what comes of it.
+const ASKED: [(&str, &[&[u8]], Comes<'static>); 4] = [
+    (
+        WANTED,
+        &[b"HTTP/1.1 200 OK\r\nContent-Length: 0\r\n\r\n"],
+        Comes {
+            answered: &[REQUEST, ACKNOWLEDGED],
+            named: &[CONSUMER, LISTEN],
+            output: "view c S number 1000000 start 1 round 1 items 0\nserved 1 refused 0 dropped 0 unsent 0\n",
+            number: 0,
+            text: "",
+        },
+    ),
+    (
+        WANTED,
+        &[],
+        Comes {
+            answered: &[ACKNOWLEDGED],
+            named: &[CONSUMER, LISTEN],
+            output: "view c S number 1000000 start 1 round 1 items 0\nserved 1 refused 0 dropped 0 unsent 1\n",
+            number: 0,
+            text: "",
+        },
+    ),
+    (
+        WANTED,
+        &[b"HTTP/1.1 500 Internal Server Error\r\nContent-Length: 0\r\n\r\n"],
+        Comes {
+            answered: &[REQUEST, ACKNOWLEDGED],
+            named: &[CONSUMER, LISTEN],
+            output: "view c S number 1000000 start 1 round 1 items 0\nserved 1 refused 0 dropped 0 unsent 1\n",
+            number: 0,
+            text: "",
+        },
+    ),
+    (
+        "# nothing\n{\"StopMonitoringSubscriptionRequest\":{}}\n",
+        &[],
+        Comes {
+            answered: &[],
+            named: &[],
+            output: "",
+            number: 65,
+            text: "siri: line 2: BadDocument StopMonitoringSubscriptionRequest[0].SubscriptionIdentifier: Missing",
+        },
+    ),
+];
+
 #[test]
 fn a_consumer_asks_and_answers(rt: HostRuntime) {
-    let named = ["127.0.0.1:7002", "127.0.0.1:7001"];
-    let rows: [(&str, &[&[u8]], Comes<'_>); 4] = [
-        (
-            WANTED,
-            &[b"HTTP/1.1 200 OK\r\nContent-Length: 0\r\n\r\n"],
-            Comes {
-                answered: &[REQUEST, ACKNOWLEDGED],
-                named: &named,
-                output: "view c S number 1000000 start 1 round 1 items 0\nserved 1 refused 0 dropped 0 unsent 0\n",
-                number: 0,
-                text: "",
-            },
-        ),
-        (
-            WANTED,
-            &[],
-            Comes {
-                answered: &[ACKNOWLEDGED],
-                named: &named,
-                output: "view c S number 1000000 start 1 round 1 items 0\nserved 1 refused 0 dropped 0 unsent 1\n",
-                number: 0,
-                text: "",
-            },
-        ),
-        (
-            WANTED,
-            &[b"HTTP/1.1 500 Internal Server Error\r\nContent-Length: 0\r\n\r\n"],
-            Comes {
-                answered: &[REQUEST, ACKNOWLEDGED],
-                named: &named,
-                output: "view c S number 1000000 start 1 round 1 items 0\nserved 1 refused 0 dropped 0 unsent 1\n",
-                number: 0,
-                text: "",
-            },
-        ),
-        (
-            "# nothing\n{\"StopMonitoringSubscriptionRequest\":{}}\n",
-            &[],
-            Comes {
-                answered: &[],
-                named: &[],
-                output: "",
-                number: 65,
-                text: "siri: line 2: BadDocument StopMonitoringSubscriptionRequest[0].SubscriptionIdentifier: Missing",
-            },
-        ),
-    ];
-    for (input, to_dial, comes) in &rows {
+    for (input, to_dial, comes) in &ASKED {
         let handed = Handed {
             kept: 0,
             moments: &[EIGHT, EIGHT],
-            to_accept: &[ROUND.as_bytes()],
+            to_accept: &[ROUND],
             to_dial: *to_dial,
             input: input.as_bytes(),
         };
-        let words = [
-            "consume",
-            "c",
-            "127.0.0.1:7002",
-            "http://127.0.0.1:7001/",
-            "1",
-        ];
+        let words = ["consume", "c", CONSUMER, "http://127.0.0.1:7001/", "1"];
         assert_eq!(rt; comes_of(rt.alloc(), &words, &handed, comes), Some(true));
     }
 }

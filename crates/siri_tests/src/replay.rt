@@ -257,31 +257,32 @@ fn refused_lines_end_the_report(rt: HostRuntime) -> Result<(), Fail> {
     Ok(())
 }
 
+const NO_COMMANDS: [&[&str]; 14] = [
+    &["serve"],
+    &[],
+    &["Replay"],
+    &["replay", "replay"],
+    &["--", "replay"],
+    &["--help"],
+    &["load", "7", "20001"],
+    &["load", "7", "01"],
+    &["serve", "-n", "localhost:8080", "1"],
+    &["serve", "n", "localhost", "1"],
+    &["serve", "n", "localhost:65536", "1"],
+    &["serve", "n", "localhost:8080", "1000001"],
+    &["consume", "c", "localhost:8081", "localhost:8080", "1"],
+    &[
+        "consume",
+        "c",
+        "localhost:8081",
+        "http://localhost:8080",
+        "0",
+    ],
+];
+
 #[test]
 fn words_of_no_command_are_a_usage(rt: HostRuntime) -> Result<(), Fail> {
-    let wrong: [&[&str]; 14] = [
-        &["serve"],
-        &[],
-        &["Replay"],
-        &["replay", "replay"],
-        &["--", "replay"],
-        &["--help"],
-        &["load", "7", "20001"],
-        &["load", "7", "01"],
-        &["serve", "-n", "localhost:8080", "1"],
-        &["serve", "n", "localhost", "1"],
-        &["serve", "n", "localhost:65536", "1"],
-        &["serve", "n", "localhost:8080", "1000001"],
-        &["consume", "c", "localhost:8081", "localhost:8080", "1"],
-        &[
-            "consume",
-            "c",
-            "localhost:8081",
-            "http://localhost:8080",
-            "0",
-        ],
-    ];
-    for (place, words) in wrong.iter().enumerate() {
+    for (place, words) in NO_COMMANDS.iter().enumerate() {
         assert!(rt;
             brings(rt.alloc(), words, EIGHT.as_bytes(), "", 64, "siri: usage")?,
             "words {place}"
@@ -403,6 +404,40 @@ const MANY_TOLD: &str = concat!(
     "fed 0 0 1\nfed 1 0 0\nfed 1 0 0\nfed 1 0 0\n",
 );
 
+// Feeds of a new visit, for which there is no room, of a later one of a held key, of one that is over, and, once the held ones are
+// over, of a new one.
+const AT_THE_LIMIT: &[&str] = &[
+    FEED,
+    NAMED,
+    "new",
+    AT,
+    "08:30:00",
+    STOP,
+    FED,
+    FEED,
+    NAMED,
+    "0-0",
+    AT,
+    "08:45:00",
+    STOP,
+    FED,
+    FEED,
+    NAMED,
+    "late",
+    AT,
+    "07:00:00",
+    STOP,
+    FED,
+    "clock 2024-05-01T08:30:00.001Z\n",
+    FEED,
+    NAMED,
+    "new",
+    AT,
+    "09:00:00",
+    STOP,
+    FED,
+];
+
 fn add(script: &mut Vec<u8>, pieces: &[&str]) -> Result<(), AllocError> {
     for piece in pieces {
         script.extend_from_slice(piece.as_bytes())?;
@@ -433,40 +468,7 @@ fn as_many_items_are_live_as_may_be(rt: HostRuntime) -> Result<(), Fail> {
     for feed in 0..4u64 {
         add_many(rt.alloc(), &mut script, feed)?;
     }
-    add(
-        &mut script,
-        &[
-            FEED,
-            NAMED,
-            "new",
-            AT,
-            "08:30:00",
-            STOP,
-            FED,
-            FEED,
-            NAMED,
-            "0-0",
-            AT,
-            "08:45:00",
-            STOP,
-            FED,
-            FEED,
-            NAMED,
-            "late",
-            AT,
-            "07:00:00",
-            STOP,
-            FED,
-            "clock 2024-05-01T08:30:00.001Z\n",
-            FEED,
-            NAMED,
-            "new",
-            AT,
-            "09:00:00",
-            STOP,
-            FED,
-        ],
-    )?;
+    add(&mut script, AT_THE_LIMIT)?;
     assert!(rt; brings(rt.alloc(), &["replay"], &script, MANY_TOLD, 0, "")?);
     Ok(())
 }
