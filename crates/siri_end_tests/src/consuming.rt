@@ -125,7 +125,7 @@ fn is_consumed(
 
 // An input, the responses of the producer's connections, the texts that are written, and how many connections are served, refused,
 // dropped and unsent.
-const CONSUMED: [(&[u8], &[&[u8]], &[&[u8]], [u64; 4]); 5] = [
+static CONSUMED: [(&[u8], &[&[u8]], &[&[u8]], [u64; 4]); 5] = [
     (DELIVERED, &[], &[ACKNOWLEDGED], [1, 0, 0, 0]),
     (
         NOTIFIED,
@@ -152,8 +152,8 @@ const CONSUMED: [(&[u8], &[&[u8]], &[&[u8]], [u64; 4]); 5] = [
 
 #[test]
 fn connections_are_answered_and_replies_sent_up(rt: HostRuntime) -> Result<(), Fail> {
-    for (input, responses, texts, counts) in CONSUMED {
-        assert!(rt; is_consumed(rt.alloc(), input, responses, texts, counts)?);
+    for (input, responses, texts, counts) in &CONSUMED {
+        assert!(rt; is_consumed(rt.alloc(), input, responses, texts, *counts)?);
     }
     Ok(())
 }

@@ -23,7 +23,7 @@ fn a_posted_body_is_read(rt: HostRuntime) {
 }
 
 // A request, why it is refused, and the status of its response.
-const REFUSED: [(&[u8], &str, u16); 3] = [
+static REFUSED: [(&[u8], &str, u16); 3] = [
     (b"GET / HTTP/1.1\r\n\r\n", "NotPost", 405),
     (b"POST / HTTP/1.1\r\n\r\n", "NoLength", 411),
     (
@@ -35,12 +35,12 @@ const REFUSED: [(&[u8], &str, u16); 3] = [
 
 #[test]
 fn refused_requests_say_why(rt: HostRuntime) {
-    for (input, name, status) in REFUSED {
+    for (input, name, status) in &REFUSED {
         let Ok(Asked::Refused(bad)) = asked(&rt, input) else {
             panic!(rt; "not refused");
         };
-        assert_eq!(rt; bad.name(), name);
-        assert_eq!(rt; bad.status(), status);
+        assert_eq!(rt; bad.name(), *name);
+        assert_eq!(rt; bad.status(), *status);
     }
 }
 

@@ -32,7 +32,7 @@ fn is_served(rt: &HostRuntime, input: &[u8], answer: &[u8], counts: [u64; 3]) ->
 }
 
 // An input, its answer, and how many connections are served, refused and dropped.
-const SERVED: [(&[u8], &[u8], [u64; 3]); 9] = [
+static SERVED: [(&[u8], &[u8], [u64; 3]); 9] = [
     (
         b"POST / HTTP/1.1\r\nHost: a\r\nContent-Length: 34\r\n\r\n{\"Siri\":{\"CheckStatusRequest\":{}}}",
         b"HTTP/1.1 200 OK\r\nContent-Type: application/json\r\nContent-Length: 153\r\nConnection: close\r\n\r\n{\"Siri\":{\"CheckStatusResponse\":{\"ProducerRef\":\"p\",\"ResponseTimestamp\":\"2024-05-01T08:00:00Z\",\"ServiceStartedTime\":\"2024-05-01T07:00:00Z\",\"Status\":true}}}",
@@ -82,8 +82,8 @@ const SERVED: [(&[u8], &[u8], [u64; 3]); 9] = [
 
 #[test]
 fn connections_are_answered_and_counted(rt: HostRuntime) {
-    for (input, answer, counts) in SERVED {
-        assert_eq!(rt; is_served(&rt, input, answer, counts), Some(true));
+    for (input, answer, counts) in &SERVED {
+        assert_eq!(rt; is_served(&rt, input, answer, *counts), Some(true));
     }
 }
 

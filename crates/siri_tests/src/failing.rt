@@ -40,7 +40,7 @@ struct Comes {
 }
 
 // COUNT, what fails of an outside with two connections that ask for the producer's status, and what comes of it.
-const ROWS: [(&str, Fails, Comes); 6] = [
+static ROWS: [(&str, Fails, Comes); 6] = [
     (
         "1",
         Fails {

@@ -93,7 +93,7 @@ fn comes_of(alloc: Global, words: &[&str], handed: &Handed<'_>, comes: &Comes<'_
 const LISTEN: &str = "127.0.0.1:7001";
 
 // COUNT, the number that is kept, the moments and the connections to come, and what comes of it.
-const SERVED: [(&str, u64, &[i64], &[&[u8]], Comes<'static>); 7] = [
+static SERVED: [(&str, u64, &[i64], &[&[u8]], Comes<'static>); 7] = [
     (
         "1",
         0,
@@ -221,7 +221,7 @@ const ACKNOWLEDGED: &str =
 const CONSUMER: &str = "127.0.0.1:7002";
 
 // What the source has, the connections to be dialled, and what comes of it.
-const ASKED: [(&str, &[&[u8]], Comes<'static>); 4] = [
+static ASKED: [(&str, &[&[u8]], Comes<'static>); 4] = [
     (
         WANTED,
         &[b"HTTP/1.1 200 OK\r\nContent-Length: 0\r\n\r\n"],
