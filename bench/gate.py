@@ -31,7 +31,8 @@ def loop():
 
 
 def processes():
-    """Yields each process of the machine: its number, its parent's, its name, when it began and its processor seconds."""
+    """Yields each process of the machine: its number, its parent's, its name, when it began and its processor seconds, with those of
+    its children that have ended."""
     for pid in filter(str.isdigit, os.listdir("/proc")):
         try:
             with open(f"/proc/{pid}/stat", encoding="utf-8", errors="replace") as file:
@@ -39,7 +40,7 @@ def processes():
         except OSError:
             continue
         fields = rest.split()
-        yield int(pid), int(fields[1]), head.partition("(")[2], fields[19], (int(fields[11]) + int(fields[12])) / TICKS
+        yield int(pid), int(fields[1]), head.partition("(")[2], fields[19], sum(map(int, fields[11:15])) / TICKS
 
 
 def work_of(pid):
@@ -66,8 +67,10 @@ class Sampler:
                 pid = parents[pid]
             return pid == self.root
 
-        for pid, _, name, begun, seconds in alive:
-            if not name.startswith("rattle") or not is_below(pid):
+        # (a check may fork copies of itself, which count with it once they end)
+        checks = {pid for pid, _, name, *_ in alive if name.startswith("rattle")}
+        for pid, parent, _, begun, seconds in alive:
+            if pid not in checks or parent in checks or not is_below(pid):
                 continue
             key = pid, begun
             try:
