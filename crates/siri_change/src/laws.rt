@@ -1,5 +1,5 @@
 // What follows from the definitions of views and changes.
-ghost use Rattle.std.specs.Prelude.{◌≡◌, ◌↔◌, ◌<◌, ◌≤◌, ℕ, ℤ, Bool, true, List, [], length, map, flat_map, slice_get, Option, Some, None};
+ghost use Rattle.std.specs.Prelude.{◌≡◌, ◌↔◌, ◌<◌, ◌≤◌, ℕ, ℤ, Bool, true, List, [], length, map, flat_map, slice_get, Some, None};
 ghost use Rattle.siri_records.specs.declared.item.Item.{Item};
 ghost use Rattle.siri_records.specs.declared.key.Key.{Key};
 ghost use Rattle.siri_records.specs.Keyed.{Items, InOrder, KeyChange, after_change, apply};

@@ -1,5 +1,5 @@
 // When two items are equal in every field.
-ghost use Rattle.std.specs.Prelude.{◌≡◌, ◌↔◌, IsTrue, pos, true};
+ghost use Rattle.std.specs.Prelude.{◌≡◌, ◌↔◌, IsTrue, pos};
 ghost use Rattle.siri_change.specs.Same.{recorded_at, is_same};
 
 use siri_base::{Moment, Span};

@@ -1,7 +1,7 @@
 // The first items by call moment.
-ghost use Rattle.std.specs.Prelude.{◌≡◌, ◌+◌, ◌<◌, IfOk, length, nat_lt, count_by};
+ghost use Rattle.std.specs.Prelude.{◌≡◌, ◌+◌, ◌<◌, IfOk, length};
 ghost use Rattle.std.specs.Map.{values_of};
-ghost use Rattle.std.specs.Ordering.{is_lt, is_le};
+ghost use Rattle.std.specs.Ordering.{is_le};
 ghost use Rattle.siri_records.specs.Keyed.{InOrder, Items, unshared};
 ghost use Rattle.siri_model.specs.Direct.{soonest};
 ghost use Rattle.siri_direct.specs.Answering as answering;

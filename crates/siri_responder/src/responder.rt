@@ -1,5 +1,5 @@
 // The responder.
-ghost use Rattle.std.specs.Prelude.{◌≡◌, ◌+◌, ◌*◌, ◌≤◌, [], ◌∷◌, ◌++◌, length, IfOk, OnOk, OnErr};
+ghost use Rattle.std.specs.Prelude.{◌≡◌, ◌+◌, ◌*◌, ◌≤◌, [], ◌∷◌, length, IfOk, OnOk, OnErr};
 ghost use Rattle.siri_records.specs.Keyed.{InOrder};
 ghost use Rattle.siri_direct.specs.Topics.{topics_in};
 ghost use Rattle.siri_model.specs.Direct.{response, shown};
