@@ -1,6 +1,7 @@
 // Items, each as the one entry of a delivery, with what `convert` writes of it: the item, or where and why it is refused.
-use crate::running::end_of;
-use siri_base::{InMemorySink, InMemorySource};
+use crate::running::brings;
+use siri_base::OutOfMemory;
+use std::alloc::{AllocError, Global};
 use std::test::Fail;
 
 // The entries of a service: what stands around an entry in a document and in its canonical text, the entry's path, and
@@ -14,7 +15,7 @@ struct Entries {
     cases: &'static [(&'static str, &'static str)],
 }
 
-const VISITS: Entries = Entries {
+static VISITS: Entries = Entries {
     front: "{\"Siri\":{\"ServiceDelivery\":{\"StopMonitoringDelivery\":{\"MonitoredStopVisit\":[",
     back: "]}}}}",
     written_front: "{\"Siri\":{\"ServiceDelivery\":{\"Status\":true,\"StopMonitoringDelivery\":[{\"MonitoredStopVisit\":[",
@@ -56,7 +57,7 @@ const VISITS: Entries = Entries {
     ],
 };
 
-const JOURNEYS: Entries = Entries {
+static JOURNEYS: Entries = Entries {
     front: "{\"Siri\":{\"ServiceDelivery\":{\"EstimatedTimetableDelivery\":{\"EstimatedJourneyVersionFrame\":{\"EstimatedVehicleJourney\":[",
     back: "]}}}}}",
     written_front: "{\"Siri\":{\"ServiceDelivery\":{\"EstimatedTimetableDelivery\":[{\"EstimatedJourneyVersionFrame\":[{\"EstimatedVehicleJourney\":[",
@@ -83,7 +84,7 @@ const JOURNEYS: Entries = Entries {
     ],
 };
 
-const VEHICLES: Entries = Entries {
+static VEHICLES: Entries = Entries {
     front: "{\"Siri\":{\"ServiceDelivery\":{\"VehicleMonitoringDelivery\":{\"VehicleActivity\":[",
     back: "]}}}}",
     written_front: "{\"Siri\":{\"ServiceDelivery\":{\"Status\":true,\"VehicleMonitoringDelivery\":[{\"Status\":true,\"VehicleActivity\":[",
@@ -113,7 +114,7 @@ const VEHICLES: Entries = Entries {
     ],
 };
 
-const SITUATIONS: Entries = Entries {
+static SITUATIONS: Entries = Entries {
     front: "{\"Siri\":{\"ServiceDelivery\":{\"SituationExchangeDelivery\":{\"Situations\":{\"PtSituationElement\":[",
     back: "]}}}}}",
     written_front: "{\"Siri\":{\"ServiceDelivery\":{\"SituationExchangeDelivery\":[{\"Situations\":{\"PtSituationElement\":[",
@@ -147,24 +148,49 @@ const SITUATIONS: Entries = Entries {
     ],
 };
 
-const SERVICES: [Entries; 4] = [VISITS, JOURNEYS, VEHICLES, SITUATIONS];
+// What `convert` writes of an entry of which this is told.
+fn written(alloc: Global, entries: &Entries, told: &str) -> Result<String, AllocError> {
+    if told.starts_with("{") {
+        format!(in alloc; "{}{told}{}\n", entries.written_front, entries.written_back)
+    } else {
+        format!(in alloc; "{}{told}\n", entries.path)
+    }
+}
+
+// Whether this is told of an entry, by what is written and by the status.
+fn is_converted(
+    alloc: Global,
+    entries: &Entries,
+    entry: &str,
+    told: &str,
+) -> Result<bool, OutOfMemory> {
+    let document = format!(in alloc; "{}{entry}{}", entries.front, entries.back)?;
+    let written = written(alloc, entries, told)?;
+    let number = if told.starts_with("{") { 0 } else { 1 };
+    brings(
+        alloc,
+        &["convert"],
+        document.as_bytes(),
+        &written,
+        number,
+        "",
+    )
+}
+
+// The first entry of which something else is told.
+fn first_wrong(alloc: Global, entries: &Entries) -> Result<Option<&'static str>, OutOfMemory> {
+    for (entry, told) in entries.cases {
+        if !is_converted(alloc, entries, entry, told)? {
+            return Ok(Some(*entry));
+        }
+    }
+    Ok(None)
+}
 
 #[test]
 fn items_are_converted(rt: HostRuntime) -> Result<(), Fail> {
-    let alloc = rt.alloc();
-    for entries in SERVICES.iter() {
-        for (entry, told) in entries.cases {
-            let document = format!(in alloc; "{}{entry}{}", entries.front, entries.back)?;
-            let expected = if told.starts_with("{") {
-                format!(in alloc; "{}{told}{}\n", entries.written_front, entries.written_back)?
-            } else {
-                format!(in alloc; "{}{told}\n", entries.path)?
-            };
-            let mut source = InMemorySource::new(document.as_bytes());
-            let mut sink = InMemorySink::new(alloc);
-            let _ = end_of(alloc, &["convert"], &mut source, &mut sink)?;
-            assert!(rt; sink.bytes() == expected.as_bytes(), "{entry}");
-        }
+    for entries in [&VISITS, &JOURNEYS, &VEHICLES, &SITUATIONS] {
+        assert_eq!(rt; first_wrong(rt.alloc(), entries)?, None);
     }
     Ok(())
 }

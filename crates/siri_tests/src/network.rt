@@ -1,5 +1,5 @@
 // The commands over the network: `serve` and `consume` over forms in memory.
-use crate::running::end_over;
+use crate::running::{Ended, end_over};
 use siri_base::{
     InMemoryClock, InMemoryKeeper, InMemorySink, InMemorySource, InMemoryWire, Moment,
 };
@@ -68,26 +68,42 @@ fn was_used(wire: &InMemoryWire<'_>, comes: &Comes<'_>) -> bool {
     same && wire.written(place).is_none()
 }
 
-/// Whether this comes of these words.
-fn comes_of(alloc: Global, words: &[&str], handed: &Handed<'_>, comes: &Comes<'_>) -> Option<bool> {
+/// How a run of these words ends over a wire and a sink.
+fn end_of(
+    alloc: Global,
+    words: &[&str],
+    handed: &Handed<'_>,
+    wire: &mut InMemoryWire<'_>,
+    sink: &mut InMemorySink,
+) -> Option<Ended> {
     let moments = moments_of(alloc, handed.moments)?;
-    let mut wire = InMemoryWire::new(alloc, handed.to_accept, handed.to_dial);
-    let mut sink = InMemorySink::new(alloc);
-    let ended = end_over(
+    let mut clock = InMemoryClock::new(&moments);
+    let mut source = InMemorySource::new(handed.input);
+    let mut keeper = InMemoryKeeper::new(handed.kept);
+    end_over(
         alloc,
         words,
-        &mut InMemorySource::new(handed.input),
-        &mut sink,
-        &mut wire,
-        &mut InMemoryClock::new(&moments),
-        &mut InMemoryKeeper::new(handed.kept),
+        &mut source,
+        sink,
+        wire,
+        &mut clock,
+        &mut keeper,
     )
-    .ok()?;
-    Some(
-        ended.is(comes.number, comes.text)
-            && sink.bytes() == comes.output.as_bytes()
-            && was_used(&wire, comes),
-    )
+    .ok()
+}
+
+/// Whether this comes of these words.
+fn comes_of(alloc: Global, words: &[&str], handed: &Handed<'_>, comes: &Comes<'_>) -> bool {
+    let mut wire = InMemoryWire::new(alloc, handed.to_accept, handed.to_dial);
+    let mut sink = InMemorySink::new(alloc);
+    match end_of(alloc, words, handed, &mut wire, &mut sink) {
+        Some(ended) => {
+            ended.is(comes.number, comes.text)
+                && sink.bytes() == comes.output.as_bytes()
+                && was_used(&wire, comes)
+        }
+        None => false,
+    }
 }
 
 const LISTEN: &str = "127.0.0.1:7001";
@@ -198,7 +214,7 @@ fn a_producer_serves_connections(rt: HostRuntime) {
             input: b"",
         };
         let words = ["serve", "p", LISTEN, *count];
-        assert_eq!(rt; comes_of(rt.alloc(), &words, &handed, comes), Some(true));
+        assert!(rt; comes_of(rt.alloc(), &words, &handed, comes));
     }
 }
 
@@ -279,6 +295,6 @@ fn a_consumer_asks_and_answers(rt: HostRuntime) {
             input: input.as_bytes(),
         };
         let words = ["consume", "c", CONSUMER, "http://127.0.0.1:7001/", "1"];
-        assert_eq!(rt; comes_of(rt.alloc(), &words, &handed, comes), Some(true));
+        assert!(rt; comes_of(rt.alloc(), &words, &handed, comes));
     }
 }

@@ -1,7 +1,7 @@
 // Scripts, each with the report, the number and the text of the status that it brings.
 ghost use Rattle.std.specs.Prelude.{Some, []};
 
-use crate::running::{brings, end_of};
+use crate::running::{brings, brings_from, end_of};
 use siri_base::{
     Failed, FailingSink, FailingSource, InMemorySink, InMemorySource, OutOfMemory, Sink, Source,
     append_number,
@@ -90,7 +90,7 @@ const CANCELLED_TOLD: &str = concat!(
 );
 
 // Scripts that are whole, and their reports.
-const WHOLE: [(&[&str], &str); 10] = [
+static WHOLE: [(&[&str], &str); 10] = [
     (&[], ""),
     (&[EIGHT, EDGES, ASK, "PT30M", END], SHOWN),
     (&[EIGHT, TWICE, ASK, "PT30M", END], LATER),
@@ -125,7 +125,7 @@ const WHOLE: [(&[&str], &str); 10] = [
 ];
 
 // Scripts in which a line is refused, the reports before it, and what is told of it.
-const REFUSED: [(&[&str], &str, &str); 18] = [
+static REFUSED: [(&[&str], &str, &str); 18] = [
     (
         &["# nothing\n", "\n", EIGHT, "clok 2024-05-01T08:01:00Z\n"],
         "started 1\n",
@@ -257,7 +257,7 @@ fn refused_lines_end_the_report(rt: HostRuntime) -> Result<(), Fail> {
     Ok(())
 }
 
-const NO_COMMANDS: [&[&str]; 14] = [
+static NO_COMMANDS: [&[&str]; 14] = [
     &["serve"],
     &[],
     &["Replay"],
@@ -317,10 +317,7 @@ impl<'a> Source for ByteSource<'a> {
 fn pieces_of_one_byte_bring_the_same(rt: HostRuntime) -> Result<(), Fail> {
     let script = edges(rt.alloc())?;
     let mut source = ByteSource { bytes: &script };
-    let mut sink = InMemorySink::new(rt.alloc());
-    let ended = end_of(rt.alloc(), &["replay"], &mut source, &mut sink)?;
-    assert!(rt; ended.is(0, ""));
-    assert!(rt; sink.bytes() == SHOWN.as_bytes());
+    assert!(rt; brings_from(rt.alloc(), &["replay"], &mut source, SHOWN, 0, "")?);
     Ok(())
 }
 
@@ -476,13 +473,11 @@ fn as_many_items_are_live_as_may_be(rt: HostRuntime) -> Result<(), Fail> {
 // A line that is no UTF-8 is refused for it before its word is looked at.
 #[test]
 fn a_line_is_text(rt: HostRuntime) -> Result<(), Fail> {
-    let mut script = joined(rt.alloc(), &[EIGHT])?;
-    script.extend_from_slice(b"\xff\n")?;
     assert!(rt;
         brings(
             rt.alloc(),
             &["replay"],
-            &script,
+            b"start 2024-05-01T08:00:00Z\n\xff\n",
             "started 1\n",
             65,
             "siri: line 2: NotText"

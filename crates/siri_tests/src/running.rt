@@ -71,7 +71,21 @@ pub fn end_of<S: Source, K: Sink>(
     )
 }
 
-/// Whether the command of these words over an input writes this text, and ends with the status of this number and text.
+/// Whether the command of these words over a source writes this text, and ends with the status of this number and text.
+pub fn brings_from<S: Source>(
+    alloc: Global,
+    words: &[&str],
+    source: &mut S,
+    written: &str,
+    number: u8,
+    text: &str,
+) -> Result<bool, OutOfMemory> {
+    let mut sink = InMemorySink::new(alloc);
+    let ended = end_of(alloc, words, source, &mut sink)?;
+    Ok(ended.is(number, text) && sink.bytes() == written.as_bytes())
+}
+
+/// As [`brings_from`], over an input in memory.
 pub fn brings(
     alloc: Global,
     words: &[&str],
@@ -81,7 +95,5 @@ pub fn brings(
     text: &str,
 ) -> Result<bool, OutOfMemory> {
     let mut source = InMemorySource::new(input);
-    let mut sink = InMemorySink::new(alloc);
-    let ended = end_of(alloc, words, &mut source, &mut sink)?;
-    Ok(ended.is(number, text) && sink.bytes() == written.as_bytes())
+    brings_from(alloc, words, &mut source, written, number, text)
 }
