@@ -1,12 +1,13 @@
 //! The command `siri`: makes the adapters over the system, does what its words say, and tells how it ended.
 //!
-//! Stands on `siri_cli`, whose `run` is the whole of the work, and on `siri_system` for the network, the clock, the start number
-//! and standard error.
+//! Stands on `siri_cli`, whose `run` is the whole of the work, on `siri_system` for the network, the clock and the start number,
+//! and on `siri_lines` for the line that tells how a run ended.
 #![tactic(auto)]
 
 use siri_base::{Input, Output, Status};
 use siri_cli::run;
-use siri_system::{FileKeeper, SystemClock, TcpWire, report_status};
+use siri_lines::write_status;
+use siri_system::{FileKeeper, SystemClock, TcpWire};
 use std::env;
 use std::io::Write;
 use std::process::ExitCode;
@@ -22,7 +23,7 @@ siri consume NAME HOST:PORT PRODUCER COUNT < SUBSCRIPTIONS
 
 fn main(rt: HostRuntime) -> ExitCode {
     let status = run_command(&rt);
-    report_status(&rt, &status);
+    let _ = write_status(rt.alloc(), &mut Output::new(rt.stderr()), &status);
     if matches!(status, Status::Usage) {
         list_commands(&rt);
     }

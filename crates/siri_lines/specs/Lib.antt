@@ -2,6 +2,7 @@
 -- run over lines writes; what a taker stands for in the end; why lines are read no further. The words in `inner` are cited by private functions alone.
 pub mod RunResult
 pub mod Ends
+pub mod StatusLines
 pub mod Stops
 pub mod Brings
 pub mod Reports

@@ -14,16 +14,20 @@
 //! there are any. A line has at most 1,048,576 bytes without its end. The bytes between two line feeds are looked for and kept
 //! at once, and no more than one line is ever kept.
 //!
+//! The line that tells how a run ended is written here, too.
+//!
 //! Stands on `siri_base` and `memchr`. It never looks into a line.
 #![tactic(auto)]
 
 mod line_taker;
 mod reader;
 mod reading;
+mod status_line;
 mod stop;
 mod writing;
 
 pub use line_taker::LineTaker;
 pub use reading::read_lines;
+pub use status_line::write_status;
 pub use stop::Stop;
 pub use writing::write_text;

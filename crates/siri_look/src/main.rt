@@ -12,15 +12,15 @@ ghost use Rattle.siri_replay.specs.Views.{ReportsViews};
 
 use siri_base::{Input, Output, Sink, Source, Status};
 use siri_document::{Check, Convert, answer_document};
+use siri_lines::write_status;
 use siri_replay::replay;
 use std::alloc::Global;
 use std::env;
-use std::io::Write;
 use std::process::ExitCode;
 
 fn main(rt: HostRuntime) -> ExitCode {
     let status = run_command(&rt);
-    report_status(&rt, &status);
+    let _ = write_status(rt.alloc(), &mut Output::new(rt.stderr()), &status);
     ExitCode::from(status.number())
 }
 
@@ -41,17 +41,6 @@ fn run_command(rt: &HostRuntime) -> Status {
             &mut Output::new(rt.stdout()),
         ),
         _ => Status::Usage,
-    }
-}
-
-/// Writes the status's text and a line end to standard error, where it has one, as `siri` does.
-fn report_status(rt: &HostRuntime, status: &Status) {
-    if let Ok(text) = status.text(rt.alloc()) {
-        if text.len() > 0 {
-            let mut errors = rt.stderr();
-            let _ = errors.write_all(text.slice());
-            let _ = errors.write_all(b"\n");
-        }
     }
 }
 

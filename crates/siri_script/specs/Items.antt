@@ -7,8 +7,8 @@ use Rattle.siri_records.specs.declared.item.Item.TheVariants as item
 use Rattle.siri_tables.specs.Writing.{Row, row_object, with_rows, written_moment}
 use Rattle.siri_items.specs.Written.{written_item}
 use Rattle.siri_items.specs.declared.names.TheConstants.{RECORDED_AT_TIME}
-use Rattle.siri_wire.specs.declared.names.TheConstants.{ESTIMATED_VEHICLE_JOURNEY, MONITORED_STOP_VISIT, PT_SITUATION_ELEMENT, VEHICLE_ACTIVITY}
-use Rattle.siri_wire.specs.Frames.{frame_time}
+use Rattle.siri_deliveries.specs.declared.names.TheConstants.{ESTIMATED_VEHICLE_JOURNEY, MONITORED_STOP_VISIT, PT_SITUATION_ELEMENT, VEHICLE_ACTIVITY}
+use Rattle.siri_deliveries.specs.Frames.{frame_time}
 use Rattle.siri_script.specs.Spaced.{spaced}
 
 -- the name under which a delivery lists items of its kind (EN 15531-3; CEN/TS 15531-5)

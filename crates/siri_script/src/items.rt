@@ -5,10 +5,10 @@ ghost use Rattle.siri_script.specs.Items.{item_line, item_members, item_name, it
 
 use crate::append_word;
 use siri_base::{OutOfMemory, append};
+use siri_deliveries::names;
 use siri_items::{write_item, write_timed_journey};
 use siri_json::Output;
 use siri_records::Item;
-use siri_wire::names;
 use std::alloc::Global;
 
 /// `item {NAME:ITEM}`

@@ -4,21 +4,18 @@
 //!   a run  -->  Wire    [`TcpWire`]      std::net
 //!          -->  Clock   [`SystemClock`]  std::time
 //!          -->  Keeper  [`FileKeeper`]   std::fs, the file `siri-start`
-//!   its status  --> [`report_status`]    standard error
 //! ```
 //!
 //! These are the trusted edge: a few lines over the standard library each, which raise a count at each failure and tell
-//! nothing of what a socket, a clock or a file holds. Standard input and output have their adapters in `siri_base`.
+//! nothing of what a socket, a clock or a file holds. Standard input, output and error have their adapters in `siri_base`.
 //!
 //! Stands on `siri_base` alone. It knows no message and no HTTP.
 #![tactic(auto)]
 
 mod clock;
 mod keeper;
-mod status;
 mod wire;
 
 pub use clock::SystemClock;
 pub use keeper::FileKeeper;
-pub use status::report_status;
 pub use wire::TcpWire;

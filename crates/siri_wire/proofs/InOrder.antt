@@ -1,19 +1,17 @@
 -- Tables that are written in byte order of their names, a lemma a table.
-use Rattle.std.proofs.Common.{◌≡◌, ℕ, true, false, List, [], ◌∷◌, ◌++◌, Option, None, refl, sym, ◌∙◌, length, append_assoc, append-nil, arith}
-use Rattle.std.proofs.lemmas.Bool.{lt-ltb}
-use Rattle.std.specs.Prelude.{ℤ, Bool, is_some, nat_lt, codes}
-use Rattle.json.specs.Token.{Token, key, string, begin_object, end_object, begin_array, end_array}
+use Rattle.std.proofs.Common.{◌≡◌, true, false, List, [], ◌∷◌, ◌++◌, None, sym, ◌∙◌, append_assoc, append-nil}
+use Rattle.std.specs.Prelude.{ℤ, Bool, codes}
+use Rattle.json.specs.Token.{Token, key, string, begin_object, end_object}
 use Rattle.json.specs.Print.{print}
 use Rattle.serde_json.proofs.Texts.{print-outline}
-use Rattle.serde_json.specs.Data.{Data}
 use Rattle.siri_json.specs.Tokens.{tokens_of}
 use Rattle.siri_tables.specs.Appended.{row_tokens}
 use Rattle.siri_time.specs.SpanText.{span_text}
-use Rattle.siri_tables.proofs.Sorted.{rows_onto, sorted, object_in_order, any_written, written_object, left_out}
+use Rattle.siri_tables.proofs.Sorted.{rows_onto, sorted, object_in_order}
 use Rattle.siri_messages.specs.declared.supplies.Mark.{Mark}
 use Rattle.siri_tables.specs.Tables.{all_written}
-use Rattle.siri_tables.specs.Writing.{Row, array_unless_empty, row_object, written_list, written_span, written_text}
-use Rattle.siri_wire.specs.declared.names.TheConstants.{DELIVERY_METHOD, ERROR_TEXT, ESTIMATED_VEHICLE_JOURNEY, EXTENSIONS, HEARTBEAT_INTERVAL, OTHER_ERROR, REMOVED, SIRI, SUBSCRIPTION_CONTEXT}
+use Rattle.siri_tables.specs.Writing.{row_object, written_span}
+use Rattle.siri_deliveries.specs.declared.names.TheConstants.{DELIVERY_METHOD, EXTENSIONS, HEARTBEAT_INTERVAL, SIRI, SUBSCRIPTION_CONTEXT}
 use Rattle.siri_messages.specs.declared.requests.ServiceRequest.{ServiceRequest}
 use Rattle.siri_messages.specs.declared.supplies.DataReadyNotification.{DataReadyNotification}
 use Rattle.siri_messages.specs.declared.supplies.DataReadyAcknowledgement.{DataReadyAcknowledgement}
@@ -22,11 +20,6 @@ use Rattle.siri_messages.specs.declared.supplies.DataReceivedAcknowledgement.{Da
 use Rattle.siri_messages.specs.declared.statuses.CheckStatusRequest.{CheckStatusRequest}
 use Rattle.siri_messages.specs.declared.statuses.CheckStatusResponse.{CheckStatusResponse}
 use Rattle.siri_messages.specs.declared.statuses.HeartbeatNotification.{HeartbeatNotification}
-use Rattle.siri_topic.specs.declared.topics.StopTopic.{StopTopic}
-use Rattle.siri_topic.specs.declared.topics.TimetableTopic.{TimetableTopic}
-use Rattle.siri_topic.specs.declared.topics.LineDirection.{LineDirection}
-use Rattle.siri_topic.specs.declared.topics.VehicleTopic.{VehicleTopic}
-use Rattle.siri_topic.specs.declared.topics.SituationTopic.{SituationTopic}
 use Rattle.siri_topic.specs.declared.subscription.Subscription.{Subscription}
 use Rattle.siri_messages.specs.declared.subscriptions.SubscriptionRequest.{SubscriptionRequest}
 use Rattle.siri_messages.specs.declared.subscriptions.SubscriptionResponse.{SubscriptionResponse}
@@ -34,26 +27,16 @@ use Rattle.siri_messages.specs.declared.subscriptions.ResponseStatus.{ResponseSt
 use Rattle.siri_messages.specs.declared.terminations.TerminateSubscriptionRequest.{TerminateSubscriptionRequest}
 use Rattle.siri_messages.specs.declared.terminations.TerminateSubscriptionResponse.{TerminateSubscriptionResponse}
 use Rattle.siri_messages.specs.declared.terminations.TerminationResponseStatus.{TerminationResponseStatus}
-use Rattle.siri_records.specs.declared.item.Item.{Item}
 use Rattle.siri_records.specs.declared.item.Service.TheVariants as service
-use Rattle.siri_records.specs.declared.key.Key.{Key}
-use Rattle.siri_messages.specs.declared.deliveries.FunctionalDelivery.{FunctionalDelivery}
-use Rattle.siri_messages.specs.declared.deliveries.ServiceDelivery.{ServiceDelivery}
 use Rattle.siri_messages.specs.declared.message.Message.{Message}
 use Rattle.siri_messages.specs.Kinds.{kind_of}
-use Rattle.siri_wire.specs.Supplies.{ready_table, written_data_ready, ready_acknowledgement_table, written_ready_acknowledgement, supply_table, written_supply, received_table, written_received}
+use Rattle.siri_wire.specs.Supplies.{mark_table, ready_table, written_data_ready, ready_acknowledgement_table, written_ready_acknowledgement, supply_table, written_supply, received_table, written_received}
 use Rattle.siri_wire.specs.Statuses.{check_table, written_check_status, check_response_table, written_status_response, heartbeat_table, written_heartbeat}
 use Rattle.siri_wire.specs.Requests.{service_request_table, written_service_request}
-use Rattle.siri_wire.specs.Removals.{rows_of_removal, written_removal}
-use Rattle.siri_wire.specs.Frames.{rows_of_frame}
-use Rattle.siri_wire.specs.Parts.{rows_of_place, written_position, written_place, written_extensions, written_removed}
-use Rattle.siri_wire.specs.Deliveries.{stop_delivery_table, timetable_delivery_table, vehicle_delivery_table, situation_delivery_table, service_delivery_table, written_service_delivery}
 use Rattle.siri_wire.specs.Subscriptions.{written_method, subscription_table, subscription_request_table, written_subscription_request, response_status_table, subscription_response_table, written_subscription_response}
 use Rattle.siri_wire.specs.Terminations.{termination_table, written_termination, termination_status_table, termination_response_table, written_termination_response}
-use Rattle.siri_wire.specs.WrittenValues.{mark_table}
-use Rattle.siri_wire.specs.Topics.{stop_topic_table, written_stop_topic, line_direction_table, timetable_topic_table, written_timetable_topic, vehicle_topic_table, written_vehicle_topic, situation_topic_table, written_situation_topic}
 use Rattle.siri_wire.specs.Canonical.{written_body, written_message, canonical}
-use Rattle.siri_records.specs.declared.key.Key.TheVariants as keys
+use Rattle.siri_deliveries.proofs.InOrder.{regroup_row}
 
 pub mark_in_order : (old : List Token) (m : Mark) → rows_onto (old ++ begin_object ∷ []) (sorted (all_written mark_table m)) ++ end_object ∷ [] ≡ old ++ tokens_of (row_object (all_written mark_table m))
 mark_in_order old m = object_in_order old (all_written mark_table m)
@@ -90,25 +73,6 @@ pub received_in_order : (old : List Token) (a : DataReceivedAcknowledgement) →
 unfolding written_received
 received_in_order old a = object_in_order old (all_written received_table a)
 
-pub stop_topic_in_order : (old : List Token) (t : StopTopic) → rows_onto (old ++ begin_object ∷ []) (sorted (all_written stop_topic_table t)) ++ end_object ∷ [] ≡ old ++ tokens_of (written_stop_topic t)
-unfolding written_stop_topic
-stop_topic_in_order old t = object_in_order old (all_written stop_topic_table t)
-
-pub line_direction_in_order : (old : List Token) (l : LineDirection) → rows_onto (old ++ begin_object ∷ []) (sorted (all_written line_direction_table l)) ++ end_object ∷ [] ≡ old ++ tokens_of (row_object (all_written line_direction_table l))
-line_direction_in_order old l = object_in_order old (all_written line_direction_table l)
-
-pub timetable_topic_in_order : (old : List Token) (t : TimetableTopic) → rows_onto (old ++ begin_object ∷ []) (sorted (all_written timetable_topic_table t)) ++ end_object ∷ [] ≡ old ++ tokens_of (written_timetable_topic t)
-unfolding written_timetable_topic
-timetable_topic_in_order old t = object_in_order old (all_written timetable_topic_table t)
-
-pub vehicle_topic_in_order : (old : List Token) (t : VehicleTopic) → rows_onto (old ++ begin_object ∷ []) (sorted (all_written vehicle_topic_table t)) ++ end_object ∷ [] ≡ old ++ tokens_of (written_vehicle_topic t)
-unfolding written_vehicle_topic
-vehicle_topic_in_order old t = object_in_order old (all_written vehicle_topic_table t)
-
-pub situation_topic_in_order : (old : List Token) (t : SituationTopic) → rows_onto (old ++ begin_object ∷ []) (sorted (all_written situation_topic_table t)) ++ end_object ∷ [] ≡ old ++ tokens_of (written_situation_topic t)
-unfolding written_situation_topic
-situation_topic_in_order old t = object_in_order old (all_written situation_topic_table t)
-
 pub stop_subscription_in_order : (old : List Token) (w : Subscription) → rows_onto (old ++ begin_object ∷ []) (sorted (all_written (subscription_table service.Stop None) w)) ++ end_object ∷ [] ≡ old ++ tokens_of (row_object (all_written (subscription_table service.Stop None) w))
 stop_subscription_in_order old w = object_in_order old (all_written (subscription_table service.Stop None) w)
 
@@ -143,55 +107,7 @@ pub termination_response_in_order : (old : List Token) (r : TerminateSubscriptio
 unfolding written_termination_response
 termination_response_in_order old r = object_in_order old (all_written termination_response_table r)
 
-pub frame_in_order : (old : List Token) (i : Item) → rows_onto (old ++ begin_object ∷ []) (sorted (rows_of_frame i)) ++ end_object ∷ [] ≡ old ++ tokens_of (row_object (rows_of_frame i))
-frame_in_order old i = object_in_order old (rows_of_frame i)
-
-pub removed_visit_in_order : (old : List Token) (m i : List ℕ) → rows_onto (old ++ begin_object ∷ []) (sorted (rows_of_removal (keys.Visit m i))) ++ end_object ∷ [] ≡ old ++ tokens_of (row_object (rows_of_removal (keys.Visit m i)))
-removed_visit_in_order old m i = object_in_order old (rows_of_removal (keys.Visit m i))
-
-pub removed_journey_in_order : (old : List Token) (l : List ℕ) (d f : Option (List ℕ)) (j : List ℕ) → rows_onto (old ++ begin_object ∷ []) (sorted (rows_of_removal (keys.Journey l d f j))) ++ end_object ∷ [] ≡ old ++ tokens_of (row_object (rows_of_removal (keys.Journey l d f j)))
-removed_journey_in_order old l d f j = object_in_order old (rows_of_removal (keys.Journey l d f j))
-
-pub removed_vehicle_in_order : (old : List Token) (v : List ℕ) → rows_onto (old ++ begin_object ∷ []) (sorted (rows_of_removal (keys.Vehicle v))) ++ end_object ∷ [] ≡ old ++ tokens_of (row_object (rows_of_removal (keys.Vehicle v)))
-removed_vehicle_in_order old v = object_in_order old (rows_of_removal (keys.Vehicle v))
-
-pub removed_situation_in_order : (old : List Token) (p : Option (List ℕ)) (n : List ℕ) → rows_onto (old ++ begin_object ∷ []) (sorted (rows_of_removal (keys.Situation p n))) ++ end_object ∷ [] ≡ old ++ tokens_of (row_object (rows_of_removal (keys.Situation p n)))
-removed_situation_in_order old p n = object_in_order old (rows_of_removal (keys.Situation p n))
-
-pub place_in_order : (old : List Token) (d : FunctionalDelivery) → rows_onto (old ++ begin_object ∷ []) (sorted (rows_of_place d [])) ++ end_object ∷ [] ≡ old ++ tokens_of (row_object (rows_of_place d []))
-place_in_order old d = object_in_order old (rows_of_place d [])
-
-pub removed_in_order : (old : List Token) (d : FunctionalDelivery) → rows_onto (old ++ begin_object ∷ []) (sorted (rows_of_place d ((REMOVED.now, written_list written_removal d.removals) ∷ []))) ++ end_object ∷ [] ≡ old ++ tokens_of (row_object (rows_of_place d ((REMOVED.now, written_list written_removal d.removals) ∷ [])))
-removed_in_order old d = object_in_order old (rows_of_place d ((REMOVED.now, written_list written_removal d.removals) ∷ []))
-
-pub stop_delivery_in_order : (old : List Token) (d : FunctionalDelivery) → rows_onto (old ++ begin_object ∷ []) (sorted (all_written stop_delivery_table d)) ++ end_object ∷ [] ≡ old ++ tokens_of (row_object (all_written stop_delivery_table d))
-stop_delivery_in_order old d = object_in_order old (all_written stop_delivery_table d)
-
-pub timetable_delivery_in_order : (old : List Token) (d : FunctionalDelivery) → rows_onto (old ++ begin_object ∷ []) (sorted (all_written timetable_delivery_table d)) ++ end_object ∷ [] ≡ old ++ tokens_of (row_object (all_written timetable_delivery_table d))
-timetable_delivery_in_order old d = object_in_order old (all_written timetable_delivery_table d)
-
-pub vehicle_delivery_in_order : (old : List Token) (d : FunctionalDelivery) → rows_onto (old ++ begin_object ∷ []) (sorted (all_written vehicle_delivery_table d)) ++ end_object ∷ [] ≡ old ++ tokens_of (row_object (all_written vehicle_delivery_table d))
-vehicle_delivery_in_order old d = object_in_order old (all_written vehicle_delivery_table d)
-
-pub situation_delivery_in_order : (old : List Token) (d : FunctionalDelivery) → rows_onto (old ++ begin_object ∷ []) (sorted (all_written situation_delivery_table d)) ++ end_object ∷ [] ≡ old ++ tokens_of (row_object (all_written situation_delivery_table d))
-situation_delivery_in_order old d = object_in_order old (all_written situation_delivery_table d)
-
-pub service_delivery_in_order : (old : List Token) (d : ServiceDelivery) → rows_onto (old ++ begin_object ∷ []) (sorted (all_written service_delivery_table d)) ++ end_object ∷ [] ≡ old ++ tokens_of (written_service_delivery d)
-unfolding written_service_delivery
-service_delivery_in_order old d = object_in_order old (all_written service_delivery_table d)
-
 -- ---- values and objects in forms of their own
-
-regroup_error : (old a : List Token) (b k c e f : Token) → (((((old ++ b ∷ []) ++ k ∷ []) ++ c ∷ []) ++ a) ++ e ∷ []) ++ f ∷ [] ≡ old ++ b ∷ k ∷ c ∷ (a ++ e ∷ f ∷ [])
-regroup_error old a b k c e f = simp append_assoc
-
-pub error_in_order : (old : List Token) (t : List ℕ)
-    → (((((old ++ begin_object ∷ []) ++ key OTHER_ERROR.now ∷ []) ++ begin_object ∷ []) ++ row_tokens ERROR_TEXT.now (written_text t)) ++ end_object ∷ []) ++ end_object ∷ []
-    ≡ old ++ begin_object ∷ key OTHER_ERROR.now ∷ begin_object ∷ key ERROR_TEXT.now ∷ string t ∷ end_object ∷ end_object ∷ []
-error_in_order old t = regroup_error old (row_tokens ERROR_TEXT.now (written_text t)) begin_object (key OTHER_ERROR.now) begin_object end_object end_object
-
-regroup_row : (old a : List Token) (k b e : Token) → (((old ++ k ∷ []) ++ b ∷ []) ++ a) ++ e ∷ [] ≡ old ++ k ∷ b ∷ (a ++ e ∷ [])
-regroup_row old a k b e = simp append_assoc
 
 regroup_method : (old : List Token) (k b m t e : Token) → ((((old ++ k ∷ []) ++ b ∷ []) ++ m ∷ []) ++ t ∷ []) ++ e ∷ [] ≡ old ++ k ∷ b ∷ m ∷ t ∷ e ∷ []
 regroup_method old k b m t e = simp append_assoc
@@ -210,38 +126,6 @@ pub context_in_order : (old : List Token) (s : ℤ)
     → (((old ++ key SUBSCRIPTION_CONTEXT.now ∷ []) ++ begin_object ∷ []) ++ row_tokens HEARTBEAT_INTERVAL.now (written_span s)) ++ end_object ∷ []
     ≡ old ++ key SUBSCRIPTION_CONTEXT.now ∷ begin_object ∷ key HEARTBEAT_INTERVAL.now ∷ string (span_text s) ∷ end_object ∷ []
 context_in_order old s = regroup_row old (row_tokens HEARTBEAT_INTERVAL.now (written_span s)) (key SUBSCRIPTION_CONTEXT.now) begin_object end_object
-
-pub journey_row_is : (old : List Token) (d : Data)
-    → (((old ++ key ESTIMATED_VEHICLE_JOURNEY.now ∷ []) ++ begin_array ∷ []) ++ tokens_of d) ++ end_array ∷ [] ≡ old ++ row_tokens ESTIMATED_VEHICLE_JOURNEY.now (array_unless_empty (d ∷ []))
-journey_row_is old d = regroup_row old (tokens_of d) (key ESTIMATED_VEHICLE_JOURNEY.now) begin_array end_array
-
--- ---- Extensions that are left out where they would be empty
-
-pub place_left_out : (old : List Token) (d : FunctionalDelivery) → any_written (rows_of_place d []) ≡ false → old ≡ old ++ row_tokens EXTENSIONS.now (written_place d)
-unfolding written_position
-place_left_out old d is = rw (left_out (rows_of_place d []) is) (sym (append-nil old))
-
-pub place_written : (old : List Token) (d : FunctionalDelivery) → any_written (rows_of_place d []) ≡ true
-    → (old ++ key EXTENSIONS.now ∷ []) ++ tokens_of (row_object (rows_of_place d [])) ≡ old ++ row_tokens EXTENSIONS.now (written_place d)
-unfolding written_position
-place_written old d is = rw (written_object (rows_of_place d []) is) (append_assoc old (key EXTENSIONS.now ∷ []) (tokens_of (row_object (rows_of_place d []))))
-
-rows_of_removed : FunctionalDelivery → List Row
-rows_of_removed d = rows_of_place d ((REMOVED.now, written_list written_removal d.removals) ∷ [])
-
-pub removed_left_out : (old : List Token) (d : FunctionalDelivery) → any_written (rows_of_place d ((REMOVED.now, written_list written_removal d.removals) ∷ [])) ≡ false → old ≡ old ++ row_tokens EXTENSIONS.now (written_removed d)
-unfolding written_extensions rows_of_removed
-removed_left_out old d is = rw (left_out (rows_of_removed d) is) (sym (append-nil old))
-
-pub removed_written : (old : List Token) (d : FunctionalDelivery) → any_written (rows_of_place d ((REMOVED.now, written_list written_removal d.removals) ∷ [])) ≡ true
-    → (old ++ key EXTENSIONS.now ∷ []) ++ tokens_of (row_object (rows_of_place d ((REMOVED.now, written_list written_removal d.removals) ∷ []))) ≡ old ++ row_tokens EXTENSIONS.now (written_removed d)
-unfolding written_extensions rows_of_removed
-removed_written old d is = rw (written_object (rows_of_removed d) is) (append_assoc old (key EXTENSIONS.now ∷ []) (tokens_of (row_object (rows_of_removed d))))
-
-pub any_removed : (keys : List Key) → is_some (written_list written_removal keys) ≡ nat_lt 0 (length keys)
-unfolding written_list written_removal
-any_removed [] = refl
-any_removed (k ∷ ks) = sym (lt-ltb 0 (length (k ∷ ks)) (omega arith))
 
 -- ---- documents
 

@@ -6,11 +6,11 @@ use Rattle.siri_messages.specs.declared.message.Message.{Message}
 use Rattle.siri_messages.specs.declared.message.Message.TheVariants as message
 use Rattle.siri_messages.specs.Kinds.{kind_of}
 use Rattle.siri_tables.specs.Writing.{row_object}
-use Rattle.siri_wire.specs.declared.names.TheConstants.{SIRI}
+use Rattle.siri_deliveries.specs.declared.names.TheConstants.{SIRI}
 use Rattle.siri_wire.specs.Requests.{written_service_request}
 use Rattle.siri_wire.specs.Supplies.{written_data_ready, written_ready_acknowledgement, written_supply, written_received}
 use Rattle.siri_wire.specs.Statuses.{written_check_status, written_status_response, written_heartbeat}
-use Rattle.siri_wire.specs.Deliveries.{written_service_delivery}
+use Rattle.siri_deliveries.specs.Deliveries.{written_service_delivery}
 use Rattle.siri_wire.specs.Subscriptions.{written_subscription_request, written_subscription_response}
 use Rattle.siri_wire.specs.Terminations.{written_termination, written_termination_response}
 

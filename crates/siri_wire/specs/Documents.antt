@@ -12,7 +12,7 @@ use Rattle.siri_tables.specs.Rules.{table, required_row}
 use Rattle.siri_tables.specs.declared.refusal.TableError.{TableError}
 use Rattle.siri_tables.specs.declared.refusal.TableError.TheVariants as items
 use Rattle.siri_wire.specs.Requests.{service_request}
-use Rattle.siri_wire.specs.Deliveries.{service_delivery}
+use Rattle.siri_deliveries.specs.Deliveries.{service_delivery}
 use Rattle.siri_wire.specs.Subscriptions.{subscription_request, subscription_response}
 use Rattle.siri_wire.specs.Terminations.{termination_request, termination_response}
 use Rattle.siri_wire.specs.Supplies.{data_ready_notification, data_ready_acknowledgement, data_supply_request, data_received_acknowledgement}
@@ -21,7 +21,7 @@ use Rattle.siri_wire.specs.declared.kinds.Kind.{Kind}
 use Rattle.siri_wire.specs.declared.kinds.Kind.TheVariants as kind
 use Rattle.siri_wire.specs.declared.document.DecodeError.{DecodeError}
 use Rattle.siri_wire.specs.declared.document.DecodeError.TheVariants as errors
-use Rattle.siri_wire.specs.declared.names.TheConstants.{SIRI, SERVICE_REQUEST, SERVICE_DELIVERY, SUBSCRIPTION_REQUEST, SUBSCRIPTION_RESPONSE, TERMINATE_SUBSCRIPTION_REQUEST, TERMINATE_SUBSCRIPTION_RESPONSE, DATA_READY_NOTIFICATION, DATA_READY_ACKNOWLEDGEMENT, DATA_SUPPLY_REQUEST, DATA_RECEIVED_ACKNOWLEDGEMENT, CHECK_STATUS_REQUEST, CHECK_STATUS_RESPONSE, HEARTBEAT_NOTIFICATION}
+use Rattle.siri_deliveries.specs.declared.names.TheConstants.{SIRI, SERVICE_REQUEST, SERVICE_DELIVERY, SUBSCRIPTION_REQUEST, SUBSCRIPTION_RESPONSE, TERMINATE_SUBSCRIPTION_REQUEST, TERMINATE_SUBSCRIPTION_RESPONSE, DATA_READY_NOTIFICATION, DATA_READY_ACKNOWLEDGEMENT, DATA_SUPPLY_REQUEST, DATA_RECEIVED_ACKNOWLEDGEMENT, CHECK_STATUS_REQUEST, CHECK_STATUS_RESPONSE, HEARTBEAT_NOTIFICATION}
 
 -- the messages
 abbrev pub kinds : List Kind

@@ -7,8 +7,8 @@ use Rattle.siri_messages.specs.declared.statuses.HeartbeatNotification.{Heartbea
 use Rattle.siri_tables.specs.Refusals.{Refusal}
 use Rattle.siri_tables.specs.Tables.{optional, a_name, a_moment, a_flag, Table, Maker, read_all, all_written}
 use Rattle.siri_tables.specs.Writing.{row_object}
-use Rattle.siri_wire.specs.declared.names.TheConstants.{REQUEST_TIMESTAMP, RESPONSE_TIMESTAMP, REQUESTOR_REF, MESSAGE_IDENTIFIER, PRODUCER_REF, REQUEST_MESSAGE_REF, STATUS, SERVICE_STARTED_TIME}
-use Rattle.siri_wire.specs.Rows.{with_default}
+use Rattle.siri_deliveries.specs.declared.names.TheConstants.{REQUEST_TIMESTAMP, RESPONSE_TIMESTAMP, REQUESTOR_REF, MESSAGE_IDENTIFIER, PRODUCER_REF, REQUEST_MESSAGE_REF, STATUS, SERVICE_STARTED_TIME}
+use Rattle.siri_deliveries.specs.Rows.{with_default}
 
 -- CheckStatusRequest: a question whether the producer is there
 abbrev pub check_table : Table CheckStatusRequest

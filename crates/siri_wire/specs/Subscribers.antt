@@ -8,7 +8,7 @@ use Rattle.siri_tables.specs.Spelling.{Spells}
 use Rattle.siri_tables.specs.Proper.{IsName}
 use Rattle.siri_tables.specs.Writing.{written_text}
 use Rattle.siri_tables.specs.Tables.{Row}
-use Rattle.siri_wire.specs.declared.names.TheConstants.{SUBSCRIBER_REF}
+use Rattle.siri_deliveries.specs.declared.names.TheConstants.{SUBSCRIBER_REF}
 
 -- the one that is named, otherwise the requestor, which has to be there then
 abbrev pub named_or : Option (List ℕ) → Option (List ℕ) → Result (List ℕ) Refusal

@@ -15,11 +15,12 @@ use Rattle.siri_tables.specs.Spelling.{Spells}
 use Rattle.siri_tables.specs.Proper.{IsNonNegativeSpan}
 use Rattle.siri_tables.specs.Tables.{Kind, Row, optional, mandatory, a_name, a_moment, a_flag, Table, Maker, read_all, AllProper, all_written}
 use Rattle.siri_tables.specs.Writing.{row_object, with_rows, object_unless_empty, written_text, written_span}
-use Rattle.siri_wire.specs.declared.names.TheConstants.{REQUEST_TIMESTAMP, REQUESTOR_REF, MESSAGE_IDENTIFIER, CONSUMER_ADDRESS, SUBSCRIPTION_CONTEXT, HEARTBEAT_INTERVAL, STOP_MONITORING_SUBSCRIPTION_REQUEST, ESTIMATED_TIMETABLE_SUBSCRIPTION_REQUEST, VEHICLE_MONITORING_SUBSCRIPTION_REQUEST, SITUATION_EXCHANGE_SUBSCRIPTION_REQUEST, SUBSCRIPTION_IDENTIFIER, INITIAL_TERMINATION_TIME, STOP_MONITORING_REQUEST, ESTIMATED_TIMETABLE_REQUEST, VEHICLE_MONITORING_REQUEST, SITUATION_EXCHANGE_REQUEST, INCREMENTAL_UPDATES, CHANGE_BEFORE_UPDATES, EXTENSIONS, DELIVERY_METHOD, RESPONSE_TIMESTAMP, REQUEST_MESSAGE_REF, RESPONSE_STATUS, SUBSCRIBER_REF, SUBSCRIPTION_REF, STATUS, VALID_UNTIL, ERROR_CONDITION}
+use Rattle.siri_deliveries.specs.declared.names.TheConstants.{REQUEST_TIMESTAMP, REQUESTOR_REF, MESSAGE_IDENTIFIER, CONSUMER_ADDRESS, SUBSCRIPTION_CONTEXT, HEARTBEAT_INTERVAL, STOP_MONITORING_SUBSCRIPTION_REQUEST, ESTIMATED_TIMETABLE_SUBSCRIPTION_REQUEST, VEHICLE_MONITORING_SUBSCRIPTION_REQUEST, SITUATION_EXCHANGE_SUBSCRIPTION_REQUEST, SUBSCRIPTION_IDENTIFIER, INITIAL_TERMINATION_TIME, STOP_MONITORING_REQUEST, ESTIMATED_TIMETABLE_REQUEST, VEHICLE_MONITORING_REQUEST, SITUATION_EXCHANGE_REQUEST, INCREMENTAL_UPDATES, CHANGE_BEFORE_UPDATES, EXTENSIONS, DELIVERY_METHOD, RESPONSE_TIMESTAMP, REQUEST_MESSAGE_REF, RESPONSE_STATUS, SUBSCRIBER_REF, SUBSCRIPTION_REF, STATUS, VALID_UNTIL, ERROR_CONDITION}
 use Rattle.siri_wire.specs.declared.read_subscriptions.RequestedSubscriptions.{RequestedSubscriptions}
-use Rattle.siri_wire.specs.Rows.{a_whole_span, an_identifier, an_error, SpellsOr, with_default, entries, optional_inside}
+use Rattle.siri_deliveries.specs.Rows.{a_whole_span, an_error, SpellsOr, with_default, entries, optional_inside}
+use Rattle.siri_wire.specs.Identifiers.{an_identifier}
 use Rattle.siri_wire.specs.Subscribers.{the_subscriber}
-use Rattle.siri_wire.specs.Topics.{subscribed_rows, topic_writing, a_subscribed_topic}
+use Rattle.siri_deliveries.specs.Topics.{subscribed_rows, topic_writing, a_subscribed_topic}
 
 -- ---- the element of a subscription
 

@@ -1,10 +1,10 @@
 -- The tables of the messages by which rounds are announced, fetched and acknowledged (EN 15531-2). Their Extensions hold a
 -- mark, which is this profile's own.
-use Rattle.std.specs.Prelude.{ℕ, List, [], ◌∷◌, Bool, true, false, ◌&&◌, if◌then◌else◌, Option, Some, None, Result, Ok, Err}
+use Rattle.std.specs.Prelude.{[], ◌∷◌, Bool, true, ◌&&◌, if◌then◌else◌, Option, Some, None, Result, Ok, Err}
 use Rattle.serde_json.specs.Data.{Data}
 use Rattle.siri_base.specs.declared.reason.Reason.TheVariants.{NotCarried}
 use Rattle.siri_json.specs.declared.path.Step.TheVariants.{Member}
-use Rattle.siri_json.specs.Values.{Found, found, absent, wrong, member_of, text_in, object_in}
+use Rattle.siri_json.specs.Values.{object_in}
 use Rattle.siri_messages.specs.declared.supplies.Mark.{Mark}
 use Rattle.siri_messages.specs.declared.supplies.DataReadyNotification.{DataReadyNotification}
 use Rattle.siri_messages.specs.declared.supplies.DataReadyAcknowledgement.{DataReadyAcknowledgement}
@@ -12,11 +12,23 @@ use Rattle.siri_messages.specs.declared.supplies.DataSupplyRequest.{DataSupplyRe
 use Rattle.siri_messages.specs.declared.supplies.DataReceivedAcknowledgement.{DataReceivedAcknowledgement}
 use Rattle.siri_tables.specs.Refusals.{Refusal, ◌>>=◌}
 use Rattle.siri_tables.specs.Rules.{table, unless_wrong, maybe}
-use Rattle.siri_tables.specs.Tables.{Kind, optional, mandatory, a_name, a_moment, a_flag, Table, Maker, read_all, AllProper, all_written}
+use Rattle.siri_tables.specs.Tables.{Kind, optional, mandatory, a_name, a_moment, a_number, a_flag, Table, Maker, read_all, AllProper, all_written}
 use Rattle.siri_tables.specs.Writing.{row_object}
-use Rattle.siri_wire.specs.Rows.{an_error, with_default, flag_where_true}
-use Rattle.siri_wire.specs.WrittenValues.{mark_table, written_mark}
-use Rattle.siri_wire.specs.declared.names.TheConstants.{SUBSCRIPTION_REF, NUMBER, START, ROUND, PART, REQUEST_TIMESTAMP, RESPONSE_TIMESTAMP, PRODUCER_REF, CONSUMER_REF, REQUEST_MESSAGE_REF, STATUS, ERROR_CONDITION, ALL_DATA, EXTENSIONS}
+use Rattle.siri_deliveries.specs.Rows.{an_error, with_default, flag_where_true}
+use Rattle.siri_deliveries.specs.Absence.{lacks}
+use Rattle.siri_deliveries.specs.declared.names.TheConstants.{SUBSCRIPTION_REF, NUMBER, START, ROUND, PART, REQUEST_TIMESTAMP, RESPONSE_TIMESTAMP, PRODUCER_REF, CONSUMER_REF, REQUEST_MESSAGE_REF, STATUS, ERROR_CONDITION, ALL_DATA, EXTENSIONS}
+
+-- a mark in Extensions: which part of which round of a subscription is meant
+abbrev pub mark_table : Table Mark
+mark_table =
+    mandatory a_name SUBSCRIPTION_REF.now (λ m. m.subscription) ∷
+    mandatory a_number NUMBER.now (λ m. m.number) ∷
+    mandatory a_number START.now (λ m. m.start) ∷
+    mandatory a_number ROUND.now (λ m. m.round) ∷
+    mandatory a_number PART.now (λ m. m.part) ∷ []
+
+unfoldable pub written_mark : Mark → Option Data
+written_mark m = Some (row_object (all_written mark_table m))
 
 abbrev pub make_mark : Maker mark_table
 make_mark = λ subscription number start round part. record { number = number; start = start; round = round; part = part; subscription = subscription }
@@ -29,20 +41,6 @@ abbrev pub a_mark : Kind Mark
 a_mark = record { rule = table mark; writing = written_mark; Is = AllProper mark_table }
 
 -- ---- a mark that need not be there
-
--- no text stands where one is wanted
-abbrev pub is_no_text : Found (List ℕ) → Bool
-is_no_text (found t) = false
-is_no_text absent = true
-is_no_text wrong = false
-
-abbrev pub is_text_absent : Option Data → Bool
-is_text_absent None = true
-is_text_absent (Some d) = is_no_text (text_in d)
-
--- the member of that name, which is wanted to be a text, is absent
-unfoldable pub lacks : List ℕ → Data → Bool
-lacks key d = is_text_absent (member_of key d)
 
 -- all its rows are absent
 unfoldable pub lacks_mark : Data → Bool

@@ -10,10 +10,10 @@ use Rattle.siri_tables.specs.Spelling.{Spells}
 use Rattle.siri_tables.specs.Proper.{IsName, IsNumber}
 use Rattle.siri_tables.specs.Tables.{Kind, Row, optional, some_entries, a_name, a_moment, a_flag, Table, Maker, read_all, AllProper, all_written}
 use Rattle.siri_tables.specs.Writing.{row_object, written_text}
-use Rattle.siri_wire.specs.declared.names.TheConstants.{REQUEST_TIMESTAMP, REQUESTOR_REF, MESSAGE_IDENTIFIER, SUBSCRIPTION_REF, RESPONSE_TIMESTAMP, REQUEST_MESSAGE_REF, TERMINATION_RESPONSE_STATUS, SUBSCRIBER_REF, STATUS, ERROR_CONDITION}
-use Rattle.siri_wire.specs.Rows.{an_error, with_default, entries}
+use Rattle.siri_deliveries.specs.declared.names.TheConstants.{REQUEST_TIMESTAMP, REQUESTOR_REF, MESSAGE_IDENTIFIER, SUBSCRIPTION_REF, RESPONSE_TIMESTAMP, REQUEST_MESSAGE_REF, TERMINATION_RESPONSE_STATUS, SUBSCRIBER_REF, STATUS, ERROR_CONDITION}
+use Rattle.siri_deliveries.specs.Rows.{an_error, with_default, entries}
 use Rattle.siri_wire.specs.Subscribers.{subscriber_or, SpellsSubscriber}
-use Rattle.siri_wire.specs.WrittenValues.{written_identifier}
+use Rattle.siri_wire.specs.Identifiers.{written_identifier}
 
 -- the requestor of a request to end subscriptions, the request's number, and the subscriber, who is the requestor where no other is named
 abbrev pub Asking : Type 0

@@ -6,8 +6,6 @@ ghost use Rattle.siri_tables.specs.Refusals.{Gives};
 ghost use Rattle.siri_wire.specs.Documents.{message_at, siri, root, message_of, Decodes, decode_error};
 
 use crate::kinds::{Kind, only_held};
-use crate::names;
-use crate::read_deliveries::ServiceDeliveryTable;
 use crate::read_requests::ServiceRequestTable;
 use crate::read_statuses::{
     CheckStatusRequestTable, CheckStatusResponseTable, HeartbeatNotificationTable,
@@ -21,6 +19,7 @@ use crate::read_terminations::{
     TerminateSubscriptionRequestTable, TerminateSubscriptionResponseTable,
 };
 use siri_base::Reason;
+use siri_deliveries::{ServiceDeliveryTable, names};
 use siri_json::{Path, Scratch, Tree, TreeError, read_tree};
 use siri_messages::Message;
 use siri_tables::TableError;

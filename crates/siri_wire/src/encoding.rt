@@ -4,8 +4,6 @@ ghost use Rattle.std.specs.Prelude.{◌≡◌, ◌++◌, IfOk, OnOk};
 ghost use Rattle.siri_json.specs.Tokens.{tokens_of};
 ghost use Rattle.siri_wire.specs.Canonical.{written_body, written_message, canonical};
 
-use crate::names;
-use crate::write_deliveries::write_service_delivery;
 use crate::write_requests::{
     write_data_ready, write_ready_acknowledgement, write_received, write_service_request,
     write_supply,
@@ -16,6 +14,7 @@ use crate::write_subscriptions::{
     write_termination_response,
 };
 use siri_base::OutOfMemory;
+use siri_deliveries::{names, write_service_delivery};
 use siri_json::Output;
 use siri_messages::Message;
 use std::alloc::Global;

@@ -4,7 +4,7 @@ ghost use Rattle.std.specs.Prelude.{◌≡◌};
 ghost use Rattle.siri_json.specs.Shown.{shown};
 ghost use Rattle.siri_wire.specs.Documents.{kinds, name_of, holds, only, held, only_held};
 
-use crate::names;
+use siri_deliveries::names;
 use siri_json::{ObjectOf, Tree, member, object_of};
 
 /// A kind of messages (EN 15531-2).

@@ -5,11 +5,10 @@ ghost use Rattle.siri_json.specs.Shown.{shown};
 ghost use Rattle.siri_tables.specs.Refusals.{Gives};
 ghost use Rattle.siri_wire.specs.Requests.{read_service_request_rows, asks_nothing, service_request};
 
-use crate::names;
-use crate::read_topics::{
-    SituationTopicTable, StopTopicTable, TimetableTopicTable, VehicleTopicTable,
-};
 use siri_base::Reason;
+use siri_deliveries::{
+    SituationTopicTable, StopTopicTable, TimetableTopicTable, VehicleTopicTable, names,
+};
 use siri_json::Tree;
 use siri_messages::ServiceRequest;
 use siri_tables::TableError;

@@ -2,7 +2,7 @@
 
 ghost use Rattle.siri_wire.specs.Statuses.{check_status_request, check_status_response, heartbeat_notification};
 
-use crate::names;
+use siri_deliveries::names;
 use siri_json::Tree;
 use siri_messages::{CheckStatusRequest, CheckStatusResponse, HeartbeatNotification};
 use siri_tables::TableError;

@@ -4,8 +4,8 @@ ghost use Rattle.siri_json.specs.Shown.{shown};
 ghost use Rattle.siri_tables.specs.Refusals.{Gives};
 ghost use Rattle.siri_wire.specs.Subscribers.{subscriber_or};
 
-use crate::names;
 use siri_base::{Copies, Name, Reason};
+use siri_deliveries::names;
 use siri_json::Tree;
 use siri_tables::TableError;
 use siri_tables::refusal::refuse_at;

@@ -5,15 +5,13 @@ ghost use Rattle.siri_json.specs.Shown.{shown};
 ghost use Rattle.siri_tables.specs.Refusals.{Gives, is_key};
 ghost use Rattle.siri_tables.specs.Rules.{list, table};
 ghost use Rattle.siri_wire.specs.Subscriptions.{topic_of, slack_of, is_fetched, subscription, heartbeat_interval, read_requested_rows, requests_nothing, requested, subscription_request, response_status, subscription_response};
-ghost use Rattle.siri_records.specs.declared.item.Service.TheVariants as service;
 
-use crate::names;
-use crate::read_error::error_condition;
 use crate::read_subscriber::subscriber_or;
-use crate::read_topics::{
-    SituationTopicTable, SubscribedStopTable, TimetableTopicTable, VehicleTopicTable,
-};
 use siri_base::{List, Name, Reason, Span, Text};
+use siri_deliveries::{
+    SituationTopicTable, SubscribedStopTable, TimetableTopicTable, VehicleTopicTable,
+    error_condition, names,
+};
 use siri_json::{ObjectOf, Tree, object_of};
 use siri_messages::{ResponseStatus, SubscriptionRequest, SubscriptionResponse};
 use siri_records::Service;

@@ -3,12 +3,11 @@
 ghost use Rattle.std.specs.Prelude.{◌≡◌, Result, Option};
 ghost use Rattle.siri_json.specs.Shown.{shown};
 ghost use Rattle.siri_tables.specs.Refusals.{Gives};
-ghost use Rattle.siri_wire.specs.Supplies.{mark, lacks, lacks_mark, mark_if_any, optional_mark, data_ready_notification, data_ready_acknowledgement, read_supply_rows, data_supply_request, data_received_acknowledgement};
+ghost use Rattle.siri_wire.specs.Supplies.{mark, lacks_mark, mark_if_any, optional_mark, data_ready_notification, data_ready_acknowledgement, read_supply_rows, data_supply_request, data_received_acknowledgement};
 
-use crate::names;
-use crate::read_error::error_condition;
 use siri_base::Reason;
-use siri_json::{ObjectOf, TextOf, Tree, member, object_of, text_of};
+use siri_deliveries::{error_condition, lacks, names};
+use siri_json::{ObjectOf, Tree, object_of};
 use siri_messages::{
     DataReadyAcknowledgement, DataReadyNotification, DataReceivedAcknowledgement,
     DataSupplyRequest, Mark,
@@ -37,20 +36,6 @@ impl Table for MarkTable {
             part: required_row::<NumberRule>(alloc, tree, names::PART)?,
             subscription,
         })
-    }
-}
-
-/// The member of that name, which is wanted to be a text, is absent.
-#[tactic(auto, unfolding(crate::specs::Supplies::lacks))]
-pub fn lacks(tree: &Tree<'_>, key: &str) -> bool
-    ensures { result ≡ lacks key.now (shown tree.now) }
-{
-    match member(tree, key) {
-        Some(value) => match text_of(value) {
-            TextOf::Absent => true,
-            TextOf::Is(_) | TextOf::Wrong => false,
-        },
-        None => true,
     }
 }
 

@@ -2,9 +2,8 @@
 
 ghost use Rattle.siri_wire.specs.Terminations.{termination_request, termination_status, termination_response};
 
-use crate::names;
-use crate::read_error::error_condition;
 use crate::read_subscriber::subscriber_or;
+use siri_deliveries::{error_condition, names};
 use siri_json::Tree;
 use siri_messages::{
     TerminateSubscriptionRequest, TerminateSubscriptionResponse, TerminationResponseStatus,

@@ -5,10 +5,9 @@ ghost use Rattle.siri_json.specs.Tokens.{tokens_of};
 ghost use Rattle.siri_wire.specs.Requests.{written_service_request};
 ghost use Rattle.siri_wire.specs.Supplies.{written_data_ready, written_ready_acknowledgement, written_supply, written_received};
 
-use crate::names;
-use crate::write_topics::TopicWriting;
-use crate::write_values::{ErrorWriting, MarkWriting, true_row};
+use crate::write_values::MarkWriting;
 use siri_base::OutOfMemory;
+use siri_deliveries::{ErrorWriting, TopicWriting, names, true_row};
 use siri_json::Output;
 use siri_messages::{
     DataReadyAcknowledgement, DataReadyNotification, DataReceivedAcknowledgement,

@@ -4,8 +4,8 @@ ghost use Rattle.std.specs.Prelude.{◌≡◌, ◌++◌, OnOk};
 ghost use Rattle.siri_json.specs.Tokens.{tokens_of};
 ghost use Rattle.siri_wire.specs.Statuses.{written_check_status, written_status_response, written_heartbeat};
 
-use crate::names;
 use siri_base::OutOfMemory;
+use siri_deliveries::names;
 use siri_json::Output;
 use siri_messages::{CheckStatusRequest, CheckStatusResponse, HeartbeatNotification};
 use siri_tables::rules::{FlagRule, MomentRule, NameRule};

@@ -3,14 +3,13 @@
 ghost use Rattle.std.specs.Prelude.{◌≡◌, ◌++◌, Option, OnOk};
 ghost use Rattle.siri_json.specs.Tokens.{tokens_of};
 ghost use Rattle.siri_tables.specs.Appended.{row_tokens};
-ghost use Rattle.siri_wire.specs.declared.names.TheConstants.{EXTENSIONS, SUBSCRIPTION_CONTEXT};
+ghost use Rattle.siri_deliveries.specs.declared.names.TheConstants.{EXTENSIONS, SUBSCRIPTION_CONTEXT};
 ghost use Rattle.siri_wire.specs.Subscriptions.{written_method, written_stop_subscription, written_timetable_subscription, written_vehicle_subscription, written_situation_subscription, written_context, written_subscription_request, written_response_status, written_subscription_response};
 ghost use Rattle.siri_wire.specs.Terminations.{written_termination, written_termination_status, written_termination_response};
 
-use crate::names;
-use crate::write_topics::TopicWriting;
-use crate::write_values::{ErrorWriting, IdentifierWriting};
+use crate::write_values::IdentifierWriting;
 use siri_base::{OutOfMemory, Span};
+use siri_deliveries::{ErrorWriting, TopicWriting, names};
 use siri_json::Output;
 use siri_messages::{
     ResponseStatus, SubscriptionRequest, SubscriptionResponse, TerminateSubscriptionRequest,

@@ -1,14 +1,13 @@
-//! Writing what several messages have: errors, marks, and values in forms of their own.
+//! Writing values that messages alone have: identifiers that are numbers, and marks.
 
-ghost use Rattle.std.specs.Prelude.{◌≡◌, ◌++◌, OnOk};
-ghost use Rattle.siri_tables.specs.Appended.{row_tokens};
-ghost use Rattle.siri_wire.specs.WrittenValues.{written_identifier, written_where_true, written_error, written_mark};
+ghost use Rattle.siri_wire.specs.Identifiers.{written_identifier};
+ghost use Rattle.siri_wire.specs.Supplies.{written_mark};
 
-use crate::names;
-use siri_base::{OutOfMemory, Text};
+use siri_base::OutOfMemory;
+use siri_deliveries::names;
 use siri_json::Output;
 use siri_messages::Mark;
-use siri_tables::rules::{FlagRule, NameRule, NumberRule, TextRule};
+use siri_tables::rules::{NameRule, NumberRule};
 use siri_tables::writing::{Written, required};
 
 /// A MessageIdentifier that is a number, as a string.
@@ -24,36 +23,6 @@ impl Written for IdentifierWriting {
     }
 }
 
-/// Writes the row of a flag that is written only where it is true.
-pub fn true_row(out: &mut Output, name: &str, flag: bool) -> Result<(), OutOfMemory>
-    ensures { OnOk result (out.new ≡ out.old ++ row_tokens name.now (written_where_true flag)) }
-{
-    if flag {
-        required::<FlagRule>(out, name, &true)
-    } else {
-        Ok(())
-    }
-}
-
-/// The text of an error, as an ErrorCondition.
-pub struct ErrorWriting;
-
-impl Written for ErrorWriting {
-    type Of = Text;
-
-    ghost writing = { written_error };
-
-    #[tactic(auto, using(crate::proofs::InOrder::error_in_order), unfolding(crate::specs::WrittenValues::written_error))]
-    fn write(out: &mut Output, text: &Text) -> Result<(), OutOfMemory> {
-        out.begin_object()?;
-        out.key(names::OTHER_ERROR)?;
-        out.begin_object()?;
-        required::<TextRule>(out, names::ERROR_TEXT, text)?;
-        out.end_object()?;
-        out.end_object()
-    }
-}
-
 /// A mark, as Extensions.
 pub struct MarkWriting;
 
@@ -62,7 +31,7 @@ impl Written for MarkWriting {
 
     ghost writing = { written_mark };
 
-    #[tactic(auto, using(crate::proofs::InOrder::mark_in_order), unfolding(crate::specs::WrittenValues::written_mark))]
+    #[tactic(auto, using(crate::proofs::InOrder::mark_in_order), unfolding(crate::specs::Supplies::written_mark))]
     fn write(out: &mut Output, mark: &Mark) -> Result<(), OutOfMemory> {
         out.begin_object()?;
         required::<NumberRule>(out, names::NUMBER, &mark.number)?;

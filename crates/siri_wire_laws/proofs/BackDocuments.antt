@@ -20,9 +20,9 @@ use Rattle.siri_tables.proofs.CanonicalParts.{are_ascii, IsCanonicalWithin, row_
 use Rattle.siri_tables.proofs.RowSpells.{required_row_ok}
 use Rattle.siri_tables.proofs.TableLaws.{written_read, table_within}
 use Rattle.siri_wire.specs.declared.kinds.Kind.{Kind}
-use Rattle.siri_wire.specs.declared.names.TheConstants.{SIRI, CHECK_STATUS_REQUEST, CHECK_STATUS_RESPONSE, DATA_READY_ACKNOWLEDGEMENT, DATA_READY_NOTIFICATION, DATA_RECEIVED_ACKNOWLEDGEMENT, DATA_SUPPLY_REQUEST, HEARTBEAT_NOTIFICATION, SERVICE_DELIVERY, SERVICE_REQUEST, SUBSCRIPTION_REQUEST, SUBSCRIPTION_RESPONSE, TERMINATE_SUBSCRIPTION_REQUEST, TERMINATE_SUBSCRIPTION_RESPONSE}
+use Rattle.siri_deliveries.specs.declared.names.TheConstants.{SIRI, CHECK_STATUS_REQUEST, CHECK_STATUS_RESPONSE, DATA_READY_ACKNOWLEDGEMENT, DATA_READY_NOTIFICATION, DATA_RECEIVED_ACKNOWLEDGEMENT, DATA_SUPPLY_REQUEST, HEARTBEAT_NOTIFICATION, SERVICE_DELIVERY, SERVICE_REQUEST, SUBSCRIPTION_REQUEST, SUBSCRIPTION_RESPONSE, TERMINATE_SUBSCRIPTION_REQUEST, TERMINATE_SUBSCRIPTION_RESPONSE}
 use Rattle.siri_wire.specs.Canonical.{written_body, written_message, canonical}
-use Rattle.siri_wire.specs.Deliveries.{service_delivery, written_service_delivery}
+use Rattle.siri_deliveries.specs.Deliveries.{service_delivery, written_service_delivery}
 use Rattle.siri_wire.specs.Documents.{kinds, name_of, message_at, is_member_there, holds, held, only, only_held, siri, root, message_of}
 use Rattle.siri_wire_laws.specs.ProperMessages.{IsProper}
 use Rattle.siri_wire.specs.Requests.{service_request, written_service_request}

@@ -37,14 +37,14 @@ use Rattle.siri_tables.proofs.CanonicalParts.{MayBeWithin, text_within, some_tex
 use Rattle.siri_tables.proofs.ProperParts.{OnRead, Yields, reads_to, on_map, on_bind, name_yields, moment_yields, number_yields, table_yields, row_on, row_is, AreRead, list_of_on, at_name}
 use Rattle.siri_items.proofs.ItemTables.{visit_laws, vehicle_laws, situation_laws}
 use Rattle.siri_items.proofs.ItemLaws.{journey_back, without_time, item_within, journey_yields}
-use Rattle.siri_wire.specs.declared.names.TheConstants.{ESTIMATED_JOURNEY_VERSION_FRAME, ESTIMATED_VEHICLE_JOURNEY, ITEM_REF, PART, REMOVED, ROUND, START}
-use Rattle.siri_wire.specs.declared.read_parts.DeliveryExtensions.{DeliveryExtensions}
-use Rattle.siri_wire.specs.declared.read_parts.RoundPosition.{RoundPosition}
-use Rattle.siri_wire.specs.Deliveries.{IsProperOf, item_writing, visit_item, vehicle_item, situation_item}
-use Rattle.siri_wire.specs.Frames.{journeys, frame, concat_frames, frames_of, journeys_of_frames, rows_of_frame, written_frame, frame_time, own_or, journey_of_frame}
-use Rattle.siri_wire.specs.Parts.{no_round, IsPlaced, round_position, rows_of_position, written_position, delivery_extensions, no_extensions, written_extensions, some_extensions}
-use Rattle.siri_wire.specs.Removals.{IsProperRemoval, a_removal, rows_of_removal, written_removal, visit_cancellation, vehicle_cancellation, removed_journey, removed_situation}
-use Rattle.siri_wire.specs.Supplies.{lacks}
+use Rattle.siri_deliveries.specs.declared.names.TheConstants.{ESTIMATED_JOURNEY_VERSION_FRAME, ESTIMATED_VEHICLE_JOURNEY, ITEM_REF, PART, REMOVED, ROUND, START}
+use Rattle.siri_deliveries.specs.declared.read_parts.DeliveryExtensions.{DeliveryExtensions}
+use Rattle.siri_deliveries.specs.declared.read_parts.RoundPosition.{RoundPosition}
+use Rattle.siri_deliveries.specs.Deliveries.{IsProperOf, item_writing, visit_item, vehicle_item, situation_item}
+use Rattle.siri_deliveries.specs.Frames.{journeys, frame, concat_frames, frames_of, journeys_of_frames, rows_of_frame, written_frame, frame_time, own_or, journey_of_frame}
+use Rattle.siri_deliveries.specs.Parts.{no_round, IsPlaced, round_position, rows_of_position, written_position, delivery_extensions, no_extensions, written_extensions, some_extensions}
+use Rattle.siri_deliveries.specs.Removals.{IsProperRemoval, a_removal, rows_of_removal, written_removal, visit_cancellation, vehicle_cancellation, removed_journey, removed_situation}
+use Rattle.siri_deliveries.specs.Absence.{lacks}
 use Rattle.siri_wire_laws.specs.SpellingDeliveries.{SpellsRoundPosition, SpellsFrame, SpellsBeside}
 use Rattle.siri_wire_laws.proofs.MessageValues.{all_map}
 use Rattle.siri_wire_laws.proofs.ReadIffSpellsParts.{visit_cancellation_read, vehicle_cancellation_read, removed_journey_read, removed_situation_read, round_position_read, delivery_extensions_read, frame_read, round_position_spelled, delivery_extensions_spelled}

@@ -10,12 +10,12 @@ use Rattle.siri_tables.specs.Proper.{IsListWithin}
 use Rattle.siri_tables.proofs.ProperParts.{on_ok, table_yields}
 use Rattle.siri_tables.proofs.TableLaws.{EntryLaws, RowLaws, at_depth, optional_laws, entries_inside_laws, AllLaws, TableLaws, read_spelled, spelled_read, spelled_proper, table_entries}
 use Rattle.siri_tables.proofs.ValueLaws.{name_laws, moment_laws, flag_laws}
-use Rattle.siri_wire.specs.declared.names.TheConstants.{ESTIMATED_JOURNEY_VERSION_FRAME, EXTENSIONS, PT_SITUATION_ELEMENT}
-use Rattle.siri_wire.specs.Deliveries.{visit_item, vehicle_item, situation_item, IsProperOf, an_item, in_frames, stop_delivery_table, stop_monitoring_delivery, written_stop_delivery, a_stop_delivery, timetable_delivery_table, with_extensions, estimated_timetable_delivery, written_timetable_delivery, a_timetable_delivery, vehicle_delivery_table, vehicle_monitoring_delivery, written_vehicle_delivery, a_vehicle_delivery, situation_delivery_table, situation_exchange_delivery, written_situation_delivery, a_situation_delivery, service_delivery_table, make_service_delivery}
-use Rattle.siri_wire.specs.Frames.{journeys_of_frames}
-use Rattle.siri_wire.specs.Parts.{heading_table, make_heading, heading, with_heading, no_round, position_of, a_place, no_extensions, extensions_of, some_extensions, delivery_of}
-use Rattle.siri_wire.specs.Removals.{visit_cancellation, vehicle_cancellation, removed_journey, removed_situation, IsProperRemoval, a_removal}
-use Rattle.siri_wire.specs.Rows.{with_default}
+use Rattle.siri_deliveries.specs.declared.names.TheConstants.{ESTIMATED_JOURNEY_VERSION_FRAME, EXTENSIONS, PT_SITUATION_ELEMENT}
+use Rattle.siri_deliveries.specs.Deliveries.{visit_item, vehicle_item, situation_item, IsProperOf, an_item, in_frames, stop_delivery_table, stop_monitoring_delivery, written_stop_delivery, a_stop_delivery, timetable_delivery_table, with_extensions, estimated_timetable_delivery, written_timetable_delivery, a_timetable_delivery, vehicle_delivery_table, vehicle_monitoring_delivery, written_vehicle_delivery, a_vehicle_delivery, situation_delivery_table, situation_exchange_delivery, written_situation_delivery, a_situation_delivery, service_delivery_table, make_service_delivery}
+use Rattle.siri_deliveries.specs.Frames.{journeys_of_frames}
+use Rattle.siri_deliveries.specs.Parts.{heading_table, make_heading, heading, with_heading, no_round, position_of, a_place, no_extensions, extensions_of, some_extensions, delivery_of}
+use Rattle.siri_deliveries.specs.Removals.{visit_cancellation, vehicle_cancellation, removed_journey, removed_situation, IsProperRemoval, a_removal}
+use Rattle.siri_deliveries.specs.Rows.{with_default}
 use Rattle.siri_wire_laws.proofs.DeliveryParts.{visit_entry, vehicle_entry, situation_entry, frames_back, visit_removal, journey_removal, vehicle_removal, situation_removal, place_back, extensions_back, frames_within, removal_within, place_within, extensions_within, visit_item_on, vehicle_item_on, situation_item_on, journeys_of_frames_on, visit_removal_on, vehicle_removal_on, journey_removal_on, situation_removal_on, round_position_yields, extensions_yields}
 use Rattle.siri_wire_laws.proofs.RowLaws.{error_laws, with_default_laws, default_or_empty_laws, flag_where_true_laws, entries_laws, entries_as}
 

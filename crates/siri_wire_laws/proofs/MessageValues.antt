@@ -18,9 +18,10 @@ use Rattle.siri_tables.proofs.BackValues.{text_back, number_back, non_negative_s
 use Rattle.siri_tables.proofs.BackLists.{only_row}
 use Rattle.siri_tables.proofs.RowSpells.{row_ok}
 use Rattle.siri_tables.proofs.CanonicalParts.{MayBeWithin, text_within, some_span_within, row_within, ◌then◌, object_within}
-use Rattle.siri_wire.specs.declared.names.TheConstants.{ERROR_TEXT, OTHER_ERROR}
-use Rattle.siri_wire.specs.Errors.{other_error}
-use Rattle.siri_wire.specs.WrittenValues.{written_error, written_identifier}
+use Rattle.siri_deliveries.specs.declared.names.TheConstants.{ERROR_TEXT, OTHER_ERROR}
+use Rattle.siri_deliveries.specs.Errors.{other_error}
+use Rattle.siri_deliveries.specs.WrittenValues.{written_error}
+use Rattle.siri_wire.specs.Identifiers.{written_identifier}
 
 -- ---- rules in lists and objects
 

@@ -13,7 +13,7 @@ use Rattle.siri_tables.specs.Spelling.{IfFound}
 use Rattle.siri_json.specs.TextsOfTrees.{TextsAreUtf8}
 use Rattle.siri_tables.proofs.ProperParts.{OnFound, member_is, object_is}
 use Rattle.siri_tables.proofs.TableLaws.{spelled_proper}
-use Rattle.siri_wire.specs.declared.names.TheConstants.{SIRI}
+use Rattle.siri_deliveries.specs.declared.names.TheConstants.{SIRI}
 use Rattle.siri_wire.specs.Canonical.{canonical}
 use Rattle.siri_wire.specs.Documents.{root, message_in, message_of}
 use Rattle.siri_wire_laws.specs.ProperMessages.{IsProper}

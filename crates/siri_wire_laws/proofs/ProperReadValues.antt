@@ -11,8 +11,8 @@ use Rattle.siri_tables.specs.Rules.{unless_wrong, read_from_text, span_or, unles
 use Rattle.siri_tables.specs.Proper.{IsSpan, IsText, IsListWithin, IsNonNegativeSpan}
 use Rattle.siri_json.specs.TextsOfTrees.{TextsAreUtf8}
 use Rattle.siri_tables.proofs.ProperParts.{OnRead, Yields, reads_to, on_ok, on_bind, required_on, text_yields, span_yields, table_yields, row_on, row_is, inside_on, list_on}
-use Rattle.siri_wire.specs.declared.names.TheConstants.{ERROR_CONDITION, ERROR_TEXT, OTHER_ERROR}
-use Rattle.siri_wire.specs.Errors.{other_error}
+use Rattle.siri_deliveries.specs.declared.names.TheConstants.{ERROR_CONDITION, ERROR_TEXT, OTHER_ERROR}
+use Rattle.siri_deliveries.specs.Errors.{other_error}
 use Rattle.siri_wire_laws.specs.SpellingValues.{SpellsError}
 
 -- ---- spans that aren't negative

@@ -17,8 +17,8 @@ use Rattle.siri_tables.proofs.RowSpells.{some, done, ok_is, required_row_ok, bin
 use Rattle.siri_tables.proofs.TableLaws.{read_spelled, spelled_read}
 use Rattle.siri_wire.specs.declared.kinds.Kind.{Kind}
 use Rattle.siri_wire.specs.declared.kinds.Kind.TheVariants as kind
-use Rattle.siri_wire.specs.declared.names.TheConstants.{SIRI, CHECK_STATUS_REQUEST, CHECK_STATUS_RESPONSE, DATA_READY_ACKNOWLEDGEMENT, DATA_READY_NOTIFICATION, DATA_RECEIVED_ACKNOWLEDGEMENT, DATA_SUPPLY_REQUEST, HEARTBEAT_NOTIFICATION, SERVICE_DELIVERY, SERVICE_REQUEST, SUBSCRIPTION_REQUEST, SUBSCRIPTION_RESPONSE, TERMINATE_SUBSCRIPTION_REQUEST, TERMINATE_SUBSCRIPTION_RESPONSE}
-use Rattle.siri_wire.specs.Deliveries.{service_delivery_table, service_delivery}
+use Rattle.siri_deliveries.specs.declared.names.TheConstants.{SIRI, CHECK_STATUS_REQUEST, CHECK_STATUS_RESPONSE, DATA_READY_ACKNOWLEDGEMENT, DATA_READY_NOTIFICATION, DATA_RECEIVED_ACKNOWLEDGEMENT, DATA_SUPPLY_REQUEST, HEARTBEAT_NOTIFICATION, SERVICE_DELIVERY, SERVICE_REQUEST, SUBSCRIPTION_REQUEST, SUBSCRIPTION_RESPONSE, TERMINATE_SUBSCRIPTION_REQUEST, TERMINATE_SUBSCRIPTION_RESPONSE}
+use Rattle.siri_deliveries.specs.Deliveries.{service_delivery_table, service_delivery}
 use Rattle.siri_wire.specs.Documents.{message_at, message_or, only_held, siri, root, message_in, message_of}
 use Rattle.siri_wire.specs.Requests.{service_request}
 use Rattle.siri_wire_laws.specs.SpellingDeliveries.{SpellsSupply}

@@ -18,16 +18,16 @@ use Rattle.siri_tables.specs.Refusals.{Refusal, ◌>>=◌, refused, below, each}
 use Rattle.siri_tables.specs.Rules.{name, text, table, maybe, unless_wrong, required, row, required_row, inside, required_value, is_null, entry_count, entries_from, at_most, list_of, list, or_empty, moment, number, read_from_text}
 use Rattle.siri_tables.specs.Spelling.{Spells}
 use Rattle.siri_tables.proofs.RowSpells.{done, ok_is, below_ok, bind_ok, row_spelled, required_row_spelled, row_ok, required_row_ok}
-use Rattle.siri_wire.specs.declared.names.TheConstants.{ERROR_TEXT, ESTIMATED_JOURNEY_VERSION_FRAME, ESTIMATED_VEHICLE_JOURNEY, ITEM_REF, OTHER_ERROR, PART, REMOVED, ROUND, START}
-use Rattle.siri_wire.specs.Errors.{other_error}
-use Rattle.siri_wire.specs.Frames.{journeys, frame, concat_frames, few_in_all, frames_of, journeys_of_frames}
-use Rattle.siri_wire.specs.Removals.{visit_cancellation, vehicle_cancellation, removed_journey, removed_situation}
+use Rattle.siri_deliveries.specs.declared.names.TheConstants.{ERROR_TEXT, ESTIMATED_JOURNEY_VERSION_FRAME, ESTIMATED_VEHICLE_JOURNEY, ITEM_REF, OTHER_ERROR, PART, REMOVED, ROUND, START}
+use Rattle.siri_deliveries.specs.Errors.{other_error}
+use Rattle.siri_deliveries.specs.Frames.{journeys, frame, concat_frames, few_in_all, frames_of, journeys_of_frames}
+use Rattle.siri_deliveries.specs.Removals.{visit_cancellation, vehicle_cancellation, removed_journey, removed_situation}
 use Rattle.siri_wire_laws.specs.SpellingDeliveries.{SpellsRemoval, SpellsJourneys, SpellsFrames, SpellsRoundPosition, SpellsDeliveryExtensions, SpellsFrame, SpellsBeside}
 use Rattle.siri_wire_laws.specs.SpellingValues.{SpellsFound, SpellsInside, SpellsErrorCondition, SpellsEntries, SpellsList}
-use Rattle.siri_wire.specs.declared.read_parts.DeliveryExtensions.{DeliveryExtensions}
-use Rattle.siri_wire.specs.declared.read_parts.RoundPosition.{RoundPosition}
-use Rattle.siri_wire.specs.Parts.{no_round, within_round, round_position, delivery_extensions}
-use Rattle.siri_wire.specs.Supplies.{is_no_text, is_text_absent, lacks}
+use Rattle.siri_deliveries.specs.declared.read_parts.DeliveryExtensions.{DeliveryExtensions}
+use Rattle.siri_deliveries.specs.declared.read_parts.RoundPosition.{RoundPosition}
+use Rattle.siri_deliveries.specs.Parts.{no_round, within_round, round_position, delivery_extensions}
+use Rattle.siri_deliveries.specs.Absence.{is_no_text, is_text_absent, lacks}
 
 -- ---- rows inside objects
 

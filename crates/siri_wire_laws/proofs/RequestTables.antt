@@ -18,8 +18,8 @@ use Rattle.siri_tables.proofs.CanonicalParts.{IsCanonicalWithin, MayBeWithin}
 use Rattle.siri_tables.proofs.RowSpells.{bind_ok, done, ok_is}
 use Rattle.siri_tables.proofs.TableLaws.{KindLaws, EntryLaws, optional_laws, mandatory_laws, entries_inside_laws, TableLaws, read_spelled, spelled_read, written_read, spelled_proper, table_within, table_entries}
 use Rattle.siri_tables.proofs.ValueLaws.{name_laws, moment_laws, number_laws, flag_laws}
-use Rattle.siri_wire.specs.declared.names.TheConstants.{LINE_DIRECTION}
-use Rattle.siri_wire.specs.Topics.{stop_topic_table, make_stop_topic, read_stop_topic_rows, written_stop_topic, stop_topic, without_maximum, subscribed_stop_topic, line_direction_table, make_line_direction, line_direction, written_line_direction, a_line_direction, timetable_topic_table, make_timetable_topic, timetable_topic, written_timetable_topic, vehicle_topic_table, make_vehicle_topic, vehicle_topic, written_vehicle_topic, situation_topic_table, make_situation_topic, situation_topic, written_situation_topic, topic_rows, written_topic, topic_writing, IsProperTopic, a_topic, subscribed_rows, maximum_of, a_subscribed_topic}
+use Rattle.siri_deliveries.specs.declared.names.TheConstants.{LINE_DIRECTION}
+use Rattle.siri_deliveries.specs.Topics.{stop_topic_table, make_stop_topic, read_stop_topic_rows, written_stop_topic, stop_topic, without_maximum, subscribed_stop_topic, line_direction_table, make_line_direction, line_direction, written_line_direction, a_line_direction, timetable_topic_table, make_timetable_topic, timetable_topic, written_timetable_topic, vehicle_topic_table, make_vehicle_topic, vehicle_topic, written_vehicle_topic, situation_topic_table, make_situation_topic, situation_topic, written_situation_topic, topic_rows, written_topic, topic_writing, IsProperTopic, a_topic, subscribed_rows, maximum_of, a_subscribed_topic}
 use Rattle.siri_wire.specs.Requests.{service_request_table, make_service_request, read_service_request_rows, written_service_request, asks_nothing, unless_for_nothing, service_request}
 use Rattle.siri_wire.specs.Subscriptions.{response_status_table, make_response_status, response_status, written_response_status, a_response_status, subscription_response_table, make_subscription_response}
 use Rattle.siri_wire.specs.Terminations.{termination_status_table, make_termination_status, termination_status, written_termination_status, a_termination_status, termination_response_table, make_termination_response}

@@ -16,8 +16,9 @@ use Rattle.siri_tables.proofs.ProperParts.{Yields, on_ok, on_map, row_is, list_o
 use Rattle.siri_tables.proofs.RowSpells.{done, bind_ok, ok_is, row_ok, row_spelled}
 use Rattle.siri_tables.proofs.TableLaws.{KindLaws, EntryLaws, RowLaws, at_key, at_depth}
 use Rattle.siri_tables.proofs.ValueLaws.{name_laws}
-use Rattle.siri_wire.specs.Rows.{a_whole_span, an_identifier, an_error, SpellsOr, with_default, flag_where_true, entries, optional_inside}
-use Rattle.siri_wire.specs.WrittenValues.{written_where_true}
+use Rattle.siri_wire.specs.Identifiers.{an_identifier}
+use Rattle.siri_deliveries.specs.Rows.{a_whole_span, an_error, SpellsOr, with_default, flag_where_true, entries, optional_inside}
+use Rattle.siri_deliveries.specs.WrittenValues.{written_where_true}
 use Rattle.siri_wire_laws.proofs.MessageValues.{all_map, inside_again, error_back, error_within, identifier_back, identifier_within, whole_span_back, some_whole_span_within}
 use Rattle.siri_wire_laws.proofs.ProperReadValues.{non_negative_span_yields, inside_yields, error_yields}
 

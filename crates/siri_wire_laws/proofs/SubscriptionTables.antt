@@ -23,13 +23,13 @@ use Rattle.siri_tables.proofs.ProperParts.{name_yields, number_yields, row_is}
 use Rattle.siri_tables.proofs.RowSpells.{bind_ok, done, ok_is, row_spelled, required_row_spelled, row_ok, required_row_ok}
 use Rattle.siri_tables.proofs.TableLaws.{EntryLaws, RowLaws, at_key, at_depth, optional_laws, mandatory_laws, some_entries_laws, AllLaws, are_distinct, TableLaws, read_spelled, spelled_read, written_read, spelled_proper, table_within, table_entries}
 use Rattle.siri_tables.proofs.ValueLaws.{name_laws, moment_laws, flag_laws}
-use Rattle.siri_wire.specs.declared.names.TheConstants.{CHANGE_BEFORE_UPDATES, CONSUMER_ADDRESS, DELIVERY_METHOD, ESTIMATED_TIMETABLE_SUBSCRIPTION_REQUEST, EXTENSIONS, HEARTBEAT_INTERVAL, MESSAGE_IDENTIFIER, REQUESTOR_REF, REQUEST_TIMESTAMP, SITUATION_EXCHANGE_SUBSCRIPTION_REQUEST, STOP_MONITORING_SUBSCRIPTION_REQUEST, SUBSCRIBER_REF, SUBSCRIPTION_CONTEXT, VEHICLE_MONITORING_SUBSCRIPTION_REQUEST}
-use Rattle.siri_wire.specs.Rows.{a_whole_span}
-use Rattle.siri_wire.specs.Topics.{a_subscribed_topic}
+use Rattle.siri_deliveries.specs.declared.names.TheConstants.{CHANGE_BEFORE_UPDATES, CONSUMER_ADDRESS, DELIVERY_METHOD, ESTIMATED_TIMETABLE_SUBSCRIPTION_REQUEST, EXTENSIONS, HEARTBEAT_INTERVAL, MESSAGE_IDENTIFIER, REQUESTOR_REF, REQUEST_TIMESTAMP, SITUATION_EXCHANGE_SUBSCRIPTION_REQUEST, STOP_MONITORING_SUBSCRIPTION_REQUEST, SUBSCRIBER_REF, SUBSCRIPTION_CONTEXT, VEHICLE_MONITORING_SUBSCRIPTION_REQUEST}
+use Rattle.siri_deliveries.specs.Rows.{a_whole_span}
+use Rattle.siri_deliveries.specs.Topics.{a_subscribed_topic}
 use Rattle.siri_wire.specs.Subscribers.{named_or, subscriber_or, SpellsSubscriber, the_subscriber}
 use Rattle.siri_wire.specs.Subscriptions.{request_of, topic_of, the_topic, slack_of, the_slack, is_fetched, SpellsMethod, written_method, the_method, element_table, subscription_table, make_subscription, subscription, written_subscription, a_subscription, heartbeat_interval, read_requested_rows, requests_nothing, requested, subscription_request, subscription_request_table, make_subscription_request, written_subscription_request}
 use Rattle.siri_wire.specs.declared.read_subscriptions.RequestedSubscriptions.{RequestedSubscriptions}
-use Rattle.siri_wire.specs.WrittenValues.{written_identifier}
+use Rattle.siri_wire.specs.Identifiers.{written_identifier}
 use Rattle.siri_wire.specs.Terminations.{Asking, asking, the_asking, termination_table, make_termination}
 use Rattle.siri_wire_laws.specs.ProperRequests.{IsProperSubscriptionRequest}
 use Rattle.siri_wire_laws.specs.SpellingRequests.{SpellsSubscription, SpellsSubscriptionRequest}

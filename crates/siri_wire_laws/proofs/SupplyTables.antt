@@ -15,10 +15,10 @@ use Rattle.siri_tables.proofs.ProperParts.{Yields, reads_to, inside_on}
 use Rattle.siri_tables.proofs.RowSpells.{bind_ok, done, ok_is}
 use Rattle.siri_tables.proofs.TableLaws.{KindLaws, optional_laws, mandatory_laws, TableLaws, read_spelled, spelled_read, written_read, read_proper, table_kind}
 use Rattle.siri_tables.proofs.ValueLaws.{name_laws, moment_laws, number_laws, flag_laws}
-use Rattle.siri_wire.specs.declared.names.TheConstants.{ALL_DATA, SUBSCRIPTION_REF}
+use Rattle.siri_deliveries.specs.declared.names.TheConstants.{ALL_DATA, SUBSCRIPTION_REF}
 use Rattle.siri_wire.specs.Statuses.{check_table, make_check, check_response_table, make_check_response, heartbeat_table, make_heartbeat}
-use Rattle.siri_wire.specs.Supplies.{make_mark, mark, a_mark, is_text_absent, lacks, lacks_mark, mark_if_any, optional_mark, an_optional_mark, ready_table, make_ready, ready_acknowledgement_table, make_ready_acknowledgement, supply_table, make_supply, read_supply_rows, unless_all, data_supply_request, written_supply, received_table, make_received}
-use Rattle.siri_wire.specs.WrittenValues.{mark_table, written_mark}
+use Rattle.siri_wire.specs.Supplies.{mark_table, make_mark, mark, written_mark, a_mark, lacks_mark, mark_if_any, optional_mark, an_optional_mark, ready_table, make_ready, ready_acknowledgement_table, make_ready_acknowledgement, supply_table, make_supply, read_supply_rows, unless_all, data_supply_request, written_supply, received_table, make_received}
+use Rattle.siri_deliveries.specs.Absence.{is_text_absent, lacks}
 use Rattle.siri_wire_laws.specs.ProperDeliveries.{IsProperSupply}
 use Rattle.siri_wire_laws.specs.SpellingDeliveries.{SpellsSupply}
 use Rattle.siri_wire_laws.proofs.ProperReadValues.{unless_absent}

@@ -4,8 +4,8 @@ use Rattle.std.specs.Prelude.{◌≡◌, false}
 use Rattle.siri_messages.specs.declared.deliveries.ServiceDelivery.{ServiceDelivery}
 use Rattle.siri_messages.specs.declared.supplies.DataSupplyRequest.{DataSupplyRequest}
 use Rattle.siri_tables.specs.Tables.{AllProper}
-pub use Rattle.siri_wire.specs.Deliveries.{IsProperOf, IsProperDelivery}
-use Rattle.siri_wire.specs.Deliveries.{service_delivery_table}
+pub use Rattle.siri_deliveries.specs.Deliveries.{IsProperOf, IsProperDelivery}
+use Rattle.siri_deliveries.specs.Deliveries.{service_delivery_table}
 use Rattle.siri_wire.specs.Supplies.{supply_table}
 
 -- DataSupplyRequest, which doesn't ask for everything

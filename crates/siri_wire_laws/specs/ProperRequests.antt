@@ -10,7 +10,7 @@ use Rattle.siri_tables.specs.Tables.{AllProper}
 use Rattle.siri_wire.specs.Requests.{service_request_table, asks_nothing}
 use Rattle.siri_wire.specs.Subscriptions.{subscription_request_table, requests_nothing, requested_by, subscription_response_table}
 use Rattle.siri_wire.specs.Terminations.{termination_table, termination_response_table}
-pub use Rattle.siri_wire.specs.Topics.{IsProperTopic}
+pub use Rattle.siri_deliveries.specs.Topics.{IsProperTopic}
 
 -- ServiceRequest, which asks for something
 abbrev pub IsProperServiceRequest : ServiceRequest → Type 0

@@ -17,14 +17,13 @@ use Rattle.siri_tables.specs.Refusals.{Refusal}
 use Rattle.siri_tables.specs.Rules.{name, moment, number, table, list}
 use Rattle.siri_tables.specs.Spelling.{Spells}
 use Rattle.siri_items.specs.Journeys.{journey}
-use Rattle.siri_wire.specs.declared.names.TheConstants.{ESTIMATED_JOURNEY_VERSION_FRAME, ESTIMATED_VEHICLE_JOURNEY, ITEM_REF, PART, REMOVED, ROUND, START}
-use Rattle.siri_wire.specs.declared.read_parts.DeliveryExtensions.{DeliveryExtensions}
-use Rattle.siri_wire.specs.declared.read_parts.RoundPosition.{RoundPosition}
-use Rattle.siri_wire.specs.Deliveries.{stop_delivery_table, timetable_delivery_table, vehicle_delivery_table, situation_delivery_table}
-use Rattle.siri_wire.specs.Frames.{journey_of_frame, journeys, frame, concat_frames}
+use Rattle.siri_deliveries.specs.declared.names.TheConstants.{ESTIMATED_JOURNEY_VERSION_FRAME, ESTIMATED_VEHICLE_JOURNEY, ITEM_REF, PART, REMOVED, ROUND, START}
+use Rattle.siri_deliveries.specs.declared.read_parts.DeliveryExtensions.{DeliveryExtensions}
+use Rattle.siri_deliveries.specs.declared.read_parts.RoundPosition.{RoundPosition}
+use Rattle.siri_deliveries.specs.Deliveries.{stop_delivery_table, timetable_delivery_table, vehicle_delivery_table, situation_delivery_table}
+use Rattle.siri_deliveries.specs.Frames.{journey_of_frame, journeys, frame, concat_frames}
 use Rattle.siri_wire_laws.specs.SpellingValues.{SpellsEntries}
-use Rattle.siri_wire.specs.Supplies.{supply_table}
-use Rattle.siri_wire.specs.WrittenValues.{mark_table}
+use Rattle.siri_wire.specs.Supplies.{mark_table, supply_table}
 use Rattle.siri_tables.specs.Tables.{AllSpelled}
 
 -- which part of which round of a subscription is meant

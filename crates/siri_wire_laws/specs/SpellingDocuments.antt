@@ -11,9 +11,9 @@ use Rattle.siri_tables.specs.Spelling.{IfFound}
 use Rattle.siri_tables.specs.Tables.{AllSpelled}
 use Rattle.siri_wire.specs.declared.kinds.Kind.{Kind}
 use Rattle.siri_wire.specs.declared.kinds.Kind.TheVariants as kind
-use Rattle.siri_wire.specs.declared.names.TheConstants.{SIRI}
+use Rattle.siri_deliveries.specs.declared.names.TheConstants.{SIRI}
 use Rattle.siri_wire.specs.Documents.{only_held}
-use Rattle.siri_wire.specs.Deliveries.{service_delivery_table}
+use Rattle.siri_deliveries.specs.Deliveries.{service_delivery_table}
 use Rattle.siri_wire.specs.Supplies.{ready_table, ready_acknowledgement_table, received_table}
 use Rattle.siri_wire.specs.Statuses.{check_table, check_response_table, heartbeat_table}
 use Rattle.siri_wire_laws.specs.SpellingDeliveries.{SpellsSupply}

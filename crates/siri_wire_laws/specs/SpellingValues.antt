@@ -6,8 +6,8 @@ use Rattle.siri_json.specs.Values.{Found, found, absent, wrong, member_of, objec
 use Rattle.siri_tables.specs.Refusals.{Refusal}
 use Rattle.siri_tables.specs.Rules.{text, inside, is_null}
 use Rattle.siri_tables.specs.Spelling.{Spells}
-use Rattle.siri_wire.specs.declared.names.TheConstants.{ERROR_CONDITION, ERROR_TEXT, OTHER_ERROR}
-use Rattle.siri_wire.specs.Errors.{other_error}
+use Rattle.siri_deliveries.specs.declared.names.TheConstants.{ERROR_CONDITION, ERROR_TEXT, OTHER_ERROR}
+use Rattle.siri_deliveries.specs.Errors.{other_error}
 
 -- the text of an error
 abbrev pub SpellsError : Data → Option (List ℕ) → Type 0

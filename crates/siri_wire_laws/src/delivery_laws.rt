@@ -10,12 +10,12 @@ ghost use Rattle.siri_records.specs.declared.key.Key.{Key};
 ghost use Rattle.siri_messages.specs.declared.deliveries.FunctionalDelivery.{FunctionalDelivery};
 ghost use Rattle.siri_messages.specs.declared.supplies.Mark.{Mark};
 ghost use Rattle.siri_tables.specs.Refusals.{Refusal};
-ghost use Rattle.siri_wire.specs.declared.read_parts.DeliveryExtensions.{DeliveryExtensions};
-ghost use Rattle.siri_wire.specs.declared.read_parts.RoundPosition.{RoundPosition};
-ghost use Rattle.siri_wire.specs.Deliveries.{stop_monitoring_delivery, estimated_timetable_delivery, vehicle_monitoring_delivery, situation_exchange_delivery};
-ghost use Rattle.siri_wire.specs.Frames.{journeys, frame, journeys_of_frames};
-ghost use Rattle.siri_wire.specs.Parts.{round_position, delivery_extensions};
-ghost use Rattle.siri_wire.specs.Removals.{visit_cancellation, vehicle_cancellation, removed_journey, removed_situation};
+ghost use Rattle.siri_deliveries.specs.declared.read_parts.DeliveryExtensions.{DeliveryExtensions};
+ghost use Rattle.siri_deliveries.specs.declared.read_parts.RoundPosition.{RoundPosition};
+ghost use Rattle.siri_deliveries.specs.Deliveries.{stop_monitoring_delivery, estimated_timetable_delivery, vehicle_monitoring_delivery, situation_exchange_delivery};
+ghost use Rattle.siri_deliveries.specs.Frames.{journeys, frame, journeys_of_frames};
+ghost use Rattle.siri_deliveries.specs.Parts.{round_position, delivery_extensions};
+ghost use Rattle.siri_deliveries.specs.Removals.{visit_cancellation, vehicle_cancellation, removed_journey, removed_situation};
 ghost use Rattle.siri_wire_laws.specs.SpellingDeliveries.{SpellsMark, SpellsRoundPosition, SpellsDeliveryExtensions, SpellsRemoval, SpellsJourneys, SpellsFrames, SpellsFrame, SpellsStopDelivery, SpellsTimetableDelivery, SpellsVehicleDelivery, SpellsSituationDelivery};
 ghost use Rattle.siri_wire.specs.Supplies.{mark};
 

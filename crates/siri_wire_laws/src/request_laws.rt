@@ -13,7 +13,7 @@ ghost use Rattle.siri_messages.specs.declared.terminations.TerminationResponseSt
 ghost use Rattle.siri_wire_laws.specs.SpellingRequests.{SpellsTopic, SpellsSubscribed, SpellsLineDirection, SpellsSubscription, SpellsResponseStatus, SpellsTerminationStatus};
 ghost use Rattle.siri_wire.specs.Subscriptions.{subscription, response_status};
 ghost use Rattle.siri_wire.specs.Terminations.{termination_status};
-ghost use Rattle.siri_wire.specs.Topics.{stop_topic, subscribed_stop_topic, line_direction, timetable_topic, vehicle_topic, situation_topic};
+ghost use Rattle.siri_deliveries.specs.Topics.{stop_topic, subscribed_stop_topic, line_direction, timetable_topic, vehicle_topic, situation_topic};
 
 /// A topic of each service, and a line with its direction, is read from an object exactly where the object spells it.
 pub fn topics_are_spelled()

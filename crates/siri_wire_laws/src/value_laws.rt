@@ -5,8 +5,8 @@ ghost use Rattle.std.specs.Prelude.{◌≡◌, ◌↔◌, ℕ, ℤ, List, Option
 ghost use Rattle.serde_json.specs.Data.{Data};
 ghost use Rattle.siri_tables.specs.Refusals.{Refusal};
 ghost use Rattle.siri_tables.specs.Rules.{text, inside, list};
-ghost use Rattle.siri_wire.specs.declared.names.TheConstants.{ERROR_TEXT};
-ghost use Rattle.siri_wire.specs.Errors.{other_error};
+ghost use Rattle.siri_deliveries.specs.declared.names.TheConstants.{ERROR_TEXT};
+ghost use Rattle.siri_deliveries.specs.Errors.{other_error};
 ghost use Rattle.siri_wire_laws.specs.SpellingValues.{SpellsInside, SpellsErrorCondition, SpellsOtherError, SpellsList};
 
 /// A text or a span that is the only row of an object is read from a value exactly where that object spells it, or where

@@ -1,5 +1,5 @@
 use Rattle.siri_tables.proofs.TableLaws.{is_spelled}
-use Rattle.siri_wire.specs.Deliveries.{stop_monitoring_delivery, estimated_timetable_delivery, vehicle_monitoring_delivery, situation_exchange_delivery}
+use Rattle.siri_deliveries.specs.Deliveries.{stop_monitoring_delivery, estimated_timetable_delivery, vehicle_monitoring_delivery, situation_exchange_delivery}
 use Rattle.siri_wire_laws.proofs.DeliveryTables.{stop_delivery_laws, timetable_delivery_laws, vehicle_delivery_laws, situation_delivery_laws}
 use Rattle.siri_wire_laws.proofs.ReadIffSpellsParts.{frame_read, frame_spelled}
 use Rattle.siri_wire_laws.proofs.delivery_laws.deliveries_are_spelled.Goals as goal

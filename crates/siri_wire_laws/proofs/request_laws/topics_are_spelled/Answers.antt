@@ -1,6 +1,6 @@
 use Rattle.siri_records.specs.declared.item.Service.TheVariants as service
 use Rattle.siri_tables.proofs.TableLaws.{is_spelled}
-use Rattle.siri_wire.specs.Topics.{line_direction}
+use Rattle.siri_deliveries.specs.Topics.{line_direction}
 use Rattle.siri_wire_laws.proofs.RequestTables.{line_direction_laws, topic_spelled, topic_read, subscribed_spelled, subscribed_read}
 use Rattle.siri_wire_laws.proofs.request_laws.topics_are_spelled.Goals as goal
 

@@ -1,5 +1,5 @@
 use Rattle.siri_tables.specs.Rules.{text}
-use Rattle.siri_wire.specs.declared.names.TheConstants.{ERROR_TEXT}
+use Rattle.siri_deliveries.specs.declared.names.TheConstants.{ERROR_TEXT}
 use Rattle.siri_wire_laws.proofs.ReadIffSpellsParts.{inside_spelled, inside_read, error_condition_spelled, error_condition_read}
 use Rattle.siri_wire_laws.proofs.value_laws.errors_are_spelled.Goals as goal
 

@@ -5,10 +5,10 @@ ghost use Rattle.siri_json.specs.Tokens.{tokens_of};
 ghost use Rattle.siri_tables.specs.Appended.{row_tokens};
 ghost use Rattle.siri_tables.specs.Writing.{row_object, array_unless_empty};
 ghost use Rattle.siri_items.specs.Written.{written_item};
-ghost use Rattle.siri_wire.specs.declared.names.TheConstants.{ESTIMATED_VEHICLE_JOURNEY};
-ghost use Rattle.siri_wire.specs.Deliveries.{item_writing};
-ghost use Rattle.siri_wire.specs.Frames.{frame_time, written_frame};
-ghost use Rattle.siri_wire.specs.Removals.{rows_of_removal, written_removal};
+ghost use Rattle.siri_deliveries.specs.declared.names.TheConstants.{ESTIMATED_VEHICLE_JOURNEY};
+ghost use Rattle.siri_deliveries.specs.Deliveries.{item_writing};
+ghost use Rattle.siri_deliveries.specs.Frames.{frame_time, written_frame};
+ghost use Rattle.siri_deliveries.specs.Removals.{rows_of_removal, written_removal};
 
 use crate::names;
 use siri_base::{Moment, Name, OutOfMemory};

@@ -17,13 +17,13 @@ use Rattle.siri_items.specs.Vehicles.{vehicle}
 use Rattle.siri_items.specs.Situations.{situation}
 use Rattle.siri_items.specs.Proper.{IsProper, service_of}
 use Rattle.siri_items.specs.Written.{written_item}
-use Rattle.siri_wire.specs.Removals.{visit_cancellation, vehicle_cancellation, removed_journey, removed_situation, IsProperRemoval, a_removal}
-use Rattle.siri_wire.specs.Parts.{heading_table, heading_of, with_heading, no_round, IsPlaced, position_of, a_place, no_extensions, extensions_of, some_extensions, delivery_of}
-use Rattle.siri_wire.specs.Frames.{journeys_of_frames, written_frame}
-use Rattle.siri_wire.specs.Rows.{an_error, with_default, flag_where_true, entries}
-use Rattle.siri_wire.specs.declared.read_parts.DeliveryExtensions.{DeliveryExtensions}
-use Rattle.siri_wire.specs.declared.read_parts.Heading.{Heading}
-use Rattle.siri_wire.specs.declared.names.TheConstants.{RESPONSE_TIMESTAMP, PRODUCER_REF, RESPONSE_MESSAGE_IDENTIFIER, REQUEST_MESSAGE_REF, STATUS, ERROR_CONDITION, MORE_DATA, EXTENSIONS, MONITORED_STOP_VISIT, MONITORED_STOP_VISIT_CANCELLATION, ESTIMATED_JOURNEY_VERSION_FRAME, VEHICLE_ACTIVITY, VEHICLE_ACTIVITY_CANCELLATION, SITUATIONS, PT_SITUATION_ELEMENT, STOP_MONITORING_DELIVERY, ESTIMATED_TIMETABLE_DELIVERY, VEHICLE_MONITORING_DELIVERY, SITUATION_EXCHANGE_DELIVERY}
+use Rattle.siri_deliveries.specs.Removals.{visit_cancellation, vehicle_cancellation, removed_journey, removed_situation, IsProperRemoval, a_removal}
+use Rattle.siri_deliveries.specs.Parts.{heading_table, heading_of, with_heading, no_round, IsPlaced, position_of, a_place, no_extensions, extensions_of, some_extensions, delivery_of}
+use Rattle.siri_deliveries.specs.Frames.{journeys_of_frames, written_frame}
+use Rattle.siri_deliveries.specs.Rows.{an_error, with_default, flag_where_true, entries}
+use Rattle.siri_deliveries.specs.declared.read_parts.DeliveryExtensions.{DeliveryExtensions}
+use Rattle.siri_deliveries.specs.declared.read_parts.Heading.{Heading}
+use Rattle.siri_deliveries.specs.declared.names.TheConstants.{RESPONSE_TIMESTAMP, PRODUCER_REF, RESPONSE_MESSAGE_IDENTIFIER, REQUEST_MESSAGE_REF, STATUS, ERROR_CONDITION, MORE_DATA, EXTENSIONS, MONITORED_STOP_VISIT, MONITORED_STOP_VISIT_CANCELLATION, ESTIMATED_JOURNEY_VERSION_FRAME, VEHICLE_ACTIVITY, VEHICLE_ACTIVITY_CANCELLATION, SITUATIONS, PT_SITUATION_ELEMENT, STOP_MONITORING_DELIVERY, ESTIMATED_TIMETABLE_DELIVERY, VEHICLE_MONITORING_DELIVERY, SITUATION_EXCHANGE_DELIVERY}
 
 -- ---- items
 

@@ -3,7 +3,7 @@
 ghost use Rattle.std.specs.Prelude.{Result, Option};
 ghost use Rattle.siri_json.specs.Shown.{shown};
 ghost use Rattle.siri_tables.specs.Refusals.{Gives};
-ghost use Rattle.siri_wire.specs.Errors.{other_error, error_condition};
+ghost use Rattle.siri_deliveries.specs.Errors.{other_error, error_condition};
 
 use crate::names;
 use siri_base::{Reason, Text};

@@ -11,13 +11,13 @@ use Rattle.siri_tables.specs.Rules.{number, table, required_row, list}
 use Rattle.siri_tables.specs.Proper.{IsNumber, IsListWithin}
 use Rattle.siri_tables.specs.Writing.{Row as Written, with_rows, object_unless_empty, written_list, written_number}
 use Rattle.siri_tables.specs.Tables.{Kind, Row, optional, a_name, a_moment, a_flag, Table, Maker, read_all, AllSpelled, AllProper, all_written}
-use Rattle.siri_wire.specs.declared.read_parts.Heading.{Heading}
-use Rattle.siri_wire.specs.declared.read_parts.RoundPosition.{RoundPosition}
-use Rattle.siri_wire.specs.declared.read_parts.DeliveryExtensions.{DeliveryExtensions}
-use Rattle.siri_wire.specs.Removals.{IsProperRemoval, written_removal}
-use Rattle.siri_wire.specs.Rows.{an_error, with_default}
-use Rattle.siri_wire.specs.Supplies.{lacks}
-use Rattle.siri_wire.specs.declared.names.TheConstants.{RESPONSE_TIMESTAMP, SUBSCRIBER_REF, SUBSCRIPTION_REF, STATUS, ERROR_CONDITION, START, ROUND, PART, REMOVED}
+use Rattle.siri_deliveries.specs.declared.read_parts.Heading.{Heading}
+use Rattle.siri_deliveries.specs.declared.read_parts.RoundPosition.{RoundPosition}
+use Rattle.siri_deliveries.specs.declared.read_parts.DeliveryExtensions.{DeliveryExtensions}
+use Rattle.siri_deliveries.specs.Removals.{IsProperRemoval, written_removal}
+use Rattle.siri_deliveries.specs.Rows.{an_error, with_default}
+use Rattle.siri_deliveries.specs.Absence.{lacks}
+use Rattle.siri_deliveries.specs.declared.names.TheConstants.{RESPONSE_TIMESTAMP, SUBSCRIBER_REF, SUBSCRIPTION_REF, STATUS, ERROR_CONDITION, START, ROUND, PART, REMOVED}
 
 -- ---- the rows before Extensions (EN 15531-2)
 

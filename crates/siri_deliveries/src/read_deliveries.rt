@@ -1,6 +1,6 @@
 //! Reading deliveries of items.
 
-ghost use Rattle.siri_wire.specs.Deliveries.{visit_item, vehicle_item, situation_item, stop_monitoring_delivery, estimated_timetable_delivery, vehicle_monitoring_delivery, situation_exchange_delivery, service_delivery};
+ghost use Rattle.siri_deliveries.specs.Deliveries.{visit_item, vehicle_item, situation_item, stop_monitoring_delivery, estimated_timetable_delivery, vehicle_monitoring_delivery, situation_exchange_delivery, service_delivery};
 
 use crate::names;
 use crate::read_error::error_condition;

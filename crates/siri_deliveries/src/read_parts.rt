@@ -3,13 +3,13 @@
 ghost use Rattle.std.specs.Prelude.{◌≡◌};
 ghost use Rattle.siri_json.specs.Shown.{shown};
 ghost use Rattle.siri_tables.specs.Refusals.{Gives};
-ghost use Rattle.siri_wire.specs.Parts.{heading, no_round, within_round, round_position, delivery_extensions, extensions_or_empty, delivery_of};
-ghost use Rattle.siri_wire.specs.Removals.{removed_journey, removed_situation};
+ghost use Rattle.siri_deliveries.specs.Parts.{heading, no_round, within_round, round_position, delivery_extensions, extensions_or_empty, delivery_of};
+ghost use Rattle.siri_deliveries.specs.Removals.{removed_journey, removed_situation};
 
+use crate::absence::lacks;
 use crate::names;
 use crate::read_error::error_condition;
 use crate::read_removals::{RemovedJourneyTable, RemovedSituationTable};
-use crate::read_supplies::lacks;
 use siri_base::{List, Moment, Name, Text};
 use siri_json::Tree;
 use siri_messages::FunctionalDelivery;

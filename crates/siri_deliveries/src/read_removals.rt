@@ -1,6 +1,6 @@
 //! Reading cancellations, and removed journeys and situations.
 
-ghost use Rattle.siri_wire.specs.Removals.{visit_cancellation, vehicle_cancellation, removed_journey, removed_situation};
+ghost use Rattle.siri_deliveries.specs.Removals.{visit_cancellation, vehicle_cancellation, removed_journey, removed_situation};
 
 use crate::names;
 use siri_items::names as item_names;

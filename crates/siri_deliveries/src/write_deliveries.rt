@@ -5,10 +5,10 @@ ghost use Rattle.siri_json.specs.Tokens.{tokens_of};
 ghost use Rattle.siri_tables.specs.Appended.{row_tokens};
 ghost use Rattle.siri_tables.specs.Writing.{row_object, written_list};
 ghost use Rattle.siri_tables.proofs.Sorted.{any_written};
-ghost use Rattle.siri_wire.specs.declared.names.TheConstants.{EXTENSIONS, REMOVED, SITUATIONS};
-ghost use Rattle.siri_wire.specs.Deliveries.{written_situations, written_stop_delivery, written_timetable_delivery, written_vehicle_delivery, written_situation_delivery, written_service_delivery};
-ghost use Rattle.siri_wire.specs.Parts.{rows_of_place, written_place, written_removed};
-ghost use Rattle.siri_wire.specs.Removals.{written_removal};
+ghost use Rattle.siri_deliveries.specs.declared.names.TheConstants.{EXTENSIONS, REMOVED, SITUATIONS};
+ghost use Rattle.siri_deliveries.specs.Deliveries.{written_situations, written_stop_delivery, written_timetable_delivery, written_vehicle_delivery, written_situation_delivery, written_service_delivery};
+ghost use Rattle.siri_deliveries.specs.Parts.{rows_of_place, written_place, written_removed};
+ghost use Rattle.siri_deliveries.specs.Removals.{written_removal};
 
 use crate::names;
 use crate::write_entries::{FrameWriting, ItemWriting, RemovalWriting};

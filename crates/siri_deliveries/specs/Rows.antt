@@ -1,25 +1,21 @@
--- Kinds of values and rows of the tables of messages, which items have none of: what stands for an absent member, flags that are
--- written only where they are true, lists that may be empty, errors, identifiers, and members of an object of their own.
+-- Kinds of values and rows of the tables of messages and deliveries, which items have none of: what stands for an absent member,
+-- flags that are written only where they are true, lists that may be empty, errors, and members of an object of their own.
 use Rattle.std.specs.Prelude.{◌≡◌, ℕ, ℤ, List, [], ◌∷◌, Bool, false, is_none, Option, IfSome, option_and_then, unwrap_or, Result, Ok, ⊤}
 use Rattle.serde_json.specs.Data.{Data, no_members}
 use Rattle.siri_tables.specs.Refusals.{Refusal, ◌>>=◌}
-use Rattle.siri_tables.specs.Rules.{non_negative_span, number, flag, row, list, inside}
+use Rattle.siri_tables.specs.Rules.{non_negative_span, flag, row, list, inside}
 use Rattle.siri_tables.specs.Spelling.{Spells}
-use Rattle.siri_tables.specs.Proper.{IsText, IsNumber, IsNonNegativeSpan, IsListWithin}
+use Rattle.siri_tables.specs.Proper.{IsText, IsNonNegativeSpan, IsListWithin}
 use Rattle.siri_tables.specs.Writing.{with_rows, object_unless_empty, written_list, written_span}
 use Rattle.siri_tables.specs.Tables.{Kind, Row}
-use Rattle.siri_wire.specs.Errors.{other_error}
-use Rattle.siri_wire.specs.WrittenValues.{written_error, written_identifier, written_where_true}
+use Rattle.siri_deliveries.specs.Errors.{other_error}
+use Rattle.siri_deliveries.specs.WrittenValues.{written_error, written_where_true}
 
 -- ---- kinds of values
 
 -- a span that isn't negative
 abbrev pub a_whole_span : Kind ℤ
 a_whole_span = record { rule = non_negative_span; writing = written_span; Is = IsNonNegativeSpan }
-
--- a MessageIdentifier that is a number
-abbrev pub an_identifier : Kind ℕ
-an_identifier = record { rule = number; writing = written_identifier; Is = IsNumber }
 
 -- the text of an error
 abbrev pub an_error : Kind (List ℕ)

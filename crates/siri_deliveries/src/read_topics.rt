@@ -2,7 +2,7 @@
 
 ghost use Rattle.siri_json.specs.Shown.{shown};
 ghost use Rattle.siri_tables.specs.Refusals.{Gives};
-ghost use Rattle.siri_wire.specs.Topics.{read_stop_topic_rows, stop_topic, subscribed_stop_topic, line_direction, timetable_topic, vehicle_topic, situation_topic};
+ghost use Rattle.siri_deliveries.specs.Topics.{read_stop_topic_rows, stop_topic, subscribed_stop_topic, line_direction, timetable_topic, vehicle_topic, situation_topic};
 
 use crate::names;
 use siri_base::Reason;

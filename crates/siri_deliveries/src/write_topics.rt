@@ -3,8 +3,8 @@
 ghost use Rattle.std.specs.Prelude.{◌≡◌, ◌++◌, OnOk};
 ghost use Rattle.siri_json.specs.Tokens.{tokens_of};
 ghost use Rattle.siri_tables.specs.Appended.{row_tokens};
-ghost use Rattle.siri_wire.specs.declared.names.TheConstants.{LINES};
-ghost use Rattle.siri_wire.specs.Topics.{written_stop_topic, written_line_direction, written_lines, written_timetable_topic, written_vehicle_topic, written_situation_topic, written_topic, topic_writing};
+ghost use Rattle.siri_deliveries.specs.declared.names.TheConstants.{LINES};
+ghost use Rattle.siri_deliveries.specs.Topics.{written_stop_topic, written_line_direction, written_lines, written_timetable_topic, written_vehicle_topic, written_situation_topic, written_topic, topic_writing};
 
 use crate::names;
 use siri_base::{List, OutOfMemory};

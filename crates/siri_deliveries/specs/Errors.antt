@@ -4,7 +4,7 @@ use Rattle.std.specs.Prelude.{ℕ, List, Option, Result}
 use Rattle.serde_json.specs.Data.{Data}
 use Rattle.siri_tables.specs.Refusals.{Refusal}
 use Rattle.siri_tables.specs.Rules.{text, row, inside}
-use Rattle.siri_wire.specs.declared.names.TheConstants.{ERROR_CONDITION, OTHER_ERROR, ERROR_TEXT}
+use Rattle.siri_deliveries.specs.declared.names.TheConstants.{ERROR_CONDITION, OTHER_ERROR, ERROR_TEXT}
 
 unfoldable pub other_error : Data → Result (Option (List ℕ)) Refusal
 other_error d = inside (inside text ERROR_TEXT.now) OTHER_ERROR.now d

@@ -13,7 +13,7 @@ use Rattle.siri_tables.specs.Writing.{Row, row_object, array_unless_empty, writt
 use Rattle.siri_items.specs.Written.{written_item}
 use Rattle.siri_items.specs.Journeys.{journey}
 use Rattle.siri_items.specs.declared.names.TheConstants.{RECORDED_AT_TIME}
-use Rattle.siri_wire.specs.declared.names.TheConstants.{ESTIMATED_VEHICLE_JOURNEY, ESTIMATED_JOURNEY_VERSION_FRAME}
+use Rattle.siri_deliveries.specs.declared.names.TheConstants.{ESTIMATED_VEHICLE_JOURNEY, ESTIMATED_JOURNEY_VERSION_FRAME}
 
 -- a journey's own RecordedAtTime, or its frame's where that is absent
 abbrev pub own_or : Option ℕ → Option ℕ → Option ℕ

@@ -3,7 +3,7 @@
 ghost use Rattle.std.specs.Prelude.{◌≡◌, map, IfOk};
 ghost use Rattle.siri_json.specs.Shown.{shown};
 ghost use Rattle.siri_tables.specs.Refusals.{Gives};
-ghost use Rattle.siri_wire.specs.Frames.{journey_of_frame, journeys, frame, concat_frames, frames_of, journeys_of_frames};
+ghost use Rattle.siri_deliveries.specs.Frames.{journey_of_frame, journeys, frame, concat_frames, frames_of, journeys_of_frames};
 
 use crate::names;
 use crate::read_parts::MOST_ENTRIES;

@@ -17,8 +17,8 @@ use Rattle.siri_tables.specs.Refusals.{Refusal, ◌>>=◌}
 use Rattle.siri_tables.specs.Rules.{table}
 use Rattle.siri_tables.specs.Tables.{Kind, optional, mandatory, entries_inside, a_name, a_moment, a_number, Table, Maker, read_all, AllProper, all_written}
 use Rattle.siri_tables.specs.Writing.{row_object, with_rows, object_unless_empty, written_list}
-use Rattle.siri_wire.specs.declared.names.TheConstants.{PREVIEW_INTERVAL, MAXIMUM_STOP_VISITS, LINES, LINE_DIRECTION}
-use Rattle.siri_wire.specs.Rows.{a_whole_span}
+use Rattle.siri_deliveries.specs.declared.names.TheConstants.{PREVIEW_INTERVAL, MAXIMUM_STOP_VISITS, LINES, LINE_DIRECTION}
+use Rattle.siri_deliveries.specs.Rows.{a_whole_span}
 
 -- StopMonitoringRequest: the visits at a monitoring point (EN 15531-3)
 abbrev pub stop_topic_table : Table StopTopic

@@ -1,0 +1,10 @@
+pub mod Names
+pub mod Absence
+pub mod Errors
+pub mod WrittenValues
+pub mod Rows
+pub mod Topics
+pub mod Removals
+pub mod Parts
+pub mod Frames
+pub mod Deliveries
