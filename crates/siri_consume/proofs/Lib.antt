@@ -2,6 +2,7 @@ pub mod Wanted
 pub mod Pieces
 pub mod Held
 pub mod Shown
+mod Asked
 mod Causes
 mod Enough
 mod Made

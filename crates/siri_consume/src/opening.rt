@@ -4,7 +4,7 @@ ghost use Rattle.siri_base.specs.Causes.{Rose};
 ghost use Rattle.siri_lines.specs.Ends.{ReadsAll};
 ghost use Rattle.siri_network.specs.Calls.{outside_of, told_by};
 ghost use Rattle.siri_consume.specs.Opening.{FailsToOpen, opened, own_address};
-ghost use Rattle.siri_consume.specs.inner.Steps.{OpensConsumer};
+ghost use Rattle.siri_consume.specs.inner.Steps.{MayAsk, OpensConsumer};
 
 use crate::reading::read_wanted;
 use siri_base::{Clock, Keeper, List, Moment, Name, OutOfMemory, Source, Status, Wire};
@@ -40,6 +40,7 @@ pub fn open<S: Source, W: Wire, C: Clock, E: Keeper>(
     ensures err { IfErr result (λ end. FailsToOpen name address.now (S.left source.old) (S.left source.new) end
         (outside_of (told_by (W.tells wire.old) (W.faults wire.old)) (told_by (C.tells clock.old) (C.faults clock.old)) (told_by (E.tells keeper.old) (E.faults keeper.old)))
         (outside_of (told_by (W.tells wire.new) (W.faults wire.new)) (told_by (C.tells clock.new) (C.faults clock.new)) (told_by (E.tells keeper.new) (E.faults keeper.new)))) }
+    ensures may_ask { IfOk result (λ opened. MayAsk opened.consumer opened.wanted) }
     ensures all { OnOk result (ReadsAll (S.left source.new) Status.Done) }
     ensures read { IfErr result (λ end. end ≡ Status.ReadFault → Rose (S.faults source.old) (S.faults source.new)) }
 {

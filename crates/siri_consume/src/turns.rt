@@ -6,6 +6,7 @@ ghost use Rattle.siri_ends.specs.SendingUp.{FirstSendsUp, SendsUp};
 ghost use Rattle.siri_network.specs.Calls.{Told, outside_of, told_by};
 ghost use Rattle.siri_network.specs.Turns.{running};
 ghost use Rattle.siri_consume.specs.Consumption as definition;
+ghost use Rattle.siri_consume.specs.inner.Steps.{MayAsk};
 ghost use Rattle.siri_consume.specs.Consumption.{ConsumesTurn, ConsumesTurns, EndsAtTurn, EndsInTurns, after_asking, requests, subscriptions};
 
 use siri_base::{Clock, Copies, List, OutOfMemory, Wire};
@@ -14,26 +15,29 @@ use siri_http::Address;
 use siri_messages::Message;
 use siri_network::{NetworkError, accept, now};
 use siri_topic::Subscription;
-use siri_view::Consumer;
+use siri_view::{AskError, Consumer};
 use siri_wire::Wanted;
 use std::alloc::Global;
 
 /// Asks for all that is wanted, where anything is: one request for all, with the interval of heartbeats of the first.
+#[tactic(auto, using(crate::proofs::Asked::none_too_many))]
 fn ask(
     alloc: Global,
     consumer: &mut Consumer,
     wanted: &[Wanted],
 ) -> Result<List<Message>, OutOfMemory>
+    requires { MayAsk consumer.old wanted.now }
     ensures messages { IfOk result (λ messages. messages ≡ requests consumer.old wanted.now) }
     ensures consumer { OnOk result (consumer.new ≡ after_asking consumer.old wanted.now) }
 {
     let mut messages = List::new(alloc);
     if let Some(first) = wanted.first() {
         let list = subscriptions(alloc, wanted)?;
-        // (Of at most 200 lines no more is asked for than a consumer may hold, and its numbers aren't used up.)
         match consumer.subscribe(&list, first.beat) {
             Ok(message) => messages.push(message)?,
-            Err(_) => return Err(OutOfMemory),
+            Err(AskError::OutOfMemory) => return Err(OutOfMemory),
+            // (Of at most 200 lines no more is asked for than a consumer may hold, and its numbers aren't used up.)
+            Err(AskError::Spent | AskError::TooMany | AskError::NotHeld) => unreachable!(),
         }
     }
     Ok(messages)
@@ -48,6 +52,7 @@ pub fn ask_all<W: Wire>(
     wanted: List<Wanted>,
     tally: &mut Tally,
 ) -> Result<(), OutOfMemory>
+    requires { MayAsk consumer.old wanted }
     ensures ok { OnOk result (SendsUp producer.now.host producer.now.path (requests consumer.old wanted)
         (consumer_at (after_asking consumer.old wanted) tally.old (W.tells wire.old) (W.faults wire.old))
         (consumer_at consumer.new tally.new (W.tells wire.new) (W.faults wire.new))) }

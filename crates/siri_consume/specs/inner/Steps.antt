@@ -1,5 +1,5 @@
--- A consumer that a run opened with.
-use Rattle.std.specs.Prelude.{◌≡◌, ℕ, List}
+-- A consumer that a run opened with, and what it may ask for.
+use Rattle.std.specs.Prelude.{◌≡◌, ◌≤◌, ℕ, List, [], length}
 use Rattle.siri_lines.specs.Ends.{Bytes}
 use Rattle.siri_view.specs.Consuming.{Consuming}
 use Rattle.siri_wire.specs.declared.wanted.Wanted.{Wanted}
@@ -11,3 +11,9 @@ pub record OpensConsumer (name listen : List ℕ) (input : Bytes) (list : List W
   pub moment : ℕ
   pub opens : Opens name listen input start list moment from to
   pub consumer_is : consumer ≡ opened name listen start moment
+
+-- it holds nothing, its numbers aren't used up, and no more is wanted than it may hold
+pub record MayAsk (consumer : Consuming) (list : List Wanted) : Type 0 where
+  pub holds : consumer.held ≡ []
+  pub unspent : consumer.next_number ≤ 999999999999999999
+  pub few : length list ≤ 200
