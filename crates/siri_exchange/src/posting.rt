@@ -70,8 +70,8 @@ fn talk<W: Wire>(
             wire.hang_up();
             Ok(Sent::Failed)
         }
-        // Nothing else comes but want of memory.
-        Err(_) => Err(OutOfMemory),
+        Err(HttpError::OutOfMemory) => Err(OutOfMemory),
+        Err(_) => unreachable!(),
     }
 }
 

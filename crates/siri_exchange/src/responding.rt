@@ -33,7 +33,7 @@ pub fn respond<W: Wire>(
             wire.hang_up();
             Ok(false)
         }
-        // Nothing else comes but want of memory.
-        Err(_) => Err(OutOfMemory),
+        Err(HttpError::OutOfMemory) => Err(OutOfMemory),
+        Err(_) => unreachable!(),
     }
 }

@@ -1,7 +1,7 @@
 // Writes requests and responses.
-ghost use Rattle.std.specs.Prelude.{◌≡◌, ◌++◌, length, IfOk, OnOk, true};
+ghost use Rattle.std.specs.Prelude.{◌≡◌, ◌++◌, length, IfErr, IfOk, OnOk, true};
 ghost use Rattle.siri_http.specs.Connections.{OnConnection};
-ghost use Rattle.siri_http.specs.HttpCauses.{HasWriteCause};
+ghost use Rattle.siri_http.specs.HttpCauses.{EndsWrite, HasWriteCause};
 ghost use Rattle.siri_http.specs.Texts.{PutsText, head_end, is_written, phrase_of, request_text, response_text, type_of};
 
 use crate::{Address, HttpError};
@@ -16,6 +16,7 @@ fn write_text<W: Wire>(wire: &mut W, text: &[u8]) -> Result<(), HttpError>
     ensures open { W.is_open wire.new }
     ensures told { OnConnection (PutsText text.now result) (W.tells wire.old) (W.tells wire.new) }
     ensures cause { HasWriteCause (W.faults wire.old) (W.faults wire.new) result }
+    ensures ends { IfErr result EndsWrite }
 {
     let mut rest = text;
     while !rest.is_empty() {
@@ -105,6 +106,7 @@ pub fn write_request<W: Wire>(
     ensures open { W.is_open wire.new }
     ensures told { OnConnection (PutsText (request_text address.now.host address.now.path body.now) result) (W.tells wire.old) (W.tells wire.new) }
     ensures cause { HasWriteCause (W.faults wire.old) (W.faults wire.new) result }
+    ensures ends { IfErr result EndsWrite }
 {
     let text = request_text(alloc, address, body)?;
     write_text(wire, &text)
@@ -125,6 +127,7 @@ pub fn write_response<W: Wire>(
     ensures open { W.is_open wire.new }
     ensures told { OnConnection (PutsText (response_text status plain body.now) result) (W.tells wire.old) (W.tells wire.new) }
     ensures cause { HasWriteCause (W.faults wire.old) (W.faults wire.new) result }
+    ensures ends { IfErr result EndsWrite }
 {
     let code = code_of(status);
     let text = response_text(alloc, code, plain, body)?;
