@@ -16,8 +16,11 @@
 # - where valgrind is there, the instructions of documents and of the producer, which no other work on the machine changes.
 set -eu
 here=$(dirname -- "$(readlink -f -- "${BASH_SOURCE[0]}")")
-"$here/../siri" build
-(cd "$here/../crates/siri_speed" && rt run >/dev/null)
+# (the programs that the gate or an earlier build left serve as well: `bench/run.sh --built`)
+if [ "${1-}" != --built ]; then
+  "$here/../siri" build
+  (cd "$here/../crates/siri_speed" && rt run >/dev/null)
+fi
 (cd "$here/yardstick" && cargo build --release --offline --quiet)
 
 inputs=$(mktemp -d)

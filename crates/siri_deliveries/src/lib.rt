@@ -11,8 +11,8 @@
 //! have, and what the messages of `siri_wire` share with deliveries: errors, flags, texts that are absent.
 //!
 //! Stands on `siri_tables`, which has the rules of values and rows and the refusals, on `siri_items` for the tables of items,
-//! on `siri_messages`, `siri_topic` and `siri_records` for what is read and written, and on `siri_base`, `siri_time` and
-//! `siri_json`. It keeps no state, knows no document, no clock and no connection.
+//! on `siri_messages`, `siri_topic` and `siri_records` for what is read and written, and on `siri_base` and `siri_json`. It
+//! keeps no state, knows no document, no clock and no connection.
 #![tactic(auto)]
 
 mod absence;
