@@ -13,9 +13,14 @@ use std::marker::Model;
 use std::rc::Rc;
 
 /// Shared items by their keys. Contracts see the keys with the items themselves, in order of key, each key once.
-#[derive(Drop)]
 pub struct View {
     items: KeyedItems,
+}
+
+impl Drop for View {
+    fn drop(self) {
+        let View { items: _ } = self;
+    }
 }
 
 impl Model for View {

@@ -10,7 +10,6 @@ use siri_topic::Subscription;
 use std::alloc::Global;
 
 /// What a producer keeps of a subscription.
-#[derive(Drop)]
 pub struct Course {
     /// Its rounds.
     pub rounds: Rounds,
@@ -18,6 +17,16 @@ pub struct Course {
     pub last_heartbeat: Moment,
     /// Whether the last look found that the acknowledged view meets what is shown.
     pub is_level: bool,
+}
+
+impl Drop for Course {
+    fn drop(self) {
+        let Course {
+            rounds: _,
+            last_heartbeat: _,
+            is_level: _,
+        } = self;
+    }
 }
 
 impl Course {

@@ -23,13 +23,24 @@ use std::alloc::Global;
 pub const MOST_ENTRIES: usize = 20_000;
 
 /// The rows of a functional delivery before its Extensions (EN 15531-2).
-#[derive(Drop)]
 pub struct Heading {
     pub response_timestamp: Option<Moment>,
     pub subscriber_ref: Option<Name>,
     pub subscription_ref: Option<Name>,
     pub status: bool,
     pub error_condition: Option<Text>,
+}
+
+impl Drop for Heading {
+    fn drop(self) {
+        let Heading {
+            response_timestamp: _,
+            subscriber_ref: _,
+            subscription_ref: _,
+            status: _,
+            error_condition: _,
+        } = self;
+    }
 }
 
 /// Where in a round a delivery stands: all three numbers are there, or none is.
@@ -73,12 +84,19 @@ impl Heading {
     ) -> FunctionalDelivery
         ensures { result ≡ delivery_of self round_position items removals }
     {
+        let Heading {
+            response_timestamp,
+            subscriber_ref,
+            subscription_ref,
+            status,
+            error_condition,
+        } = self;
         FunctionalDelivery {
-            response_timestamp: self.response_timestamp,
-            subscriber_ref: self.subscriber_ref,
-            subscription_ref: self.subscription_ref,
-            status: self.status,
-            error_condition: self.error_condition,
+            response_timestamp,
+            subscriber_ref,
+            subscription_ref,
+            status,
+            error_condition,
             start: round_position.start,
             round: round_position.round,
             part: round_position.part,

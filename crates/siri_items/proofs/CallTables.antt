@@ -6,7 +6,8 @@ use Rattle.siri_records.specs.declared.call.StopCall.{StopCall}
 use Rattle.siri_records.specs.declared.visit.VehicleLocation.{VehicleLocation}
 use Rattle.siri_items.specs.declared.names.TheConstants.{MONITORED_CALL}
 use Rattle.siri_tables.specs.Rules.{table, row, required_row}
-use Rattle.siri_items.specs.Calls.{stop_call, call_is_blank, location, location_is_blank, call_table, location_table, make_call, make_location, a_call, an_optional_call, a_location, written_call, call_writing, written_calls, written_location}
+use Rattle.siri_items.specs.Calls.{stop_call, call_is_blank, location, location_is_blank, times_table, arrival_table, departure_table, make_times, arrival, departure, arrival_of, departure_of, call_table, location_table, make_call, make_location, a_call, an_optional_call, a_location, written_call, call_writing, written_calls, written_location}
+use Rattle.siri_items.specs.declared.read_call.CallTimes.{CallTimes}
 use Rattle.siri_items.specs.Visits.{timed_call, with_moment, mandatory_timed_call}
 use Rattle.siri_items.specs.Journeys.{calls_inside}
 use Rattle.siri_tables.proofs.RowSpells.{bind_ok, ok_is, required_row_spelled, required_row_ok}
@@ -14,9 +15,9 @@ use Rattle.siri_tables.proofs.CanonicalParts.{are_ascii}
 use Rattle.siri_tables.specs.Spelling.{Spells}
 use Rattle.siri_tables.proofs.ProperParts.{row_is}
 use Rattle.siri_records.specs.Ends.{call_moment}
-use Rattle.siri_tables.proofs.TableLaws.{KindLaws, EntryLaws, RowLaws, at_depth, optional_laws, entries_inside_laws, AllLaws, TableLaws, table_kind, table_entries, shown_table_kind, left_out_table_kind, at_key}
+use Rattle.siri_tables.proofs.TableLaws.{KindLaws, EntryLaws, RowLaws, at_depth, optional_laws, entries_inside_laws, AllLaws, TableLaws, are_distinct, together_laws, table_kind, table_entries, shown_table_kind, left_out_table_kind, at_key}
 use Rattle.siri_tables.proofs.ValueLaws.{name_laws, text_laws, moment_laws, number_laws, decimal_laws, flag_laws}
-use Rattle.siri_tables.specs.Tables.{AllProper, read_all}
+use Rattle.siri_tables.specs.Tables.{AllProper, read_all, all_written, together}
 
 pub location_laws : TableLaws 0 location_table make_location
 location_laws = record { rows = (optional_laws decimal_laws refl refl, (optional_laws decimal_laws refl refl, tt)); whole = λ l. refl; holds = λ a b. (refl, (refl, tt)); distinct = λ l. refl }
@@ -36,11 +37,29 @@ pub location_kind : KindLaws 1 a_location
 unfolding location written_location
 location_kind = left_out_table_kind location_laws location_is_blank no_location location_of_none no_location_is_blank
 
+times_laws : {aimed expected actual status platform_name : List ℕ} → AllLaws 0 (times_table aimed expected actual status platform_name) → ((t : CallTimes) → are_distinct (all_written (times_table aimed expected actual status platform_name) t) ≡ true)
+    → TableLaws 0 (times_table aimed expected actual status platform_name) make_times
+times_laws rows distinct = record { rows = rows; whole = λ t. refl; holds = λ a b c d e. search; distinct = distinct }
+
+arrival_laws : TableLaws 0 arrival_table make_times
+arrival_laws = times_laws (search (optional_laws, text_laws, moment_laws)) (λ t. refl)
+
+departure_laws : TableLaws 0 departure_table make_times
+departure_laws = times_laws (search (optional_laws, text_laws, moment_laws)) (λ t. refl)
+
+arrival_row : RowLaws 0 (together arrival_table arrival arrival_of)
+unfolding arrival
+arrival_row = together_laws arrival_laws
+
+departure_row : RowLaws 0 (together departure_table departure departure_of)
+unfolding departure
+departure_row = together_laws departure_laws
+
 call_rows : AllLaws 0 call_table
-call_rows = search (optional_laws, name_laws, text_laws, moment_laws, number_laws, flag_laws)
+call_rows = search (optional_laws, name_laws, text_laws, number_laws, flag_laws, arrival_row, departure_row)
 
 pub call_laws : TableLaws 0 call_table make_call
-call_laws = record { rows = call_rows; whole = λ c. refl; holds = λ a b c d e f g h i j k l m n. search; distinct = λ c. refl }
+call_laws = record { rows = call_rows; whole = λ c. refl; holds = λ a b c d e f. search; distinct = λ c. refl }
 
 call_kind : KindLaws 1 a_call
 unfolding stop_call written_call

@@ -7,13 +7,45 @@ use Rattle.siri_json.specs.Values.{object_in}
 use Rattle.siri_records.specs.declared.call.StopCall.{StopCall}
 use Rattle.siri_records.specs.declared.visit.VehicleLocation.{VehicleLocation}
 use Rattle.siri_items.specs.declared.names.TheConstants.{STOP_POINT_REF, ORDER, STOP_POINT_NAME, VEHICLE_AT_STOP, AIMED_ARRIVAL_TIME, EXPECTED_ARRIVAL_TIME, ACTUAL_ARRIVAL_TIME, ARRIVAL_STATUS, ARRIVAL_PLATFORM_NAME, AIMED_DEPARTURE_TIME, EXPECTED_DEPARTURE_TIME, ACTUAL_DEPARTURE_TIME, DEPARTURE_STATUS, DEPARTURE_PLATFORM_NAME, FRAMED_VEHICLE_JOURNEY_REF, DATA_FRAME_REF, DATED_VEHICLE_JOURNEY_REF, LONGITUDE, LATITUDE}
+use Rattle.siri_items.specs.declared.read_call.CallTimes.{CallTimes}
 use Rattle.siri_items.specs.declared.read_call.JourneyRef.{JourneyRef}
 use Rattle.siri_items.specs.declared.read_call.RequiredJourneyRef.{RequiredJourneyRef}
 use Rattle.siri_tables.specs.Refusals.{Refusal, ◌>>=◌}
 use Rattle.siri_tables.specs.Rules.{name, table, unless_wrong, table_unless_blank, maybe, row, required_row}
 use Rattle.siri_tables.specs.Proper.{IsName}
 use Rattle.siri_tables.specs.Writing.{Row as Written, row_object, with_rows, object_unless_empty, written_list, written_text}
-use Rattle.siri_tables.specs.Tables.{Kind, Row, optional, a_name, a_text, a_moment, a_number, a_decimal, a_flag, Table, Maker, read_all, AllProper, all_written, all_blank}
+use Rattle.siri_tables.specs.Tables.{Kind, Row, optional, a_name, a_text, a_moment, a_number, a_decimal, a_flag, Table, Maker, read_all, AllProper, all_written, all_blank, together}
+
+-- the groups of a call's arrival and of its departure: when, and what is shown of it (EN 15531-3)
+abbrev pub times_table : List ℕ → List ℕ → List ℕ → List ℕ → List ℕ → Table CallTimes
+times_table aimed expected actual status platform_name =
+    optional a_moment aimed (λ t. t.aimed) ∷
+    optional a_moment expected (λ t. t.expected) ∷
+    optional a_moment actual (λ t. t.actual) ∷
+    optional a_text status (λ t. t.status) ∷
+    optional a_text platform_name (λ t. t.platform_name) ∷ []
+
+abbrev pub arrival_table : Table CallTimes
+arrival_table = times_table AIMED_ARRIVAL_TIME.now EXPECTED_ARRIVAL_TIME.now ACTUAL_ARRIVAL_TIME.now ARRIVAL_STATUS.now ARRIVAL_PLATFORM_NAME.now
+
+abbrev pub departure_table : Table CallTimes
+departure_table = times_table AIMED_DEPARTURE_TIME.now EXPECTED_DEPARTURE_TIME.now ACTUAL_DEPARTURE_TIME.now DEPARTURE_STATUS.now DEPARTURE_PLATFORM_NAME.now
+
+abbrev pub make_times : Option ℕ → Option ℕ → Option ℕ → Option (List ℕ) → Option (List ℕ) → CallTimes
+make_times aimed expected actual status platform_name =
+    record { aimed = aimed; expected = expected; actual = actual; status = status; platform_name = platform_name }
+
+unfoldable pub arrival : Data → Result CallTimes Refusal
+arrival d = read_all arrival_table make_times d
+
+unfoldable pub departure : Data → Result CallTimes Refusal
+departure d = read_all departure_table make_times d
+
+abbrev pub arrival_of : StopCall → CallTimes
+arrival_of c = make_times c.aimed_arrival_time c.expected_arrival_time c.actual_arrival_time c.arrival_status c.arrival_platform_name
+
+abbrev pub departure_of : StopCall → CallTimes
+departure_of c = make_times c.aimed_departure_time c.expected_departure_time c.actual_departure_time c.departure_status c.departure_platform_name
 
 -- StopCall: a call at a stop (EN 15531-3, MonitoredCall, RecordedCall and EstimatedCall)
 abbrev pub call_table : Table StopCall
@@ -22,36 +54,27 @@ call_table =
     optional a_number ORDER.now (λ c. c.order) ∷
     optional a_text STOP_POINT_NAME.now (λ c. c.stop_point_name) ∷
     optional a_flag VEHICLE_AT_STOP.now (λ c. c.vehicle_at_stop) ∷
-    optional a_moment AIMED_ARRIVAL_TIME.now (λ c. c.aimed_arrival_time) ∷
-    optional a_moment EXPECTED_ARRIVAL_TIME.now (λ c. c.expected_arrival_time) ∷
-    optional a_moment ACTUAL_ARRIVAL_TIME.now (λ c. c.actual_arrival_time) ∷
-    optional a_text ARRIVAL_STATUS.now (λ c. c.arrival_status) ∷
-    optional a_text ARRIVAL_PLATFORM_NAME.now (λ c. c.arrival_platform_name) ∷
-    optional a_moment AIMED_DEPARTURE_TIME.now (λ c. c.aimed_departure_time) ∷
-    optional a_moment EXPECTED_DEPARTURE_TIME.now (λ c. c.expected_departure_time) ∷
-    optional a_moment ACTUAL_DEPARTURE_TIME.now (λ c. c.actual_departure_time) ∷
-    optional a_text DEPARTURE_STATUS.now (λ c. c.departure_status) ∷
-    optional a_text DEPARTURE_PLATFORM_NAME.now (λ c. c.departure_platform_name) ∷ []
+    together arrival_table arrival arrival_of ∷
+    together departure_table departure departure_of ∷ []
 
 abbrev pub make_call : Maker call_table
 make_call =
-    λ stop_point_ref order stop_point_name vehicle_at_stop aimed_arrival_time expected_arrival_time actual_arrival_time arrival_status
-    arrival_platform_name aimed_departure_time expected_departure_time actual_departure_time departure_status departure_platform_name.
+    λ stop_point_ref order stop_point_name vehicle_at_stop arrival departure.
     record {
       stop_point_ref = stop_point_ref;
       order = order;
       stop_point_name = stop_point_name;
       vehicle_at_stop = vehicle_at_stop;
-      aimed_arrival_time = aimed_arrival_time;
-      expected_arrival_time = expected_arrival_time;
-      actual_arrival_time = actual_arrival_time;
-      arrival_status = arrival_status;
-      arrival_platform_name = arrival_platform_name;
-      aimed_departure_time = aimed_departure_time;
-      expected_departure_time = expected_departure_time;
-      actual_departure_time = actual_departure_time;
-      departure_status = departure_status;
-      departure_platform_name = departure_platform_name;
+      aimed_arrival_time = arrival.aimed;
+      expected_arrival_time = arrival.expected;
+      actual_arrival_time = arrival.actual;
+      arrival_status = arrival.status;
+      arrival_platform_name = arrival.platform_name;
+      aimed_departure_time = departure.aimed;
+      expected_departure_time = departure.expected;
+      actual_departure_time = departure.actual;
+      departure_status = departure.status;
+      departure_platform_name = departure.platform_name;
     }
 
 unfoldable pub stop_call : Data → Result StopCall Refusal

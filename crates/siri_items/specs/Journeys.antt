@@ -6,13 +6,14 @@ use Rattle.siri_base.specs.declared.reason.Reason.TheVariants.{NoMoment}
 use Rattle.siri_records.specs.declared.call.StopCall.{StopCall}
 use Rattle.siri_records.specs.declared.journey.Journey.{Journey}
 use Rattle.siri_records.specs.Ends.{call_moment}
-use Rattle.siri_items.specs.declared.names.TheConstants.{RECORDED_AT_TIME, LINE_REF, DIRECTION_REF, CANCELLATION, PUBLISHED_LINE_NAME, OPERATOR_REF, DESTINATION_REF, DESTINATION_NAME, VEHICLE_REF, MONITORED, OCCUPANCY, DELAY, RECORDED_CALLS, RECORDED_CALL, ESTIMATED_CALLS, ESTIMATED_CALL}
+use Rattle.siri_items.specs.declared.names.TheConstants.{RECORDED_AT_TIME, LINE_REF, DIRECTION_REF, CANCELLATION, VEHICLE_REF, RECORDED_CALLS, RECORDED_CALL, ESTIMATED_CALLS, ESTIMATED_CALL}
 use Rattle.siri_tables.specs.Refusals.{Refusal, ◌>>=◌, refused}
 use Rattle.siri_tables.specs.Rules.{table, list, list_inside}
 use Rattle.siri_tables.specs.Proper.{IsListWithin}
 use Rattle.siri_tables.specs.Writing.{Row as Written, row_object, written_moment}
-use Rattle.siri_tables.specs.Tables.{Row, optional, mandatory, a_name, a_text, a_moment, a_span, a_flag, Table, Maker, read_all, all_written}
+use Rattle.siri_tables.specs.Tables.{Row, optional, mandatory, a_name, a_moment, a_flag, Table, Maker, read_all, all_written, together}
 use Rattle.siri_items.specs.Calls.{stop_call, a_call, written_calls, mandatory_ref}
+use Rattle.siri_items.specs.Parts.{service_info_table, make_service_info, service_info, progress_table, make_progress, progress}
 
 -- at most 1,000 calls inside an object of their own
 abbrev pub calls_inside : {S : Type 0} → List ℕ → List ℕ → (S → List StopCall) → Row S
@@ -33,14 +34,9 @@ untimed_table =
     optional a_name DIRECTION_REF.now (λ j. j.direction_ref) ∷
     mandatory_ref (λ j. record { data_frame_ref = j.data_frame_ref; dated_vehicle_journey_ref = j.dated_vehicle_journey_ref }) ∷
     optional a_flag CANCELLATION.now (λ j. j.cancellation) ∷
-    optional a_text PUBLISHED_LINE_NAME.now (λ j. j.published_line_name) ∷
-    optional a_name OPERATOR_REF.now (λ j. j.operator_ref) ∷
-    optional a_name DESTINATION_REF.now (λ j. j.destination_ref) ∷
-    optional a_text DESTINATION_NAME.now (λ j. j.destination_name) ∷
+    together service_info_table service_info (λ j. make_service_info j.published_line_name j.operator_ref j.destination_ref j.destination_name) ∷
     optional a_name VEHICLE_REF.now (λ j. j.vehicle_ref) ∷
-    optional a_flag MONITORED.now (λ j. j.monitored) ∷
-    optional a_text OCCUPANCY.now (λ j. j.occupancy) ∷
-    optional a_span DELAY.now (λ j. j.delay) ∷
+    together progress_table progress (λ j. make_progress j.monitored j.occupancy j.delay) ∷
     calls_inside RECORDED_CALLS.now RECORDED_CALL.now (λ j. j.recorded_calls) ∷
     calls_inside ESTIMATED_CALLS.now ESTIMATED_CALL.now (λ j. j.estimated_calls) ∷ []
 
@@ -49,8 +45,7 @@ journey_table = optional a_moment RECORDED_AT_TIME.now (λ j. j.recorded_at_time
 
 abbrev pub make_journey : Maker journey_table
 make_journey =
-    λ recorded_at_time line_ref direction_ref journey_ref cancellation published_line_name operator_ref destination_ref destination_name vehicle_ref
-    monitored occupancy delay recorded_calls estimated_calls.
+    λ recorded_at_time line_ref direction_ref journey_ref cancellation service_info vehicle_ref progress recorded_calls estimated_calls.
     record {
       recorded_at_time = recorded_at_time;
       line_ref = line_ref;
@@ -58,14 +53,14 @@ make_journey =
       data_frame_ref = journey_ref.data_frame_ref;
       dated_vehicle_journey_ref = journey_ref.dated_vehicle_journey_ref;
       cancellation = cancellation;
-      published_line_name = published_line_name;
-      operator_ref = operator_ref;
-      destination_ref = destination_ref;
-      destination_name = destination_name;
+      published_line_name = service_info.published_line_name;
+      operator_ref = service_info.operator_ref;
+      destination_ref = service_info.destination_ref;
+      destination_name = service_info.destination_name;
       vehicle_ref = vehicle_ref;
-      monitored = monitored;
-      occupancy = occupancy;
-      delay = delay;
+      monitored = progress.monitored;
+      occupancy = progress.occupancy;
+      delay = progress.delay;
       recorded_calls = recorded_calls;
       estimated_calls = estimated_calls;
     }

@@ -1,5 +1,6 @@
 pub mod Names
 pub mod Calls
+pub mod Parts
 pub mod Visits
 pub mod Vehicles
 pub mod Journeys
@@ -8,4 +9,3 @@ pub mod Items
 pub mod Written
 pub mod Spelling
 pub mod Proper
-pub mod Parts

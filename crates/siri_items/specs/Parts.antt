@@ -1,89 +1,42 @@
--- The rows that the journeys of all services have, and the journeys that they make with the rows that each has for itself.
-use Rattle.std.specs.Prelude.{ℕ, List, Bool, Option, None}
-use Rattle.siri_records.specs.declared.call.StopCall.{StopCall}
-use Rattle.siri_records.specs.declared.visit.VisitJourney.{VisitJourney}
-use Rattle.siri_records.specs.declared.visit.VehicleLocation.{VehicleLocation}
-use Rattle.siri_records.specs.declared.vehicle.VehicleJourney.{VehicleJourney}
-use Rattle.siri_records.specs.declared.journey.Journey.{Journey}
-use Rattle.siri_items.specs.declared.journey_fields.JourneyFields.{JourneyFields}
-use Rattle.siri_items.specs.declared.journey_fields.NamedJourneyFields.{NamedJourneyFields}
-use Rattle.siri_items.specs.declared.read_call.RequiredJourneyRef.{RequiredJourneyRef}
+-- The groups of rows that the journeys of all services have (EN 15531-3).
+use Rattle.std.specs.Prelude.{[], ◌∷◌, Result}
+use Rattle.serde_json.specs.Data.{Data}
+use Rattle.siri_items.specs.declared.names.TheConstants.{PUBLISHED_LINE_NAME, OPERATOR_REF, DESTINATION_REF, DESTINATION_NAME, MONITORED, OCCUPANCY, DELAY}
+use Rattle.siri_items.specs.declared.read_parts.ServiceInfo.{ServiceInfo}
+use Rattle.siri_items.specs.declared.read_parts.JourneyProgress.{JourneyProgress}
+use Rattle.siri_tables.specs.Refusals.{Refusal}
+use Rattle.siri_tables.specs.Tables.{optional, a_name, a_text, a_span, a_flag, Table, Maker, read_all}
 
--- no row was read
-abbrev pub no_fields : JourneyFields
-no_fields = record {
-  line_ref = None;
-  direction_ref = None;
-  journey_ref = record { data_frame_ref = None; dated_vehicle_journey_ref = None };
-  published_line_name = None;
-  operator_ref = None;
-  destination_ref = None;
-  destination_name = None;
-  vehicle_ref = None;
-  monitored = None;
-  occupancy = None;
-  delay = None;
-}
+-- what passengers are told of the line, who runs it, and where it goes
+abbrev pub service_info_table : Table ServiceInfo
+service_info_table =
+    optional a_text PUBLISHED_LINE_NAME.now (λ i. i.published_line_name) ∷
+    optional a_name OPERATOR_REF.now (λ i. i.operator_ref) ∷
+    optional a_name DESTINATION_REF.now (λ i. i.destination_ref) ∷
+    optional a_text DESTINATION_NAME.now (λ i. i.destination_name) ∷ []
 
--- the journey of a visit
-abbrev pub visit_journey_of : JourneyFields → Option VehicleLocation → StopCall → VisitJourney
-visit_journey_of fields vehicle_location monitored_call = record {
-  line_ref = fields.line_ref;
-  direction_ref = fields.direction_ref;
-  data_frame_ref = fields.journey_ref.data_frame_ref;
-  dated_vehicle_journey_ref = fields.journey_ref.dated_vehicle_journey_ref;
-  published_line_name = fields.published_line_name;
-  operator_ref = fields.operator_ref;
-  destination_ref = fields.destination_ref;
-  destination_name = fields.destination_name;
-  vehicle_ref = fields.vehicle_ref;
-  monitored = fields.monitored;
-  occupancy = fields.occupancy;
-  delay = fields.delay;
-  vehicle_location = vehicle_location;
-  monitored_call = monitored_call;
-}
+abbrev pub make_service_info : Maker service_info_table
+make_service_info =
+    λ published_line_name operator_ref destination_ref destination_name.
+    record {
+      published_line_name = published_line_name;
+      operator_ref = operator_ref;
+      destination_ref = destination_ref;
+      destination_name = destination_name;
+    }
 
--- the journey of a vehicle, which is named
-abbrev pub vehicle_journey_of : JourneyFields → List ℕ → Option VehicleLocation → Option StopCall → VehicleJourney
-vehicle_journey_of fields vehicle_ref vehicle_location monitored_call = record {
-  line_ref = fields.line_ref;
-  direction_ref = fields.direction_ref;
-  data_frame_ref = fields.journey_ref.data_frame_ref;
-  dated_vehicle_journey_ref = fields.journey_ref.dated_vehicle_journey_ref;
-  published_line_name = fields.published_line_name;
-  operator_ref = fields.operator_ref;
-  destination_ref = fields.destination_ref;
-  destination_name = fields.destination_name;
-  vehicle_ref = vehicle_ref;
-  monitored = fields.monitored;
-  occupancy = fields.occupancy;
-  delay = fields.delay;
-  vehicle_location = vehicle_location;
-  monitored_call = monitored_call;
-}
+unfoldable pub service_info : Data → Result ServiceInfo Refusal
+service_info d = read_all service_info_table make_service_info d
 
--- a journey, whose line and reference are there
-abbrev pub journey_of : JourneyFields → Option ℕ → List ℕ → RequiredJourneyRef → Option Bool → List StopCall → List StopCall → Journey
-journey_of fields recorded_at_time line_ref journey_ref cancellation recorded_calls estimated_calls = record {
-  recorded_at_time = recorded_at_time;
-  line_ref = line_ref;
-  direction_ref = fields.direction_ref;
-  data_frame_ref = journey_ref.data_frame_ref;
-  dated_vehicle_journey_ref = journey_ref.dated_vehicle_journey_ref;
-  cancellation = cancellation;
-  published_line_name = fields.published_line_name;
-  operator_ref = fields.operator_ref;
-  destination_ref = fields.destination_ref;
-  destination_name = fields.destination_name;
-  vehicle_ref = fields.vehicle_ref;
-  monitored = fields.monitored;
-  occupancy = fields.occupancy;
-  delay = fields.delay;
-  recorded_calls = recorded_calls;
-  estimated_calls = estimated_calls;
-}
+-- how the journey goes
+abbrev pub progress_table : Table JourneyProgress
+progress_table =
+    optional a_flag MONITORED.now (λ p. p.monitored) ∷
+    optional a_text OCCUPANCY.now (λ p. p.occupancy) ∷
+    optional a_span DELAY.now (λ p. p.delay) ∷ []
 
--- no row was read but the line and the name of a journey that has both
-abbrev pub named_fields : List ℕ → RequiredJourneyRef → NamedJourneyFields
-named_fields line_ref journey_ref = record { line_ref = line_ref; journey_ref = journey_ref; fields = no_fields }
+abbrev pub make_progress : Maker progress_table
+make_progress = λ monitored occupancy delay. record { monitored = monitored; occupancy = occupancy; delay = delay }
+
+unfoldable pub progress : Data → Result JourneyProgress Refusal
+progress d = read_all progress_table make_progress d

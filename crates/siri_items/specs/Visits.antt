@@ -7,13 +7,14 @@ use Rattle.siri_records.specs.declared.call.StopCall.{StopCall}
 use Rattle.siri_records.specs.declared.visit.Visit.{Visit}
 use Rattle.siri_records.specs.declared.visit.VisitJourney.{VisitJourney}
 use Rattle.siri_records.specs.Ends.{call_moment}
-use Rattle.siri_items.specs.declared.names.TheConstants.{LINE_REF, DIRECTION_REF, PUBLISHED_LINE_NAME, OPERATOR_REF, DESTINATION_REF, DESTINATION_NAME, VEHICLE_REF, MONITORED, OCCUPANCY, DELAY, VEHICLE_LOCATION, MONITORED_CALL, RECORDED_AT_TIME, ITEM_IDENTIFIER, MONITORING_REF, MONITORED_VEHICLE_JOURNEY}
+use Rattle.siri_items.specs.declared.names.TheConstants.{LINE_REF, DIRECTION_REF, VEHICLE_REF, VEHICLE_LOCATION, MONITORED_CALL, RECORDED_AT_TIME, ITEM_IDENTIFIER, MONITORING_REF, MONITORED_VEHICLE_JOURNEY}
 use Rattle.siri_tables.specs.Refusals.{Refusal, ◌>>=◌}
 use Rattle.siri_tables.specs.Rules.{table, required_row}
 use Rattle.siri_tables.specs.Spelling.{Spells}
 use Rattle.siri_tables.specs.Writing.{row_object}
-use Rattle.siri_tables.specs.Tables.{Kind, Row, optional, mandatory, a_name, a_text, a_moment, a_span, a_flag, Table, Maker, read_all, AllProper, all_written}
+use Rattle.siri_tables.specs.Tables.{Kind, Row, optional, mandatory, a_name, a_moment, Table, Maker, read_all, AllProper, all_written, together}
 use Rattle.siri_items.specs.Calls.{stop_call, call_writing, a_call, a_location, optional_ref}
+use Rattle.siri_items.specs.Parts.{service_info_table, make_service_info, service_info, progress_table, make_progress, progress}
 
 -- a call that has a time
 abbrev pub with_moment : StopCall → Option ℕ → Result StopCall Refusal
@@ -44,34 +45,28 @@ visit_journey_table =
     optional a_name LINE_REF.now (λ j. j.line_ref) ∷
     optional a_name DIRECTION_REF.now (λ j. j.direction_ref) ∷
     optional_ref (λ j. record { data_frame_ref = j.data_frame_ref; dated_vehicle_journey_ref = j.dated_vehicle_journey_ref }) ∷
-    optional a_text PUBLISHED_LINE_NAME.now (λ j. j.published_line_name) ∷
-    optional a_name OPERATOR_REF.now (λ j. j.operator_ref) ∷
-    optional a_name DESTINATION_REF.now (λ j. j.destination_ref) ∷
-    optional a_text DESTINATION_NAME.now (λ j. j.destination_name) ∷
+    together service_info_table service_info (λ j. make_service_info j.published_line_name j.operator_ref j.destination_ref j.destination_name) ∷
     optional a_name VEHICLE_REF.now (λ j. j.vehicle_ref) ∷
-    optional a_flag MONITORED.now (λ j. j.monitored) ∷
-    optional a_text OCCUPANCY.now (λ j. j.occupancy) ∷
-    optional a_span DELAY.now (λ j. j.delay) ∷
+    together progress_table progress (λ j. make_progress j.monitored j.occupancy j.delay) ∷
     optional a_location VEHICLE_LOCATION.now (λ j. j.vehicle_location) ∷
     mandatory_timed_call (λ j. j.monitored_call) ∷ []
 
 abbrev pub make_visit_journey : Maker visit_journey_table
 make_visit_journey =
-    λ line_ref direction_ref journey_ref published_line_name operator_ref destination_ref destination_name vehicle_ref monitored occupancy delay
-    vehicle_location monitored_call.
+    λ line_ref direction_ref journey_ref service_info vehicle_ref progress vehicle_location monitored_call.
     record {
       line_ref = line_ref;
       direction_ref = direction_ref;
       data_frame_ref = journey_ref.data_frame_ref;
       dated_vehicle_journey_ref = journey_ref.dated_vehicle_journey_ref;
-      published_line_name = published_line_name;
-      operator_ref = operator_ref;
-      destination_ref = destination_ref;
-      destination_name = destination_name;
+      published_line_name = service_info.published_line_name;
+      operator_ref = service_info.operator_ref;
+      destination_ref = service_info.destination_ref;
+      destination_name = service_info.destination_name;
       vehicle_ref = vehicle_ref;
-      monitored = monitored;
-      occupancy = occupancy;
-      delay = delay;
+      monitored = progress.monitored;
+      occupancy = progress.occupancy;
+      delay = progress.delay;
       vehicle_location = vehicle_location;
       monitored_call = monitored_call;
     }

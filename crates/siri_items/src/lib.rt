@@ -21,12 +21,12 @@
 //! and what is said around it, is of `siri_wire`.
 #![tactic(auto)]
 
-mod journey_fields;
 mod laws;
 pub mod names;
 mod read;
 mod read_call;
 mod read_journey;
+mod read_parts;
 mod read_situation;
 mod read_vehicle;
 mod read_visit;

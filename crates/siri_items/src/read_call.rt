@@ -1,13 +1,13 @@
-//! Reading calls at stops, and the parts that the journeys of all services have.
+//! Reading calls at stops, where a vehicle is, and how a journey is named.
 
 ghost use Rattle.std.specs.Prelude.{◌≡◌, Option};
 ghost use Rattle.siri_json.specs.Shown.{shown};
 ghost use Rattle.siri_tables.specs.Refusals.{Gives};
 ghost use Rattle.siri_tables.specs.Rules.{table_unless_blank};
-ghost use Rattle.siri_items.specs.Calls.{stop_call, call_is_blank, framed_ref, read_framed_ref_rows, framed_ref_of, plain_journey_ref, journey_ref, required_journey_ref, location, location_is_blank, optional_location, optional_call};
+ghost use Rattle.siri_items.specs.Calls.{arrival, departure, stop_call, call_is_blank, framed_ref, read_framed_ref_rows, framed_ref_of, plain_journey_ref, journey_ref, required_journey_ref, location, location_is_blank, optional_location, optional_call};
 
 use crate::names;
-use siri_base::{Name, Reason};
+use siri_base::{Moment, Name, Reason, Text};
 use siri_json::{ObjectOf, Tree, object_of};
 use siri_records::{StopCall, VehicleLocation};
 use siri_tables::refusal::{TableError, refuse, refuse_at};
@@ -29,27 +29,66 @@ impl Table for StopCallTable {
 
     #[tactic(auto, unfolding(crate::specs::Calls::stop_call))]
     fn read_rows(alloc: Global, tree: &Tree<'_>) -> Result<StopCall, TableError> {
+        let stop_point_ref = row::<NameRule>(alloc, tree, names::STOP_POINT_REF)?;
+        let order = row::<NumberRule>(alloc, tree, names::ORDER)?;
+        let stop_point_name = row::<TextRule>(alloc, tree, names::STOP_POINT_NAME)?;
+        let vehicle_at_stop = row::<FlagRule>(alloc, tree, names::VEHICLE_AT_STOP)?;
+        let arrival = arrival(alloc, tree)?;
+        let departure = departure(alloc, tree)?;
         Ok(StopCall {
-            stop_point_ref: row::<NameRule>(alloc, tree, names::STOP_POINT_REF)?,
-            order: row::<NumberRule>(alloc, tree, names::ORDER)?,
-            stop_point_name: row::<TextRule>(alloc, tree, names::STOP_POINT_NAME)?,
-            vehicle_at_stop: row::<FlagRule>(alloc, tree, names::VEHICLE_AT_STOP)?,
-            aimed_arrival_time: row::<MomentRule>(alloc, tree, names::AIMED_ARRIVAL_TIME)?,
-            expected_arrival_time: row::<MomentRule>(alloc, tree, names::EXPECTED_ARRIVAL_TIME)?,
-            actual_arrival_time: row::<MomentRule>(alloc, tree, names::ACTUAL_ARRIVAL_TIME)?,
-            arrival_status: row::<TextRule>(alloc, tree, names::ARRIVAL_STATUS)?,
-            arrival_platform_name: row::<TextRule>(alloc, tree, names::ARRIVAL_PLATFORM_NAME)?,
-            aimed_departure_time: row::<MomentRule>(alloc, tree, names::AIMED_DEPARTURE_TIME)?,
-            expected_departure_time: row::<MomentRule>(
-                alloc,
-                tree,
-                names::EXPECTED_DEPARTURE_TIME,
-            )?,
-            actual_departure_time: row::<MomentRule>(alloc, tree, names::ACTUAL_DEPARTURE_TIME)?,
-            departure_status: row::<TextRule>(alloc, tree, names::DEPARTURE_STATUS)?,
-            departure_platform_name: row::<TextRule>(alloc, tree, names::DEPARTURE_PLATFORM_NAME)?,
+            stop_point_ref,
+            order,
+            stop_point_name,
+            vehicle_at_stop,
+            aimed_arrival_time: arrival.aimed,
+            expected_arrival_time: arrival.expected,
+            actual_arrival_time: arrival.actual,
+            arrival_status: arrival.status,
+            arrival_platform_name: arrival.platform_name,
+            aimed_departure_time: departure.aimed,
+            expected_departure_time: departure.expected,
+            actual_departure_time: departure.actual,
+            departure_status: departure.status,
+            departure_platform_name: departure.platform_name,
         })
     }
+}
+
+/// When a vehicle arrives at a stop or departs from it, and what is shown of that (EN 15531-3, the groups of a call's
+/// arrival and departure).
+#[derive(Drop)]
+pub struct CallTimes {
+    pub aimed: Option<Moment>,
+    pub expected: Option<Moment>,
+    pub actual: Option<Moment>,
+    pub status: Option<Text>,
+    pub platform_name: Option<Text>,
+}
+
+#[tactic(auto, unfolding(crate::specs::Calls::arrival))]
+fn arrival(alloc: Global, tree: &Tree<'_>) -> Result<CallTimes, TableError>
+    ensures { Gives result (arrival (shown tree.now)) }
+{
+    Ok(CallTimes {
+        aimed: row::<MomentRule>(alloc, tree, names::AIMED_ARRIVAL_TIME)?,
+        expected: row::<MomentRule>(alloc, tree, names::EXPECTED_ARRIVAL_TIME)?,
+        actual: row::<MomentRule>(alloc, tree, names::ACTUAL_ARRIVAL_TIME)?,
+        status: row::<TextRule>(alloc, tree, names::ARRIVAL_STATUS)?,
+        platform_name: row::<TextRule>(alloc, tree, names::ARRIVAL_PLATFORM_NAME)?,
+    })
+}
+
+#[tactic(auto, unfolding(crate::specs::Calls::departure))]
+fn departure(alloc: Global, tree: &Tree<'_>) -> Result<CallTimes, TableError>
+    ensures { Gives result (departure (shown tree.now)) }
+{
+    Ok(CallTimes {
+        aimed: row::<MomentRule>(alloc, tree, names::AIMED_DEPARTURE_TIME)?,
+        expected: row::<MomentRule>(alloc, tree, names::EXPECTED_DEPARTURE_TIME)?,
+        actual: row::<MomentRule>(alloc, tree, names::ACTUAL_DEPARTURE_TIME)?,
+        status: row::<TextRule>(alloc, tree, names::DEPARTURE_STATUS)?,
+        platform_name: row::<TextRule>(alloc, tree, names::DEPARTURE_PLATFORM_NAME)?,
+    })
 }
 
 /// A call that isn't required: it counts as absent where all its rows are.

@@ -7,15 +7,15 @@ ghost use Rattle.siri_tables.specs.Rules.{list, list_inside, table};
 ghost use Rattle.siri_items.specs.Calls.{stop_call};
 ghost use Rattle.siri_items.specs.Journeys.{read_journey_rows, has_time, journey};
 
-use crate::journey_fields::NamedJourneyFields;
 use crate::names;
 use crate::read_call::{StopCallTable, required_journey_ref};
+use crate::read_parts::{progress, service_info};
 use siri_base::{List, Reason};
 use siri_json::Tree;
 use siri_records::{Journey, StopCall, moment_of};
 use siri_tables::refusal::{TableError, refuse};
 use siri_tables::rows::{list_inside, required_row, row};
-use siri_tables::rules::{FlagRule, MomentRule, NameRule, SpanRule, Table, TextRule};
+use siri_tables::rules::{FlagRule, MomentRule, NameRule, Table};
 use std::alloc::Global;
 
 const MOST_CALLS: usize = 1000;
@@ -41,20 +41,28 @@ fn read_journey_rows(alloc: Global, tree: &Tree<'_>) -> Result<Journey, TableErr
     let line_ref = required_row::<NameRule>(alloc, tree, names::LINE_REF)?;
     let direction_ref = row::<NameRule>(alloc, tree, names::DIRECTION_REF)?;
     let journey_ref = required_journey_ref(alloc, tree)?;
-    let mut named = NamedJourneyFields::new(line_ref, journey_ref);
-    named.fields.direction_ref = direction_ref;
     let cancellation = row::<FlagRule>(alloc, tree, names::CANCELLATION)?;
-    named.fields.published_line_name = row::<TextRule>(alloc, tree, names::PUBLISHED_LINE_NAME)?;
-    named.fields.operator_ref = row::<NameRule>(alloc, tree, names::OPERATOR_REF)?;
-    named.fields.destination_ref = row::<NameRule>(alloc, tree, names::DESTINATION_REF)?;
-    named.fields.destination_name = row::<TextRule>(alloc, tree, names::DESTINATION_NAME)?;
-    named.fields.vehicle_ref = row::<NameRule>(alloc, tree, names::VEHICLE_REF)?;
-    named.fields.monitored = row::<FlagRule>(alloc, tree, names::MONITORED)?;
-    named.fields.occupancy = row::<TextRule>(alloc, tree, names::OCCUPANCY)?;
-    named.fields.delay = row::<SpanRule>(alloc, tree, names::DELAY)?;
-    let recorded = calls_inside(alloc, tree, names::RECORDED_CALLS, names::RECORDED_CALL)?;
-    let estimated = calls_inside(alloc, tree, names::ESTIMATED_CALLS, names::ESTIMATED_CALL)?;
-    Ok(named.journey(recorded_at_time, cancellation, recorded, estimated))
+    let service_info = service_info(alloc, tree)?;
+    let vehicle_ref = row::<NameRule>(alloc, tree, names::VEHICLE_REF)?;
+    let progress = progress(alloc, tree)?;
+    Ok(Journey {
+        recorded_at_time,
+        line_ref,
+        direction_ref,
+        data_frame_ref: journey_ref.data_frame_ref,
+        dated_vehicle_journey_ref: journey_ref.dated_vehicle_journey_ref,
+        cancellation,
+        published_line_name: service_info.published_line_name,
+        operator_ref: service_info.operator_ref,
+        destination_ref: service_info.destination_ref,
+        destination_name: service_info.destination_name,
+        vehicle_ref,
+        monitored: progress.monitored,
+        occupancy: progress.occupancy,
+        delay: progress.delay,
+        recorded_calls: calls_inside(alloc, tree, names::RECORDED_CALLS, names::RECORDED_CALL)?,
+        estimated_calls: calls_inside(alloc, tree, names::ESTIMATED_CALLS, names::ESTIMATED_CALL)?,
+    })
 }
 
 fn has_time(calls: &[StopCall]) -> bool

@@ -2,14 +2,14 @@
 
 ghost use Rattle.siri_items.specs.Vehicles.{vehicle_journey, vehicle};
 
-use crate::journey_fields::JourneyFields;
 use crate::names;
 use crate::read_call::{LocationRule, OptionalCallRule, journey_ref};
+use crate::read_parts::{progress, service_info};
 use siri_json::Tree;
 use siri_records::{Vehicle, VehicleJourney};
 use siri_tables::refusal::TableError;
 use siri_tables::rows::{required_row, row};
-use siri_tables::rules::{FlagRule, MomentRule, NameRule, SpanRule, Table, TextRule};
+use siri_tables::rules::{MomentRule, NameRule, Table};
 use std::alloc::Global;
 
 struct VehicleJourneyTable;
@@ -21,21 +21,28 @@ impl Table for VehicleJourneyTable {
 
     #[tactic(auto, unfolding(crate::specs::Vehicles::vehicle_journey))]
     fn read_rows(alloc: Global, tree: &Tree<'_>) -> Result<VehicleJourney, TableError> {
-        let mut fields = JourneyFields::new();
-        fields.line_ref = row::<NameRule>(alloc, tree, names::LINE_REF)?;
-        fields.direction_ref = row::<NameRule>(alloc, tree, names::DIRECTION_REF)?;
-        fields.journey_ref = journey_ref(alloc, tree)?;
-        fields.published_line_name = row::<TextRule>(alloc, tree, names::PUBLISHED_LINE_NAME)?;
-        fields.operator_ref = row::<NameRule>(alloc, tree, names::OPERATOR_REF)?;
-        fields.destination_ref = row::<NameRule>(alloc, tree, names::DESTINATION_REF)?;
-        fields.destination_name = row::<TextRule>(alloc, tree, names::DESTINATION_NAME)?;
+        let line_ref = row::<NameRule>(alloc, tree, names::LINE_REF)?;
+        let direction_ref = row::<NameRule>(alloc, tree, names::DIRECTION_REF)?;
+        let journey_ref = journey_ref(alloc, tree)?;
+        let service_info = service_info(alloc, tree)?;
         let vehicle_ref = required_row::<NameRule>(alloc, tree, names::VEHICLE_REF)?;
-        fields.monitored = row::<FlagRule>(alloc, tree, names::MONITORED)?;
-        fields.occupancy = row::<TextRule>(alloc, tree, names::OCCUPANCY)?;
-        fields.delay = row::<SpanRule>(alloc, tree, names::DELAY)?;
-        let location = row::<LocationRule>(alloc, tree, names::VEHICLE_LOCATION)?;
-        let call = row::<OptionalCallRule>(alloc, tree, names::MONITORED_CALL)?;
-        Ok(fields.vehicle_journey(vehicle_ref, location, call))
+        let progress = progress(alloc, tree)?;
+        Ok(VehicleJourney {
+            line_ref,
+            direction_ref,
+            data_frame_ref: journey_ref.data_frame_ref,
+            dated_vehicle_journey_ref: journey_ref.dated_vehicle_journey_ref,
+            published_line_name: service_info.published_line_name,
+            operator_ref: service_info.operator_ref,
+            destination_ref: service_info.destination_ref,
+            destination_name: service_info.destination_name,
+            vehicle_ref,
+            monitored: progress.monitored,
+            occupancy: progress.occupancy,
+            delay: progress.delay,
+            vehicle_location: row::<LocationRule>(alloc, tree, names::VEHICLE_LOCATION)?,
+            monitored_call: row::<OptionalCallRule>(alloc, tree, names::MONITORED_CALL)?,
+        })
     }
 }
 

@@ -4,15 +4,15 @@ ghost use Rattle.siri_json.specs.Shown.{shown};
 ghost use Rattle.siri_tables.specs.Refusals.{Gives};
 ghost use Rattle.siri_items.specs.Visits.{timed_call, visit_journey, visit};
 
-use crate::journey_fields::JourneyFields;
 use crate::names;
 use crate::read_call::{LocationRule, StopCallTable, journey_ref};
+use crate::read_parts::{progress, service_info};
 use siri_base::Reason;
 use siri_json::Tree;
 use siri_records::{StopCall, Visit, VisitJourney, moment_of};
 use siri_tables::refusal::{TableError, refuse_at};
 use siri_tables::rows::{required_row, row};
-use siri_tables::rules::{FlagRule, MomentRule, NameRule, SpanRule, Table, TextRule};
+use siri_tables::rules::{MomentRule, NameRule, Table};
 use std::alloc::Global;
 
 /// The call at the monitored stop, which has to be there and to have a time: otherwise `NoMoment` at it.
@@ -36,21 +36,28 @@ impl Table for VisitJourneyTable {
 
     #[tactic(auto, unfolding(crate::specs::Visits::visit_journey))]
     fn read_rows(alloc: Global, tree: &Tree<'_>) -> Result<VisitJourney, TableError> {
-        let mut fields = JourneyFields::new();
-        fields.line_ref = row::<NameRule>(alloc, tree, names::LINE_REF)?;
-        fields.direction_ref = row::<NameRule>(alloc, tree, names::DIRECTION_REF)?;
-        fields.journey_ref = journey_ref(alloc, tree)?;
-        fields.published_line_name = row::<TextRule>(alloc, tree, names::PUBLISHED_LINE_NAME)?;
-        fields.operator_ref = row::<NameRule>(alloc, tree, names::OPERATOR_REF)?;
-        fields.destination_ref = row::<NameRule>(alloc, tree, names::DESTINATION_REF)?;
-        fields.destination_name = row::<TextRule>(alloc, tree, names::DESTINATION_NAME)?;
-        fields.vehicle_ref = row::<NameRule>(alloc, tree, names::VEHICLE_REF)?;
-        fields.monitored = row::<FlagRule>(alloc, tree, names::MONITORED)?;
-        fields.occupancy = row::<TextRule>(alloc, tree, names::OCCUPANCY)?;
-        fields.delay = row::<SpanRule>(alloc, tree, names::DELAY)?;
-        let location = row::<LocationRule>(alloc, tree, names::VEHICLE_LOCATION)?;
-        let call = timed_call(alloc, tree)?;
-        Ok(fields.visit_journey(location, call))
+        let line_ref = row::<NameRule>(alloc, tree, names::LINE_REF)?;
+        let direction_ref = row::<NameRule>(alloc, tree, names::DIRECTION_REF)?;
+        let journey_ref = journey_ref(alloc, tree)?;
+        let service_info = service_info(alloc, tree)?;
+        let vehicle_ref = row::<NameRule>(alloc, tree, names::VEHICLE_REF)?;
+        let progress = progress(alloc, tree)?;
+        Ok(VisitJourney {
+            line_ref,
+            direction_ref,
+            data_frame_ref: journey_ref.data_frame_ref,
+            dated_vehicle_journey_ref: journey_ref.dated_vehicle_journey_ref,
+            published_line_name: service_info.published_line_name,
+            operator_ref: service_info.operator_ref,
+            destination_ref: service_info.destination_ref,
+            destination_name: service_info.destination_name,
+            vehicle_ref,
+            monitored: progress.monitored,
+            occupancy: progress.occupancy,
+            delay: progress.delay,
+            vehicle_location: row::<LocationRule>(alloc, tree, names::VEHICLE_LOCATION)?,
+            monitored_call: timed_call(alloc, tree)?,
+        })
     }
 }
 

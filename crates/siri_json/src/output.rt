@@ -11,10 +11,18 @@ use std::marker::Model;
 
 /// A text of JSON that is written token by token, compact: it puts the commas, the colons and the escapes itself. Contracts see it as
 /// the list of the tokens that were written. What nests is its caller's. After want of memory it is of no more use.
-#[derive(Drop)]
 pub struct Output {
     alloc: Global,
     writer: Writer,
+}
+
+impl Drop for Output {
+    fn drop(self) {
+        let Output {
+            alloc: _,
+            writer: _,
+        } = self;
+    }
 }
 
 impl Model for Output {
@@ -114,6 +122,7 @@ impl Output {
         ensures text { result.items ≡ print self }
         ensures utf8 { IsUtf8 result.items }
     {
-        self.writer.into_inner()
+        let Output { alloc: _, writer } = self;
+        writer.into_inner()
     }
 }

@@ -1,5 +1,7 @@
--- The names of the messages (EN 15531-2), under which documents hold them.
-use Rattle.std.specs.Prelude.{ℕ, List, codes}
+-- Which message one is (EN 15531-2), and the name under which documents hold it.
+use Rattle.std.specs.Prelude.{ℕ, List, codes, Option, Some, None}
+use Rattle.siri_messages.specs.declared.deliveries.ServiceDelivery.{ServiceDelivery}
+use Rattle.siri_messages.specs.declared.requests.ServiceRequest.{ServiceRequest}
 use Rattle.siri_messages.specs.declared.message.Message.{Message}
 use Rattle.siri_messages.specs.declared.message.Message.TheVariants as message
 
@@ -18,3 +20,13 @@ kind_of (message.DataReceivedAcknowledgement m) = codes "DataReceivedAcknowledge
 kind_of (message.CheckStatusRequest m) = codes "CheckStatusRequest"
 kind_of (message.CheckStatusResponse m) = codes "CheckStatusResponse"
 kind_of (message.HeartbeatNotification m) = codes "HeartbeatNotification"
+
+-- the delivery, where it is one
+abbrev pub service_delivery_of : Message → Option ServiceDelivery
+service_delivery_of (message.ServiceDelivery delivery) = Some delivery
+service_delivery_of other = None
+
+-- the request for deliveries, where it is one
+abbrev pub service_request_of : Message → Option ServiceRequest
+service_request_of (message.ServiceRequest request) = Some request
+service_request_of other = None

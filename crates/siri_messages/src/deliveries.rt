@@ -28,7 +28,6 @@ pub struct ServiceDelivery {
 
 /// What is delivered of one service (EN 15531-3, StopMonitoringDelivery and its like; CEN/TS 15531-5 for situations).
 /// Its items and removals are of that service. Start and part stand where round does.
-#[derive(Drop)]
 pub struct FunctionalDelivery {
     pub response_timestamp: Option<Moment>,
     pub subscriber_ref: Option<Name>,
@@ -45,6 +44,23 @@ pub struct FunctionalDelivery {
     pub removals: List<Key>,
 }
 
+impl Drop for FunctionalDelivery {
+    fn drop(self) {
+        let FunctionalDelivery {
+            response_timestamp: _,
+            subscriber_ref: _,
+            subscription_ref: _,
+            status: _,
+            error_condition: _,
+            start: _,
+            round: _,
+            part: _,
+            items: _,
+            removals: _,
+        } = self;
+    }
+}
+
 impl ServiceDelivery {
     /// Whether some functional delivery of the four services belongs to a round, whether it has items or not. One that
     /// belongs to none is a feed, or the answer to a request.
@@ -55,6 +71,27 @@ impl ServiceDelivery {
             || has_part(self.estimated_timetable_delivery.slice())
             || has_part(self.vehicle_monitoring_delivery.slice())
             || has_part(self.situation_exchange_delivery.slice())
+    }
+}
+
+impl FunctionalDelivery {
+    /// Its items and its removals.
+    pub fn into_entries(self) -> (List<Item>, List<Key>)
+        ensures { result ≡ (self.items, self.removals) }
+    {
+        let FunctionalDelivery {
+            response_timestamp: _,
+            subscriber_ref: _,
+            subscription_ref: _,
+            status: _,
+            error_condition: _,
+            start: _,
+            round: _,
+            part: _,
+            items,
+            removals,
+        } = self;
+        (items, removals)
     }
 }
 

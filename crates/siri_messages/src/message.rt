@@ -1,6 +1,6 @@
 // One of the messages.
 ghost use Rattle.std.specs.Prelude.{◌≡◌};
-ghost use Rattle.siri_messages.specs.Kinds.{kind_of};
+ghost use Rattle.siri_messages.specs.Kinds.{kind_of, service_delivery_of, service_request_of};
 
 use crate::{
     CheckStatusRequest, CheckStatusResponse, DataReadyAcknowledgement, DataReadyNotification,
@@ -11,7 +11,6 @@ use crate::{
 use siri_base::{Copies, OutOfMemory};
 
 /// A message (EN 15531-2).
-#[derive(Drop)]
 pub enum Message {
     ServiceRequest(ServiceRequest),
     ServiceDelivery(ServiceDelivery),
@@ -26,6 +25,26 @@ pub enum Message {
     CheckStatusRequest(CheckStatusRequest),
     CheckStatusResponse(CheckStatusResponse),
     HeartbeatNotification(HeartbeatNotification),
+}
+
+impl Drop for Message {
+    fn drop(self) {
+        match self {
+            Message::ServiceRequest(_) => {}
+            Message::ServiceDelivery(_) => {}
+            Message::SubscriptionRequest(_) => {}
+            Message::SubscriptionResponse(_) => {}
+            Message::TerminateSubscriptionRequest(_) => {}
+            Message::TerminateSubscriptionResponse(_) => {}
+            Message::DataReadyNotification(_) => {}
+            Message::DataReadyAcknowledgement(_) => {}
+            Message::DataSupplyRequest(_) => {}
+            Message::DataReceivedAcknowledgement(_) => {}
+            Message::CheckStatusRequest(_) => {}
+            Message::CheckStatusResponse(_) => {}
+            Message::HeartbeatNotification(_) => {}
+        }
+    }
 }
 
 impl Message {
@@ -47,6 +66,26 @@ impl Message {
             Message::CheckStatusRequest(_) => "CheckStatusRequest",
             Message::CheckStatusResponse(_) => "CheckStatusResponse",
             Message::HeartbeatNotification(_) => "HeartbeatNotification",
+        }
+    }
+
+    /// The delivery, where it is one; any other message is let go of.
+    pub fn into_service_delivery(self) -> Option<ServiceDelivery>
+        ensures { result ≡ service_delivery_of self }
+    {
+        match self {
+            Message::ServiceDelivery(delivery) => Some(delivery),
+            _ => None,
+        }
+    }
+
+    /// The request for deliveries, where it is one; any other message is let go of.
+    pub fn into_service_request(self) -> Option<ServiceRequest>
+        ensures { result ≡ service_request_of self }
+    {
+        match self {
+            Message::ServiceRequest(request) => Some(request),
+            _ => None,
         }
     }
 }

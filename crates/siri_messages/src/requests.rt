@@ -5,7 +5,6 @@ use siri_base::{Copies, List, Moment, Name, OutOfMemory};
 use siri_topic::Topic;
 
 /// A request for what is shown to some topics now (EN 15531-2, ServiceRequest). Each list has topics of its service.
-#[derive(Drop)]
 pub struct ServiceRequest {
     pub request_timestamp: Option<Moment>,
     pub requestor_ref: Option<Name>,
@@ -14,6 +13,20 @@ pub struct ServiceRequest {
     pub estimated_timetable_request: List<Topic>,
     pub vehicle_monitoring_request: List<Topic>,
     pub situation_exchange_request: List<Topic>,
+}
+
+impl Drop for ServiceRequest {
+    fn drop(self) {
+        let ServiceRequest {
+            request_timestamp: _,
+            requestor_ref: _,
+            message_identifier: _,
+            stop_monitoring_request: _,
+            estimated_timetable_request: _,
+            vehicle_monitoring_request: _,
+            situation_exchange_request: _,
+        } = self;
+    }
 }
 
 impl Copies for ServiceRequest {

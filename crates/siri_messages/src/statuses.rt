@@ -4,15 +4,23 @@ ghost use Rattle.std.specs.Prelude.{◌≡◌};
 use siri_base::{Copies, Moment, Name, OutOfMemory};
 
 /// A question whether the producer is there (EN 15531-2, CheckStatusRequest).
-#[derive(Drop)]
 pub struct CheckStatusRequest {
     pub request_timestamp: Option<Moment>,
     pub requestor_ref: Option<Name>,
     pub message_identifier: Option<Name>,
 }
 
+impl Drop for CheckStatusRequest {
+    fn drop(self) {
+        let CheckStatusRequest {
+            request_timestamp: _,
+            requestor_ref: _,
+            message_identifier: _,
+        } = self;
+    }
+}
+
 /// The producer is there (EN 15531-2, CheckStatusResponse).
-#[derive(Drop)]
 pub struct CheckStatusResponse {
     pub response_timestamp: Option<Moment>,
     pub producer_ref: Option<Name>,
@@ -21,13 +29,35 @@ pub struct CheckStatusResponse {
     pub service_started_time: Option<Moment>,
 }
 
+impl Drop for CheckStatusResponse {
+    fn drop(self) {
+        let CheckStatusResponse {
+            response_timestamp: _,
+            producer_ref: _,
+            request_message_ref: _,
+            status: _,
+            service_started_time: _,
+        } = self;
+    }
+}
+
 /// The producer tells a subscriber that it is there (EN 15531-2, HeartbeatNotification).
-#[derive(Drop)]
 pub struct HeartbeatNotification {
     pub request_timestamp: Option<Moment>,
     pub producer_ref: Option<Name>,
     pub status: bool,
     pub service_started_time: Option<Moment>,
+}
+
+impl Drop for HeartbeatNotification {
+    fn drop(self) {
+        let HeartbeatNotification {
+            request_timestamp: _,
+            producer_ref: _,
+            status: _,
+            service_started_time: _,
+        } = self;
+    }
 }
 
 impl Copies for CheckStatusRequest {

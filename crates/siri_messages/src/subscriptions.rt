@@ -5,7 +5,6 @@ use siri_base::{Copies, List, Moment, Name, OutOfMemory, Span, Text};
 use siri_topic::Subscription;
 
 /// A request for subscriptions (EN 15531-2, SubscriptionRequest). Each list has subscriptions to topics of its service.
-#[derive(Drop)]
 pub struct SubscriptionRequest {
     pub request_timestamp: Option<Moment>,
     pub requestor_ref: Option<Name>,
@@ -21,8 +20,23 @@ pub struct SubscriptionRequest {
     pub situation_exchange_subscription_request: List<Subscription>,
 }
 
+impl Drop for SubscriptionRequest {
+    fn drop(self) {
+        let SubscriptionRequest {
+            request_timestamp: _,
+            requestor_ref: _,
+            message_identifier: _,
+            consumer_address: _,
+            heartbeat_interval: _,
+            stop_monitoring_subscription_request: _,
+            estimated_timetable_subscription_request: _,
+            vehicle_monitoring_subscription_request: _,
+            situation_exchange_subscription_request: _,
+        } = self;
+    }
+}
+
 /// The answer to a request for subscriptions (EN 15531-2, SubscriptionResponse).
-#[derive(Drop)]
 pub struct SubscriptionResponse {
     pub response_timestamp: Option<Moment>,
     pub request_message_ref: Option<Name>,
@@ -30,8 +44,17 @@ pub struct SubscriptionResponse {
     pub response_status: List<ResponseStatus>,
 }
 
+impl Drop for SubscriptionResponse {
+    fn drop(self) {
+        let SubscriptionResponse {
+            response_timestamp: _,
+            request_message_ref: _,
+            response_status: _,
+        } = self;
+    }
+}
+
 /// What became of a subscription that was asked for (EN 15531-2, ResponseStatus).
-#[derive(Drop)]
 pub struct ResponseStatus {
     pub subscriber_ref: Option<Name>,
     pub subscription_ref: Option<Name>,
@@ -40,6 +63,18 @@ pub struct ResponseStatus {
     pub valid_until: Option<Moment>,
     /// The ErrorText of its ErrorCondition.
     pub error_condition: Option<Text>,
+}
+
+impl Drop for ResponseStatus {
+    fn drop(self) {
+        let ResponseStatus {
+            subscriber_ref: _,
+            subscription_ref: _,
+            status: _,
+            valid_until: _,
+            error_condition: _,
+        } = self;
+    }
 }
 
 impl Copies for SubscriptionRequest {

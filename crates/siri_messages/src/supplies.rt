@@ -4,7 +4,6 @@ ghost use Rattle.std.specs.Prelude.{◌≡◌};
 use siri_base::{Copies, Moment, Name, OutOfMemory, Text};
 
 /// Which part of which round of a subscription is meant.
-#[derive(Drop)]
 pub struct Mark {
     /// The subscription's number.
     pub number: u64,
@@ -16,24 +15,53 @@ pub struct Mark {
     pub subscription: Name,
 }
 
+impl Drop for Mark {
+    fn drop(self) {
+        let Mark {
+            number: _,
+            start: _,
+            round: _,
+            part: _,
+            subscription: _,
+        } = self;
+    }
+}
+
 /// The producer has a part to fetch (EN 15531-2, DataReadyNotification).
-#[derive(Drop)]
 pub struct DataReadyNotification {
     pub request_timestamp: Option<Moment>,
     pub producer_ref: Option<Name>,
     pub extensions: Mark,
 }
 
+impl Drop for DataReadyNotification {
+    fn drop(self) {
+        let DataReadyNotification {
+            request_timestamp: _,
+            producer_ref: _,
+            extensions: _,
+        } = self;
+    }
+}
+
 /// The consumer has taken a notification (EN 15531-2, DataReadyAcknowledgement).
-#[derive(Drop)]
 pub struct DataReadyAcknowledgement {
     pub response_timestamp: Option<Moment>,
     pub consumer_ref: Option<Name>,
     pub status: bool,
 }
 
+impl Drop for DataReadyAcknowledgement {
+    fn drop(self) {
+        let DataReadyAcknowledgement {
+            response_timestamp: _,
+            consumer_ref: _,
+            status: _,
+        } = self;
+    }
+}
+
 /// The consumer fetches a part (EN 15531-2, DataSupplyRequest).
-#[derive(Drop)]
 pub struct DataSupplyRequest {
     pub request_timestamp: Option<Moment>,
     pub consumer_ref: Name,
@@ -42,8 +70,18 @@ pub struct DataSupplyRequest {
     pub extensions: Mark,
 }
 
+impl Drop for DataSupplyRequest {
+    fn drop(self) {
+        let DataSupplyRequest {
+            request_timestamp: _,
+            consumer_ref: _,
+            all_data: _,
+            extensions: _,
+        } = self;
+    }
+}
+
 /// A delivery was taken (EN 15531-2, DataReceivedAcknowledgement). It has a mark where it acknowledges a part of a round.
-#[derive(Drop)]
 pub struct DataReceivedAcknowledgement {
     pub response_timestamp: Option<Moment>,
     pub consumer_ref: Option<Name>,
@@ -52,6 +90,19 @@ pub struct DataReceivedAcknowledgement {
     /// The ErrorText of its ErrorCondition.
     pub error_condition: Option<Text>,
     pub extensions: Option<Mark>,
+}
+
+impl Drop for DataReceivedAcknowledgement {
+    fn drop(self) {
+        let DataReceivedAcknowledgement {
+            response_timestamp: _,
+            consumer_ref: _,
+            request_message_ref: _,
+            status: _,
+            error_condition: _,
+            extensions: _,
+        } = self;
+    }
 }
 
 impl Copies for Mark {

@@ -4,7 +4,6 @@ ghost use Rattle.std.specs.Prelude.{◌≡◌};
 use siri_base::{Copies, List, Moment, Name, OutOfMemory, Text};
 
 /// A request to end subscriptions (EN 15531-2, TerminateSubscriptionRequest).
-#[derive(Drop)]
 pub struct TerminateSubscriptionRequest {
     pub request_timestamp: Option<Moment>,
     pub requestor_ref: Option<Name>,
@@ -15,8 +14,19 @@ pub struct TerminateSubscriptionRequest {
     pub subscription_ref: List<Name>,
 }
 
+impl Drop for TerminateSubscriptionRequest {
+    fn drop(self) {
+        let TerminateSubscriptionRequest {
+            request_timestamp: _,
+            requestor_ref: _,
+            message_identifier: _,
+            subscriber_ref: _,
+            subscription_ref: _,
+        } = self;
+    }
+}
+
 /// The answer to a request to end subscriptions (EN 15531-2, TerminateSubscriptionResponse).
-#[derive(Drop)]
 pub struct TerminateSubscriptionResponse {
     pub response_timestamp: Option<Moment>,
     pub request_message_ref: Option<Name>,
@@ -24,14 +34,34 @@ pub struct TerminateSubscriptionResponse {
     pub termination_response_status: List<TerminationResponseStatus>,
 }
 
+impl Drop for TerminateSubscriptionResponse {
+    fn drop(self) {
+        let TerminateSubscriptionResponse {
+            response_timestamp: _,
+            request_message_ref: _,
+            termination_response_status: _,
+        } = self;
+    }
+}
+
 /// What became of a subscription that was to end (EN 15531-2, TerminationResponseStatus).
-#[derive(Drop)]
 pub struct TerminationResponseStatus {
     pub subscriber_ref: Option<Name>,
     pub subscription_ref: Option<Name>,
     pub status: bool,
     /// The ErrorText of its ErrorCondition.
     pub error_condition: Option<Text>,
+}
+
+impl Drop for TerminationResponseStatus {
+    fn drop(self) {
+        let TerminationResponseStatus {
+            subscriber_ref: _,
+            subscription_ref: _,
+            status: _,
+            error_condition: _,
+        } = self;
+    }
 }
 
 impl Copies for TerminateSubscriptionRequest {

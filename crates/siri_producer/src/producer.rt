@@ -19,12 +19,22 @@ use std::marker::Model;
 /// A producer, with a name, the number of its start and the moment of it, which is its ServiceStartedTime. It has a moment,
 /// which is the greatest that it was given, holds the current items that aren't dead then, and keeps at most 200
 /// subscriptions, each with its rounds.
-#[derive(Drop)]
 pub struct Producer {
     pub(crate) alloc: Global,
     pub(crate) responder: Responder,
     pub(crate) table: Table<Course>,
     pub(crate) is_settled: bool,
+}
+
+impl Drop for Producer {
+    fn drop(self) {
+        let Producer {
+            alloc: _,
+            responder: _,
+            table: _,
+            is_settled: _,
+        } = self;
+    }
 }
 
 impl Model for Producer {

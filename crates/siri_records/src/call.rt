@@ -5,7 +5,6 @@ use siri_base::{Copies, Moment, Name, OutOfMemory, Text};
 
 /// A call of a vehicle at a stop: its order on the journey, its aimed, expected and actual times, and what is shown
 /// of it (EN 15531-3, MonitoredCall, RecordedCall and EstimatedCall).
-#[derive(Drop)]
 pub struct StopCall {
     pub stop_point_ref: Option<Name>,
     pub order: Option<u64>,
@@ -21,6 +20,27 @@ pub struct StopCall {
     pub actual_departure_time: Option<Moment>,
     pub departure_status: Option<Text>,
     pub departure_platform_name: Option<Text>,
+}
+
+impl Drop for StopCall {
+    fn drop(self) {
+        let StopCall {
+            stop_point_ref: _,
+            order: _,
+            stop_point_name: _,
+            vehicle_at_stop: _,
+            aimed_arrival_time: _,
+            expected_arrival_time: _,
+            actual_arrival_time: _,
+            arrival_status: _,
+            arrival_platform_name: _,
+            aimed_departure_time: _,
+            expected_departure_time: _,
+            actual_departure_time: _,
+            departure_status: _,
+            departure_platform_name: _,
+        } = self;
+    }
 }
 
 impl Copies for StopCall {

@@ -5,7 +5,6 @@ use crate::{Journey, Situation, Vehicle, Visit};
 use siri_base::{Copies, OutOfMemory};
 
 /// What the four services tell of.
-#[derive(Drop)]
 pub enum Item {
     /// A visit, of Stop Monitoring.
     Visit(Visit),
@@ -15,6 +14,17 @@ pub enum Item {
     Vehicle(Vehicle),
     /// A situation, of Situation Exchange.
     Situation(Situation),
+}
+
+impl Drop for Item {
+    fn drop(self) {
+        match self {
+            Item::Visit(_) => {}
+            Item::Journey(_) => {}
+            Item::Vehicle(_) => {}
+            Item::Situation(_) => {}
+        }
+    }
 }
 
 /// The functional services (EN 15531-3, CEN/TS 15531-5), in the order of their items.

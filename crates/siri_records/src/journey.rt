@@ -6,7 +6,6 @@ use siri_base::{Copies, List, Moment, Name, OutOfMemory, Span, Text};
 
 /// A journey with the calls behind it and those ahead of it (EN 15531-3, EstimatedVehicleJourney). It is known by its
 /// line, direction, data frame and dated journey. A document has at most 1,000 calls in each of its lists.
-#[derive(Drop)]
 pub struct Journey {
     pub recorded_at_time: Option<Moment>,
     pub line_ref: Name,
@@ -24,6 +23,29 @@ pub struct Journey {
     pub delay: Option<Span>,
     pub recorded_calls: List<StopCall>,
     pub estimated_calls: List<StopCall>,
+}
+
+impl Drop for Journey {
+    fn drop(self) {
+        let Journey {
+            recorded_at_time: _,
+            line_ref: _,
+            direction_ref: _,
+            data_frame_ref: _,
+            dated_vehicle_journey_ref: _,
+            cancellation: _,
+            published_line_name: _,
+            operator_ref: _,
+            destination_ref: _,
+            destination_name: _,
+            vehicle_ref: _,
+            monitored: _,
+            occupancy: _,
+            delay: _,
+            recorded_calls: _,
+            estimated_calls: _,
+        } = self;
+    }
 }
 
 impl Copies for Journey {

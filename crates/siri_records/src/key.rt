@@ -10,7 +10,7 @@ use siri_base::{Copies, Name, OutOfMemory};
 
 /// What an item is known by. Keys are ordered by variant, then by their fields in turn, an absent name first, names by
 /// their bytes.
-#[derive(Debug, Drop, PartialEq, Eq, PartialOrd, Ord)]
+#[derive(Debug, PartialEq, Eq, PartialOrd, Ord)]
 pub enum Key {
     Visit {
         monitoring: Name,
@@ -29,6 +29,28 @@ pub enum Key {
         participant: Option<Name>,
         number: Name,
     },
+}
+
+impl Drop for Key {
+    fn drop(self) {
+        match self {
+            Key::Visit {
+                monitoring: _,
+                item: _,
+            } => {}
+            Key::Journey {
+                line: _,
+                direction: _,
+                frame: _,
+                journey: _,
+            } => {}
+            Key::Vehicle { vehicle: _ } => {}
+            Key::Situation {
+                participant: _,
+                number: _,
+            } => {}
+        }
+    }
 }
 
 impl Copies for Key {

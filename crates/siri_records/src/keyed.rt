@@ -17,9 +17,14 @@ use std::rc::Rc;
 /// Shared items by their keys, in order of key, each key once. Contracts see the keys with the items themselves.
 ///
 /// A key is found by halves. An item of a key that isn't held moves those behind it up, and a removal moves them down.
-#[derive(Drop)]
 pub struct KeyedItems {
     entries: Vec<(Key, Rc<Item>)>,
+}
+
+impl Drop for KeyedItems {
+    fn drop(self) {
+        let KeyedItems { entries: _ } = self;
+    }
 }
 
 impl Model for KeyedItems {

@@ -5,7 +5,6 @@ use siri_base::{Copies, List, Moment, Name, OutOfMemory, Text};
 
 /// A situation that affects operators, lines or stops (CEN/TS 15531-5, PtSituationElement). It is known by its
 /// participant and its situation number. A document has at most 100 periods and 2,000 names of each kind in it.
-#[derive(Drop)]
 pub struct Situation {
     pub creation_time: Option<Moment>,
     pub participant_ref: Option<Name>,
@@ -20,6 +19,26 @@ pub struct Situation {
     pub affected_operators: List<Name>,
     pub affected_lines: List<Name>,
     pub affected_stop_points: List<Name>,
+}
+
+impl Drop for Situation {
+    fn drop(self) {
+        let Situation {
+            creation_time: _,
+            participant_ref: _,
+            situation_number: _,
+            version: _,
+            versioned_at_time: _,
+            progress: _,
+            validity_period: _,
+            severity: _,
+            summary: _,
+            description: _,
+            affected_operators: _,
+            affected_lines: _,
+            affected_stop_points: _,
+        } = self;
+    }
 }
 
 /// A time in which a situation holds (CEN/TS 15531-5, ValidityPeriod), open where it has no end.

@@ -6,7 +6,6 @@ use crate::visit::VehicleLocation;
 use siri_base::{Copies, Moment, Name, OutOfMemory, Span, Text};
 
 /// What a vehicle does (EN 15531-3, VehicleActivity). It is known by its vehicle.
-#[derive(Drop)]
 pub struct Vehicle {
     pub recorded_at_time: Option<Moment>,
     pub item_identifier: Option<Name>,
@@ -14,8 +13,18 @@ pub struct Vehicle {
     pub monitored_vehicle_journey: VehicleJourney,
 }
 
+impl Drop for Vehicle {
+    fn drop(self) {
+        let Vehicle {
+            recorded_at_time: _,
+            item_identifier: _,
+            valid_until_time: _,
+            monitored_vehicle_journey: _,
+        } = self;
+    }
+}
+
 /// The journey that a vehicle is on (EN 15531-3, MonitoredVehicleJourney).
-#[derive(Drop)]
 pub struct VehicleJourney {
     pub line_ref: Option<Name>,
     pub direction_ref: Option<Name>,
@@ -33,6 +42,27 @@ pub struct VehicleJourney {
     pub monitored_call: Option<StopCall>,
 }
 
+impl Drop for VehicleJourney {
+    fn drop(self) {
+        let VehicleJourney {
+            line_ref: _,
+            direction_ref: _,
+            data_frame_ref: _,
+            dated_vehicle_journey_ref: _,
+            published_line_name: _,
+            operator_ref: _,
+            destination_ref: _,
+            destination_name: _,
+            vehicle_ref: _,
+            monitored: _,
+            occupancy: _,
+            delay: _,
+            vehicle_location: _,
+            monitored_call: _,
+        } = self;
+    }
+}
+
 impl Copies for Vehicle {
     fn copy(&self) -> Result<Self, OutOfMemory> {
         Ok(Vehicle {
@@ -46,32 +76,21 @@ impl Copies for Vehicle {
 
 impl Copies for VehicleJourney {
     fn copy(&self) -> Result<Self, OutOfMemory> {
-        let mut copy = VehicleJourney {
-            line_ref: None,
-            direction_ref: None,
-            data_frame_ref: None,
-            dated_vehicle_journey_ref: None,
-            published_line_name: None,
-            operator_ref: None,
-            destination_ref: None,
-            destination_name: None,
+        Ok(VehicleJourney {
+            line_ref: self.line_ref.copy()?,
+            direction_ref: self.direction_ref.copy()?,
+            data_frame_ref: self.data_frame_ref.copy()?,
+            dated_vehicle_journey_ref: self.dated_vehicle_journey_ref.copy()?,
+            published_line_name: self.published_line_name.copy()?,
+            operator_ref: self.operator_ref.copy()?,
+            destination_ref: self.destination_ref.copy()?,
+            destination_name: self.destination_name.copy()?,
             vehicle_ref: self.vehicle_ref.copy()?,
             monitored: self.monitored,
-            occupancy: None,
+            occupancy: self.occupancy.copy()?,
             delay: self.delay,
             vehicle_location: self.vehicle_location,
-            monitored_call: None,
-        };
-        copy.line_ref = self.line_ref.copy()?;
-        copy.direction_ref = self.direction_ref.copy()?;
-        copy.data_frame_ref = self.data_frame_ref.copy()?;
-        copy.dated_vehicle_journey_ref = self.dated_vehicle_journey_ref.copy()?;
-        copy.published_line_name = self.published_line_name.copy()?;
-        copy.operator_ref = self.operator_ref.copy()?;
-        copy.destination_ref = self.destination_ref.copy()?;
-        copy.destination_name = self.destination_name.copy()?;
-        copy.occupancy = self.occupancy.copy()?;
-        copy.monitored_call = self.monitored_call.copy()?;
-        Ok(copy)
+            monitored_call: self.monitored_call.copy()?,
+        })
     }
 }

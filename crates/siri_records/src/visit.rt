@@ -6,7 +6,6 @@ use siri_base::{Copies, Moment, Name, OutOfMemory, Span, Text};
 
 /// A visit of a vehicle at a monitored stop (EN 15531-3, MonitoredStopVisit). It is known by its monitoring point and
 /// its item identifier.
-#[derive(Drop)]
 pub struct Visit {
     pub recorded_at_time: Option<Moment>,
     pub item_identifier: Name,
@@ -14,8 +13,18 @@ pub struct Visit {
     pub monitored_vehicle_journey: VisitJourney,
 }
 
+impl Drop for Visit {
+    fn drop(self) {
+        let Visit {
+            recorded_at_time: _,
+            item_identifier: _,
+            monitoring_ref: _,
+            monitored_vehicle_journey: _,
+        } = self;
+    }
+}
+
 /// The journey of a visit (EN 15531-3, MonitoredVehicleJourney), with its call at the monitored stop.
-#[derive(Drop)]
 pub struct VisitJourney {
     pub line_ref: Option<Name>,
     pub direction_ref: Option<Name>,
@@ -31,6 +40,27 @@ pub struct VisitJourney {
     pub delay: Option<Span>,
     pub vehicle_location: Option<VehicleLocation>,
     pub monitored_call: StopCall,
+}
+
+impl Drop for VisitJourney {
+    fn drop(self) {
+        let VisitJourney {
+            line_ref: _,
+            direction_ref: _,
+            data_frame_ref: _,
+            dated_vehicle_journey_ref: _,
+            published_line_name: _,
+            operator_ref: _,
+            destination_ref: _,
+            destination_name: _,
+            vehicle_ref: _,
+            monitored: _,
+            occupancy: _,
+            delay: _,
+            vehicle_location: _,
+            monitored_call: _,
+        } = self;
+    }
 }
 
 /// Where a vehicle is, in 10^-7 degrees, each from -180 to 180 degrees.
@@ -53,32 +83,21 @@ impl Copies for Visit {
 
 impl Copies for VisitJourney {
     fn copy(&self) -> Result<Self, OutOfMemory> {
-        let mut copy = VisitJourney {
-            line_ref: None,
-            direction_ref: None,
-            data_frame_ref: None,
-            dated_vehicle_journey_ref: None,
-            published_line_name: None,
-            operator_ref: None,
-            destination_ref: None,
-            destination_name: None,
-            vehicle_ref: None,
+        Ok(VisitJourney {
+            line_ref: self.line_ref.copy()?,
+            direction_ref: self.direction_ref.copy()?,
+            data_frame_ref: self.data_frame_ref.copy()?,
+            dated_vehicle_journey_ref: self.dated_vehicle_journey_ref.copy()?,
+            published_line_name: self.published_line_name.copy()?,
+            operator_ref: self.operator_ref.copy()?,
+            destination_ref: self.destination_ref.copy()?,
+            destination_name: self.destination_name.copy()?,
+            vehicle_ref: self.vehicle_ref.copy()?,
             monitored: self.monitored,
-            occupancy: None,
+            occupancy: self.occupancy.copy()?,
             delay: self.delay,
             vehicle_location: self.vehicle_location,
             monitored_call: self.monitored_call.copy()?,
-        };
-        copy.line_ref = self.line_ref.copy()?;
-        copy.direction_ref = self.direction_ref.copy()?;
-        copy.data_frame_ref = self.data_frame_ref.copy()?;
-        copy.dated_vehicle_journey_ref = self.dated_vehicle_journey_ref.copy()?;
-        copy.published_line_name = self.published_line_name.copy()?;
-        copy.operator_ref = self.operator_ref.copy()?;
-        copy.destination_ref = self.destination_ref.copy()?;
-        copy.destination_name = self.destination_name.copy()?;
-        copy.vehicle_ref = self.vehicle_ref.copy()?;
-        copy.occupancy = self.occupancy.copy()?;
-        Ok(copy)
+        })
     }
 }

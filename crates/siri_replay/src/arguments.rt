@@ -122,14 +122,8 @@ fn document_in(alloc: Global, argument: Option<&[u8]>) -> Result<Message, LineEr
 pub fn delivery_in(alloc: Global, argument: Option<&[u8]>) -> Result<ServiceDelivery, LineError>
     ensures { Reads result (delivery_in (option_map (λ text. text.now) argument.entry)) }
 {
-    match document_in(alloc, argument)? {
-        Message::ServiceDelivery(delivery) => {
-            if delivery.has_round() {
-                Err(LineError::Refused(ScriptReason::WrongMessage))
-            } else {
-                Ok(delivery)
-            }
-        }
+    match document_in(alloc, argument)?.into_service_delivery() {
+        Some(delivery) if !delivery.has_round() => Ok(delivery),
         _ => Err(LineError::Refused(ScriptReason::WrongMessage)),
     }
 }
@@ -138,10 +132,9 @@ pub fn delivery_in(alloc: Global, argument: Option<&[u8]>) -> Result<ServiceDeli
 pub fn request_in(alloc: Global, argument: Option<&[u8]>) -> Result<ServiceRequest, LineError>
     ensures { Reads result (request_in (option_map (λ text. text.now) argument.entry)) }
 {
-    match document_in(alloc, argument)? {
-        Message::ServiceRequest(request) => Ok(request),
-        _ => Err(LineError::Refused(ScriptReason::WrongMessage)),
-    }
+    document_in(alloc, argument)?
+        .into_service_request()
+        .ok_or(LineError::Refused(ScriptReason::WrongMessage))
 }
 
 /// The subscription that a consumer asks for by an argument.

@@ -13,12 +13,21 @@ use siri_world::{Event, StepError, World};
 use std::alloc::Global;
 
 /// A script, as far as its lines were taken.
-#[derive(Drop)]
 pub struct Script {
     alloc: Global,
     world: World,
     /// Whether a producer has started.
     started: bool,
+}
+
+impl Drop for Script {
+    fn drop(self) {
+        let Script {
+            alloc: _,
+            world: _,
+            started: _,
+        } = self;
+    }
 }
 
 impl Script {

@@ -24,10 +24,15 @@ pub struct Fed {
 
 // The store of a responder, with what is told of the feed that it is given. After want of memory the entries before the
 // refused one stand.
-#[derive(Drop)]
 pub(crate) struct Feeding {
     pub(crate) store: Store,
     pub(crate) fed: Fed,
+}
+
+impl Drop for Feeding {
+    fn drop(self) {
+        let Feeding { store: _, fed: _ } = self;
+    }
 }
 
 impl Feeding {

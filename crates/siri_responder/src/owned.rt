@@ -64,11 +64,7 @@ impl Feeding {
         ensures err { OnErr result (ReachesSome self.old self.new (entries_in delivery)) }
         ensures alive { NoneDead self.new.store }
     {
-        let FunctionalDelivery {
-            items,
-            removals,
-            ..
-        } = delivery;
+        let (items, removals) = delivery.into_entries();
         self.observe_all_owned(alloc, items)?;
         self.withdraw_all(removals.slice());
         Ok(())

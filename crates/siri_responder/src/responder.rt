@@ -19,13 +19,24 @@ use std::marker::Model;
 /// A producer without its subscriptions, with a name, the number of its start and the moment of it, which is its
 /// ServiceStartedTime: it is fed, and answers requests. It has a moment, which is the greatest that it was given, and holds
 /// the current items that aren't dead then.
-#[derive(Drop)]
 pub struct Responder {
     alloc: Global,
     name: Name,
     start: u64,
     started: Moment,
     feeding: Feeding,
+}
+
+impl Drop for Responder {
+    fn drop(self) {
+        let Responder {
+            alloc: _,
+            name: _,
+            start: _,
+            started: _,
+            feeding: _,
+        } = self;
+    }
 }
 
 impl Model for Responder {

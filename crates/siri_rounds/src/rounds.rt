@@ -22,12 +22,22 @@ const RESEND_INTERVAL: i64 = 30_000;
 
 /// What a producer keeps of a subscription: whether delivery is fetched, the acknowledged view, how many rounds were opened,
 /// and the outstanding round with how many of its parts are acknowledged and when a message of the next was last sent.
-#[derive(Drop)]
 pub struct Rounds {
     fetched: bool,
     acknowledged: View,
     last: u64,
     outstanding: Option<Opened>,
+}
+
+impl Drop for Rounds {
+    fn drop(self) {
+        let Rounds {
+            fetched: _,
+            acknowledged: _,
+            last: _,
+            outstanding: _,
+        } = self;
+    }
 }
 
 // The outstanding round. Its base is the acknowledged view.

@@ -49,11 +49,20 @@ impl From<OutOfMemory> for ObserveError {
 
 /// Current items in order of key, each under its own key, a moment, and a counter of steps. Contracts see the keys with the
 /// items themselves, the moment and the counter.
-#[derive(Drop)]
 pub struct Store {
     entries: KeyedItems,
     moment: Moment,
     counter: Counter,
+}
+
+impl Drop for Store {
+    fn drop(self) {
+        let Store {
+            entries: _,
+            moment: _,
+            counter: _,
+        } = self;
+    }
 }
 
 impl Model for Store {

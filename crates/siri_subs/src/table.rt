@@ -17,9 +17,14 @@ pub const TABLE_LIMIT: usize = 200;
 
 /// The subscriptions that are held, in order of first acceptance, each with its number, address, heartbeat interval and a
 /// slot. Contracts see the list of the entries.
-#[derive(Drop)]
 pub struct Table<E> {
     entries: Vec<Row<E>>,
+}
+
+impl<E: Drop> Drop for Table<E> {
+    fn drop(self) {
+        let Table { entries: _ } = self;
+    }
 }
 
 impl<E> Model for Table<E> {

@@ -13,7 +13,7 @@ use Rattle.siri_tables.specs.Rules.{table, table_unless_blank}
 use Rattle.siri_tables.specs.Spelling.{Spells}
 use Rattle.siri_tables.specs.Proper.{IsListWithin}
 use Rattle.siri_tables.specs.Writing.{Row as Member, row_object, with_rows, object_unless_empty, written_list}
-use Rattle.siri_tables.specs.Tables.{Kind, Row, optional, mandatory, some_entries, entries_inside, Table, Maker, read_all, AllSpelled, AllProper, all_written}
+use Rattle.siri_tables.specs.Tables.{Kind, Row, optional, mandatory, some_entries, entries_inside, Table, Maker, read_all, AllSpelled, AllProper, all_written, together}
 use Rattle.siri_tables.proofs.Back.{found_again, GivesBack, in_rows, member_again}
 use Rattle.siri_tables.proofs.BackLists.{EntryBack, table_entry, list_inside_back, nonempty_list_back, object_unless_empty_back}
 use Rattle.siri_tables.proofs.BackValues.{table_back, table_unless_blank_back}
@@ -246,6 +246,17 @@ read_proper laws d s u e = spelled_proper laws d s u (read_spelled laws d s e)
 
 pub table_within : {S : Type 0} {most : ℕ} {t : Table S} {make : Maker t} → TableLaws most t make → (s : S) → AllProper t s → IsCanonicalWithin (suc most) (row_object (all_written t s))
 table_within {most = most} {t = t} laws s is = object_within most (all_written t s) (all_within most t laws.rows s is)
+
+-- ---- a table inside another
+
+pub together_laws : {S T : Type 0} {most : ℕ} {t : Table T} {make : Maker t} {of : S → T} → TableLaws most t make → RowLaws most (together t (read_all t make) of)
+together_laws {most = most} {t = t} laws = record {
+  spelled = λ d x. read_spelled laws d x;
+  reads = λ d x. spelled_read laws d x;
+  back = λ d x is there. all_back most t laws.rows d x is there;
+  within = λ x is. all_within most t laws.rows x is;
+  proper = λ d x u is. spelled_proper laws d x u is;
+}
 
 -- ---- objects of a table as values
 

@@ -133,3 +133,15 @@ all_written (r ∷ t) s = r.write (r.of s) ++ all_written t s
 abbrev pub all_blank : {S : Type 0} → Table S → S → Bool
 all_blank [] s = true
 all_blank (r ∷ t) s = r.blank (r.of s) && all_blank t s
+
+-- rows of one table that stand together in another, as the standard's groups do, and how they are read
+abbrev pub together : {S T : Type 0} → Table T → (Data → Result T Refusal) → (S → T) → Row S
+together {T = T} t read of = record {
+  Of = T;
+  of = of;
+  read = read;
+  Spelled = AllSpelled t;
+  write = all_written t;
+  Is = AllProper t;
+  blank = all_blank t;
+}

@@ -5,7 +5,6 @@ use crate::Topic;
 use siri_base::{Copies, Moment, Name, OutOfMemory, Span};
 
 /// A subscription to a topic (EN 15531-2). It is known by its subscriber and its identifier.
-#[derive(Drop)]
 pub struct Subscription {
     pub subscriber: Name,
     /// Its SubscriptionIdentifier, which is its subscriber's own.
@@ -19,6 +18,20 @@ pub struct Subscription {
     pub incremental: bool,
     /// Whether the consumer is notified and fetches each round; otherwise the producer sends it (direct delivery).
     pub fetched: bool,
+}
+
+impl Drop for Subscription {
+    fn drop(self) {
+        let Subscription {
+            subscriber: _,
+            identifier: _,
+            termination: _,
+            topic: _,
+            slack: _,
+            incremental: _,
+            fetched: _,
+        } = self;
+    }
 }
 
 impl Copies for Subscription {

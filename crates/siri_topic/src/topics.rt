@@ -4,7 +4,6 @@ ghost use Rattle.std.specs.Prelude.{◌≡◌};
 use siri_base::{Copies, List, Moment, Name, OutOfMemory, Span};
 
 /// What is asked of one of the services.
-#[derive(Drop)]
 pub enum Topic {
     /// of Stop Monitoring
     Stop(StopTopic),
@@ -16,8 +15,18 @@ pub enum Topic {
     Situation(SituationTopic),
 }
 
+impl Drop for Topic {
+    fn drop(self) {
+        match self {
+            Topic::Stop(_) => {}
+            Topic::Timetable(_) => {}
+            Topic::Vehicle(_) => {}
+            Topic::Situation(_) => {}
+        }
+    }
+}
+
 /// The visits at a monitoring point (EN 15531-3, StopMonitoringRequest).
-#[derive(Drop)]
 pub struct StopTopic {
     pub monitoring_ref: Name,
     pub line_ref: Option<Name>,
@@ -32,8 +41,22 @@ pub struct StopTopic {
     pub maximum_stop_visits: Option<u64>,
 }
 
+impl Drop for StopTopic {
+    fn drop(self) {
+        let StopTopic {
+            monitoring_ref: _,
+            line_ref: _,
+            direction_ref: _,
+            operator_ref: _,
+            destination_ref: _,
+            preview_interval: _,
+            start_time: _,
+            maximum_stop_visits: _,
+        } = self;
+    }
+}
+
 /// The journeys of an operator, on some lines (EN 15531-3, EstimatedTimetableRequest).
-#[derive(Drop)]
 pub struct TimetableTopic {
     /// How far the window reaches; it has no far edge where this is absent.
     pub preview_interval: Option<Span>,
@@ -42,23 +65,49 @@ pub struct TimetableTopic {
     pub lines: List<LineDirection>,
 }
 
+impl Drop for TimetableTopic {
+    fn drop(self) {
+        let TimetableTopic {
+            preview_interval: _,
+            operator_ref: _,
+            lines: _,
+        } = self;
+    }
+}
+
 /// A line, and a direction of it where one is given (EN 15531-3, LineDirection).
-#[derive(Drop)]
 pub struct LineDirection {
     pub line_ref: Name,
     pub direction_ref: Option<Name>,
 }
 
+impl Drop for LineDirection {
+    fn drop(self) {
+        let LineDirection {
+            line_ref: _,
+            direction_ref: _,
+        } = self;
+    }
+}
+
 /// The vehicles of a line and a direction (EN 15531-3, VehicleMonitoringRequest).
-#[derive(Drop)]
 pub struct VehicleTopic {
     pub vehicle_ref: Option<Name>,
     pub line_ref: Option<Name>,
     pub direction_ref: Option<Name>,
 }
 
+impl Drop for VehicleTopic {
+    fn drop(self) {
+        let VehicleTopic {
+            vehicle_ref: _,
+            line_ref: _,
+            direction_ref: _,
+        } = self;
+    }
+}
+
 /// The situations that affect a line, a stop and an operator (CEN/TS 15531-5, SituationExchangeRequest).
-#[derive(Drop)]
 pub struct SituationTopic {
     pub line_ref: Option<Name>,
     pub stop_point_ref: Option<Name>,
@@ -67,6 +116,18 @@ pub struct SituationTopic {
     pub preview_interval: Option<Span>,
     /// The window begins no earlier than here.
     pub start_time: Option<Moment>,
+}
+
+impl Drop for SituationTopic {
+    fn drop(self) {
+        let SituationTopic {
+            line_ref: _,
+            stop_point_ref: _,
+            operator_ref: _,
+            preview_interval: _,
+            start_time: _,
+        } = self;
+    }
 }
 
 impl Copies for Topic {

@@ -9,11 +9,20 @@ use std::marker::Model;
 
 // A subscription, where its messages are to be sent (ConsumerAddress), and how often a heartbeat is, in milliseconds
 // (HeartbeatInterval); zero is never.
-#[derive(Drop)]
 pub(crate) struct AskedFor {
     pub subscription: Subscription,
     pub address: Option<Name>,
     pub beat: Span,
+}
+
+impl Drop for AskedFor {
+    fn drop(self) {
+        let AskedFor {
+            subscription: _,
+            address: _,
+            beat: _,
+        } = self;
+    }
 }
 
 impl Model for AskedFor {

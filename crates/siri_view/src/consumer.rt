@@ -27,13 +27,24 @@ pub const GREATEST_NUMBER: u64 = 999_999_999_999_999_999;
 /// A consumer, with a name and the address at which deliveries reach it. It has a moment, which is the greatest that it was
 /// given, numbers its requests, and keeps what it holds of each subscription. Contracts see a record of these, the
 /// subscriptions by their identifiers in order of the bytes.
-#[derive(Drop)]
 pub struct Consumer {
     pub(crate) name: Name,
     pub(crate) address: Option<Name>,
     pub(crate) next_number: u64,
     pub(crate) moment: Moment,
     pub(crate) held: Holdings,
+}
+
+impl Drop for Consumer {
+    fn drop(self) {
+        let Consumer {
+            name: _,
+            address: _,
+            next_number: _,
+            moment: _,
+            held: _,
+        } = self;
+    }
 }
 
 impl Model for Consumer {

@@ -23,9 +23,14 @@ use std::marker::Model;
 type Entry = (Name, Subscribed);
 
 // The subscriptions that are held by their identifiers, in order of the bytes of these, each once.
-#[derive(Drop)]
 pub(crate) struct Holdings {
     entries: Vec<Entry>,
+}
+
+impl Drop for Holdings {
+    fn drop(self) {
+        let Holdings { entries: _ } = self;
+    }
 }
 
 impl Model for Holdings {

@@ -14,10 +14,18 @@ use std::marker::Model;
 use std::rc::Rc;
 
 // What a functional delivery carries. Its items are shared from here on.
-#[derive(Drop)]
 pub(crate) struct Part {
     items: Vec<Rc<Item>>,
     removals: List<Key>,
+}
+
+impl Drop for Part {
+    fn drop(self) {
+        let Part {
+            items: _,
+            removals: _,
+        } = self;
+    }
 }
 
 impl Model for Part {

@@ -19,7 +19,6 @@ use std::marker::Model;
 
 // What is kept of a subscription: the number of its last request and what that asked for, the greatest start of its producer
 // that a part came of, the last whole round of it, the parts of the next one, and the view with the round that it is of.
-#[derive(Drop)]
 pub(crate) struct Subscribed {
     number: u64,
     asked: AskedFor,
@@ -28,6 +27,20 @@ pub(crate) struct Subscribed {
     parts: List<Part>,
     view: View,
     origin: Held,
+}
+
+impl Drop for Subscribed {
+    fn drop(self) {
+        let Subscribed {
+            number: _,
+            asked: _,
+            start: _,
+            round: _,
+            parts: _,
+            view: _,
+            origin: _,
+        } = self;
+    }
 }
 
 impl Model for Subscribed {

@@ -18,9 +18,14 @@ use std::marker::Model;
 pub(crate) const MOST_CONSUMERS: usize = 16;
 
 // Consumers in order of first use. Each is found by its name.
-#[derive(Drop)]
 pub(crate) struct Consumers {
     list: Vec<Consumer>,
+}
+
+impl Drop for Consumers {
+    fn drop(self) {
+        let Consumers { list: _ } = self;
+    }
 }
 
 impl Model for Consumers {

@@ -32,9 +32,14 @@ pub(crate) enum Packet {
 }
 
 // All packets that were ever sent, in order.
-#[derive(Drop)]
 pub(crate) struct Packets {
     list: Vec<Packet>,
+}
+
+impl Drop for Packets {
+    fn drop(self) {
+        let Packets { list: _ } = self;
+    }
 }
 
 impl Model for Packets {

@@ -37,7 +37,6 @@ const MOST_STARTS: u64 = 1_000_000;
 /// The world of a script. It stands for the events that it took. Contracts see what it knows of them: the greatest moment
 /// that was given, how often the producer started, the producer of the latest start, the consumers in order of first use, and
 /// all packets that were ever sent.
-#[derive(Drop)]
 pub struct World {
     alloc: Global,
     moment: Moment,
@@ -45,6 +44,19 @@ pub struct World {
     producer: Option<Producer>,
     consumers: Consumers,
     packets: Packets,
+}
+
+impl Drop for World {
+    fn drop(self) {
+        let World {
+            alloc: _,
+            moment: _,
+            starts: _,
+            producer: _,
+            consumers: _,
+            packets: _,
+        } = self;
+    }
 }
 
 impl Model for World {

@@ -52,7 +52,6 @@ struct Last<'a> {
 }
 
 /// A wire without connections of its own: each is handed to the call that takes it.
-#[derive(Drop)]
 pub struct Line<'a> {
     last: Option<Last<'a>>,
     /// What went by the connections before the last.
@@ -64,6 +63,21 @@ pub struct Line<'a> {
     dial_fails: Failures<'a>,
     faults: u64,
     alloc: Global,
+}
+
+impl Drop for Line<'_> {
+    fn drop(self) {
+        let Line {
+            last: _,
+            before: _,
+            addresses: _,
+            listen_fails: _,
+            accept_fails: _,
+            dial_fails: _,
+            faults: _,
+            alloc: _,
+        } = self;
+    }
 }
 
 impl<'a> Model for Line<'a> {

@@ -6,9 +6,14 @@ use crate::{OutsideError, Sink};
 use std::alloc::Global;
 
 /// A sink that never fails.
-#[derive(Drop)]
 pub struct InMemorySink {
     bytes: Vec<u8>,
+}
+
+impl Drop for InMemorySink {
+    fn drop(self) {
+        let InMemorySink { bytes: _ } = self;
+    }
 }
 
 impl InMemorySink {
@@ -46,11 +51,20 @@ impl Sink for InMemorySink {
 
 /// A sink that fails at places that are named beforehand. A write goes no further than the next of them, and the first
 /// write that begins there, of some bytes, fails.
-#[derive(Drop)]
 pub struct FailingSink<'a> {
     bytes: Vec<u8>,
     failures: Failures<'a>,
     faults: u64,
+}
+
+impl Drop for FailingSink<'_> {
+    fn drop(self) {
+        let FailingSink {
+            bytes: _,
+            failures: _,
+            faults: _,
+        } = self;
+    }
 }
 
 impl<'a> FailingSink<'a> {

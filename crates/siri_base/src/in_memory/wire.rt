@@ -9,11 +9,20 @@ use crate::{Failed, Name, OutsideError, Wire};
 use std::alloc::Global;
 
 /// A wire with connections to come and to be dialled, each a text to be read. It fails where none is left.
-#[derive(Drop)]
 pub struct InMemoryWire<'a> {
     to_accept: &'a [&'a [u8]],
     to_dial: &'a [&'a [u8]],
     line: Line<'a>,
+}
+
+impl Drop for InMemoryWire<'_> {
+    fn drop(self) {
+        let InMemoryWire {
+            to_accept: _,
+            to_dial: _,
+            line: _,
+        } = self;
+    }
 }
 
 impl<'a> InMemoryWire<'a> {
@@ -96,11 +105,20 @@ impl<'a> Wire for InMemoryWire<'a> {
 
 /// A wire with connections to come and to be dialled, and with failures that are named beforehand. It fails at those, and where
 /// no connection is left.
-#[derive(Drop)]
 pub struct FailingWire<'a> {
     to_accept: &'a [FailingConnection<'a>],
     to_dial: &'a [FailingConnection<'a>],
     line: Line<'a>,
+}
+
+impl Drop for FailingWire<'_> {
+    fn drop(self) {
+        let FailingWire {
+            to_accept: _,
+            to_dial: _,
+            line: _,
+        } = self;
+    }
 }
 
 impl<'a> FailingWire<'a> {
