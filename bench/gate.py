@@ -1,6 +1,6 @@
 #!/usr/bin/env python3
 """Runs `rt ci` and prints what it cost, a crate a row: processor minutes of its proofs, those of its tests among them, and of its edits,
-among them the second proof that they begin with.
+among them the second proof that they begin with; and below it what each check of an edit took.
 
 usage: bench/gate.py [WORD..]      the words go to `rt ci`: names of crates, or --anew
 
@@ -94,6 +94,14 @@ class Sampler:
                 even[work] += seconds / 60 * LOOP * len(near) / sum(near)
         return minutes, even
 
+    def checks(self):
+        """Returns for each crate the seconds of each check of its edits, in turn."""
+        seconds = collections.defaultdict(list)
+        for key, work in self.works.items():
+            if work and work[1]:
+                seconds[work[0]].append(self.seen[key])
+        return seconds
+
 
 def main():
     child = subprocess.Popen(["rt", "ci", *sys.argv[1:]])
@@ -111,6 +119,9 @@ def main():
     for crate in sorted({crate for crate, _ in minutes}):
         print(row.format(f"`{crate}`", cell([(crate, False)]), cell([(crate, True)])))
     print(row.format("all", *(cell([it for it in minutes if it[1] == edits]) for edits in (False, True))))
+    print("\nSeconds of each check of an edit, as taken: the first proves the crate once more, the last is without any edit.")
+    for crate, seconds in sorted(sampler.checks().items()):
+        print(f"{crate:24} {' '.join(f'{it:.0f}' for it in seconds)}")
     times = sorted(it for span in sampler.loops.values() for it in span)
     if times:
         least, middle, most = (1000 * times[int(part * (len(times) - 1))] for part in (0, 0.5, 1))

@@ -1,11 +1,15 @@
-//! Scripts and documents with what the command writes of them, as tests over its top call.
+//! All tests: what no contract says, mostly as rows of tables that go through the top call.
 //!
 //! ```text
-//!     words, a script or a document --run--> a report or a text, and a status
+//!     words, a script or a document     --run--> a report or a text, and a status
+//!     words, connections, moments, ..   --run--> what is answered and sent, a summary, and a status
 //! ```
 //!
-//! It has no code of its own outside of tests, so that `siri_cli` isn't proved a second time for them. What needs no command
-//! stands in `siri_value_tests`.
+//! A call that takes memory is proved also where its body gives up for want of it; these runs see that it doesn't where memory is
+//! there. What no command brings stands in `times`, `trees`, `refusals`, `views` and `system`.
+//!
+//! Stands on `siri_cli`, and for those on the crates of their calls. It has no code of its own outside of tests, so that no
+//! crate is proved a second time for them.
 #![tactic(auto)]
 
 #[cfg(test)]
@@ -17,8 +21,18 @@ mod items;
 #[cfg(test)]
 mod network;
 #[cfg(test)]
+mod refusals;
+#[cfg(test)]
 mod replay;
 #[cfg(test)]
 mod rounds;
 #[cfg(test)]
 mod running;
+#[cfg(test)]
+mod system;
+#[cfg(test)]
+mod times;
+#[cfg(test)]
+mod trees;
+#[cfg(test)]
+mod views;

@@ -24,6 +24,9 @@ pub const CHECKED: &str =
 const NOT_POST: &str =
     "HTTP/1.1 405 Method Not Allowed\r\nContent-Type: text/plain\r\nContent-Length: 8\r\nConnection: close\r\n\r\nNotPost\n";
 
+const MISSING: &str =
+    "HTTP/1.1 400 Bad Request\r\nContent-Type: text/plain\r\nContent-Length: 14\r\nConnection: close\r\n\r\nSiri: Missing\n";
+
 /// What is handed to a run beside its words: the number that is kept, the moments to come, the connections to come and to be
 /// dialled, and what the source has.
 #[derive(Clone, Copy)]
@@ -109,7 +112,7 @@ fn comes_of(alloc: Global, words: &[&str], handed: &Handed<'_>, comes: &Comes<'_
 const LISTEN: &str = "127.0.0.1:7001";
 
 // COUNT, the number that is kept, the moments and the connections to come, and what comes of it.
-static SERVED: [(&str, u64, &[i64], &[&[u8]], Comes<'static>); 7] = [
+static SERVED: [(&str, u64, &[i64], &[&[u8]], Comes<'static>); 6] = [
     (
         "1",
         0,
@@ -132,19 +135,6 @@ static SERVED: [(&str, u64, &[i64], &[&[u8]], Comes<'static>); 7] = [
             answered: &[""],
             named: &[LISTEN],
             output: "served 1 refused 0 dropped 1 unsent 0\n",
-            number: 0,
-            text: "",
-        },
-    ),
-    (
-        "1",
-        0,
-        &[SEVEN, EIGHT],
-        &[b"GET / HTTP/1.1\r\n\r\n"],
-        Comes {
-            answered: &[NOT_POST],
-            named: &[LISTEN],
-            output: "served 1 refused 1 dropped 0 unsent 0\n",
             number: 0,
             text: "",
         },
@@ -218,6 +208,120 @@ fn a_producer_serves_connections(rt: HostRuntime) {
     }
 }
 
+/// Requests that are refused, and their responses.
+static REFUSED: [(&[u8], &str); 8] = [
+    (b"GET / HTTP/1.1\r\n\r\n", NOT_POST),
+    (
+        b"POST / HTTP/1.1\r\nContent-Length: 2\r\nContent-Length: 2\r\n\r\n{}",
+        "HTTP/1.1 400 Bad Request\r\nContent-Type: text/plain\r\nContent-Length: 8\r\nConnection: close\r\n\r\nBadHead\n",
+    ),
+    (
+        b"POST / HTTP/1.1\r\nTransfer-Encoding: chunked\r\n\r\n",
+        "HTTP/1.1 501 Not Implemented\r\nContent-Type: text/plain\r\nContent-Length: 15\r\nConnection: close\r\n\r\nTransferCoding\n",
+    ),
+    (
+        b"POST / HTTP/1.1\r\n\r\n",
+        "HTTP/1.1 411 Length Required\r\nContent-Type: text/plain\r\nContent-Length: 9\r\nConnection: close\r\n\r\nNoLength\n",
+    ),
+    (
+        b"POST / HTTP/1.1\r\nContent-Length: 8388609\r\n\r\n",
+        "HTTP/1.1 413 Payload Too Large\r\nContent-Type: text/plain\r\nContent-Length: 12\r\nConnection: close\r\n\r\nBodyTooLong\n",
+    ),
+    (b"POST / HTTP/1.1\r\nContent-Length: 2\r\n\r\n{}", MISSING),
+    (
+        b"POST / HTTP/1.1\r\nContent-Length: 39\r\n\r\n{\"Siri\":{\"DataReceivedAcknowledgement\":{}}}",
+        "HTTP/1.1 400 Bad Request\r\nContent-Type: text/plain\r\nContent-Length: 11\r\nConnection: close\r\n\r\n.: NotJson\n",
+    ),
+    (
+        b"POST / HTTP/1.1\r\nHost: a\r\ncontent-length: 2\r\n\r\n{}and more",
+        MISSING,
+    ),
+];
+
+#[test]
+fn refused_requests_are_told_why(rt: HostRuntime) {
+    for (input, answer) in &REFUSED {
+        let handed = Handed {
+            kept: 0,
+            moments: &[SEVEN, EIGHT],
+            to_accept: &[*input],
+            to_dial: &[],
+            input: b"",
+        };
+        let comes = Comes {
+            answered: &[*answer],
+            named: &[LISTEN],
+            output: "served 1 refused 1 dropped 0 unsent 0\n",
+            number: 0,
+            text: "",
+        };
+        assert!(rt; comes_of(rt.alloc(), &["serve", "p", LISTEN, "1"], &handed, &comes));
+    }
+}
+
+/// A subscription of `c` to the visits of `S1`, to be delivered at 127.0.0.1:7002, and its response.
+const SUBSCRIBE: &[u8] =
+    b"POST / HTTP/1.1\r\nContent-Length: 282\r\n\r\n{\"Siri\":{\"SubscriptionRequest\":{\"ConsumerAddress\":\"http://127.0.0.1:7002/\",\"MessageIdentifier\":\"1\",\"RequestorRef\":\"c\",\"StopMonitoringSubscriptionRequest\":{\"InitialTerminationTime\":\"2024-05-01T20:00:00Z\",\"StopMonitoringRequest\":{\"MonitoringRef\":\"S1\"},\"SubscriptionIdentifier\":\"S\"}}}}";
+
+const SUBSCRIBED: &str =
+    "HTTP/1.1 200 OK\r\nContent-Type: application/json\r\nContent-Length: 215\r\nConnection: close\r\n\r\n{\"Siri\":{\"SubscriptionResponse\":{\"RequestMessageRef\":\"1\",\"ResponseStatus\":[{\"Status\":true,\"SubscriberRef\":\"c\",\"SubscriptionRef\":\"S\",\"ValidUntil\":\"2024-05-01T20:00:00Z\"}],\"ResponseTimestamp\":\"2024-05-01T08:00:00Z\"}}}";
+
+/// A feed of one visit, and its acknowledgement.
+const FEED: &[u8] =
+    b"POST / HTTP/1.1\r\nContent-Length: 264\r\n\r\n{\"Siri\":{\"ServiceDelivery\":{\"ResponseMessageIdentifier\":\"f\",\"StopMonitoringDelivery\":{\"MonitoredStopVisit\":[{\"ItemIdentifier\":\"a\",\"MonitoredVehicleJourney\":{\"LineRef\":\"L1\",\"MonitoredCall\":{\"ExpectedDepartureTime\":\"2024-05-01T08:10:00Z\"}},\"MonitoringRef\":\"S1\"}]}}}}";
+
+const FED: &str =
+    "HTTP/1.1 200 OK\r\nContent-Type: application/json\r\nContent-Length: 141\r\nConnection: close\r\n\r\n{\"Siri\":{\"DataReceivedAcknowledgement\":{\"ConsumerRef\":\"p\",\"RequestMessageRef\":\"f\",\"ResponseTimestamp\":\"2024-05-01T08:00:00Z\",\"Status\":true}}}";
+
+/// The first round, of nothing, the acknowledgement of it, and the second round, of that visit.
+const FIRST: &str =
+    "POST / HTTP/1.1\r\nHost: 127.0.0.1:7002\r\nContent-Type: application/json\r\nContent-Length: 301\r\nConnection: close\r\n\r\n{\"Siri\":{\"ServiceDelivery\":{\"ProducerRef\":\"p\",\"RequestMessageRef\":\"1\",\"ResponseTimestamp\":\"2024-05-01T08:00:00Z\",\"Status\":true,\"StopMonitoringDelivery\":[{\"Extensions\":{\"Part\":1,\"Round\":1,\"Start\":1},\"ResponseTimestamp\":\"2024-05-01T08:00:00Z\",\"Status\":true,\"SubscriberRef\":\"c\",\"SubscriptionRef\":\"S\"}]}}}";
+
+const RECEIVED: &[u8] =
+    b"HTTP/1.1 200 OK\r\nContent-Length: 151\r\n\r\n{\"Siri\":{\"DataReceivedAcknowledgement\":{\"ConsumerRef\":\"c\",\"Extensions\":{\"Number\":1,\"Part\":1,\"Round\":1,\"Start\":1,\"SubscriptionRef\":\"S\"},\"Status\":true}}}";
+
+const SECOND: &str =
+    "POST / HTTP/1.1\r\nHost: 127.0.0.1:7002\r\nContent-Type: application/json\r\nContent-Length: 476\r\nConnection: close\r\n\r\n{\"Siri\":{\"ServiceDelivery\":{\"ProducerRef\":\"p\",\"RequestMessageRef\":\"1\",\"ResponseTimestamp\":\"2024-05-01T08:00:00Z\",\"Status\":true,\"StopMonitoringDelivery\":[{\"Extensions\":{\"Part\":1,\"Round\":2,\"Start\":1},\"MonitoredStopVisit\":[{\"ItemIdentifier\":\"a\",\"MonitoredVehicleJourney\":{\"LineRef\":\"L1\",\"MonitoredCall\":{\"ExpectedDepartureTime\":\"2024-05-01T08:10:00Z\"}},\"MonitoringRef\":\"S1\"}],\"ResponseTimestamp\":\"2024-05-01T08:00:00Z\",\"Status\":true,\"SubscriberRef\":\"c\",\"SubscriptionRef\":\"S\"}]}}}";
+
+// The connections to be dialled, and what comes of a subscription and a feed behind it: the second round is sent where the first was
+// acknowledged.
+static SENT_OUT: [(&[&[u8]], Comes<'static>); 2] = [
+    (
+        &[RECEIVED, b"HTTP/1.1 200 OK\r\nContent-Length: 0\r\n\r\n"],
+        Comes {
+            answered: &[SUBSCRIBED, FIRST, FED, SECOND],
+            named: &[LISTEN, CONSUMER, CONSUMER],
+            output: "served 2 refused 0 dropped 0 unsent 0\n",
+            number: 0,
+            text: "",
+        },
+    ),
+    (
+        &[b""],
+        Comes {
+            answered: &[SUBSCRIBED, FIRST, FED],
+            named: &[LISTEN, CONSUMER],
+            output: "served 2 refused 0 dropped 0 unsent 1\n",
+            number: 0,
+            text: "",
+        },
+    ),
+];
+
+#[test]
+fn rounds_are_sent_out(rt: HostRuntime) {
+    for (to_dial, comes) in &SENT_OUT {
+        let handed = Handed {
+            kept: 0,
+            moments: &[SEVEN, EIGHT, EIGHT],
+            to_accept: &[SUBSCRIBE, FEED],
+            to_dial: *to_dial,
+            input: b"",
+        };
+        assert!(rt; comes_of(rt.alloc(), &["serve", "p", LISTEN, "2"], &handed, comes));
+    }
+}
+
 /// What a consumer wants.
 const WANTED: &str =
     "{\"StopMonitoringSubscriptionRequest\":{\"ChangeBeforeUpdates\":\"PT0S\",\"InitialTerminationTime\":\"2024-05-01T20:00:00Z\",\"StopMonitoringRequest\":{\"MonitoringRef\":\"S1\",\"PreviewInterval\":\"PT1H\"},\"SubscriptionIdentifier\":\"S\"}}\n";
@@ -234,13 +338,33 @@ const ROUND: &[u8] =
 const ACKNOWLEDGED: &str =
     "HTTP/1.1 200 OK\r\nContent-Type: application/json\r\nContent-Length: 200\r\nConnection: close\r\n\r\n{\"Siri\":{\"DataReceivedAcknowledgement\":{\"ConsumerRef\":\"c\",\"Extensions\":{\"Number\":1000000,\"Part\":1,\"Round\":1,\"Start\":1,\"SubscriptionRef\":\"S\"},\"ResponseTimestamp\":\"2024-05-01T08:00:00Z\",\"Status\":true}}}";
 
+/// The same part, notified, the answer to that, the request for the part, its response, and the acknowledgement of the part as it
+/// is sent up.
+const NOTIFIED: &[u8] =
+    b"POST / HTTP/1.1\r\nContent-Length: 186\r\n\r\n{\"Siri\":{\"DataReadyNotification\":{\"Extensions\":{\"Number\":1000000,\"Part\":1,\"Round\":1,\"Start\":1,\"SubscriptionRef\":\"S\"},\"ProducerRef\":\"producer\",\"RequestTimestamp\":\"2024-05-01T08:00:00Z\"}}}";
+
+const READY: &str =
+    "HTTP/1.1 200 OK\r\nContent-Type: application/json\r\nContent-Length: 114\r\nConnection: close\r\n\r\n{\"Siri\":{\"DataReadyAcknowledgement\":{\"ConsumerRef\":\"c\",\"ResponseTimestamp\":\"2024-05-01T08:00:00Z\",\"Status\":true}}}";
+
+const SUPPLY: &str =
+    "POST / HTTP/1.1\r\nHost: 127.0.0.1:7001\r\nContent-Type: application/json\r\nContent-Length: 175\r\nConnection: close\r\n\r\n{\"Siri\":{\"DataSupplyRequest\":{\"ConsumerRef\":\"c\",\"Extensions\":{\"Number\":1000000,\"Part\":1,\"Round\":1,\"Start\":1,\"SubscriptionRef\":\"S\"},\"RequestTimestamp\":\"2024-05-01T08:00:00Z\"}}}";
+
+const SUPPLIED: &[u8] =
+    b"HTTP/1.1 200 OK\r\nContent-Length: 314\r\n\r\n{\"Siri\":{\"ServiceDelivery\":{\"ProducerRef\":\"producer\",\"RequestMessageRef\":\"1000000\",\"ResponseTimestamp\":\"2024-05-01T08:00:00Z\",\"Status\":true,\"StopMonitoringDelivery\":[{\"Extensions\":{\"Part\":1,\"Round\":1,\"Start\":1},\"ResponseTimestamp\":\"2024-05-01T08:00:00Z\",\"Status\":true,\"SubscriberRef\":\"c\",\"SubscriptionRef\":\"S\"}]}}}";
+
+const ACKNOWLEDGED_UP: &str =
+    "POST / HTTP/1.1\r\nHost: 127.0.0.1:7001\r\nContent-Type: application/json\r\nContent-Length: 200\r\nConnection: close\r\n\r\n{\"Siri\":{\"DataReceivedAcknowledgement\":{\"ConsumerRef\":\"c\",\"Extensions\":{\"Number\":1000000,\"Part\":1,\"Round\":1,\"Start\":1,\"SubscriptionRef\":\"S\"},\"ResponseTimestamp\":\"2024-05-01T08:00:00Z\",\"Status\":true}}}";
+
+const TAKEN: &[u8] = b"HTTP/1.1 200 OK\r\nContent-Length: 0\r\n\r\n";
+
 const CONSUMER: &str = "127.0.0.1:7002";
 
-// What the source has, the connections to be dialled, and what comes of it.
-static ASKED: [(&str, &[&[u8]], Comes<'static>); 4] = [
+// What the source has, the connection to come, those to be dialled, and what comes of it.
+static ASKED: [(&str, &[u8], &[&[u8]], Comes<'static>); 8] = [
     (
         WANTED,
-        &[b"HTTP/1.1 200 OK\r\nContent-Length: 0\r\n\r\n"],
+        ROUND,
+        &[TAKEN],
         Comes {
             answered: &[REQUEST, ACKNOWLEDGED],
             named: &[CONSUMER, LISTEN],
@@ -251,6 +375,7 @@ static ASKED: [(&str, &[&[u8]], Comes<'static>); 4] = [
     ),
     (
         WANTED,
+        ROUND,
         &[],
         Comes {
             answered: &[ACKNOWLEDGED],
@@ -262,6 +387,7 @@ static ASKED: [(&str, &[&[u8]], Comes<'static>); 4] = [
     ),
     (
         WANTED,
+        ROUND,
         &[b"HTTP/1.1 500 Internal Server Error\r\nContent-Length: 0\r\n\r\n"],
         Comes {
             answered: &[REQUEST, ACKNOWLEDGED],
@@ -272,7 +398,56 @@ static ASKED: [(&str, &[&[u8]], Comes<'static>); 4] = [
         },
     ),
     (
+        WANTED,
+        NOTIFIED,
+        &[TAKEN, SUPPLIED, TAKEN],
+        Comes {
+            answered: &[REQUEST, READY, SUPPLY, ACKNOWLEDGED_UP],
+            named: &[CONSUMER, LISTEN, LISTEN, LISTEN],
+            output: "view c S number 1000000 start 1 round 1 items 0\nserved 1 refused 0 dropped 0 unsent 0\n",
+            number: 0,
+            text: "",
+        },
+    ),
+    (
+        WANTED,
+        NOTIFIED,
+        &[TAKEN],
+        Comes {
+            answered: &[REQUEST, READY],
+            named: &[CONSUMER, LISTEN, LISTEN],
+            output: "view c S number 0 start 0 round 0 items 0\nserved 1 refused 0 dropped 0 unsent 1\n",
+            number: 0,
+            text: "",
+        },
+    ),
+    (
+        WANTED,
+        b"POST / HTTP/1.1\r\nContent-Length: 2\r\n\r\n{}",
+        &[TAKEN],
+        Comes {
+            answered: &[REQUEST, MISSING],
+            named: &[CONSUMER, LISTEN],
+            output: "view c S number 0 start 0 round 0 items 0\nserved 1 refused 1 dropped 0 unsent 0\n",
+            number: 0,
+            text: "",
+        },
+    ),
+    (
+        WANTED,
+        CUT,
+        &[TAKEN],
+        Comes {
+            answered: &[REQUEST, ""],
+            named: &[CONSUMER, LISTEN],
+            output: "view c S number 0 start 0 round 0 items 0\nserved 1 refused 0 dropped 1 unsent 0\n",
+            number: 0,
+            text: "",
+        },
+    ),
+    (
         "# nothing\n{\"StopMonitoringSubscriptionRequest\":{}}\n",
+        ROUND,
         &[],
         Comes {
             answered: &[],
@@ -286,11 +461,11 @@ static ASKED: [(&str, &[&[u8]], Comes<'static>); 4] = [
 
 #[test]
 fn a_consumer_asks_and_answers(rt: HostRuntime) {
-    for (input, to_dial, comes) in &ASKED {
+    for (input, to_accept, to_dial, comes) in &ASKED {
         let handed = Handed {
             kept: 0,
             moments: &[EIGHT, EIGHT],
-            to_accept: &[ROUND],
+            to_accept: &[*to_accept],
             to_dial: *to_dial,
             input: input.as_bytes(),
         };

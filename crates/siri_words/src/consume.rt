@@ -64,16 +64,12 @@ fn is_consume(name: &str, listen: &str, producer: &str, count: &str) -> bool
 fn consume_command<'a>(alloc: Global) -> Result<clap::Command<'a>, AllocError>
     ensures { IfOk result (IsOf consume_app) }
 {
-    let name = Arg::new(alloc, "NAME");
-    let listen = Arg::new(alloc, "LISTEN");
-    let producer = Arg::new(alloc, "PRODUCER");
-    let count = Arg::new(alloc, "COUNT");
     clap::Command::new(alloc, "consume")
         .disable_help_flag(true)
-        .arg(name)?
-        .arg(listen)?
-        .arg(producer)?
-        .arg(count)
+        .arg(Arg::new(alloc, "NAME"))?
+        .arg(Arg::new(alloc, "LISTEN"))?
+        .arg(Arg::new(alloc, "PRODUCER"))?
+        .arg(Arg::new(alloc, "COUNT"))
 }
 
 /// The command of words that are the arguments of `consume`.

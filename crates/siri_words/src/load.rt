@@ -48,12 +48,10 @@ fn is_load(seed: &str, count: &str) -> bool
 fn load_command<'a>(alloc: Global) -> Result<clap::Command<'a>, AllocError>
     ensures { IfOk result (IsOf load_app) }
 {
-    let seed = Arg::new(alloc, "SEED");
-    let count = Arg::new(alloc, "COUNT");
     clap::Command::new(alloc, "load")
         .disable_help_flag(true)
-        .arg(seed)?
-        .arg(count)
+        .arg(Arg::new(alloc, "SEED"))?
+        .arg(Arg::new(alloc, "COUNT"))
 }
 
 /// The command of words that are the arguments of `load`.

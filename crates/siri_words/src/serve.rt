@@ -52,14 +52,11 @@ fn is_serve(name: &str, listen: &str, count: &str) -> bool
 fn serve_command<'a>(alloc: Global) -> Result<clap::Command<'a>, AllocError>
     ensures { IfOk result (IsOf serve_app) }
 {
-    let name = Arg::new(alloc, "NAME");
-    let listen = Arg::new(alloc, "LISTEN");
-    let count = Arg::new(alloc, "COUNT");
     clap::Command::new(alloc, "serve")
         .disable_help_flag(true)
-        .arg(name)?
-        .arg(listen)?
-        .arg(count)
+        .arg(Arg::new(alloc, "NAME"))?
+        .arg(Arg::new(alloc, "LISTEN"))?
+        .arg(Arg::new(alloc, "COUNT"))
 }
 
 /// The command of words that are the arguments of `serve`.

@@ -8,9 +8,9 @@ use Rattle.siri_words.proofs.serve.serve_command.Goals as goal
 pub returns : goal.returns
 unfolding IsOf serve_app
 returns c =
-    let name : rule_of c.new-name.result ≡ new_rule (codes "NAME") = search rules in
-    let listen : rule_of c.new-listen.result ≡ new_rule (codes "LISTEN") = search rules in
-    let count : rule_of c.new-count.result ≡ new_rule (codes "COUNT") = search rules in
+    let name : rule_of c.new-2.result ≡ new_rule (codes "NAME") = search rules in
+    let listen : rule_of c.new-3.result ≡ new_rule (codes "LISTEN") = search rules in
+    let count : rule_of c.new-4.result ≡ new_rule (codes "COUNT") = search rules in
     IfOk-weaker c.arg-3.result _ _ (λ r h. h.shape (search rules)
     ∙ ap₂ with_rule (c.in_ok-arg-2.ensures.shape (search rules)
     ∙ ap₂ with_rule (c.in_ok-arg.ensures.shape (search rules)

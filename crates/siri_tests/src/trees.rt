@@ -9,7 +9,7 @@ use std::test::Fail;
 
 // A row: a document, the names of a member and of one inside it, and the texts of what stands there, or why there is no tree. The
 // last three are of RFC 8259, section 13.
-const DOCUMENTS: [(&str, (&str, &str), &str); 13] = [
+static DOCUMENTS: [(&str, (&str, &str), &str); 13] = [
     ("[01]", ("", ""), "NotJson"),
     ("{1:2}", ("", ""), "NotJson"),
     ("{1.5:2}", ("", ""), "NotJson"),
@@ -77,9 +77,9 @@ fn told(alloc: Global, document: &[u8], names: (&str, &str)) -> Result<String, A
 
 #[test]
 fn documents_are_read_with_their_numbers_as_texts(rt: HostRuntime) -> Result<(), Fail> {
-    for (document, names, want) in DOCUMENTS {
-        let text = told(rt.alloc(), document.as_bytes(), names)?;
-        assert!(rt; text.as_str() == want, "{document}");
+    for (document, names, want) in &DOCUMENTS {
+        let text = told(rt.alloc(), document.as_bytes(), *names)?;
+        assert!(rt; text.as_str() == *want, "{document}");
     }
     let spaces = vec![in rt.alloc(); b' '; MAX_DOCUMENT + 1]?;
     assert!(rt; told(rt.alloc(), &spaces, ("", ""))?.as_str() == "TooLong");

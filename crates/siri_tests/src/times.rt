@@ -4,7 +4,7 @@ use siri_base::{Moment, Span};
 use siri_time::{SpanError, TimeError, read_moment, read_span, write_moment, write_span};
 
 // Fractions are cut, and offsets are taken to their ends. The last has 64 bytes.
-const MOMENTS: [(&str, i64); 27] = [
+static MOMENTS: [(&str, i64); 27] = [
     ("1970-01-01T00:00:00Z", 0),
     ("1970-12-31T00:00:00Z", 31_449_600_000),
     ("1972-01-01T00:00:00Z", 63_072_000_000),
@@ -38,7 +38,7 @@ const MOMENTS: [(&str, i64); 27] = [
 ];
 
 // Texts of no moment. The last have 65 bytes, or would have with an offset.
-const NO_MOMENTS: [&str; 35] = [
+static NO_MOMENTS: [&str; 35] = [
     "",
     "Z",
     "2024-02-29T00:00:00.",
@@ -77,7 +77,7 @@ const NO_MOMENTS: [&str; 35] = [
 ];
 
 // Texts of moments but for their offsets.
-const NO_OFFSETS: [&str; 4] = [
+static NO_OFFSETS: [&str; 4] = [
     "2024-02-29T00:00:00",
     "2024-02-29T00:00:00.25",
     "2000-01-15T00:00:00",
@@ -85,7 +85,7 @@ const NO_OFFSETS: [&str; 4] = [
 ];
 
 // Lengths of time. The last has 64 bytes.
-const SPANS: [(&str, i64); 13] = [
+static SPANS: [(&str, i64); 13] = [
     ("P1DT90S", 86_490_000),
     ("-PT0.5S", -500),
     ("PT0S", 0),
@@ -105,7 +105,7 @@ const SPANS: [(&str, i64); 13] = [
 ];
 
 // Texts of no length. The last has 65 bytes.
-const NO_SPANS: [&str; 26] = [
+static NO_SPANS: [&str; 26] = [
     "P0000000000000001D",
     "P1000000DT0.001S",
     "P999999999999999DT999999999999999H",
@@ -135,7 +135,7 @@ const NO_SPANS: [&str; 26] = [
 ];
 
 // Lengths with years or months.
-const CALENDAR_SPANS: [&str; 7] = [
+static CALENDAR_SPANS: [&str; 7] = [
     "P1Y2M3DT10H30M",
     "P1347Y",
     "P1Y2MT2H",
@@ -146,7 +146,7 @@ const CALENDAR_SPANS: [&str; 7] = [
 ];
 
 // Moments as they are written.
-const WRITTEN_MOMENTS: [(i64, &str); 9] = [
+static WRITTEN_MOMENTS: [(i64, &str); 9] = [
     (0, "1970-01-01T00:00:00Z"),
     (31_535_999_999, "1970-12-31T23:59:59.999Z"),
     (68_169_600_000, "1972-02-29T00:00:00Z"),
@@ -159,7 +159,7 @@ const WRITTEN_MOMENTS: [(i64, &str); 9] = [
 ];
 
 // Lengths as they are written.
-const WRITTEN_SPANS: [(i64, &str); 10] = [
+static WRITTEN_SPANS: [(i64, &str); 10] = [
     (0, "PT0S"),
     (90_000, "PT1M30S"),
     (1_500, "PT1.500S"),

@@ -1,0 +1,78 @@
+// Views of vehicles, and the changes that lead from one to another.
+use siri_base::Name;
+use siri_change::{Change, View, changes, patch};
+use siri_records::{Item, Key, Vehicle, VehicleJourney};
+use std::alloc::{AllocError, Global};
+use std::rc::Rc;
+use std::test::Fail;
+
+fn vehicle_of(name: Name) -> Item {
+    Item::Vehicle(Vehicle {
+        recorded_at_time: None,
+        item_identifier: None,
+        valid_until_time: None,
+        monitored_vehicle_journey: VehicleJourney {
+            line_ref: None,
+            direction_ref: None,
+            data_frame_ref: None,
+            dated_vehicle_journey_ref: None,
+            published_line_name: None,
+            operator_ref: None,
+            destination_ref: None,
+            destination_name: None,
+            vehicle_ref: name,
+            monitored: None,
+            occupancy: None,
+            delay: None,
+            vehicle_location: None,
+            monitored_call: None,
+        },
+    })
+}
+
+fn addition(alloc: Global, name: &str) -> Result<Change, Fail> {
+    let vehicle = Name::new(alloc, name)?;
+    let item = Rc::new(alloc, vehicle_of(Name::new(alloc, name)?))?;
+    Ok(Change {
+        key: Key::Vehicle { vehicle },
+        item: Some(item),
+    })
+}
+
+fn view(alloc: Global, names: &[&str]) -> Result<View, Fail> {
+    let mut view = View::new(alloc);
+    for name in names {
+        let change = addition(alloc, name)?;
+        view.put_change(change)?;
+    }
+    Ok(view)
+}
+
+// The names of its vehicles, each with a space before it.
+fn told(alloc: Global, view: &View) -> Result<String, AllocError> {
+    let mut text = String::new(alloc);
+    for place in 0..view.len() {
+        if let Some((Key::Vehicle { vehicle }, _)) = view.entry(place) {
+            text.push_str(" ")?;
+            text.push_str(vehicle.text())?;
+        }
+    }
+    Ok(text)
+}
+
+// The first view with the changes that lead to the second.
+fn patched(alloc: Global, before: &[&str], after: &[&str]) -> Result<String, Fail> {
+    let mut view_before = view(alloc, before)?;
+    let list = changes(&view_before, &view(alloc, after)?)?;
+    patch(&mut view_before, &list)?;
+    Ok(told(alloc, &view_before)?)
+}
+
+#[test]
+fn changes_lead_from_one_view_to_another(rt: HostRuntime) -> Result<(), Fail> {
+    assert_eq!(rt;
+        patched(rt.alloc(), &["b", "a"], &["c", "b"])?.as_str(),
+        " b c"
+    );
+    Ok(())
+}
