@@ -1,7 +1,7 @@
 // What the wires in memory share: one connection at a time, whichever list it comes from.
 ghost use Rattle.std.specs.Prelude.{◌≡◌, ◌<◌, ◌≤◌, [], IfOk, IsSome, OnErr, OnOk, length, option_map, slice_get};
 ghost use Rattle.std.specs.Io.{ReadsAtMost, WritesAtMost};
-ghost use Rattle.siri_base.specs.Causes.{HasCause, HasOutsideCause, Rose};
+ghost use Rattle.siri_base.specs.Causes.{CountsFailures, HasCause, HasOutsideCause, Rose};
 ghost use Rattle.siri_base.specs.Wires.{Listens, Reads, Writes, hung_up, texts, unfailing, with_connection};
 ghost use Rattle.siri_base.specs.InMemoryLines.{AcceptsNext, DialsNext, connection_of, named, with_failures};
 
@@ -130,6 +130,7 @@ impl<'a> Line<'a> {
     pub fn listen(&mut self, address: &Name) -> Result<(), OutsideError>
         ensures told { Listens address.now self.old.wire self.new.wire result }
         ensures cause { HasOutsideCause self.old.faults self.new.faults result }
+        ensures counted { CountsFailures self.old.faults self.new.faults result }
     {
         self.name(address)?;
         if self.listen_fails.call() {
@@ -143,6 +144,7 @@ impl<'a> Line<'a> {
         ensures open { OnOk result (IsSome self.new.wire.present) }
         ensures told { AcceptsNext (option_map connection_of next.entry) self.old.wire self.new.wire result }
         ensures cause { HasOutsideCause self.old.faults self.new.faults result }
+        ensures counted { CountsFailures self.old.faults self.new.faults result }
     {
         let connection = match next {
             Some(connection) if !self.accept_fails.is_due() => connection,
@@ -165,6 +167,7 @@ impl<'a> Line<'a> {
         ensures open { OnOk result (IsSome self.new.wire.present) }
         ensures told { DialsNext (option_map connection_of next.entry) address.now self.old.wire self.new.wire result }
         ensures cause { HasOutsideCause self.old.faults self.new.faults result }
+        ensures counted { CountsFailures self.old.faults self.new.faults result }
     {
         self.name(address)?;
         let connection = match next {
@@ -189,6 +192,7 @@ impl<'a> Line<'a> {
         ensures bound { ReadsAtMost result into.new }
         ensures told { Reads self.old.wire self.new.wire result into.new }
         ensures cause { HasCause self.old.faults self.new.faults result }
+        ensures counted { OnOk result (self.new.faults ≡ self.old.faults) }
     {
         let Some(Last { source, sink }) = self.last.take() else {
             return Err(Failed);
@@ -215,6 +219,7 @@ impl<'a> Line<'a> {
         ensures some { IfOk result (λ count. 0 < length piece.now → 0 < count) }
         ensures told { Writes self.old.wire self.new.wire result piece.now }
         ensures cause { HasOutsideCause self.old.faults self.new.faults result }
+        ensures counted { CountsFailures self.old.faults self.new.faults result }
     {
         let Some(Last { source, mut sink }) = self.last.take() else {
             return Err(OutsideError::Failed);
