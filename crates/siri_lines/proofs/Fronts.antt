@@ -1,7 +1,7 @@
 -- A report of lines is that of the first of them, and then what the others bring.
-use Rattle.std.proofs.Common.{◌≡◌, ℕ, ◌+◌, suc, List, [], ◌∷◌, ◌++◌, length, Option, Some, None, refl, sym, ap, ◌∙◌, append_assoc, arith}
+use Rattle.std.proofs.Common.{◌≡◌, ℕ, ◌+◌, List, [], ◌∷◌, ◌++◌, length, Some, refl, sym, ap, ◌∙◌, append_assoc, arith}
 use Rattle.std.proofs.lemmas.Option.{none-some, same_Some}
-use Rattle.siri_lines.specs.RunResult.{Verdict, Goes, RunEnds, Events, RunResult, after_text, goes_on, report_from}
+use Rattle.siri_lines.specs.RunResult.{Verdict, Goes, RunEnds, Events, goes_on, report_from}
 use Rattle.siri_lines.specs.Fronts.{gone_on, gone_through}
 
 module _ {W : Type 0} (event : Events W) where

@@ -1,4 +1,5 @@
 pub mod Written
+pub mod Meeting
 pub mod LineBreaks
 pub mod Steps
 pub mod Whole

@@ -1,5 +1,7 @@
 -- A run over a source that told its bytes, or did not.
-use Rattle.std.proofs.Common.{◌≡◌, ℕ, List, [], ◌++◌, None, Some, refl, sym, ap, ◌∙◌, subst, append-nil, append_assoc, inl, inr}
+use Rattle.std.proofs.Common.{◌≡◌, ◌≤◌, ℕ, List, [], ◌++◌, length, None, Some, Option, refl, sym, ap, ◌∙◌, subst, append-nil, append_assoc, arith, inl, inr}
+use Rattle.std.specs.Prelude.{IsSome}
+use Rattle.std.proofs.KnownBytes.{Consumes-nil}
 use Rattle.std.specs.Io.KnownBytes.{Consumes, Keeps, IsAtEnd}
 use Rattle.std.specs.Str.Lines.{lines}
 use Rattle.siri_base.specs.declared.status.Status.{Status}
@@ -7,7 +9,8 @@ use Rattle.siri_base.specs.declared.status.Status.TheVariants as status
 use Rattle.siri_lines.specs.declared.stop.Stop.{Stop}
 use Rattle.siri_lines.specs.declared.stop.Stop.TheVariants as stop
 use Rattle.siri_lines.specs.RunResult.{Events}
-use Rattle.siri_lines.specs.Ends.{Bytes, Ends, AppendsFront}
+use Rattle.siri_lines.specs.Ends.{Bytes, Ends, AppendsFront, HasNoBreak}
+use Rattle.siri_lines.specs.Pieces.{ReadsNoFurther}
 use Rattle.siri_lines.specs.Stops.{EndsLines}
 use Rattle.siri_lines.specs.inner.Reading.{Progress, beginning, gone_from, Advances, CutsOff, EndsWithin, Breaks, Finishes, GoesToEnd, HasRead, Follows, IsTaken, Passes}
 use Rattle.siri_lines.specs.Stops.{status_of}
@@ -151,3 +154,24 @@ passes_end Fits event fresh input left later last s t p took none stands x = rec
   is = ap (gone_through event 1 fresh) (ap lines p.parts ∙ lines_whole p.ended s.line p.whole) ∙ p.leads (lines s.line) ∙ x;
   stands = stands;
 }
+
+-- What was read before this piece ended no run.
+pub ends_in_piece : {W : Type 0} (event : Events W) (fresh : W) (input left later : Bytes) (s : Progress W) (piece : List ℕ) → Passes event fresh input left s → Consumes left later piece → HasNoBreak s.line → length s.line ≤ 1048577 → length piece ≤ 65536 → ReadsNoFurther event fresh input later
+ends_in_piece event fresh None left later s piece p took begun within few = tt
+ends_in_piece event fresh (Some input) None later s piece p took begun within few = absurd p.read
+ends_in_piece event fresh (Some input) (Some left) None s piece p took begun within few = absurd took
+ends_in_piece {W = W} event fresh (Some input) (Some left) (Some later) s piece p took begun within few = record {
+  whole = p.ended;
+  begun = s.line;
+  piece = piece;
+  read = p.read ∙ ap (λ l. l ++ left) p.parts ∙ ap (λ l. (p.ended ++ s.line) ++ l) took ∙ sym (append_assoc (p.ended ++ s.line) piece later);
+  ended = p.whole;
+  last = begun;
+  within = within;
+  goes = subst (λ (world : Option W). IsSome world) (sym (ap (gone_from event (beginning fresh)) (sym (append-nil (lines p.ended))) ∙ p.leads [])) refl;
+  few = few;
+}
+
+-- nothing was read
+pub ends_at_once : {W : Type 0} (event : Events W) (fresh : W) (input : Bytes) → ReadsNoFurther event fresh input input
+ends_at_once event fresh input = ends_in_piece event fresh input input input (beginning fresh) [] (passes_start event fresh input) (Consumes-nil input) tt (omega arith) (omega arith)

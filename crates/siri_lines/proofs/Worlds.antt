@@ -1,23 +1,28 @@
 -- Lines are read in each world that their taker stands for.
-use Rattle.std.proofs.Common.{◌≡◌, ℕ, List, [], ◌∷◌, ◌++◌, eqb, false, refl, sym, ap, ◌∙◌, subst, append_assoc, append-nil, length, take}
+use Rattle.std.proofs.Common.{◌≡◌, ℕ, List, [], ◌∷◌, ◌++◌, eqb, ◌≤◌, false, refl, sym, ap, ◌∙◌, subst, append_assoc, append-nil, length, take, Result, Ok, Err}
 use Rattle.std.specs.Io.KnownBytes.{Consumes, Keeps, IsAtEnd}
+use Rattle.std.specs.Prelude.{IfErr}
+use Rattle.std.proofs.KnownBytes.{Consumes-kept, Consumes-nil}
 use Rattle.std.specs.Str.Lines.{strip_carriage_return}
+use Rattle.siri_base.specs.MetFailures.{is_read_fault}
 use Rattle.siri_base.specs.declared.status.Status.{Status}
 use Rattle.siri_base.specs.declared.status.Status.TheVariants as status
 use Rattle.siri_lines.specs.declared.reader.Reader.{Reader}
 use Rattle.siri_lines.specs.declared.stop.Stop.{Stop}
 use Rattle.siri_lines.specs.declared.stop.Stop.TheVariants as stop
+use Rattle.siri_lines.specs.Brings.{has_failed_to_write}
 use Rattle.siri_lines.specs.Ends.{Bytes, Ends, HasNoBreak}
+use Rattle.siri_lines.specs.Pieces.{ReadsNoFurther}
 use Rattle.siri_lines.specs.Reports.{Reports, report_of}
 use Rattle.siri_lines.specs.RunResult.{Events, verdict}
 use Rattle.siri_lines.specs.Stands.{TakesAll}
 use Rattle.siri_lines.specs.Stops.{EndsLines, status_of}
-use Rattle.siri_lines.specs.inner.Reading.{Advances, Breaks, Finishes, Follows, GoesToEnd, IsTaken, LineBreaks, Passes, TakesLine, to_come}
-use Rattle.siri_lines.specs.inner.Standing.{HasNoRoom, InEachWorld, Leads, progress}
+use Rattle.siri_lines.specs.inner.Reading.{Advances, Breaks, Finishes, Follows, GoesToEnd, LineBreaks, Passes, TakesLine, to_come}
+use Rattle.siri_lines.specs.inner.Standing.{HasNoRoom, InEachWorld, IsWithin, Leads, progress}
 use Rattle.std.specs.Str.Lines.{lines}
 use Rattle.siri_lines.proofs.LineBreaks.{no_break_append}
 use Rattle.siri_lines.proofs.Steps.{advances_none, advances_more, breaks_longer, breaks_more, finished_early, finished_whole, goes_to_end, line_breaks, line_taken, run_advances, run_no_memory, run_too_long}
-use Rattle.siri_lines.proofs.Whole.{follows_start, follows_more, follows_break, follows_end, follows_fault, passes_start, passes_more, passes_end}
+use Rattle.siri_lines.proofs.Whole.{ends_in_piece, follows_start, follows_more, follows_break, follows_end, follows_fault, passes_start, passes_more, passes_end}
 
 -- ---- a run of bytes that end no line
 
@@ -164,3 +169,46 @@ reads_all Fits event most fresh input held left later mid taker last r new same 
 pub reads_fault : {T W : Type 0} (Fits : T → W → Type 0) (event : Events W) (fresh : W) (input held left later mid : Bytes) (taker : T) (r : Reader) → ReadsOn Fits event fresh input left held taker r mid → Keeps left later → Reports (report_of event fresh) input later held mid status.ReadFault
 reads_fault Fits event fresh input held left later mid taker r on kept =
     follows_fault event fresh input held left later mid (progress r on.world) on.follows kept
+
+-- what was read before a piece ended no run, whatever came of the piece
+pub reads_in_piece : {T W : Type 0} (Fits : T → W → Type 0) (event : Events W) (fresh : W) (input held left later mid : Bytes) (taker : T) (r : Reader) (piece : List ℕ) → ReadsOn Fits event fresh input left held taker r mid → IsWithin r → Consumes left later piece → length piece ≤ 65536 → ReadsNoFurther event fresh input later
+reads_in_piece Fits event fresh input held left later mid taker r piece on within took few =
+    ends_in_piece event fresh input left later (progress r on.world) piece on.passes took within.begun within.line few
+
+-- what is left after a call that failed
+pub none_taken : (input later : Bytes) → Keeps input later → Consumes input later []
+none_taken input later kept = Consumes-kept input input later [] (Consumes-nil input) kept
+
+-- ---- how it ended
+
+-- lines end no run by a failure of the source
+pub lines_no_read_fault : (end : Status) → EndsLines end → is_read_fault end ≡ false
+lines_no_read_fault status.Done e = refl
+lines_no_read_fault status.Refused e = refl
+lines_no_read_fault status.Usage e = refl
+lines_no_read_fault (status.Script line r) e = refl
+lines_no_read_fault status.ReadFault e = absurd e
+lines_no_read_fault (status.Limit line) e = refl
+lines_no_read_fault status.WireFault e = refl
+lines_no_read_fault status.OutOfMemory e = refl
+lines_no_read_fault status.WriteFault e = refl
+lines_no_read_fault status.ClockFault e = refl
+lines_no_read_fault status.KeeperFault e = refl
+
+pub stop_no_read_fault : (end : Stop) → is_read_fault (status_of end) ≡ false
+stop_no_read_fault (stop.Script n why) = refl
+stop_no_read_fault (stop.Limit n) = refl
+stop_no_read_fault stop.OutOfMemory = refl
+stop_no_read_fault stop.WriteFault = refl
+
+-- there was no room for a line: the sink wasn't written to
+pub no_room_no_fault : (r : Reader) (run : List ℕ) (end : Stop) → HasNoRoom r run end → has_failed_to_write {T = Unit {0}} (Err end) ≡ false
+no_room_no_fault r run (stop.Script n why) e = absurd e
+no_room_no_fault r run (stop.Limit n) e = refl
+no_room_no_fault r run stop.OutOfMemory e = refl
+no_room_no_fault r run stop.WriteFault e = absurd e
+
+-- bytes that end no line were kept, or there was no room for them: the sink wasn't written to
+pub kept_no_fault : (r : Reader) (run : List ℕ) (result : Result (Unit {0}) Stop) → IfErr result (λ end. HasNoRoom r run end) → has_failed_to_write result ≡ false
+kept_no_fault r run (Ok done) e = refl
+kept_no_fault r run (Err end) e = no_room_no_fault r run end e

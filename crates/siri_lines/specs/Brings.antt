@@ -1,5 +1,5 @@
 -- What one line brings.
-use Rattle.std.specs.Prelude.{◌≡◌, ℕ, ◌≤◌, List, [], Result, Ok, Err, IsErrOf}
+use Rattle.std.specs.Prelude.{◌≡◌, ℕ, ◌≤◌, List, [], Bool, true, false, Result, Ok, Err, IsErrOf}
 use Rattle.std.specs.Io.KnownBytes.{Appends, Keeps}
 use Rattle.siri_base.specs.Causes.{Rose}
 use Rattle.siri_base.specs.declared.status.Status.{Status}
@@ -39,3 +39,11 @@ Brings Fits now old new (Err stop.WriteFault) v = AppendsFront old new (verdict_
 pub record StopCause {T : Type 0} (before now : ℕ) (result : Result T Stop) : Type 0 where
   pub later : before ≤ now
   pub failed : IsErrOf result stop.WriteFault → Rose before now
+
+-- a line at which the sink failed
+abbrev pub has_failed_to_write : {T : Type 0} → Result T Stop → Bool
+has_failed_to_write (Ok done) = false
+has_failed_to_write (Err (stop.Script n reason)) = false
+has_failed_to_write (Err (stop.Limit n)) = false
+has_failed_to_write (Err stop.OutOfMemory) = false
+has_failed_to_write (Err stop.WriteFault) = true

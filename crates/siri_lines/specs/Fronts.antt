@@ -1,6 +1,6 @@
 -- What the first lines of a run bring, where none of them ends it.
 use Rattle.std.specs.Prelude.{ℕ, ◌+◌, List, [], ◌∷◌, Option, Some, None}
-use Rattle.siri_lines.specs.RunResult.{Verdict, Goes, RunEnds, Events, report_from}
+use Rattle.siri_lines.specs.RunResult.{Verdict, Goes, RunEnds, Events}
 
 -- the world after a line, if it doesn't end the run, and after the lines that follow
 abbrev pub gone_on : {W : Type 0} → Verdict W → (W → Option W) → Option W

@@ -1,6 +1,7 @@
 // What takes lines.
 ghost use Rattle.siri_lines.specs.RunResult.{Events};
-ghost use Rattle.siri_lines.specs.Brings.{Brings, StopCause};
+ghost use Rattle.siri_base.specs.MetFailures.{SinkMeets};
+ghost use Rattle.siri_lines.specs.Brings.{Brings, StopCause, has_failed_to_write};
 
 use crate::Stop;
 use siri_base::Sink;
@@ -20,5 +21,6 @@ pub trait LineTaker {
     fn take_line<K: Sink>(&mut self, number: u64, line: &[u8], sink: &mut K) -> Result<(), Stop>
         ensures brings { (w : World) → fits self.old w →
             Brings fits self.new (K.held sink.old) (K.held sink.new) result (event number w line.now) }
-        ensures cause { StopCause (K.faults sink.old) (K.faults sink.new) result };
+        ensures cause { StopCause (K.faults sink.old) (K.faults sink.new) result }
+        ensures meets { SinkMeets (has_failed_to_write result) (K.held sink.old) (K.held sink.new) (K.fails sink.old) (K.fails sink.new) };
 }

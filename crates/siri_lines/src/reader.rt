@@ -1,9 +1,10 @@
 // Lines that come in pieces.
 ghost use Rattle.std.specs.Prelude.{◌≡◌, ◌≤◌, ◌<◌, ◌+◌, ◌∷◌, ◌++◌, [], length, take, OnOk, IfErr};
 ghost use Rattle.std.specs.Str.Lines.{strip_carriage_return};
+ghost use Rattle.siri_base.specs.MetFailures.{SinkMeets, is_write_fault};
 ghost use Rattle.siri_lines.specs.RunResult.{verdict};
 ghost use Rattle.siri_lines.specs.Ends.{HasNoBreak};
-ghost use Rattle.siri_lines.specs.Brings.{StopCause};
+ghost use Rattle.siri_lines.specs.Brings.{StopCause, has_failed_to_write};
 ghost use Rattle.siri_lines.specs.inner.Reading.{Advances, Breaks, Finishes, GoesToEnd, LineBreaks, TakesLine};
 ghost use Rattle.siri_lines.specs.inner.Standing.{EndCause, HasNoRoom, InEachWorld, IsWithin, Leads, room};
 
@@ -60,6 +61,7 @@ impl Reader {
         ensures within { OnOk result (IsWithin self.new) }
         ensures room { OnOk result (room self.new + length piece.now ≤ room self.old) }
         ensures cause { StopCause (K.faults sink.old) (K.faults sink.new) result }
+        ensures meets { SinkMeets (has_failed_to_write result) (K.held sink.old) (K.held sink.new) (K.fails sink.old) (K.fails sink.new) }
     {
         let mut rest = piece;
         while let Some(end) = memchr(b'\n', rest) {
@@ -76,6 +78,7 @@ impl Reader {
             Finishes (verdict self.old.most T.event) (K.held sink.old) from (K.held sink.new) result) }
         ensures stands { result ≡ Status.Done → Leads T.fits taker.old self.old taker.new self.new (GoesToEnd (verdict self.old.most T.event)) }
         ensures cause { EndCause (K.faults sink.old) (K.faults sink.new) result }
+        ensures meets { SinkMeets (is_write_fault result) (K.held sink.old) (K.held sink.new) (K.fails sink.old) (K.fails sink.new) }
     {
         if self.line.is_empty() {
             return Status::Done;
@@ -104,6 +107,7 @@ impl Reader {
         ensures within { OnOk result (IsWithin self.new) }
         ensures room { OnOk result (room self.new + length run.now < room self.old) }
         ensures cause { StopCause (K.faults sink.old) (K.faults sink.new) result }
+        ensures meets { SinkMeets (has_failed_to_write result) (K.held sink.old) (K.held sink.new) (K.fails sink.old) (K.fails sink.new) }
     {
         self.push(run)?;
         let ended = without_return(&self.line);
@@ -145,6 +149,7 @@ impl Reader {
         ensures most { self.new.most ≡ self.old.most }
         ensures empty { OnOk result ((self.new.line.items ≡ []) × (self.new.lines ≡ self.old.lines + 1) × (self.new.lines ≤ self.new.most)) }
         ensures cause { StopCause (K.faults sink.old) (K.faults sink.new) result }
+        ensures meets { SinkMeets (has_failed_to_write result) (K.held sink.old) (K.held sink.new) (K.fails sink.old) (K.fails sink.new) }
     {
         let number = self.lines + 1;
         if ended > LINE_BYTES || number > self.most {

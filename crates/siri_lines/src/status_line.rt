@@ -2,6 +2,7 @@
 ghost use Rattle.std.specs.Prelude.{◌≡◌, IfOk, OnErr, OnOk};
 ghost use Rattle.std.specs.Io.KnownBytes.{Appends};
 ghost use Rattle.siri_base.specs.Causes.{HasOutsideCause};
+ghost use Rattle.siri_base.specs.MetFailures.{SinkMeets, has_failed};
 ghost use Rattle.siri_lines.specs.Ends.{AppendsFront};
 ghost use Rattle.siri_lines.specs.StatusLines.{status_line};
 
@@ -10,6 +11,7 @@ use siri_base::{OutOfMemory, OutsideError, Sink, Status};
 use std::alloc::Global;
 
 /// Writes the line that tells how a run ended: its status's text and a line feed, and nothing where it has no text.
+#[tactic(auto, using(crate::proofs::Meeting::sink_none))]
 pub fn write_status<K: Sink>(
     alloc: Global,
     sink: &mut K,
@@ -18,6 +20,7 @@ pub fn write_status<K: Sink>(
     ensures ok { OnOk result (Appends (K.held sink.old) (K.held sink.new) (status_line status.now)) }
     ensures err { OnErr result (AppendsFront (K.held sink.old) (K.held sink.new) (status_line status.now)) }
     ensures cause { HasOutsideCause (K.faults sink.old) (K.faults sink.new) result }
+    ensures meets { SinkMeets (has_failed result) (K.held sink.old) (K.held sink.new) (K.fails sink.old) (K.fails sink.new) }
 {
     write_text(sink, &status_line(alloc, status)?)
 }

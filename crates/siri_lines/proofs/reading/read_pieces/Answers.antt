@@ -1,6 +1,8 @@
-use Rattle.std.proofs.Common.{◌<◌, ◌∙◌, length, arith, rules}
+use Rattle.std.proofs.Common.{◌<◌, ◌≤◌, ◌∙◌, [], length, take, arith, rules, true, false, Ok, Err}
+use Rattle.std.proofs.lemmas.List.{length-take}
+use Rattle.siri_lines.proofs.Meeting.{sink_more, source_more, source_read, status_failed}
 use Rattle.siri_lines.specs.RunResult.{verdict}
-use Rattle.siri_lines.proofs.Worlds.{reads_all, reads_more, reads_break, reads_end, reads_fault}
+use Rattle.siri_lines.proofs.Worlds.{lines_no_read_fault, none_taken, reads_all, reads_more, reads_break, reads_end, reads_fault, reads_in_piece, stop_no_read_fault}
 use Rattle.siri_lines.proofs.reading.read_pieces.Goals as goal
 
 pub returns-in-Err-clause-report : goal.returns-in-Err-clause-report
@@ -32,4 +34,48 @@ loop-reader-preserved g c = record {
   space = search (rules, c.loop-reader.invariant.space);
   read_later = omega (arith, c.loop-reader.invariant.read_later, c.read.ensures.cause.later);
   write_later = omega (arith, c.loop-reader.invariant.write_later, c.take.ensures.cause.later);
+  piece = search (rules, c.loop-reader.invariant.piece);
+  read = source_more false _ _ _ _ _ _ c.loop-reader.invariant.read (source_read (Ok c.in-Ok.count) (g.S.Source.left c.loop-reader.source) (g.S.Source.left c.read.new.self) (g.S.Source.fails c.loop-reader.source) (g.S.Source.fails c.read.new.self) c.read.new.into c.in-Ok.ensures.bound c.in-Ok.ensures.bytes c.in-Ok.ensures.failing);
+  wrote = sink_more false _ _ _ _ _ _ c.loop-reader.invariant.wrote c.in_default.ensures.meets;
 }
+
+-- ---- how far was read
+
+pub returns-in-Err-clause-pieces : goal.returns-in-Err-clause-pieces
+returns-in-Err-clause-pieces g c = λ w s. reads_in_piece g.T.LineTaker.fits _ w _ _ _ _ _ c.loop-reader.taker c.loop-reader.reader [] (c.loop-reader.invariant.reads w s) c.loop-reader.invariant.within (none_taken _ _ c.in-Err.ensures.bytes) (omega arith)
+
+pub returns-in-Ok-eq0-clause-pieces : goal.returns-in-Ok-eq0-clause-pieces
+returns-in-Ok-eq0-clause-pieces g c = λ w s.
+    let none = rw c.in-Ok-eq0.field-0-test at c.in-Ok-eq0.ensures.bytes.0 in
+    reads_in_piece g.T.LineTaker.fits _ w _ _ _ _ _ c.loop-reader.taker c.loop-reader.reader [] (c.loop-reader.invariant.reads w s) c.loop-reader.invariant.within none (omega arith)
+
+pub returns-in-Err-take-clause-pieces : goal.returns-in-Err-take-clause-pieces
+returns-in-Err-take-clause-pieces g c = λ w s.
+    let space : length c.read.new.into ≤ 65536 = search (rules, c.loop-reader.invariant.piece) in
+    reads_in_piece g.T.LineTaker.fits _ w _ _ _ _ _ c.loop-reader.taker c.loop-reader.reader (take c.in-Ok.count c.read.new.into) (c.loop-reader.invariant.reads w s) c.loop-reader.invariant.within c.in-Ok.ensures.bytes.0 (omega (arith, space, length-take c.in-Ok.count c.read.new.into))
+
+-- ---- what was met of named failures
+
+pub returns-in-Err-clause-source_meets : goal.returns-in-Err-clause-source_meets
+returns-in-Err-clause-source_meets g c = source_more true _ _ _ _ _ _ c.loop-reader.invariant.read (source_read (Err c.in-Err.field-0) (g.S.Source.left c.loop-reader.source) (g.S.Source.left c.read.new.self) (g.S.Source.fails c.loop-reader.source) (g.S.Source.fails c.read.new.self) c.read.new.into c.in-Err.ensures.bound c.in-Err.ensures.bytes c.in-Err.ensures.failing)
+
+pub returns-in-Err-clause-sink_meets : goal.returns-in-Err-clause-sink_meets
+returns-in-Err-clause-sink_meets g c = c.loop-reader.invariant.wrote
+
+pub returns-in-Ok-eq0-clause-source_meets : goal.returns-in-Ok-eq0-clause-source_meets
+returns-in-Ok-eq0-clause-source_meets g c =
+    rw (lines_no_read_fault c.finish.result c.finish.ensures.cause.known)
+    (source_more false _ _ _ _ _ _ c.loop-reader.invariant.read (source_read (Ok c.in-Ok-eq0.field-0) (g.S.Source.left c.loop-reader.source) (g.S.Source.left c.read.new.self) (g.S.Source.fails c.loop-reader.source) (g.S.Source.fails c.read.new.self) c.read.new.into c.in-Ok-eq0.ensures.bound c.in-Ok-eq0.ensures.bytes c.in-Ok-eq0.ensures.failing))
+
+pub returns-in-Ok-eq0-clause-sink_meets : goal.returns-in-Ok-eq0-clause-sink_meets
+returns-in-Ok-eq0-clause-sink_meets g c = sink_more _ _ _ _ _ _ _ c.loop-reader.invariant.wrote c.finish.ensures.meets
+
+pub returns-in-Err-take-clause-source_meets : goal.returns-in-Err-take-clause-source_meets
+returns-in-Err-take-clause-source_meets g c =
+    rw (c.from.ensures, stop_no_read_fault c.in-Err-take.stop)
+    (source_more false _ _ _ _ _ _ c.loop-reader.invariant.read (source_read (Ok c.in-Ok.count) (g.S.Source.left c.loop-reader.source) (g.S.Source.left c.read.new.self) (g.S.Source.fails c.loop-reader.source) (g.S.Source.fails c.read.new.self) c.read.new.into c.in-Ok.ensures.bound c.in-Ok.ensures.bytes c.in-Ok.ensures.failing))
+
+pub returns-in-Err-take-clause-sink_meets : goal.returns-in-Err-take-clause-sink_meets
+returns-in-Err-take-clause-sink_meets g c =
+    rw (c.from.ensures, status_failed c.in-Err-take.stop)
+    (sink_more _ _ _ _ _ _ _ c.loop-reader.invariant.wrote c.in-Err-take.ensures.meets)

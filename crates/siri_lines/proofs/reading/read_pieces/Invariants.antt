@@ -1,4 +1,5 @@
-use Rattle.std.proofs.Common.{◌≡◌, ◌≤◌, ◌<◌, length}
+use Rattle.std.proofs.Common.{◌≡◌, ◌≤◌, ◌<◌, length, false}
+use Rattle.siri_base.specs.MetFailures.{SinkMeets, SourceMeets}
 use Rattle.siri_lines.specs.RunResult.{verdict}
 use Rattle.siri_lines.specs.inner.Standing.{IsWithin, room}
 use Rattle.siri_lines.proofs.Worlds.{ReadsOn}
@@ -12,6 +13,9 @@ invariant-loop-reader g l = record {
   space : 0 < length l.buffer;
   read_later : g.S.Source.faults l.fn.source ≤ g.S.Source.faults l.source;
   write_later : g.K.Sink.faults l.fn.sink ≤ g.K.Sink.faults l.sink;
+  piece : length l.buffer ≤ 65536;
+  read : SourceMeets false (g.S.Source.left l.fn.source) (g.S.Source.left l.source) (g.S.Source.fails l.fn.source) (g.S.Source.fails l.source);
+  wrote : SinkMeets false (g.K.Sink.held l.fn.sink) (g.K.Sink.held l.sink) (g.K.Sink.fails l.fn.sink) (g.K.Sink.fails l.sink);
 }
 
 abbrev pub decreases-loop-reader : goal.decreases-loop-reader

@@ -1,10 +1,11 @@
-use Rattle.std.proofs.Common.{[], refl, ◌+◌, ◌∙◌, append-nil, arith, length-take, length-drop, sym, subst}
+use Rattle.std.proofs.Common.{[], false, refl, ◌+◌, ◌∙◌, append-nil, arith, length-take, length-drop, sym, subst}
 use Rattle.std.proofs.lemmas.Result.{err_from_is_err_and, IfErr-weaker}
 use Rattle.siri_lines.specs.Ends.{HasNoBreak}
 use Rattle.siri_lines.specs.RunResult.{verdict}
 use Rattle.siri_lines.proofs.LineBreaks.{cut_at, no_break_append, no_break_before, no_break_whole}
 use Rattle.siri_lines.proofs.Steps.{on_ok_with}
-use Rattle.siri_lines.proofs.Worlds.{front_ends_each, front_last, front_more, front_none, run_ends_each, run_leads}
+use Rattle.siri_lines.proofs.Meeting.{sink_more, sink_none}
+use Rattle.siri_lines.proofs.Worlds.{kept_no_fault, front_ends_each, front_last, front_more, front_none, run_ends_each, run_leads}
 use Rattle.siri_lines.proofs.reader.Reader.take.Goals as goal
 
 pub loop-end-init : goal.loop-end-init
@@ -14,6 +15,7 @@ loop-end-init g c = record {
   within = c.requires;
   room = omega arith;
   later = omega arith;
+  wrote = sink_none _ _;
 }
 
 pub end_run-requires-clause-run : goal.end_run-requires-clause-run
@@ -34,6 +36,7 @@ loop-end-preserved g c =
       within = c.in_ok-end_run.ensures.within;
       room = rw c.split_at.ensures.back (omega (arith, first.0.high, length-take c.in-Some.end c.loop-end.rest.now, length-drop (c.in-Some.end + 1) c.loop-end.rest.now, c.in_ok-end_run.ensures.room, c.loop-end.invariant.room));
       later = omega (arith, c.loop-end.invariant.later, c.end_run.ensures.cause.later);
+      wrote = sink_more false _ _ _ _ _ _ c.loop-end.invariant.wrote c.in_ok-end_run.ensures.meets;
     }
 
 pub returns-clause-ok : goal.returns-clause-ok
@@ -55,3 +58,11 @@ returns-clause-within g c =
       line = kept.1;
       begun = subst HasNoBreak (sym kept.0) (no_break_append c.loop-end.self.line.items c.loop-end.rest.now c.loop-end.invariant.within.begun here);
     }) c.push.ensures.ok c.push.ensures.ok
+
+pub returns-in_err-end_run-clause-meets : goal.returns-in_err-end_run-clause-meets
+returns-in_err-end_run-clause-meets g c =
+    let p = err_from_is_err_and c.from_residual.result c.from_residual.ensures.1 in
+    rw (p.1, p.2) (sink_more _ _ _ _ _ _ _ c.loop-end.invariant.wrote c.in_err-end_run.ensures.meets)
+
+pub returns-clause-meets : goal.returns-clause-meets
+returns-clause-meets g c = rw (kept_no_fault c.loop-end.self c.loop-end.rest.now c.push.result c.push.ensures.err) c.loop-end.invariant.wrote

@@ -1,4 +1,5 @@
-use Rattle.std.proofs.Common.{◌≡◌, ◌≤◌, ◌+◌, length}
+use Rattle.std.proofs.Common.{◌≡◌, ◌≤◌, ◌+◌, length, false}
+use Rattle.siri_base.specs.MetFailures.{SinkMeets}
 use Rattle.siri_lines.specs.RunResult.{verdict}
 use Rattle.siri_lines.specs.inner.Standing.{IsWithin, room}
 use Rattle.siri_lines.proofs.Worlds.{TakesFront}
@@ -11,6 +12,7 @@ invariant-loop-end g l = record {
   within : IsWithin l.self;
   room : room l.self + length l.fn.piece ≤ room l.fn.self + length l.rest;
   later : g.K.Sink.faults l.fn.sink ≤ g.K.Sink.faults l.sink;
+  wrote : SinkMeets false (g.K.Sink.held l.fn.sink) (g.K.Sink.held l.sink) (g.K.Sink.fails l.fn.sink) (g.K.Sink.fails l.sink);
 }
 
 abbrev pub decreases-loop-end : goal.decreases-loop-end
