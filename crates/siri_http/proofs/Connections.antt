@@ -6,12 +6,15 @@ use Rattle.std.proofs.lemmas.List.{length-take-le, take_all}
 use Rattle.std.proofs.Math.Seq.{take-append-add, take-add}
 use Rattle.siri_base.specs.declared.errors.Failed.{Failed}
 use Rattle.siri_base.specs.Failures.{IsDue, Passes}
+use Rattle.siri_base.specs.MetFailures.{Meets}
 use Rattle.siri_base.specs.OutsideCalls.{WhereTold}
 use Rattle.siri_base.specs.Wires.{Present, WireState, Reads, TakesBytes}
 use Rattle.siri_http.specs.declared.errors.HttpError.{HttpError}
 use Rattle.siri_http.specs.declared.errors.HttpError.TheVariants as http
 use Rattle.siri_http.specs.Connections.{passing, readable, cut_by, cut_of, OnConnection}
+use Rattle.siri_http.specs.Messages.{is_read_fault}
 use Rattle.siri_http.specs.inner.Reading.{Takes, Stops}
+use Rattle.siri_base.proofs.MetFailures.{passes_none, passes_more, passes_failing}
 
 -- ---- what is told
 
@@ -53,18 +56,10 @@ on_same P (Some a) f = record { present = told_same P a.present f; rest = refl }
 
 -- ---- failures by bytes
 
-pub passes_none : (f : List ℕ) → Passes f f 0
-passes_none [] = refl
-passes_none (b ∷ l) =
-    let same : b ≡ b - 0 = omega arith in
-    (omega arith, ap (λ k. k ∷ l) same)
-
-pub passes_more : (f g h : List ℕ) (n m : ℕ) → Passes f g n → Passes g h m → Passes f h (n + m)
-passes_more [] g h n m p q = subst (λ g. Passes g h m) p q
-passes_more (b ∷ l) g h n m p q =
-    let r : Passes ((b - n) ∷ l) h m = subst (λ g. Passes g h m) p.1 q in
-    let same : (b - n) - m ≡ b - (n + m) = omega (arith, p.0, r.0) in
-    (omega (arith, p.0, r.0), r.1 ∙ ap (λ k. k ∷ l) same)
+-- bytes pass, and then a read fails or none does
+meets_more : (failed : Bool) (f g h : List ℕ) (n m : ℕ) → Passes f g n → Meets failed g h m → Meets failed f h (n + m)
+meets_more false f g h n m p q = passes_more f g h n m p q
+meets_more true f g h n m p q = passes_failing f g h n m p q
 
 passing_more : (f g bytes rest : List ℕ) → Passes f g (length bytes) → passing f (bytes ++ rest) ≡ bytes ++ passing g rest
 passing_more [] g bytes rest p = rw p refl
@@ -107,6 +102,7 @@ takes_cut bytes a b p = ap (λ l. cut_by a.left.read_fails (length l)) p.input �
 pub stops_more : (bytes more : List ℕ) (cut : HttpError) (a b c : Present) → Takes bytes a b → Stops more cut b c → Stops (bytes ++ more) cut a c
 stops_more bytes more cut a b c p q = record {
   input = p.input ∙ ap (λ l. bytes ++ l) q.input ∙ sym (append_assoc bytes more c.left.input);
+  fails = subst (Meets (is_read_fault cut) a.left.read_fails c.left.read_fails) (sym (length-append bytes more)) (meets_more (is_read_fault cut) _ _ _ _ _ p.fails q.fails);
   readable_is = takes_readable bytes a b p ∙ ap (λ l. bytes ++ l) q.readable_is;
   cut_is = takes_cut bytes a b p ∙ q.cut_is;
   known = q.known;
@@ -151,6 +147,7 @@ end_reached lent a b some p =
     let none : a.left.input ≡ [] = p.bytes.0 ∙ p.bytes.1 refl some in
     record {
       input = p.bytes.0;
+      fails = p.fails.0;
       readable_is = ap (passing a.left.read_fails) none ∙ passing_nil a.left.read_fails;
       cut_is = ap (λ l. cut_by a.left.read_fails (length l)) none ∙ cut_at_end a.left.read_fails (length lent) some p.fails.1;
       known = refl;
@@ -165,6 +162,7 @@ read_ends x y lent some p = reads_as _ x y (Ok 0) lent p (λ a b. end_reached le
 fault_came : {E : Type 0} (e : E) (lent : List ℕ) (a b : Present) → TakesBytes a b (Err e) lent → Stops [] http.ReadFault a b
 fault_came e lent a b p = record {
   input = sym p.bytes;
+  fails = p.fails.0;
   readable_is = ap (λ f. passing f a.left.input) p.fails.0;
   cut_is = ap (λ f. cut_by f (length a.left.input)) p.fails.0 ∙ ap (λ t. cond t http.ReadFault http.Short) (le-leb 0 (length a.left.input) (omega arith));
   known = refl;

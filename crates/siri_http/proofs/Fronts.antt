@@ -10,10 +10,13 @@ use Rattle.siri_http.specs.declared.scan.HeadText.{HeadText}
 use Rattle.siri_http.specs.declared.scan.Scan.{Scan}
 use Rattle.siri_http.specs.Heads.{head_text}
 use Rattle.siri_http.specs.inner.Scanning.{head_from, fresh}
+use Rattle.siri_base.specs.Failures.{Passes}
+use Rattle.siri_base.specs.MetFailures.{Meets}
 use Rattle.siri_http.specs.Connections.{readable, cut_of, OnConnection}
-use Rattle.siri_http.specs.Messages.{Head, IsHead, text_says, body_in, told_with, message, message_by, message_after, Brings, ReadsMessage, Decides, IfCut, is_memory, is_cut, end_by, message_end}
+use Rattle.siri_http.specs.Messages.{Head, IsHead, text_says, body_in, told_with, message, message_by, message_after, Brings, ReadsMessage, Decides, IfCut, is_memory, is_cut, is_read_fault, end_by, message_end}
 use Rattle.siri_http.specs.inner.Faults.{is_fault}
 use Rattle.siri_http.specs.inner.Reading.{Takes, Stops, HasHead, HasNoHead, SaysSo, LacksBody, HasBody}
+use Rattle.siri_base.proofs.MetFailures.{passes_none}
 use Rattle.siri_http.proofs.Lines.{cut_text}
 use Rattle.siri_http.proofs.HeadTexts.{head_at, head_full, head_len, no_head_short, no_head_long}
 use Rattle.siri_http.proofs.Alone.{cut_known, message_is, alone}
@@ -41,6 +44,7 @@ stops_no_head : (bytes : List ℕ) (e : HttpError) (a b : Present) → Stops byt
 stops_no_head bytes e a b s h none = record {
   taken = bytes;
   input = s.input;
+  fails = s.fails;
   reach = subst (λ t. MatchBool t (bytes ≡ readable a.left) (length bytes ≤ 16384)) (sym (stops_cut bytes e a b s)) (sym s.readable_is);
   needed = unless (is_memory e) _ (subst (λ t. MatchBool t ⊤ (16384 ≤ length bytes)) (sym (stops_cut bytes e a b s)) tt);
   unwritten = s.unwritten;
@@ -60,6 +64,7 @@ too_long bytes a b h none t =
     record {
       taken = bytes;
       input = t.input;
+      fails = t.fails;
       reach = omega (arith, h);
       needed = omega (arith, h);
       unwritten = t.unwritten;
@@ -109,6 +114,7 @@ pub head_not_begun : (x : Option WireState) → OnConnection (HasNoHead http.Out
 head_not_begun x = on_same (HasNoHead http.OutOfMemory) x (λ a. record {
   taken = [];
   input = refl;
+  fails = passes_none a.left.read_fails;
   reach = omega arith;
   needed = tt;
   unwritten = refl;
@@ -179,6 +185,19 @@ not_cut http.Short f = absurd (false≢true (sym f))
 not_cut http.ReadFault f = absurd (false≢true (sym f))
 not_cut other f = refl
 
+memory_not_fault : (e : HttpError) → is_memory e ≡ true → is_read_fault e ≡ false
+memory_not_fault http.OutOfMemory m = refl
+memory_not_fault other m = absurd (false≢true m)
+
+no_read_fault : (e : HttpError) → is_fault e ≡ false → is_read_fault e ≡ false
+no_read_fault http.ReadFault f = absurd (false≢true (sym f))
+no_read_fault other f = refl
+
+-- bytes passed, and this isn't the answer that a read failed
+passed : (failed : Bool) (old new : List ℕ) (count : ℕ) → failed ≡ false → Passes old new count → Meets failed old new count
+passed false old new count is p = p
+passed true old new count is p = absurd (false≢true (sym is))
+
 -- a refusal that the bytes up to the message's end decide
 decided_by : {T : Type 0} (Says : List ℕ → Option (Head T) → Type 0) (c : Connection) (e : HttpError) (taken : ℕ) → MatchBool (is_memory e) ⊤ (Brings Says c (Err e)) → MatchBool (is_memory e) ⊤ (MatchBool (is_cut e) ⊤ (end_by {T = T} (head_text (readable c)) (Err e) ≤ taken)) → MatchBool (is_memory e) ⊤ (MatchBool (is_cut e) ⊤ (Decides Says c (Err e) (end_by {T = T} (head_text (readable c)) (Err e)) taken))
 decided_by {T = T} Says c e taken b n = choose (is_memory e) (is_cut e) refl b n
@@ -208,6 +227,7 @@ no_head {T = T} Says e x y p = on_map (HasNoHead e) (ReadsMessage Says (Err e)) 
         record {
           taken = n.taken;
           input = n.input;
+          fails = n.fails;
           reach = cut_or_map (is_cut e) _ _ _ (λ few. omega (arith, few)) n.reach;
           unwritten = n.unwritten;
           written = n.written;
@@ -243,6 +263,7 @@ module _ {T : Type 0} (Says : List ℕ → Option (Head T) → Type 0) (bytes : 
       record {
         taken = bytes;
         input = t.input;
+        fails = passed (is_read_fault e) _ _ _ (no_read_fault e f) t.fails;
         reach = subst (λ t. MatchBool t (bytes ≡ readable a.left) (length bytes ≤ max 16384 (end_by {T = T} (head_text (readable a.left)) (Err e)))) (sym (not_cut e f)) (omega (arith, h.bound));
         unwritten = t.unwritten;
         written = t.written;
@@ -261,6 +282,7 @@ module _ {T : Type 0} (Says : List ℕ → Option (Head T) → Type 0) (bytes : 
       choose true is n = record {
         taken = bytes ++ [];
         input = (takes_more bytes [] a b c t n).input;
+        fails = passed (is_read_fault e) _ _ _ (memory_not_fault e is) (takes_more bytes [] a b c t n).fails;
         reach = subst (λ t. MatchBool t (bytes ++ [] ≡ readable a.left) (length (bytes ++ []) ≤ max 16384 (end_by {T = T} (head_text (readable a.left)) (Err e)))) (sym (memory_not_cut e is)) (omega (arith, h.bound, length-append bytes []));
         unwritten = n.unwritten ∙ t.unwritten;
         written = n.written ∙ t.written;
@@ -276,6 +298,7 @@ module _ {T : Type 0} (Says : List ℕ → Option (Head T) → Type 0) (bytes : 
           record {
             taken = bytes ++ more;
             input = all.input;
+            fails = all.fails;
             reach = subst (λ t. MatchBool t (bytes ++ more ≡ readable a.left) (length (bytes ++ more) ≤ max 16384 (end_by {T = T} (head_text (readable a.left)) (Err e)))) (sym (stops_cut (bytes ++ more) e a c all)) (sym all.readable_is);
             unwritten = all.unwritten;
             written = all.written;
@@ -307,6 +330,7 @@ module _ {T : Type 0} (Says : List ℕ → Option (Head T) → Type 0) (bytes : 
       record {
         taken = bytes ++ n.more;
         input = all.input;
+        fails = all.fails;
         reach = subst (λ end. length (bytes ++ n.more) ≤ max 16384 end) (sym end) (omega (arith, taken, left, n.exact, h.within, h.bound));
         unwritten = all.unwritten;
         written = all.written;

@@ -8,5 +8,6 @@ pub mod HeadTexts
 pub mod Lines
 pub mod Sending
 pub mod Numbers
+pub mod ReadOn
 pub mod Saying
 pub mod Scans

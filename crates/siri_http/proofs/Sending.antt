@@ -12,7 +12,8 @@ use Rattle.siri_base.specs.Wires.{Present, WireState, Writes, PutsBytes}
 use Rattle.siri_http.specs.declared.errors.HttpError.TheVariants as http
 use Rattle.siri_http.specs.Connections.{OnConnection}
 use Rattle.siri_http.specs.Texts.{IsCut, PutsText, head_end, request_text, response_text, phrase_of, type_of}
-use Rattle.siri_http.proofs.Connections.{on_map, on_then, on_same, passes_none, passes_more, told_map}
+use Rattle.siri_base.proofs.MetFailures.{passes_none, passes_more}
+use Rattle.siri_http.proofs.Connections.{on_map, on_then, on_same, told_map}
 
 -- the text but for this rest was written
 pub record Wrote (text rest : List ℕ) (before after : Present) : Type 0 where

@@ -2,6 +2,7 @@
 use Rattle.std.specs.Prelude.{◌≡◌, ⊤, ℕ, ◌+◌, ◌≤◌, max, Bool, true, false, MatchBool, nat_le, nat_lt, List, [], ◌++◌, length, take, drop, map, bytes_eq, codes, Option, None, Some, Result, Ok, Err, if◌then◌else◌}
 use Rattle.httparse.specs.Grammar.{RequestHead, ReadsRequest, ResponseHead, ReadsResponse, status_code}
 use Rattle.httparse.specs.Spans.{name_and_value}
+use Rattle.siri_base.specs.MetFailures.{Meets}
 use Rattle.siri_base.specs.Wires.{Connection, Present}
 use Rattle.siri_http.specs.declared.errors.HttpError.{HttpError}
 use Rattle.siri_http.specs.declared.errors.HttpError.TheVariants as http
@@ -104,6 +105,16 @@ is_cut http.Short = true
 is_cut http.ReadFault = true
 is_cut other = false
 
+-- a read failed
+abbrev pub is_read_fault : HttpError → Bool
+is_read_fault http.ReadFault = true
+is_read_fault other = false
+
+-- the answer is that a read failed
+abbrev pub has_read_fault : {A : Type 0} → Result A HttpError → Bool
+has_read_fault (Ok a) = false
+has_read_fault (Err e) = is_read_fault e
+
 -- one thing holds where the input was cut off, and the other elsewhere
 abbrev pub IfCut : {A : Type 0} → Result A HttpError → Type 0 → Type 0 → Type 0
 IfCut (Ok a) P Q = Q
@@ -127,11 +138,14 @@ pub record Decides {T : Type 0} (Says : List ℕ → Option (Head T) → Type 0)
 
 -- A message was read of a connection, and what is to be written to it stays. All that can be read was taken where that was cut off.
 -- Else the message was taken, and bytes beyond it only as far as the first 16,384 of the input go: a longer message is taken by its
--- exact length.
+-- exact length. A failure of reading was met only where that is answered. So nothing is read behind bytes that decide the answer:
+-- a read that begins there fails wherever a failure is named there. Of bytes beyond the message only those are taken that the read
+-- of its last byte brought with it.
 pub record ReadsMessage {T : Type 0} (Says : List ℕ → Option (Head T) → Type 0) (result : Result (T × List ℕ) HttpError) (before after : Present) : Type 0 where
   pub taken : List ℕ
   pub input : before.left.input ≡ taken ++ after.left.input
   pub reach : IfCut result (taken ≡ readable before.left) (length taken ≤ max 16384 (message_end result (readable before.left)))
+  pub fails : Meets (has_read_fault result) before.left.read_fails after.left.read_fails (length taken)
   pub unwritten : after.left.write_fails ≡ before.left.write_fails
   pub written : after.written ≡ before.written
   pub brings : UnlessMemory result (Brings Says before.left result)

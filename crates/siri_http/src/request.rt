@@ -100,8 +100,9 @@ fn read_asked(alloc: Global, text: &[u8], full: usize) -> Result<Asked, HttpErro
 }
 
 /// Reads a request of the connection that is there. Bytes after the body are no part of it, and none of them is needed: what
-/// came whole is answered, whatever follows. What of a body didn't come with its head is read by its exact length, so bytes
-/// after the body are taken, and let go, only where they are among the first 16,384, in which the head is looked for.
+/// came whole is answered, whatever follows, and no read begins behind it. What of a body didn't come with its head is read by
+/// its exact length, so bytes after the body are taken, and let go, only where they are among the first 16,384, in which the
+/// head is looked for.
 ///
 /// It is refused in the order that [`HttpError`] says. `Short`, `ReadFault` and `OutOfMemory` come when they happen.
 pub fn read_request<W: Wire>(alloc: Global, wire: &mut W) -> Result<HttpRequest, HttpError>

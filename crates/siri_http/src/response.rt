@@ -63,8 +63,9 @@ fn read_answered(text: &[u8], full: usize) -> Result<Answered, HttpError>
 }
 
 /// Reads a response of the connection that is there. Bytes after the body are no part of it, and none of them is needed: what
-/// came whole is answered, whatever follows. What of a body didn't come with its head is read by its exact length, so bytes
-/// after the body are taken, and let go, only where they are among the first 16,384, in which the head is looked for.
+/// came whole is answered, whatever follows, and no read begins behind it. What of a body didn't come with its head is read by
+/// its exact length, so bytes after the body are taken, and let go, only where they are among the first 16,384, in which the
+/// head is looked for.
 ///
 /// It is refused in the order that [`HttpError`] says. `Short`, `ReadFault` and `OutOfMemory` come when they happen.
 pub fn read_response<W: Wire>(alloc: Global, wire: &mut W) -> Result<HttpResponse, HttpError>

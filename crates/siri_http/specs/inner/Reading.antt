@@ -1,13 +1,14 @@
 -- Inner words: how far a message was read.
 use Rattle.std.specs.Prelude.{◌≡◌, ⊤, ℕ, ◌-◌, ◌≤◌, ◌<◌, false, MatchBool, nat_le, nat_lt, List, [], ◌++◌, length, take, Option, None, Some, Result, if◌then◌else◌}
 use Rattle.siri_base.specs.Failures.{Passes}
+use Rattle.siri_base.specs.MetFailures.{Meets}
 use Rattle.siri_base.specs.Wires.{Present}
 use Rattle.siri_http.specs.declared.errors.HttpError.{HttpError}
 use Rattle.siri_http.specs.declared.errors.HttpError.TheVariants as http
 use Rattle.siri_http.specs.declared.scan.HeadText.{HeadText}
 use Rattle.siri_http.specs.Heads.{head_text}
 use Rattle.siri_http.specs.Connections.{readable, cut_of}
-use Rattle.siri_http.specs.Messages.{Head, UnlessMemory, is_memory, is_cut, text_says}
+use Rattle.siri_http.specs.Messages.{Head, UnlessMemory, is_memory, is_cut, is_read_fault, text_says}
 use Rattle.siri_http.specs.inner.Scanning.{head_from, fresh}
 
 -- these bytes were taken from a connection
@@ -20,6 +21,7 @@ pub record Takes (bytes : List ℕ) (before after : Present) : Type 0 where
 -- these bytes were taken, and no more can be read
 pub record Stops (bytes : List ℕ) (cut : HttpError) (before after : Present) : Type 0 where
   pub input : before.left.input ≡ bytes ++ after.left.input
+  pub fails : Meets (is_read_fault cut) before.left.read_fails after.left.read_fails (length bytes)
   pub readable_is : readable before.left ≡ bytes
   pub cut_is : cut_of before.left ≡ cut
   pub known : is_memory cut ≡ false
@@ -30,6 +32,7 @@ pub record Stops (bytes : List ℕ) (cut : HttpError) (before after : Present) :
 pub record HasNoHead (e : HttpError) (before after : Present) : Type 0 where
   pub taken : List ℕ
   pub input : before.left.input ≡ taken ++ after.left.input
+  pub fails : Meets (is_read_fault e) before.left.read_fails after.left.read_fails (length taken)
   pub reach : MatchBool (is_cut e) (taken ≡ readable before.left) (length taken ≤ 16384)
   pub needed : MatchBool (is_memory e) ⊤ (MatchBool (is_cut e) ⊤ (16384 ≤ length taken))
   pub unwritten : after.left.write_fails ≡ before.left.write_fails
