@@ -3,6 +3,7 @@ use Rattle.std.specs.Prelude.{◌≡◌, ℕ, List, None}
 use Rattle.std.specs.List.{All}
 use Rattle.siri_records.specs.Keyed.{Items}
 use Rattle.siri_change.specs.Changes as change
+use Rattle.siri_rounds.specs.Wanted.{rounds_carried}
 use Rattle.siri_subs.specs.declared.entry.Row.{Row}
 use Rattle.siri_subs.specs.Mapped.{mapped_row, with_mapped_slots}
 use Rattle.siri_model.specs.Direct.{shown}
@@ -11,7 +12,7 @@ use Rattle.siri_courses.specs.declared.course.Course.{Course}
 
 -- what of it belongs to the life
 abbrev pub kept : Course → KeptLife
-kept course = record { rounds = course.rounds; last_heartbeat = course.last_heartbeat }
+kept course = record { rounds = rounds_carried course.rounds; last_heartbeat = course.last_heartbeat }
 
 -- a row, and the rows of a table, with what belongs to their lives
 abbrev pub kept_row : Row Course → Row KeptLife

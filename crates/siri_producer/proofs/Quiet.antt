@@ -2,11 +2,12 @@
 use Rattle.std.proofs.Common.{◌≡◌, ℕ, List, [], ◌∷◌, Bool, true, false, cond, not, ◌&&◌, Option, None, Some, slice_get, refl, sym, ap, ◌∙◌, subst}
 use Rattle.std.specs.Prelude.{if◌then◌else◌, ◌==◌, find, option_map}
 use Rattle.std.proofs.lemmas.List.Elements.{All-head, All-tail}
-use Rattle.siri_records.specs.Keyed.{Items}
+use Rattle.siri_records.specs.Keyed.{Items, KeyChange}
 use Rattle.siri_change.specs.Changes as change
 use Rattle.siri_change.specs.Parts.{Carried}
 use Rattle.siri_life.specs.Life as life
 use Rattle.siri_life.specs.Life.{Outstanding}
+use Rattle.siri_rounds.specs.Wanted.{outstanding_carried}
 use Rattle.siri_subs.specs.declared.entry.Row.{Row}
 use Rattle.siri_subs.specs.Table.{is_of}
 use Rattle.siri_model.specs.Direct.{shown}
@@ -58,7 +59,7 @@ row_of_quiet now items l = by l.outstanding
 kept_quiet : (now : ℕ) (items : Items) (row : Row Course) → KnowsLevel now items row → row_quiet now items (kept_row row) ≡ is_quiet row.slot
 kept_quiet now items row level = by row.slot.rounds.outstanding refl
   where
-    by : (o : Option (Outstanding Items Carried)) → row.slot.rounds.outstanding ≡ o → quiet_at now items (kept_row row) row.slot.rounds.outstanding ≡ is_quiet row.slot
+    by : (o : Option (Outstanding Items (List KeyChange))) → row.slot.rounds.outstanding ≡ o → quiet_at now items (kept_row row) (option_map outstanding_carried row.slot.rounds.outstanding) ≡ is_quiet row.slot
     by None e = rw (e, level e) refl
     by (Some o) e = rw e refl
 

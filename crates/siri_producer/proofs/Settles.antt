@@ -5,14 +5,15 @@ use Rattle.siri_subs.specs.declared.entry.Row.{Row}
 use Rattle.siri_model.specs.History.{Settle, History, now_of, current}
 use Rattle.siri_model.specs.Lives.{table_of}
 use Rattle.siri_model.specs.Rows as model
-use Rattle.siri_model.specs.Rows.{KeptLife, rows_after, rows_of}
+use Rattle.siri_model.specs.Rows.{rows_after, rows_of}
 use Rattle.siri_responder.specs.Known as responder
 use Rattle.siri_courses.specs.declared.course.Course.{Course}
-use Rattle.siri_courses.specs.Courses.{kept_row, kept_rows, KnowLevels}
+use Rattle.siri_courses.specs.Courses.{kept_rows, KnowLevels}
 use Rattle.siri_settle.specs.declared.outs.Out.{Out}
 use Rattle.siri_settle.specs.Sends as settle
 use Rattle.siri_settle.specs.Sends.{table_sends}
 use Rattle.siri_settle.specs.Settled.{settled_row}
+use Rattle.siri_settle.proofs.Carriage.{settled_carried}
 use Rattle.siri_producer.specs.Known.{StandsFor, GoesOn, SendsFor}
 use Rattle.siri_producer.specs.Sends.{at_of, sends}
 use Rattle.siri_producer.specs.Standing.{IsProducer, known_of}
@@ -21,7 +22,7 @@ use Rattle.siri_producer.proofs.Stands.{goes_on, knows_settled, rows_settled_liv
 -- what belongs to the lives after a settle
 kept_settled : (now : ℕ) (items : Items) (rows : List (Row Course)) → kept_rows (map (settled_row now items) rows) ≡ map (model.settled_row now items) (kept_rows rows)
 kept_settled now items [] = refl
-kept_settled now items (row ∷ rows) = ap (λ l. model.settled_row now items (kept_row row) ∷ l) (kept_settled now items rows)
+kept_settled now items (row ∷ rows) = λ j. settled_carried now items row j ∷ kept_settled now items rows j
 
 module _ (known new : responder.Known) (rows after : List (Row Course)) (settled : Bool) (rest : new ≡ record known { reads = new.reads }) where
   pub goes_settled : after ≡ map (settled_row known.moment known.held) rows → GoesOn (known_of known rows settled) (known_of new after true) Settle

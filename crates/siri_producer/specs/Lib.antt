@@ -3,3 +3,4 @@ pub mod Answers
 pub mod Sends
 pub mod Standing
 pub mod Quiet
+pub mod Reads

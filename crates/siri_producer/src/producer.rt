@@ -5,6 +5,7 @@ ghost use Rattle.siri_model.specs.History.{History, Start, Clock, Feed, Take, Se
 ghost use Rattle.siri_model.specs.Lives.{quiet_number};
 ghost use Rattle.siri_producer.specs.Quiet as definition;
 ghost use Rattle.siri_producer.specs.Known.{StandsFor, GoesOn, TookSome, CountsFor, ResponseFor, AnswerFor, RefusedAt, SameButReads, SendsFor};
+ghost use Rattle.siri_producer.specs.Reads.{ReadsFor};
 
 use crate::{Answer, Fed, Out};
 use siri_base::{List, Moment, Name, OutOfMemory};
@@ -118,13 +119,15 @@ impl Producer {
 
     /// Takes a message, and answers what became of it, with the reply. A ServiceDelivery of no round is a feed; after want of
     /// memory its entries before the refused one stand, and all of them where only the reply found none. After want of memory
-    /// for any other message nothing but the counter of steps changed.
+    /// for any other message nothing but the counter of steps changed. The counter rises for a ServiceRequest alone, as `direct`
+    /// says: by at most as many steps as items are held, for each topic.
     pub fn take(&mut self, message: &Message) -> Result<Answer, OutOfMemory>
         ensures ok { OnOk result (GoesOn self.old self.new (Take message.now)) }
         ensures answer { IfOk result (AnswerFor self.old message.now) }
         ensures err { OnErr result (RefusedAt self.old self.new message.now) }
         ensures name { self.new.responder.name ≡ self.old.responder.name }
         ensures risen { self.old.responder.reads ≤ self.new.responder.reads }
+        ensures reads { ReadsFor self.old self.new message.now }
     {
         match message {
             Message::ServiceRequest(request) => self.take_service_request(request),

@@ -1,5 +1,6 @@
 // What a producer does with each message.
-ghost use Rattle.std.specs.Prelude.{◌≡◌, ◌≤◌, IfOk, OnOk, OnErr, true, false};
+ghost use Rattle.std.specs.Prelude.{◌≡◌, ◌+◌, ◌*◌, ◌≤◌, length, IfOk, OnOk, OnErr, true, false};
+ghost use Rattle.siri_direct.specs.Topics.{topics_in};
 ghost use Rattle.siri_messages.specs.declared.message.Message.{Message};
 ghost use Rattle.siri_messages.specs.declared.message.Message.TheVariants as message;
 ghost use Rattle.siri_messages.specs.Rounds.{has_round};
@@ -28,6 +29,7 @@ impl Producer {
         ensures err { OnErr result (RefusedAt self.old self.new (message.ServiceRequest request.now)) }
         ensures name { self.new.responder.name ≡ self.old.responder.name }
         ensures risen { self.old.responder.reads ≤ self.new.responder.reads }
+        ensures reads { self.new.responder.reads ≤ self.old.responder.reads + length self.old.responder.held * topics_in request.now }
     {
         let delivery = self.responder.direct(request)?;
         self.is_settled = false;
@@ -42,7 +44,7 @@ impl Producer {
         ensures answer { IfOk result (AnswerFor self.old (message.SubscriptionRequest request.now)) }
         ensures err { OnErr result (RefusedAt self.old self.new (message.SubscriptionRequest request.now)) }
         ensures name { self.new.responder.name ≡ self.old.responder.name }
-        ensures risen { self.old.responder.reads ≤ self.new.responder.reads }
+        ensures reads { self.new.responder.reads ≡ self.old.responder.reads }
     {
         let response = subscribe(self.alloc, &mut self.table, self.responder.now(), request)?;
         self.is_settled = false;
@@ -57,7 +59,7 @@ impl Producer {
         ensures answer { IfOk result (AnswerFor self.old (message.TerminateSubscriptionRequest request.now)) }
         ensures err { OnErr result (RefusedAt self.old self.new (message.TerminateSubscriptionRequest request.now)) }
         ensures name { self.new.responder.name ≡ self.old.responder.name }
-        ensures risen { self.old.responder.reads ≤ self.new.responder.reads }
+        ensures reads { self.new.responder.reads ≡ self.old.responder.reads }
     {
         let response = terminate(self.alloc, &mut self.table, self.responder.now(), request)?;
         self.is_settled = false;
@@ -75,7 +77,7 @@ impl Producer {
         ensures answer { IfOk result (AnswerFor self.old (message.DataSupplyRequest request.now)) }
         ensures err { OnErr result (RefusedAt self.old self.new (message.DataSupplyRequest request.now)) }
         ensures name { self.new.responder.name ≡ self.old.responder.name }
-        ensures risen { self.old.responder.reads ≤ self.new.responder.reads }
+        ensures reads { self.new.responder.reads ≡ self.old.responder.reads }
     {
         let start = self.responder.start();
         let now = self.responder.now();
@@ -95,7 +97,7 @@ impl Producer {
         ensures stands { GoesOn self.old self.new (Take (message.DataReceivedAcknowledgement acknowledgement.now)) }
         ensures answer { AnswerFor self.old (message.DataReceivedAcknowledgement acknowledgement.now) result }
         ensures name { self.new.responder.name ≡ self.old.responder.name }
-        ensures risen { self.old.responder.reads ≤ self.new.responder.reads }
+        ensures reads { self.new.responder.reads ≡ self.old.responder.reads }
     {
         let start = self.responder.start();
         let taken = acknowledge(
@@ -119,7 +121,7 @@ impl Producer {
         ensures answer { IfOk result (AnswerFor self.old (message.CheckStatusRequest request.now)) }
         ensures err { OnErr result (RefusedAt self.old self.new (message.CheckStatusRequest request.now)) }
         ensures name { self.new.responder.name ≡ self.old.responder.name }
-        ensures risen { self.old.responder.reads ≤ self.new.responder.reads }
+        ensures reads { self.new.responder.reads ≡ self.old.responder.reads }
     {
         let now = self.responder.now();
         let started = self.responder.started();
@@ -137,7 +139,7 @@ impl Producer {
         ensures answer { IfOk result (AnswerFor self.old (message.ServiceDelivery delivery.now)) }
         ensures err { OnErr result (RefusedAt self.old self.new (message.ServiceDelivery delivery.now)) }
         ensures name { self.new.responder.name ≡ self.old.responder.name }
-        ensures risen { self.old.responder.reads ≤ self.new.responder.reads }
+        ensures reads { self.new.responder.reads ≡ self.old.responder.reads }
     {
         if delivery.has_round() {
             return Ok(self.ignore());
@@ -152,7 +154,7 @@ impl Producer {
         ensures answer { IfOk result (AnswerFor self.old (message.ServiceDelivery delivery.now)) }
         ensures err { OnErr result (RefusedAt self.old self.new (message.ServiceDelivery delivery.now)) }
         ensures name { self.new.responder.name ≡ self.old.responder.name }
-        ensures risen { self.old.responder.reads ≤ self.new.responder.reads }
+        ensures reads { self.new.responder.reads ≡ self.old.responder.reads }
     {
         let fed = self.feed(delivery)?;
         let now = self.responder.now();

@@ -1,1 +1,2 @@
+pub mod Carriage
 pub mod Parted

@@ -1,38 +1,31 @@
--- The parts of a round as they are carried.
-use Rattle.std.proofs.Common.{◌≡◌, ℕ, suc, ◌<◌, nat_lt, nat_eq, Bool, true, false, cond, not, ◌&&◌, List, length, map, Option, Some, None, slice_get, option_map, refl, ap, sym, ◌∙◌}
-use Rattle.std.proofs.lemmas.Option.{slice_get-map}
+-- The parts of a round.
+use Rattle.std.proofs.Common.{◌≡◌, ℕ, suc, ◌<◌, nat_lt, nat_eq, Bool, true, false, cond, not, ◌&&◌, List, Option, Some, None, option_map, refl, ap, sym, ◌∙◌}
 use Rattle.std.specs.Bool.{then_some}
 use Rattle.siri_records.specs.Keyed.{Items, KeyChange}
-use Rattle.siri_change.specs.Parts.{part_after, parts_count, parts_of, carried}
+use Rattle.siri_change.specs.Parts.{part_after, parts_count}
 use Rattle.siri_rounds.specs.declared.rounds.Opened.{Opened}
 use Rattle.siri_rounds.specs.Kept.{outstanding_on}
-use Rattle.siri_rounds.specs.Wanted.{KeptRounds, WantedPart, round_on, wanted_part_of}
+use Rattle.siri_rounds.specs.Wanted.{RoundsOfChanges, PartOf, round_on, wanted_part_of}
 use Rattle.siri_life.specs.Slot.{with_acknowledgement}
 use Rattle.siri_change.proofs.Carriage.{each_part}
-use Rattle.siri_change.proofs.InParts.{length_map, parts_number}
-
-pub parted_count : (list : List KeyChange) → length (map carried (parts_of list)) ≡ parts_count list
-parted_count list = length_map carried (parts_of list) ∙ parts_number list
-
-pub parted_at : (list : List KeyChange) (place : ℕ) → place < parts_count list → slice_get (map carried (parts_of list)) place ≡ Some (carried (part_after list place))
-parted_at list place lt = slice_get-map carried (parts_of list) place ∙ ap (option_map carried) (each_part list place lt)
+use Rattle.siri_change.proofs.InParts.{parts_number}
 
 -- the wanted part of an outstanding round, as it is lent
-abbrev part_of : (opened place moment n : ℕ) → List KeyChange → WantedPart
+abbrev part_of : (opened place moment n : ℕ) → List KeyChange → PartOf (List KeyChange)
 part_of opened place moment n changes =
-    record { place = record { round = opened; part = suc place }; moment = moment; more = nat_lt (suc place) n; carried = carried (part_after changes place) }
+    record { place = record { round = opened; part = suc place }; moment = moment; more = nat_lt (suc place) n; carried = part_after changes place }
 
-pub wanted_lent : (lent : WantedPart) (opened place moment : ℕ) (base target : Items) (list changes : List KeyChange) (last_sent : Option ℕ)
-    → lent ≡ record { place = record { round = opened; part = suc place }; moment = moment; more = nat_lt (suc place) (parts_count changes); carried = carried (part_after changes place) }
+pub wanted_lent : (lent : PartOf (List KeyChange)) (opened place moment : ℕ) (base target : Items) (list changes : List KeyChange) (last_sent : Option ℕ)
+    → lent ≡ record { place = record { round = opened; part = suc place }; moment = moment; more = nat_lt (suc place) (parts_count changes); carried = part_after changes place }
     → changes ≡ list → place < parts_count list
     → Some lent ≡ wanted_part_of opened (Some (record { round = round_on base moment target list; acknowledged_parts = place; last_sent = last_sent }))
 wanted_lent lent opened place moment base target list changes last_sent is all lt =
-    rw (parted_at list place lt) (ap Some (is ∙ (ap (λ c. part_of opened place moment (parts_count c) c) all ∙ ap (λ n. part_of opened place moment n list) (sym (parted_count list)))))
+    rw (each_part list place lt) (ap Some (is ∙ (ap (λ c. part_of opened place moment (parts_count c) c) all ∙ ap (λ n. part_of opened place moment n list) (sym (parts_number list)))))
 
 -- ---- the wanted part is acknowledged
 
 -- what is kept, by its fields
-abbrev pub kept_by : Bool → Items → ℕ → Option Opened → KeptRounds
+abbrev pub kept_by : Bool → Items → ℕ → Option Opened → RoundsOfChanges
 kept_by fetched acknowledged opened round =
     record { fetched = fetched; acknowledged = acknowledged; rounds_opened = opened; outstanding = option_map (outstanding_on acknowledged) round }
 
@@ -50,10 +43,10 @@ is_missed true n e t = sym t ∙ e
 pub last_taken : (fetched : Bool) (acknowledged : Items) (opened : ℕ) (o : Opened) (round part now : ℕ)
     → (nat_eq round opened && nat_eq part (suc o.acknowledged_parts)) ≡ true → nat_lt (suc o.acknowledged_parts) (parts_count o.changes) ≡ false
     → with_acknowledgement (kept_by fetched acknowledged opened (Some o)) round part now ≡ kept_by fetched o.target opened None
-last_taken fetched acknowledged opened o round part now hit last = rw (hit, parted_count o.changes, last) refl
+last_taken fetched acknowledged opened o round part now hit last = rw (hit, parts_number o.changes, last) refl
 
 -- another follows
-abbrev next_wanted : Bool → Items → ℕ → Opened → ℕ → Option ℕ → KeptRounds
+abbrev next_wanted : Bool → Items → ℕ → Opened → ℕ → Option ℕ → RoundsOfChanges
 next_wanted fetched acknowledged opened o next sent = kept_by fetched acknowledged opened (Some (record o { acknowledged_parts = next; last_sent = sent }))
 
 sent_then : (fetched : Bool) (now : ℕ) → then_some fetched now ≡ cond fetched (Some now) None
@@ -66,7 +59,7 @@ pub next_taken : (fetched : Bool) (acknowledged : Items) (opened : ℕ) (o : Ope
     → with_acknowledgement (kept_by fetched acknowledged opened (Some o)) round part now
     ≡ kept_by fetched acknowledged opened (Some (record o { acknowledged_parts = next; last_sent = sent }))
 next_taken fetched acknowledged opened o round part now next sent hit more e f =
-    rw (hit, parted_count o.changes, more)
+    rw (hit, parts_number o.changes, more)
     (sym
     (ap (λ n. next_wanted fetched acknowledged opened o n sent) e
     ∙ ap (λ t. next_wanted fetched acknowledged opened o (suc o.acknowledged_parts) t) (f ∙ sent_then fetched now)))

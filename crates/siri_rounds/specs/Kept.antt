@@ -1,14 +1,14 @@
 -- Inner words: cited by private functions alone.
 -- How the outstanding round is kept.
-use Rattle.std.specs.Prelude.{◌+◌, ◌^◌, ◌<◌, Option, Some, None}
-use Rattle.siri_records.specs.Keyed.{Items}
-use Rattle.siri_change.specs.Parts.{Carried, parts_count}
+use Rattle.std.specs.Prelude.{◌+◌, ◌^◌, ◌<◌, List, Option, Some, None}
+use Rattle.siri_records.specs.Keyed.{Items, KeyChange}
+use Rattle.siri_change.specs.Parts.{parts_count}
 use Rattle.siri_life.specs.Life.{Outstanding}
 use Rattle.siri_rounds.specs.declared.rounds.Opened.{Opened}
 use Rattle.siri_rounds.specs.Wanted.{round_on}
 
 -- the outstanding round, by the acknowledged view that it stands on
-abbrev pub outstanding_on : Items → Opened → Outstanding Items Carried
+abbrev pub outstanding_on : Items → Opened → Outstanding Items (List KeyChange)
 outstanding_on acknowledged o = record {
   round = round_on acknowledged o.moment o.target o.changes;
   acknowledged_parts = o.acknowledged_parts;

@@ -21,7 +21,8 @@
 //! acknowledged, the consumer asks for the next without a notification, so one is due only 30 seconds later.
 //!
 //! Contracts see `Rounds` as the slot that a producer keeps of a subscription's life (`Slot` of `siri_life`), of views with
-//! their items by key, and of parts as they are carried: items, and removed keys.
+//! their items by key, and of parts as lists of changes: a part that is lent has the very changes of the list that its round
+//! began with. To the life belongs of each part what is carried of it: its items, and the removed keys.
 //!
 //! Stands on `siri_base`, `siri_records`, `siri_change` and `siri_life`. It knows no message, no topic and no store, and it
 //! doesn't say when a round opens or what it leads to.

@@ -1,7 +1,7 @@
 // Parts of a round.
 ghost use Rattle.std.specs.Prelude.{◌≡◌, ◌<◌, ◌+◌, ◌^◌, suc, not, nat_lt, ◌==◌, length};
-ghost use Rattle.siri_change.specs.Parts.{carried, part_after, parts_count};
-ghost use Rattle.siri_rounds.specs.Wanted.{part_sent};
+ghost use Rattle.siri_change.specs.Parts.{part_after, parts_count};
+ghost use Rattle.siri_rounds.specs.Wanted.{part_lent};
 
 use siri_base::{Moment, Place};
 use siri_change::Change;
@@ -25,7 +25,7 @@ pub struct Part<'a> {
 // The part at a place, counted from 0, of a round with a number, a moment and changes.
 pub(crate) fn part_at(round: u64, moment: Moment, changes: &[Change], place: usize) -> Part<'_>
     requires { place < parts_count changes.now }
-    ensures { part_sent result ≡ record { place = record { round = round; part = suc place }; moment = moment; more = nat_lt (suc place) (parts_count changes.now); carried = carried (part_after changes.now place) } }
+    ensures { part_lent result ≡ record { place = record { round = round; part = suc place }; moment = moment; more = nat_lt (suc place) (parts_count changes.now); carried = part_after changes.now place } }
 {
     let (changes, later) = cut(changes, place);
     Part {

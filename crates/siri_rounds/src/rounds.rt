@@ -5,7 +5,7 @@ ghost use Rattle.siri_change.specs.Parts.{parts_count};
 ghost use Rattle.siri_life.specs.Life as definition;
 ghost use Rattle.siri_life.specs.Slot.{begun, sent, is_message_due, with_acknowledgement, with_supply};
 ghost use Rattle.siri_rounds.specs.Kept.{IsWanting, outstanding_on};
-ghost use Rattle.siri_rounds.specs.Wanted.{round_on, wanted_place, wanted_part, part_sent, supply_answer};
+ghost use Rattle.siri_rounds.specs.Wanted.{round_on, rounds_carried, wanted_place, wanted_part, part_lent, part_sent, supply_answer};
 
 use crate::parts::{Part, cut, part_at};
 use crate::{SupplyError, Taken};
@@ -52,10 +52,10 @@ pub(crate) struct Opened {
 
 impl Model for Rounds {
     ghost use Rattle.std.specs.Prelude.{option_map};
-    ghost use Rattle.siri_rounds.specs.Wanted.{KeptRounds};
+    ghost use Rattle.siri_rounds.specs.Wanted.{RoundsOfChanges};
     ghost use Rattle.siri_rounds.specs.Kept.{outstanding_on, IsOpen};
 
-    ghost Value = { KeptRounds };
+    ghost Value = { RoundsOfChanges };
 
     ghost view = { λ r. record { fetched = r.fetched; acknowledged = r.acknowledged; rounds_opened = r.last; outstanding = option_map (outstanding_on r.acknowledged) r.outstanding } };
 
@@ -144,9 +144,11 @@ impl Rounds {
         }
     }
 
-    /// The wanted part, lent: `None` exactly where nothing is outstanding.
+    /// The wanted part, lent: the very changes of the list that its round began with, in their order, each with its key.
+    /// `None` exactly where nothing is outstanding.
     pub fn part(&self) -> Option<Part<'_>>
-        ensures part { option_map part_sent result ≡ wanted_part self.now }
+        ensures part { option_map part_lent result ≡ wanted_part self.now }
+        ensures sent { option_map part_sent result ≡ wanted_part (rounds_carried self.now) }
         ensures known { is_some result ≡ is_some self.now.outstanding }
     {
         match &self.outstanding {
@@ -163,7 +165,8 @@ impl Rounds {
     pub fn first_part<'a>(&self, now: Moment, list: &'a List<Change>) -> Part<'a>
         requires level { self.now.outstanding ≡ None }
         requires room { self.now.rounds_opened < 999999999999999999 }
-        ensures { (wanted : Items) → Some (part_sent result) ≡ wanted_part (begun self.now (round_on self.now.acknowledged now wanted list.now)) }
+        ensures part { (wanted : Items) → Some (part_lent result) ≡ wanted_part (begun self.now (round_on self.now.acknowledged now wanted list.now)) }
+        ensures sent { (wanted : Items) → Some (part_sent result) ≡ wanted_part (rounds_carried (begun self.now (round_on self.now.acknowledged now wanted list.now))) }
     {
         part_at(self.last + 1, now, list.slice(), 0)
     }

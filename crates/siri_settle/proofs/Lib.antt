@@ -1,3 +1,4 @@
+pub mod Carriage
 pub mod Wholes
 pub mod Found
 pub mod Rows

@@ -6,12 +6,13 @@ use Rattle.siri_records.specs.Keyed.{Items}
 use Rattle.siri_change.specs.Changes as change
 use Rattle.siri_subs.specs.declared.entry.Row.{Row}
 use Rattle.siri_model.specs.Direct.{shown}
-use Rattle.siri_model.specs.Rows.{asked_of, looked, sent_if_due}
+use Rattle.siri_model.specs.Rows.{asked_of}
 use Rattle.siri_courses.specs.declared.course.Course.{Course}
 use Rattle.siri_courses.specs.Courses.{kept_row}
 use Rattle.siri_settle.specs.declared.due.Due.{Due}
 use Rattle.siri_settle.specs.declared.looks.Finding.{Finding}
 use Rattle.siri_settle.specs.Openings.{with_opening, CanOpen}
+use Rattle.siri_settle.specs.Rounds.{looked, sent_if_due}
 use Rattle.siri_settle.specs.Settled.{level_by, settled_course}
 
 -- a finding is that of a look by the current items at a moment; where a round is outstanding there is no look

@@ -1,3 +1,4 @@
+pub mod Rounds
 pub mod Openings
 pub mod Messages
 pub mod Sends

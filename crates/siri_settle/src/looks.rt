@@ -4,8 +4,8 @@ ghost use Rattle.siri_life.specs.Life.{greatest_round};
 ghost use Rattle.siri_messages.specs.Asked.{Asked};
 ghost use Rattle.siri_change.specs.Changes as change;
 ghost use Rattle.siri_change.specs.Parts as part;
-ghost use Rattle.siri_model.specs.Rows.{looked, sent_if_due};
 ghost use Rattle.siri_settle.specs.Openings.{with_opening, CanOpen};
+ghost use Rattle.siri_settle.specs.Rounds.{looked, sent_if_due};
 
 use siri_base::{Copies, List, Moment, OutOfMemory};
 use siri_change::{Change, View, changes, differ, target};

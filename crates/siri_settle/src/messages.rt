@@ -1,7 +1,7 @@
 // What is to be sent of a subscription.
 ghost use Rattle.std.specs.Prelude.{◌≡◌, IfOk};
 ghost use Rattle.std.specs.Option.{option_copied};
-ghost use Rattle.siri_rounds.specs.Wanted.{part_sent};
+ghost use Rattle.siri_rounds.specs.Wanted.{part_sent, rounds_carried};
 ghost use Rattle.siri_settle.specs.Openings.{with_opening, CanOpen};
 ghost use Rattle.siri_settle.specs.Messages as definition;
 
@@ -26,7 +26,7 @@ pub fn message_due(
     now: Moment,
 ) -> Result<Option<Message>, OutOfMemory>
     requires { CanOpen (option_copied opening) rounds.now }
-    ensures { IfOk result (λ message. message ≡ definition.message_due producer.now start wanted.now number now (with_opening now (option_copied opening.entry) rounds.now)) }
+    ensures { IfOk result (λ message. message ≡ definition.message_due producer.now start wanted.now number now (rounds_carried (with_opening now (option_copied opening.entry) rounds.now))) }
 {
     let part = match opening {
         Some(opening) => Some(rounds.first_part(now, &opening.changes)),

@@ -9,7 +9,7 @@ use Rattle.siri_subs.specs.Loans.{with_slot}
 use Rattle.siri_subs.proofs.Placed.{IsFirst, found, none_found}
 use Rattle.siri_model.specs.Lives.{mark_of}
 use Rattle.siri_model.specs.Rows.{KeptLife, is_numbered, with_rounds, with_row_of}
-use Rattle.siri_rounds.specs.Wanted.{KeptRounds}
+use Rattle.siri_rounds.specs.Wanted.{KeptRounds, RoundsOfChanges, rounds_carried}
 use Rattle.siri_courses.specs.declared.course.Course.{Course}
 use Rattle.siri_courses.specs.Courses.{kept, kept_row, kept_rows}
 use Rattle.siri_take.proofs.Kept.{unchanged, same_there, changed_there}
@@ -58,11 +58,11 @@ module _ (start : ℕ) (s : List ℕ) (m : Mark) (move : KeptRounds → KeptRoun
       other_moves other = sym (same_there s m.subscription moved_row table k h here.once here.first here.row (rw other refl))
 
       -- it is held under that number, and the mark is of this start
-      pub own_moves : is_numbered (mark_of m) h.number start ≡ true → (was : Course) → was ≡ h.slot → (rounds : KeptRounds) → rounds ≡ move was.rounds
+      pub own_moves : is_numbered (mark_of m) h.number start ≡ true → (was : Course) → was ≡ h.slot → (rounds : RoundsOfChanges) → rounds_carried rounds ≡ move (rounds_carried was.rounds)
           → kept_rows (with_slot table k (record was { rounds = rounds })) ≡ rows_moved (kept_rows table)
       own_moves own was same rounds new =
           let by_rounds : KeptRounds → KeptLife = λ r. record { rounds = r; last_heartbeat = was.last_heartbeat } in
-          let by_course : Course → KeptLife = λ c. record { rounds = move c.rounds; last_heartbeat = c.last_heartbeat } in
+          let by_course : Course → KeptLife = λ c. record { rounds = move (rounds_carried c.rounds); last_heartbeat = c.last_heartbeat } in
           let slot : kept (record was { rounds = rounds }) ≡ by_course h.slot = ap by_rounds new ∙ ap by_course same in
           changed_there s m.subscription moved_row (record was { rounds = rounds }) table k h here.once here.first here.row
           (rw own (λ j. record (kept_row h) { slot = slot j }))
