@@ -47,6 +47,11 @@ all_mapped : {K : Type 0} (P Q : K → Type 0) (ks : List K) → ((y : K) → P 
 all_mapped P Q [] f a = tt
 all_mapped P Q (y ∷ ks) f a = (f y a.0, all_mapped P Q ks f a.1)
 
+-- below the first key none is held
+pub none_here : {K X : Type 0} {cmp : K → K → Ordering} (total : IsTotalOrder cmp) (k : K) (e : K × X) (es : List (K × X)) → IsStrictlySortedBy cmp (keys_of (e ∷ es)) → cmp k e.0 ≡ Less → NonePasses (is_at (cmp k)) es
+unfolding IsStrictlySortedBy
+none_here {cmp = cmp} total k e es ordered less = none_later cmp k es (all_mapped (λ y. cmp e.0 y ≡ Less) (λ y. cmp k y ≡ Less) (keys_of es) (λ y more. total.trans k e.0 y less more) ordered.0)
+
 -- a key that has a gap is not held
 pub none_at : {K X : Type 0} {cmp : K → K → Ordering} (total : IsTotalOrder cmp) (k : K) (es : List (K × X)) (i : ℕ) → IsStrictlySortedBy cmp (keys_of es) → IsGap (cmp k) es i → NonePasses (is_at (cmp k)) es
 unfolding IsStrictlySortedBy

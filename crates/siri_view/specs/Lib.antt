@@ -1,3 +1,4 @@
+pub mod Changing
 pub mod Consuming
 pub mod Heard
 pub mod Hearing

@@ -51,5 +51,5 @@ mod subscribed;
 mod taking;
 
 pub use consumer::{Consumer, GREATEST_NUMBER, MOST_HELD};
-pub use laws::outcomes_come_by_the_table;
+pub use laws::{other_outcomes_change_nothing, outcomes_come_by_the_table};
 pub use outcome::{AskError, Held, Outcome, Seen};

@@ -2,6 +2,7 @@
 ghost use Rattle.std.specs.Prelude.{◌≡◌, ◌≤◌, [], ◌∷◌, IfOk, OnOk, OnErr};
 ghost use Rattle.siri_life.specs.Life.{Acknowledge};
 ghost use Rattle.siri_life.specs.Link.{then_supply};
+ghost use Rattle.siri_view.specs.Changing.{TakesNothing};
 ghost use Rattle.siri_view.specs.Consuming.{after_message, after_heard, seen_of, seen_by, seen_in_notification, replies_by, told_of, told_of_part};
 ghost use Rattle.siri_view.specs.Heard.{delivered_by, after_part, seen_in_part, IsWanted};
 ghost use Rattle.siri_view.specs.Kept.{meaning, kept_of};
@@ -24,6 +25,7 @@ impl Consumer {
     pub fn take(&mut self, message: &Message) -> Result<Seen, OutOfMemory>
         ensures consumer { OnOk result (self.new ≡ after_message self.old message.now) }
         ensures seen { IfOk result (λ seen. seen ≡ seen_of self.old message.now) }
+        ensures same { IfOk result (λ seen. TakesNothing seen.outcome → self.new ≡ self.old) }
         ensures refused { OnErr result (self.new ≡ self.old) }
     {
         match hear(message) {
@@ -38,6 +40,7 @@ impl Consumer {
     fn take_delivery(&mut self, delivered: Delivered<'_>) -> Result<Seen, OutOfMemory>
         ensures consumer { OnOk result (self.new ≡ after_heard self.old (delivered_by delivered.entry)) }
         ensures seen { IfOk result (λ seen. seen ≡ seen_by self.old (delivered_by delivered.entry)) }
+        ensures same { IfOk result (λ seen. TakesNothing seen.outcome → self.new ≡ self.old) }
         ensures refused { OnErr result (self.new ≡ self.old) }
     {
         if *delivered.subscriber == self.name {
@@ -51,6 +54,7 @@ impl Consumer {
     fn take_own_delivery(&mut self, delivered: Delivered<'_>) -> Result<Seen, OutOfMemory>
         ensures consumer { OnOk result (self.new ≡ after_part self.old delivered.entry) }
         ensures seen { IfOk result (λ seen. seen ≡ seen_in_part self.old delivered.entry) }
+        ensures same { IfOk result (λ seen. TakesNothing seen.outcome → self.new ≡ self.old) }
         ensures refused { OnErr result (self.new ≡ self.old) }
     {
         let Delivered {
@@ -84,6 +88,7 @@ impl Consumer {
         requires wanted { IsWanted delivered asks (kept_of delivered.identifier.now self.old.held) }
         ensures consumer { OnOk result (self.new ≡ after_part self.old delivered.entry) }
         ensures seen { IfOk result (λ seen. seen ≡ seen_in_part self.old delivered.entry) }
+        ensures taken { IfOk result (λ seen. TakesNothing seen.outcome → ⊥) }
         ensures refused { OnErr result (self.new ≡ self.old) }
     {
         let Delivered {
