@@ -1,13 +1,14 @@
--- What names only other subscriptions changes nothing of this one.
-use Rattle.std.proofs.Common.{◌≡◌, ℕ, ◌+◌, ◌≤◌, Bool, true, false, cond, List, [], ◌∷◌, length, Option, Some, None, refl, sym, ap, ◌∙◌, subst, arith}
+-- What names only other subscriptions changes nothing of this one, and a settle right after a settle nothing at all.
+use Rattle.std.proofs.Common.{◌≡◌, ℕ, ◌+◌, ◌≤◌, Bool, true, false, cond, List, [], ◌∷◌, ◌++◌, length, Option, Some, None, refl, sym, ap, ◌∙◌, subst, arith, append-nil}
 use Rattle.std.proofs.lemmas.Bool.{lt-leb}
 use Rattle.siri_life.specs.Meaning.{Meaning}
-use Rattle.siri_life.specs.Life.{is_before, resend_interval, Outstanding, Life, Packet, Subscribe, Terminate, Supply, Acknowledge, Notify, Delivery, is_due, with_round, new_round, wants_round, opened_if, sent_at, settled, settle_sends, after_send, sent_if, due_messages, message_if, sends_heartbeat, heartbeat_if}
+use Rattle.siri_life.specs.Life.{is_before, resend_interval, Outstanding, Life, Packet, Subscribe, Terminate, Supply, Acknowledge, Notify, Delivery, is_due, with_round, new_round, wants_round, opened, opened_if, sent_at, settled, settle_sends, after_send, sent_if, due_messages, message_if, sends_heartbeat, heartbeat_if}
 use Rattle.siri_life.specs.Link
-use Rattle.siri_life.specs.Link.{Link, with_life, sends, settle}
+use Rattle.siri_life.specs.Link.{Link, settle}
 use Rattle.siri_life.specs.Network
-use Rattle.siri_life.specs.Named.{same_subscription, Name, those, find}
+use Rattle.siri_life.specs.Named.{same_subscription, Name, Of, those, find}
 use Rattle.siri_life.specs.Serving
+use Rattle.siri_life.specs.Slot.{is_message_due_of}
 use Rattle.siri_life.specs.Serving.{ToConsumer, Act, Clocked, Fed, Heard, Settled}
 use Rattle.siri_life.specs.Network.{Network, settles, seen_by, takes, act, acts, is_own, own, HasRoom, HaveRoom, opening}
 use Rattle.siri_life_laws.proofs.Names.{same_parts, same_refl}
@@ -15,34 +16,36 @@ use Rattle.siri_life_laws.proofs.Sees
 
 module _ {V P W H E : Type 0} (f : Meaning V P W H E) where
   -- ---- a settle right after a settle does nothing
-  abbrev Still : V → ℕ → Life V P W → Type 0
-  Still d now l = (settled f l d now ≡ l) × (settle_sends f l d now ≡ [])
+  -- a settle leaves a life as it is, and no message and no heartbeat is due
+  abbrev pub Still : V → ℕ → Life V P W → Type 0
+  Still d now l =
+      (settled f l d now ≡ l) × (settle_sends f l d now ≡ []) × (is_message_due_of (opened f l d now).outstanding now ≡ false) × (sends_heartbeat f l now ≡ false)
 
   abbrev with_at : Life V P W → Option (Outstanding V P) → ℕ → Life V P W
   with_at l o b = record { start = l.start; number = l.number; wanted = l.wanted; acknowledged = l.acknowledged; rounds = l.rounds; outstanding = o; last_heartbeat = b }
 
   still_none : (l : Life V P W) (d : V) (now b : ℕ) → wants_round f (with_at l None b) d ≡ false → f.is_heartbeat_due l.wanted b now ≡ false → Still d now (with_at l None b)
   still_none l d now b e q =
-      subst (λ c. let v = opened_if f c (with_at l None b) d now in let u = after_send f v v.outstanding now in (heartbeat_if f (sends_heartbeat f u now) u now ≡ with_at l None b) × (due_messages f v v.outstanding now ≡ [])) (sym e)
-      (subst (λ c. (heartbeat_if f c (with_at l None b) now ≡ with_at l None b) × (◌≡◌ {A = List (Packet P W)} [] [])) (sym q) (refl, refl))
+      subst (λ c. let v = opened_if f c (with_at l None b) d now in let u = after_send f v v.outstanding now in (heartbeat_if f (sends_heartbeat f u now) u now ≡ with_at l None b) × (due_messages f v v.outstanding now ≡ []) × (is_message_due_of v.outstanding now ≡ false) × (f.is_heartbeat_due l.wanted b now ≡ false)) (sym e)
+      (subst (λ c. (heartbeat_if f c (with_at l None b) now ≡ with_at l None b) × (◌≡◌ {A = List (Packet P W)} [] []) × (◌≡◌ {A = Bool} false false) × (c ≡ false)) (sym q) (refl, refl, refl, refl))
 
   still_some : (l : Life V P W) (o : Outstanding V P) (d : V) (now b : ℕ) → is_due o.last_sent now ≡ false → f.is_heartbeat_due l.wanted b now ≡ false → Still d now (with_at l (Some o) b)
   still_some l o d now b e q =
-      subst (λ c. let u = sent_if f c (with_at l (Some o) b) o now in (heartbeat_if f (sends_heartbeat f u now) u now ≡ with_at l (Some o) b) × (message_if f c (with_at l (Some o) b) o ≡ [])) (sym e)
-      (subst (λ c. (heartbeat_if f c (with_at l (Some o) b) now ≡ with_at l (Some o) b) × (◌≡◌ {A = List (Packet P W)} [] [])) (sym q) (refl, refl))
+      subst (λ c. let u = sent_if f c (with_at l (Some o) b) o now in (heartbeat_if f (sends_heartbeat f u now) u now ≡ with_at l (Some o) b) × (message_if f c (with_at l (Some o) b) o ≡ []) × (c ≡ false) × (f.is_heartbeat_due l.wanted b now ≡ false)) (sym e)
+      (subst (λ c. (heartbeat_if f c (with_at l (Some o) b) now ≡ with_at l (Some o) b) × (◌≡◌ {A = List (Packet P W)} [] []) × (◌≡◌ {A = Bool} false false) × (c ≡ false)) (sym q) (refl, refl, refl, refl))
 
   not_due : (now : ℕ) → is_due (Some now) now ≡ false
   not_due now = lt-leb (now + resend_interval) now (omega arith)
 
   -- after a settle a life is still, and wants what it wanted
-  abbrev After : V → ℕ → Life V P W → Life V P W → Type 0
+  abbrev pub After : V → ℕ → Life V P W → Life V P W → Type 0
   After d now l u = Still d now u × (u.wanted ≡ l.wanted)
 
   -- right after a heartbeat none is due
   abbrev pub Rests : Type 0
   Rests = (w : W) (now : ℕ) → f.is_heartbeat_due w now now ≡ false
 
-  settled_still : Rests → (l : Life V P W) (d : V) (now : ℕ) → After d now l (settled f l d now)
+  pub settled_still : Rests → (l : Life V P W) (d : V) (now : ℕ) → After d now l (settled f l d now)
   settled_still rests l d now = by l.outstanding
     where
       -- with a heartbeat or without one
@@ -69,22 +72,31 @@ module _ {V P W H E : Type 0} (f : Meaning V P W H E) where
       by None = none (wants_round f (with_at l None l.last_heartbeat) d) refl
       by (Some o) = some (is_due o.last_sent now) o refl
 
-  settle_twice_at : Rests → (w : Link V P W H) (e : Option (Life V P W)) → settle f (settle f (with_life f w e)) ≡ settle f (with_life f w e)
-  settle_twice_at rests w None = refl
-  settle_twice_at rests w (Some l) =
-      let d = f.direct w.known l.wanted in
-      let u = settled f l d w.now in
-      let v = sends f (with_life f w (Some u)) (settle_sends f l d w.now) in
-      let a = settled_still rests l d w.now in
-      let once : settle f (with_life f w (Some l)) ≡ v = Sees.settle_same f w l in
-      let twice : settle f v ≡ sends f (with_life f v (Some (settled f u (f.direct w.known u.wanted) w.now))) (settle_sends f u (f.direct w.known u.wanted) w.now) = Sees.settle_same f v u in
-      let b : Still (f.direct w.known u.wanted) w.now u = subst (λ x. Still (f.direct w.known x) w.now u) (sym a.1) a.0 in
-      ap (λ z. settle f z) once ∙ twice
-      ∙ ap (λ (z : Life V P W × List (Packet P W)). sends f (with_life f v (Some z.0)) z.1) (λ i. (b.0 i, b.1 i))
-      ∙ Sees.sends_none f v ∙ sym once
+  -- the same of a row of the table, of all, and of the whole network
+  row_still : Rests → (known : H) (now : ℕ) (r : Of (Life V P W)) → let u = settled f r.it (f.direct known r.it.wanted) now in Still (f.direct known u.wanted) now u
+  row_still rests known now r =
+      let u = settled f r.it (f.direct known r.it.wanted) now in
+      let a = settled_still rests r.it (f.direct known r.it.wanted) now in
+      subst (λ wanted. Still (f.direct known wanted) now u) (sym a.1) a.0
 
-  pub settle_twice : Rests → (w : Link V P W H) → settle f (settle f w) ≡ settle f w
-  settle_twice rests w = settle_twice_at rests w w.life
+  rows_still : Rests → (known : H) (now : ℕ) (rows : List (Of (Life V P W)))
+      → Serving.settled_rows f known now (Serving.settled_rows f known now rows) ≡ Serving.settled_rows f known now rows
+  rows_still rests known now [] = refl
+  rows_still rests known now (r ∷ rows) = λ i. record r { it = (row_still rests known now r).0 i } ∷ rows_still rests known now rows i
+
+  rows_quiet : Rests → (known : H) (now : ℕ) (rows : List (Of (Life V P W))) → Serving.row_letters f known now (Serving.settled_rows f known now rows) ≡ []
+  rows_quiet rests known now [] = refl
+  rows_quiet rests known now (r ∷ rows) =
+      let still = row_still rests known now r in
+      λ i. Serving.letters_for f r.subscriber r.identifier (still.1 i) ++ (Serving.heartbeat_letters f r.subscriber (still.3 i) ++ rows_quiet rests known now rows i)
+
+  pub settles_twice : Rests → (n : Network V P W H) → settles f (settles f n) ≡ settles f n
+  settles_twice rests n =
+      let v = n.serving in
+      let m = settles f n in
+      let with_both : List (Of (Life V P W)) → List (Of (Serving.About P W)) → Network V P W H = λ rows letters. record m { serving = record v { table = rows }; letters = letters } in
+      (λ i. with_both (rows_still rests v.known v.now v.table i) (m.letters ++ rows_quiet rests v.known v.now v.table i))
+      ∙ ap (λ letters. with_both m.serving.table letters) (append-nil m.letters)
 
   -- ---- one subscription
   module _ (c s : Name) where
@@ -147,59 +159,61 @@ module _ {V P W H E : Type 0} (f : Meaning V P W H E) where
       other : One m
       sees : seen_by f c s n ≡ seen_by f c s m
 
-    alike : (rest : List (Act P W E)) (n m : Network V P W H) → Alike n m → HaveRoom f c s rest n → HaveRoom f c s (own f c s rest) m → seen_by f c s (acts f rest n) ≡ seen_by f c s (acts f (own f c s rest) m)
-    alike [] n m a r q = a.sees
-    alike (Clocked t ∷ rest) n m a r q =
-        alike rest (act f n (Clocked t)) (act f m (Clocked t))
-        (record {
-          one = Sees.expires_one f c s (Network.at_moment f n t) a.one;
-          other = Sees.expires_one f c s (Network.at_moment f m t) a.other;
-          sees = Sees.expires_sees f c s (Network.at_moment f n t) a.one ∙ ap (λ z. Link.expire f (Link.at_moment f z t)) a.sees ∙ sym (Sees.expires_sees f c s (Network.at_moment f m t) a.other);
-        }) r.1 q.1
-    alike (Fed es ∷ rest) n m a r q = alike rest (act f n (Fed es)) (act f m (Fed es)) (record { one = a.one; other = a.other; sees = ap (λ z. Link.fed f z es) a.sees }) r.1 q.1
-    alike (Settled ∷ rest) n m a r q =
-        alike rest (settles f n) (settles f m)
-        (record {
-          one = Sees.settles_one f c s n a.one;
-          other = Sees.settles_one f c s m a.other;
-          sees = Sees.settles_sees f c s n a.one ∙ ap (λ z. settle f z) a.sees ∙ sym (Sees.settles_sees f c s m a.other);
-        }) r.1 q.1
-    alike (Heard d t p ∷ rest) n m a r q = by (same_subscription c s d t) refl (λ k l. alike rest k l) r.0 r.1 q
-      where
-        mine : (d t : Name) → (c ≡ d) × (s ≡ t) → HasRoom f c s n (Heard d t p) → HasRoom f c s m (Heard d t p) → Alike (act f n (Heard d t p)) (act f m (Heard d t p))
-        mine d t e =
-            subst (λ (z : Name × Name). HasRoom f c s n (Heard z.0 z.1 p) → HasRoom f c s m (Heard z.0 z.1 p) → Alike (act f n (Heard z.0 z.1 p)) (act f m (Heard z.0 z.1 p))) (λ i. (e.0 i, e.1 i))
-            (λ r q. record {
-              one = mine_one n p a.one;
-              other = mine_one m p a.other;
-              sees = mine_sees n p r (same_refl c s) ∙ ap (λ z. heard z p) a.sees ∙ sym (mine_sees m p q (same_refl c s));
-            })
+    module _ {X : Type 0} (g : Link V P W H → List X) where
+      -- what is made at each settle of what this subscription sees then, in order
+      abbrev pub at_settles : List (Act P W E) → Network V P W H → List X
+      at_settles [] n = []
+      at_settles (Settled ∷ more) n = g (seen_by f c s n) ++ at_settles more (settles f n)
+      at_settles (Clocked t ∷ more) n = at_settles more (act f n (Clocked t))
+      at_settles (Fed es ∷ more) n = at_settles more (act f n (Fed es))
+      at_settles (Heard d t p ∷ more) n = at_settles more (act f n (Heard d t p))
 
-        by : (b : Bool) → same_subscription c s d t ≡ b
-            → ((k l : Network V P W H) → Alike k l → HaveRoom f c s rest k → HaveRoom f c s (own f c s rest) l → seen_by f c s (acts f rest k) ≡ seen_by f c s (acts f (own f c s rest) l))
-            → HasRoom f c s n (Heard d t p) → HaveRoom f c s rest (act f n (Heard d t p)) → HaveRoom f c s (cond b (Heard d t p ∷ own f c s rest) (own f c s rest)) m
-            → seen_by f c s (acts f rest (act f n (Heard d t p))) ≡ seen_by f c s (acts f (cond b (Heard d t p ∷ own f c s rest) (own f c s rest)) m)
-        by true e go r rs q = go (act f n (Heard d t p)) (act f m (Heard d t p)) (mine d t (same_parts c s d t e) r q.0) rs q.1
-        by false e go r rs q = go (act f n (Heard d t p)) m (record { one = other_one n d t e p a.one; other = a.other; sees = other_sees n d t e p ∙ a.sees }) rs q
+      -- after these steps of one network and those of another this subscription sees the same, and saw it at each settle
+      abbrev Same : List (Act P W E) → List (Act P W E) → Network V P W H → Network V P W H → Type 0
+      Same xs ys n m = (seen_by f c s (acts f xs n) ≡ seen_by f c s (acts f ys m)) × (at_settles xs n ≡ at_settles ys m)
+
+      alike : (rest : List (Act P W E)) (n m : Network V P W H) → Alike n m → HaveRoom f c s rest n → HaveRoom f c s (own f c s rest) m → Same rest (own f c s rest) n m
+      alike [] n m a r q = (a.sees, refl)
+      alike (Clocked t ∷ rest) n m a r q =
+          alike rest (act f n (Clocked t)) (act f m (Clocked t))
+          (record {
+            one = Sees.expires_one f c s (Network.at_moment f n t) a.one;
+            other = Sees.expires_one f c s (Network.at_moment f m t) a.other;
+            sees = Sees.expires_sees f c s (Network.at_moment f n t) a.one ∙ ap (λ z. Link.expire f (Link.at_moment f z t)) a.sees ∙ sym (Sees.expires_sees f c s (Network.at_moment f m t) a.other);
+          }) r.1 q.1
+      alike (Fed es ∷ rest) n m a r q = alike rest (act f n (Fed es)) (act f m (Fed es)) (record { one = a.one; other = a.other; sees = ap (λ z. Link.fed f z es) a.sees }) r.1 q.1
+      alike (Settled ∷ rest) n m a r q =
+          let later = alike rest (settles f n) (settles f m)
+          (record {
+            one = Sees.settles_one f c s n a.one;
+            other = Sees.settles_one f c s m a.other;
+            sees = Sees.settles_sees f c s n a.one ∙ ap (λ z. settle f z) a.sees ∙ sym (Sees.settles_sees f c s m a.other);
+          }) r.1 q.1 in
+          (later.0, λ i. g (a.sees i) ++ later.1 i)
+      alike (Heard d t p ∷ rest) n m a r q = by (same_subscription c s d t) refl (λ k l. alike rest k l) r.0 r.1 q
+        where
+          mine : (d t : Name) → (c ≡ d) × (s ≡ t) → HasRoom f c s n (Heard d t p) → HasRoom f c s m (Heard d t p) → Alike (act f n (Heard d t p)) (act f m (Heard d t p))
+          mine d t e =
+              subst (λ (z : Name × Name). HasRoom f c s n (Heard z.0 z.1 p) → HasRoom f c s m (Heard z.0 z.1 p) → Alike (act f n (Heard z.0 z.1 p)) (act f m (Heard z.0 z.1 p))) (λ i. (e.0 i, e.1 i))
+              (λ r q. record {
+                one = mine_one n p a.one;
+                other = mine_one m p a.other;
+                sees = mine_sees n p r (same_refl c s) ∙ ap (λ z. heard z p) a.sees ∙ sym (mine_sees m p q (same_refl c s));
+              })
+
+          by : (b : Bool) → same_subscription c s d t ≡ b
+              → ((k l : Network V P W H) → Alike k l → HaveRoom f c s rest k → HaveRoom f c s (own f c s rest) l → Same rest (own f c s rest) k l)
+              → HasRoom f c s n (Heard d t p) → HaveRoom f c s rest (act f n (Heard d t p)) → HaveRoom f c s (cond b (Heard d t p ∷ own f c s rest) (own f c s rest)) m
+              → Same (Heard d t p ∷ rest) (cond b (Heard d t p ∷ own f c s rest) (own f c s rest)) n m
+          by true e go r rs q = go (act f n (Heard d t p)) (act f m (Heard d t p)) (mine d t (same_parts c s d t e) r q.0) rs q.1
+          by false e go r rs q = go (act f n (Heard d t p)) m (record { one = other_one n d t e p a.one; other = a.other; sees = other_sees n d t e p ∙ a.sees }) rs q
+
+      opened_alike : (k t : ℕ) (all : List (Act P W E)) → HaveRoom f c s all (opening f k t) → HaveRoom f c s (own f c s all) (opening f k t) → Same all (own f c s all) (opening f k t) (opening f k t)
+      opened_alike k t all r q = alike all (opening f k t) (opening f k t) (record { one = omega arith; other = omega arith; sees = refl }) r q
+
+      -- so does it at each settle
+      pub apart_at_settles : (k t : ℕ) (all : List (Act P W E)) → HaveRoom f c s all (opening f k t) → HaveRoom f c s (own f c s all) (opening f k t) → at_settles all (opening f k t) ≡ at_settles (own f c s all) (opening f k t)
+      apart_at_settles k t all r q = (opened_alike k t all r q).1
 
     pub apart : (k t : ℕ) (all : List (Act P W E)) → HaveRoom f c s all (opening f k t) → HaveRoom f c s (own f c s all) (opening f k t) → seen_by f c s (acts f all (opening f k t)) ≡ seen_by f c s (acts f (own f c s all) (opening f k t))
-    apart k t all r q = alike all (opening f k t) (opening f k t) (record { one = omega arith; other = omega arith; sees = refl }) r q
-
-    -- after any history a second settle changes nothing of this subscription
-    acts_one : (all : List (Act P W E)) (n : Network V P W H) → One n → One (acts f all n)
-    acts_one [] n one = one
-    acts_one (Clocked t ∷ all) n one = acts_one all (act f n (Clocked t)) (Sees.expires_one f c s (Network.at_moment f n t) one)
-    acts_one (Fed es ∷ all) n one = acts_one all (act f n (Fed es)) one
-    acts_one (Settled ∷ all) n one = acts_one all (settles f n) (Sees.settles_one f c s n one)
-    acts_one (Heard d t p ∷ all) n one = acts_one all (act f n (Heard d t p)) (by (same_subscription c s d t) refl)
-      where
-        by : (b : Bool) → same_subscription c s d t ≡ b → One (Network.hears f n d t p)
-        by true e = let a = same_parts c s d t e in subst (λ (z : Name × Name). One (Network.hears f n z.0 z.1 p)) (λ i. (a.0 i, a.1 i)) (mine_one n p one)
-        by false e = other_one n d t e p one
-
-    pub settles_twice : Rests → (k t : ℕ) (all : List (Act P W E)) → seen_by f c s (settles f (settles f (acts f all (opening f k t)))) ≡ seen_by f c s (settles f (acts f all (opening f k t)))
-    settles_twice rests k t all =
-        let n = acts f all (opening f k t) in
-        let one = acts_one all (opening f k t) (omega arith) in
-        let w = seen_by f c s n in
-        Sees.settles_sees f c s (settles f n) (Sees.settles_one f c s n one) ∙ ap (λ z. settle f z) (Sees.settles_sees f c s n one) ∙ settle_twice rests w ∙ sym (Sees.settles_sees f c s n one)
+    apart k t all r q = (opened_alike (λ (w : Link V P W H). w.packets) k t all r q).0

@@ -24,7 +24,11 @@ pub mod Parts
 pub mod LastAsked
 pub mod QuietLines
 pub mod Room
+pub mod Settling
 pub mod Apart
+pub mod Once
+pub mod Again
 pub mod Happen
 pub mod Observed
+pub mod SentItems
 pub mod Telling

@@ -106,7 +106,7 @@ module _ (producer : List ℕ) (l : Living) (now : ℕ) (small : l.number < 1000
 
 -- ---- a look, and a heartbeat
 
-look_keeps : (l : Living) (direct : Items) (now : ℕ) → looked l.wanted direct now (slot_of meaning l) ≡ slot_of meaning (opened meaning l direct now)
+pub look_keeps : (l : Living) (direct : Items) (now : ℕ) → looked l.wanted direct now (slot_of meaning l) ≡ slot_of meaning (opened meaning l direct now)
 look_keeps l direct now = by l.outstanding
   where
     test : (b : Bool) → cond b (begun (slot_of meaning l) (new_round meaning l direct now)) (slot_of meaning l) ≡ slot_of meaning (opened_if meaning b l direct now)

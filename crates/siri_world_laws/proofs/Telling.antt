@@ -1,13 +1,15 @@
--- What is told of a view shows the direct response to what was observed, where it is quiet.
+-- What is told of a view shows the direct response to what was observed, where it is quiet; what is told of a request has it.
 use Rattle.std.proofs.Common.{◌≡◌, suc, true, inl, inr, List, [], ◌∷◌, length, map, Option, Some, None, refl, sym, ap, ◌∙◌, subst, append-nil}
 use Rattle.std.specs.Prelude.{Result, Ok}
+use Rattle.std.specs.List.{All}
 use Rattle.std.specs.Option.{option_and_then}
 use Rattle.siri_change.specs.Changes.{Meets}
 use Rattle.siri_change.proofs.Leads.{meets_stated}
 use Rattle.siri_life.specs.Named.{Name}
 use Rattle.siri_records.specs.Keyed.{Items, InOrder}
 use Rattle.siri_change.specs.Views.{is_keyed}
-use Rattle.siri_model.specs.Direct.{shown}
+use Rattle.siri_messages.specs.declared.requests.ServiceRequest.{ServiceRequest}
+use Rattle.siri_model.specs.Direct.{answer, answering, at_most, most_of, response, shown}
 use Rattle.siri_model.specs.History.{current, now_of}
 use Rattle.siri_model.specs.Meaning.{direct_of}
 use Rattle.siri_topic.specs.declared.topics.Topic.{Topic}
@@ -22,15 +24,17 @@ use Rattle.siri_world_model.specs.Effects.{Effect, all_lines, effect}
 use Rattle.siri_world_model.specs.Goals.{goal, is_quiet}
 use Rattle.siri_world_model.specs.Lines as line
 use Rattle.siri_world_model.specs.Lines.{ToldLine}
+use Rattle.siri_world_model.specs.Packets.{producer}
 use Rattle.siri_world_model.specs.Told.{refusal, told, told_if, world_after}
 use Rattle.siri_world_model.specs.World.{World, latest}
 use Rattle.siri_world_laws.specs.Networks.{kept_by}
 use Rattle.siri_world_laws.specs.QuietViews.{asked_last}
-use Rattle.siri_world_laws.specs.Views.{AllHappen, AreDirect, ShowsDirect, TellsView, direct_response, observed}
+use Rattle.siri_world_laws.specs.Views.{AllHappen, AnswersDirect, AreDirect, ShowsDirect, TellsView, WasSent, answered, direct_response, items_listed, observed}
 use Rattle.siri_world_laws.proofs.Known.{found_named}
 use Rattle.siri_world_laws.proofs.LastAsked.{wants_last, wants_none}
 use Rattle.siri_world_laws.proofs.Observed.{Knows, observed_known}
 use Rattle.siri_world_laws.proofs.QuietLines.{keyed_again, quiet_viewed}
+use Rattle.siri_world_laws.proofs.SentItems.{view_sent}
 use Rattle.siri_world_laws.proofs.Worlds.{world_stands}
 use Rattle.siri_world_laws.proofs.Views.{held_is, quiet_meets, quiet_view, view_shown}
 
@@ -90,6 +94,7 @@ module _ (events : List Event) (happen : AllHappen events) (consumer identifier 
         quiet = quiet;
         says = ap (λ name. line.View name identifier (held_by kept) (length (goal world name identifier kept.origin)) (is_quiet world name identifier kept.number) ∷ map (λ entry. line.Item entry.1) (goal world name identifier kept.origin)) named
             ∙ (λ i. line.View consumer identifier (held_by kept) (same_length goal_items i) quiet ∷ map_both goal_items i);
+        are_sent = subst (λ (view : Items). All (WasSent events consumer identifier (held_by kept)) (map (λ entry. entry.1) view)) (view_shown events consumer identifier kept is_kept) (view_sent events consumer identifier kept is_kept);
         asked = kept.wanted;
         is_asked = wants_last events consumer identifier kept (held_is events consumer identifier kept is_kept);
         is_direct = quiet_direct kept is_kept;
@@ -121,3 +126,34 @@ module _ (events : List Event) (happen : AllHappen events) (consumer identifier 
 pub views_tell : (events : List Event) → AllHappen events → (consumer identifier : Name) (lines : List ToldLine) → told (world_after events) (event.View consumer identifier) ≡ Ok lines → TellsView events consumer identifier lines
 views_tell events happen consumer identifier lines is =
     subst (TellsView events consumer identifier) (sym (told_lines_are (world_after events) (event.View consumer identifier) lines (refusal (world_after events) (event.View consumer identifier)) is)) (view_tells events happen consumer identifier)
+
+-- ---- what is told of a request
+
+module _ (events : List Event) (happen : AllHappen events) where
+  abbrev known : World
+  known = world_after events
+
+  topic_answered : (topic : Topic) → answering (now_of (latest known)) (current (latest known)) topic ≡ answered events topic
+  unfolding answering
+  topic_answered topic = ap (λ (items : Items). map (λ entry. entry.1) (at_most (most_of topic) items)) (direct_observed events topic (observed_known events happen))
+
+  topics_answered : (topics : List Topic) → items_listed (map (answer (now_of (latest known)) (current (latest known))) topics) ≡ map (answered events) topics
+  unfolding answer
+  topics_answered [] = refl
+  topics_answered (topic ∷ topics) = λ i. topic_answered topic i ∷ topics_answered topics i
+
+  request_answered : (request : ServiceRequest) → AnswersDirect events request (all_lines known (effect known (event.Ask request)))
+  unfolding effect response
+  request_answered request = record {
+    delivery = response producer (now_of (latest known)) (current (latest known)) request;
+    says = refl;
+    stops = topics_answered request.stop_monitoring_request;
+    timetables = topics_answered request.estimated_timetable_request;
+    vehicles = topics_answered request.vehicle_monitoring_request;
+    situations = topics_answered request.situation_exchange_request;
+  }
+
+-- where all events happened, a request that is told of is answered by the direct response to each of its topics
+pub requests_answered : (events : List Event) → AllHappen events → (request : ServiceRequest) (lines : List ToldLine) → told (world_after events) (event.Ask request) ≡ Ok lines → AnswersDirect events request lines
+requests_answered events happen request lines is =
+    subst (AnswersDirect events request) (sym (told_lines_are (world_after events) (event.Ask request) lines (refusal (world_after events) (event.Ask request)) is)) (request_answered events happen request)

@@ -1,8 +1,6 @@
 -- What holds of every world beside its network: what its ends make, and what they keep.
 use Rattle.std.specs.Prelude.{◌≡◌, ℕ, suc, ◌<◌, List, [], ◌∷◌, true, Some}
 use Rattle.std.specs.List.{All}
-use Rattle.std.specs.List.Sorted.{IsStrictlySortedBy}
-use Rattle.std.specs.Map.{keys_of}
 use Rattle.siri_messages.specs.Asked.{Asked, asked_in}
 use Rattle.siri_messages.specs.declared.message.Message.{Message}
 use Rattle.siri_messages.specs.declared.message.Message.TheVariants as message
@@ -10,9 +8,8 @@ use Rattle.siri_messages.specs.declared.supplies.Mark.{Mark}
 use Rattle.siri_life.specs.Named.{Name, Of}
 use Rattle.siri_model.specs.History.{History}
 use Rattle.siri_model.specs.Lives.{Living, serving_of}
-use Rattle.siri_view.specs.Consuming.{Consuming}
+pub use Rattle.siri_view.specs.Changing.{IsOrdered}
 use Rattle.siri_view.specs.Hearing.{Heard, Delivered, heard}
-use Rattle.siri_view.specs.Kept.{name_cmp}
 use Rattle.siri_world_model.specs.Packets.{SentPacket}
 use Rattle.siri_world_model.specs.Packets as packet
 use Rattle.siri_world_model.specs.World.{World, latest}
@@ -52,10 +49,6 @@ AreNumbered number (history ∷ more) = ((serving_of history).start ≡ number) 
 -- the number of a life has at most 18 digits
 abbrev pub IsShort : Of Living → Type 0
 IsShort held = held.it.number < 1000000000000000000
-
--- what a consumer keeps is in order of its identifier, each once
-abbrev pub IsOrdered : Consuming → Type 0
-IsOrdered consumer = IsStrictlySortedBy name_cmp (keys_of consumer.held)
 
 -- what is kept of a world's ends beside what a network has
 pub record IsWell (world : World) : Type 0 where

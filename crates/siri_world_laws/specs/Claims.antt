@@ -1,6 +1,6 @@
 -- What is claimed of worlds: of what consumers show, and of what they say of packets (EN 15531-2, subscriptions and
 -- deliveries).
-use Rattle.std.specs.Prelude.{◌≡◌, ℕ, true, Option, Some, None}
+use Rattle.std.specs.Prelude.{◌≡◌, ℕ, List, true, Option, Some, None}
 use Rattle.siri_messages.specs.declared.message.Message.{Message}
 use Rattle.siri_change.specs.Changes.{meets}
 use Rattle.siri_life.specs.Named.{Name}
@@ -12,6 +12,8 @@ use Rattle.siri_view.specs.Kept.{KeptSubscription, kept_of}
 use Rattle.siri_view.specs.declared.outcome.Outcome.{Outcome}
 use Rattle.siri_view.specs.declared.outcome.Outcome.TheVariants as outcome
 use Rattle.siri_world_model.specs.Consumers.{consumer_of}
+use Rattle.siri_world_model.specs.Effects.{viewed}
+use Rattle.siri_world_model.specs.Lines.{ToldLine}
 use Rattle.siri_world_model.specs.Goals.{goal, is_quiet, rounds_in}
 use Rattle.siri_world_model.specs.Packets.{SentPacket, ToProducer, ToConsumer, packet_at}
 use Rattle.siri_world_model.specs.World.{World, latest, start_at}
@@ -20,7 +22,7 @@ use Rattle.siri_world_laws.specs.Networks.{kept_by}
 -- ---- what is shown
 
 -- where a subscription is quiet under the number that its consumer holds, what is told of its view meets the direct response
--- to it at this moment, over all observations since the producer's latest start: it has the same keys, and each item is near
+-- to it at this moment, over all observations that were taken since the producer's latest start: it has the same keys, and each item is near
 abbrev pub MeetsWhereQuiet : World → Type 0
 MeetsWhereQuiet world =
     (name identifier : Name) (consumer : Consuming) (kept : KeptSubscription) → consumer_of name world.consumers ≡ Some consumer
@@ -41,6 +43,10 @@ said_of world (Some (ToConsumer receiver message)) = said_by (consumer_of receiv
 -- what the consumer says that the packet of a number comes to
 abbrev pub said : World → (number : ℕ) → Option Outcome
 said world number = said_of world (packet_at number world.packets)
+
+-- what is told of the view of a subscription
+abbrev pub view_told : World → (consumer identifier : Name) → List ToldLine
+view_told world consumer identifier = (viewed world consumer identifier (consumer_of consumer world.consumers)).lines
 
 -- it takes a part: it buffers it, or applies its round
 abbrev pub TakesPart : Option Outcome → Type 0

@@ -20,8 +20,9 @@
 //!
 //! How it is proved: `proofs/Producer.antt` has what the producer's messages are as letters, `Consumers.antt` what the consumers'
 //! events do, `Steps.antt` every event, `Worlds.antt` all of them; `Goals.antt` that the lives of all starts tell the same
-//! rounds as the history of one; `Views`, `QuietLines`, `Parts` and `Apart` what follows; `Observed` that a producer knows what was
-//! observed since its latest start, and `Telling` what is told of a view.
+//! rounds as the history of one; `Views`, `QuietLines`, `Parts`, `Again`, `Apart` and `Once` what follows; `Observed` that a
+//! producer knows what was observed since its latest start, `SentItems` that what a consumer shows was sent to it, and `Telling`
+//! what is told of a view and of a request.
 //!
 //! Stands on `siri_world_model`, which has the definitions of worlds, on `siri_model_laws` and on `siri_life_laws`.
 #![tactic(auto)]
@@ -33,7 +34,13 @@ mod told_laws;
 mod view_laws;
 
 pub use network_laws::worlds_are_networks;
-pub use packet_laws::{no_gap_is_shown, packets_carry_their_rounds, parts_are_taken_once};
-pub use producer_laws::{a_second_settle_changes_nothing, other_subscriptions_change_nothing};
-pub use told_laws::quiet_views_are_direct;
+pub use packet_laws::{
+    no_gap_is_shown, other_packets_change_nothing, packets_carry_their_rounds,
+    parts_are_taken_once, repeated_parts_change_no_view,
+};
+pub use producer_laws::{
+    a_second_settle_changes_nothing, other_subscriptions_and_their_settles_change_nothing,
+    other_subscriptions_change_nothing,
+};
+pub use told_laws::{quiet_views_are_direct, requests_are_answered_directly};
 pub use view_laws::{quiet_views_meet, views_are_goals};
