@@ -1,6 +1,6 @@
 -- Consumers by the places at which they stand.
 use Rattle.std.proofs.Common.{◌≡◌, ℕ, suc, zero, ◌<◌, List, [], ◌∷◌, ◌++◌, length, Bool, true, false, cond, Option, None, Some, get_or, refl, ap, ◌∙◌, sym, subst, arith}
-use Rattle.std.specs.Prelude.{slice_get, position}
+use Rattle.std.specs.Prelude.{position}
 use Rattle.std.specs.List.{list_any, slice_set}
 use Rattle.std.specs.Cmp.Lexicographic.{bytes_decides, nat_list_eq_equiv}
 use Rattle.std.proofs.lemmas.Bool.{or_parts}
@@ -21,11 +21,6 @@ pub at_within : (name : Name) (cs : List Consuming) (place : ℕ) (c : Consuming
 at_within name [] place c here = absurd here
 at_within name (other ∷ cs) zero c here = omega arith
 at_within name (other ∷ cs) (suc place) c here = omega (arith, at_within name cs place c here.1)
-
-pub at_get : (name : Name) (cs : List Consuming) (place : ℕ) (c : Consuming) → IsAt name cs place c → slice_get cs place ≡ Some c
-at_get name [] place c here = absurd here
-at_get name (other ∷ cs) zero c here = ap Some here.1
-at_get name (other ∷ cs) (suc place) c here = at_get name cs place c here.1
 
 named : (name : Name) (c : Consuming) → is_named name c ≡ true → c.name ≡ name
 named name c is = (bytes_decides c.name name).0 is

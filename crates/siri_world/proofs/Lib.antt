@@ -1,4 +1,5 @@
 pub mod Found
+pub mod Named
 pub mod Starts
 pub mod Producers
 pub mod Requests

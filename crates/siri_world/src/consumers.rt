@@ -7,6 +7,7 @@ ghost use Rattle.siri_world_model.specs.Effects.{ask_refusal};
 ghost use Rattle.siri_world.specs.Asking.{Asks, termination_refusal};
 ghost use Rattle.siri_world.specs.Places.{IsAt, IsPlaceOf};
 
+use indexmap::IndexMap;
 use siri_base::{Copies, List, Moment, Name, OutOfMemory, Span};
 use siri_messages::Message;
 use siri_topic::Subscription;
@@ -17,24 +18,28 @@ use std::marker::Model;
 // The most consumers that are made.
 pub(crate) const MOST_CONSUMERS: usize = 16;
 
-// Consumers in order of first use. Each is found by its name.
+// Consumers by their names, in order of first use.
 pub(crate) struct Consumers {
-    list: Vec<Consumer>,
+    map: IndexMap<String, Consumer>,
 }
 
 impl Drop for Consumers {
     fn drop(self) {
-        let Consumers { list: _ } = self;
+        let Consumers { map: _ } = self;
     }
 }
 
 impl Model for Consumers {
     ghost use Rattle.std.specs.Prelude.{List};
+    ghost use Rattle.indexmap.specs.IndexMap.{values};
     ghost use Rattle.siri_view.specs.Consuming.{Consuming};
+    ghost use Rattle.siri_world.specs.Named.{AreNamed};
 
     ghost Value = { List Consuming };
 
-    ghost view = { λ c. c.list.items };
+    ghost view = { λ c. values c.map };
+
+    ghost invariant = { λ c. AreNamed c.map.entries };
 }
 
 impl Consumers {
@@ -43,7 +48,7 @@ impl Consumers {
         ensures { result ≡ [] }
     {
         Consumers {
-            list: Vec::new(alloc),
+            map: IndexMap::new(alloc),
         }
     }
 
@@ -51,17 +56,14 @@ impl Consumers {
     pub(crate) fn len(&self) -> usize
         ensures { result ≡ length self.now }
     {
-        self.list.len()
+        self.map.len()
     }
 
     // The consumer of a name.
     pub(crate) fn get(&self, name: &Name) -> Option<&Consumer>
         ensures { option_map (λ consumer. consumer.now) result ≡ consumer_of name.now self.now }
     {
-        match self.place_of(name) {
-            Some(place) => self.list.get(place),
-            None => None,
-        }
+        self.map.get(name.text())
     }
 
     // Where the consumer of a name stands, counted from 0.
@@ -74,9 +76,7 @@ impl Consumers {
     fn position(&self, name: &Name) -> Option<usize>
         ensures { result ≡ position (is_named name.now) self.now }
     {
-        self.list
-            .iter()
-            .position(|consumer| is_named(consumer, name))
+        self.map.get_index_of(name.text())
     }
 
     // Where the consumer of a name stands, which is made where there is none.
@@ -92,8 +92,9 @@ impl Consumers {
         match self.place_of(name) {
             Some(place) => Ok(place),
             None => {
-                self.list.push(new_consumer(alloc, name, moment)?)?;
-                Ok(self.list.len() - 1)
+                let key = String::from_str(alloc, name.text())?;
+                self.map.insert(key, new_consumer(alloc, name, moment)?)?;
+                Ok(self.map.len() - 1)
             }
         }
     }
@@ -102,8 +103,8 @@ impl Consumers {
     pub(crate) fn clock(&mut self, now: Moment)
         ensures { self.new ≡ all_clocked now self.old }
     {
-        for consumer in self.list.iter_mut() {
-            consumer.clock(now);
+        for place in 0..self.map.len() {
+            self.map[place].clock(now);
         }
     }
 
@@ -118,8 +119,8 @@ impl Consumers {
         ensures { (name : named.Name) (c : Consuming) → IsAt name self.old place c
             → Asks (ask_refusal c wanted.now) (request_for c (wanted.now ∷ []) beat) (after_subscribe c (wanted.now ∷ []) beat) self.old result self.new }
     {
-        let wanted = list_of(*self.list.allocator(), wanted)?;
-        let consumer = &mut self.list[place];
+        let wanted = list_of(*self.map.allocator(), wanted)?;
+        let consumer = &mut self.map[place];
         consumer.subscribe(&wanted, beat)
     }
 
@@ -129,7 +130,7 @@ impl Consumers {
         ensures { (name : named.Name) (c : Consuming) → IsAt name self.old place c
             → Asks (termination_refusal c identifier.now) (termination_of c identifier.now) (after_terminate c identifier.now) self.old result self.new }
     {
-        let consumer = &mut self.list[place];
+        let consumer = &mut self.map[place];
         consumer.terminate(identifier)
     }
 
@@ -139,15 +140,9 @@ impl Consumers {
         ensures seen { IfOk result (λ seen. (name : named.Name) (c : Consuming) → IsAt name self.old place c → seen ≡ seen_of c message.now) }
         ensures ok { OnOk result ((name : named.Name) (c : Consuming) → IsAt name self.old place c → self.new ≡ with_consumer (after_message c message.now) self.old) }
     {
-        let consumer = &mut self.list[place];
+        let consumer = &mut self.map[place];
         consumer.take(message)
     }
-}
-
-fn is_named(consumer: &Consumer, name: &Name) -> bool
-    ensures { result ≡ is_named name.now consumer.now }
-{
-    consumer.name() == name
 }
 
 // A consumer at its first use.
