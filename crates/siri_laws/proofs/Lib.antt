@@ -1,4 +1,5 @@
 pub mod Converting
 pub mod Current
+pub mod ItemLines
 pub mod Responses
 pub mod Settles
