@@ -1,8 +1,11 @@
 // The top call.
-ghost use Rattle.std.specs.Prelude.{◌≡◌, ◌↔◌, ℕ, List, map, string_bytes, Some, None};
+ghost use Rattle.std.specs.Prelude.{◌≡◌, ◌↔◌, ℕ, List, [], map, string_bytes, Some, None};
 ghost use Rattle.siri_base.specs.Causes.{Rose};
+ghost use Rattle.siri_base.specs.MetFailures.{SinkMeets, SourceMeets, is_read_fault, is_write_fault};
 ghost use Rattle.siri_http.specs.declared.address.Address.{Address as Target};
 ghost use Rattle.siri_lines.specs.Ends.{ReadsAll};
+ghost use Rattle.siri_lines.specs.Pieces.{ReadsNoFurther};
+ghost use Rattle.siri_lines.specs.RunResult.{verdict};
 ghost use Rattle.siri_document.specs.OneDocument.{Answers, EndsDocument, check_text, convert_text};
 ghost use Rattle.siri_lines.specs.Reports.{Reports};
 ghost use Rattle.siri_lines.specs.Stops.{EndsReading};
@@ -12,9 +15,10 @@ ghost use Rattle.siri_load.specs.Runs.{EndsLoad, Writes};
 ghost use Rattle.siri_network.specs.Calls.{outside_of, told_by};
 ghost use Rattle.siri_network.specs.Enough.{EndsWhole, HasEnough};
 ghost use Rattle.siri_replay.specs.Report.{report};
-ghost use Rattle.siri_replay.specs.Views.{ReportsViews};
+ghost use Rattle.siri_replay.specs.Views.{ReportsViews, brings};
 ghost use Rattle.siri_serve.specs.Runs.{ServeRun};
 ghost use Rattle.siri_consume.specs.Reading.{TellsWanted};
+ghost use Rattle.siri_consume.specs.Wanting.{event as wanted, nothing_wanted};
 ghost use Rattle.siri_consume.specs.Runs.{ConsumeRun};
 ghost use Rattle.siri_words.specs.Commands.{command_of};
 
@@ -30,13 +34,14 @@ use std::alloc::Global;
 /// Does what the words after the program's name say: `replay` reads a script and writes its report, `check` and
 /// `convert` read one document and write what is told of it, `load` plays a large script that is made from a number, `serve` is a
 /// producer over the network, and `consume` a consumer. A view that a report tells as `quiet` lists the items of a direct
-/// response at that moment over all observations since the producer's latest start, whatever packets were lost.
+/// response at that moment over all observations that were taken since the producer's latest start, whatever packets were lost.
 ///
 /// `Usage` exactly where the words are no plain spelling of a command. `Refused` where the document of `check` or
 /// `convert` is refused. `Script` and `Limit` where a line of a script, or of what a consumer wants, is refused or passes a limit, each
 /// with the number of that line. `ReadFault`, `WriteFault`, `WireFault`, `ClockFault` and `KeeperFault` only where the source, the sink, the wire,
 /// the clock or the keeper failed, the wire to listen or to accept; `OutOfMemory` wherever memory is asked for, otherwise
 /// `Done`. Only `serve` and `consume` use the wire, the clock and the keeper.
+#[tactic(auto, using(siri_lines::proofs::Meeting::sink_none, siri_lines::proofs::Meeting::source_none, siri_lines::proofs::Whole::ends_at_once))]
 pub fn run<S: Source, K: Sink, W: Wire, C: Clock, E: Keeper>(
     alloc: Global,
     words: &[String],
@@ -68,14 +73,23 @@ pub fn run<S: Source, K: Sink, W: Wire, C: Clock, E: Keeper>(
         (outside_of (told_by (W.tells wire.new) (W.faults wire.new)) (told_by (C.tells clock.new) (C.faults clock.new)) (told_by (E.tells keeper.new) (E.faults keeper.new)))
         (K.held sink.old) (K.held sink.new) result }
 
-    // A run over the network does its work whole where there is enough for so many connections, whatever happens within one.
+    // A run over the network does its work whole where there is enough for so many connections and no failure is named for the sink,
+    // nor for the source, whatever happens within a connection.
     ensures serve_whole { (name listen : List ℕ) (count : ℕ) → command_of (map string_bytes words.now) ≡ Some (Command.Serve name listen count)
         → HasEnough count (outside_of (told_by (W.tells wire.old) (W.faults wire.old)) (told_by (C.tells clock.old) (C.faults clock.old)) (told_by (E.tells keeper.old) (E.faults keeper.old)))
-        → ¬ (Rose (K.faults sink.old) (K.faults sink.new)) → EndsWhole result }
+        → K.fails sink.old ≡ Some [] → EndsWhole result }
     ensures consume_whole { (name listen : List ℕ) (producer : Target) (count : ℕ) → command_of (map string_bytes words.now) ≡ Some (Command.Consume name listen producer count)
         → HasEnough count (outside_of (told_by (W.tells wire.old) (W.faults wire.old)) (told_by (C.tells clock.old) (C.faults clock.old)) (told_by (E.tells keeper.old) (E.faults keeper.old)))
         → TellsWanted name (S.left source.old)
-        → ¬ (Rose (S.faults source.old) (S.faults source.new)) → ¬ (Rose (K.faults sink.old) (K.faults sink.new)) → EndsWhole result }
+        → S.fails source.old ≡ Some [] → K.fails sink.old ≡ Some [] → EndsWhole result }
+
+    // A failure that is named of the source or of the sink, and met, ends the run there: nothing is read or written after it. Nor
+    // is anything read of a script, or of what a consumer wants, beyond the piece in which the end of a line lay that ended it.
+    ensures source_meets { SourceMeets (is_read_fault result) (S.left source.old) (S.left source.new) (S.fails source.old) (S.fails source.new) }
+    ensures sink_meets { SinkMeets (is_write_fault result) (K.held sink.old) (K.held sink.new) (K.fails sink.old) (K.fails sink.new) }
+    ensures pieces { command_of (map string_bytes words.now) ≡ Some Command.Replay → ReadsNoFurther brings [] (S.left source.old) (S.left source.new) }
+    ensures wanted_pieces { (name listen : List ℕ) (producer : Target) (count : ℕ) → command_of (map string_bytes words.now) ≡ Some (Command.Consume name listen producer count)
+        → ReadsNoFurther (verdict 200 wanted) (nothing_wanted name) (S.left source.old) (S.left source.new) }
 
     // What was read, and where nothing was done.
     ensures all { ReadsInput (command_of (map string_bytes words.now)) → ReadsAll (S.left source.new) result }

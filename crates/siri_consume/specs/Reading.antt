@@ -1,5 +1,6 @@
 -- What the reading of a source gives.
-use Rattle.std.specs.Prelude.{◌≡◌, ℕ, List, ◌++◌, None, Some, Ok, Err, IsOk, IsSomeAnd}
+use Rattle.std.specs.Prelude.{◌≡◌, ℕ, List, ◌++◌, Bool, false, None, Some, Result, Ok, Err, IsOk, IsSomeAnd}
+use Rattle.siri_base.specs.MetFailures.{is_read_fault}
 use Rattle.siri_base.specs.declared.status.Status.{Status}
 use Rattle.siri_base.specs.declared.status.Status.TheVariants as status
 use Rattle.siri_life.specs.Named.{Name}
@@ -41,6 +42,11 @@ Stops subscriber input left other = ⊥
 abbrev pub StopsAt : Name → Bytes → Bytes → Status → Type 0
 StopsAt subscriber None left end = Unit {0}
 StopsAt subscriber (Some input) left end = Stops subscriber input left end
+
+-- the source ended it
+abbrev pub has_failed_to_read : {T : Type 0} → Result T Status → Bool
+has_failed_to_read (Ok value) = false
+has_failed_to_read (Err end) = is_read_fault end
 
 -- the statuses that the reading may end a run with
 abbrev pub EndsReading : Status → Type 0

@@ -1,11 +1,15 @@
 // The command `consume`.
-ghost use Rattle.std.specs.Prelude.{◌≡◌, ◌≤◌, length, IfErr, IfOk, OnErr, OnOk};
+ghost use Rattle.std.specs.Prelude.{◌≡◌, ◌≤◌, length, IfErr, IfOk, OnErr, OnOk, Some, []};
 ghost use Rattle.std.specs.Io.KnownBytes.{Appends};
 ghost use Rattle.siri_base.specs.Causes.{HasOutsideCause, Rose};
+ghost use Rattle.siri_base.specs.MetFailures.{SinkMeets, SourceMeets, has_failed, is_read_fault, is_write_fault};
 ghost use Rattle.siri_lines.specs.Ends.{AppendsFront, ReadsAll};
+ghost use Rattle.siri_lines.specs.Pieces.{ReadsNoFurther};
+ghost use Rattle.siri_lines.specs.RunResult.{verdict};
 ghost use Rattle.siri_network.specs.Calls.{outside_of, told_by};
+ghost use Rattle.siri_consume.specs.Wanting.{event, nothing_wanted};
 ghost use Rattle.siri_network.specs.Enough.{EndsWhole, HasEnough};
-ghost use Rattle.siri_consume.specs.Reading.{TellsWanted};
+ghost use Rattle.siri_consume.specs.Reading.{TellsWanted, has_failed_to_read};
 ghost use Rattle.siri_consume.specs.Runs.{ConsumeRun, ConsumesAll, ConsumesNot, EndsConsuming, end_text};
 
 use crate::opening::{Opened, open};
@@ -49,12 +53,15 @@ pub fn consume<S: Source, K: Sink, W: Wire, C: Clock, E: Keeper>(
         (outside_of (told_by (W.tells wire.old) (W.faults wire.old)) (told_by (C.tells clock.old) (C.faults clock.old)) (told_by (E.tells keeper.old) (E.faults keeper.old)))
         (outside_of (told_by (W.tells wire.new) (W.faults wire.new)) (told_by (C.tells clock.new) (C.faults clock.new)) (told_by (E.tells keeper.new) (E.faults keeper.new)))
         (K.held sink.old) (K.held sink.new) result }
+    ensures pieces { ReadsNoFurther (verdict 200 event) (nothing_wanted name) (S.left source.old) (S.left source.new) }
     ensures all { ReadsAll (S.left source.new) result }
     ensures unwritten { EndsConsuming result → sink.new ≡ sink.old }
-    // Where there is enough for so many connections, all lines are good, and neither the source nor the sink fails.
+    ensures source_meets { SourceMeets (is_read_fault result) (S.left source.old) (S.left source.new) (S.fails source.old) (S.fails source.new) }
+    ensures sink_meets { SinkMeets (is_write_fault result) (K.held sink.old) (K.held sink.new) (K.fails sink.old) (K.fails sink.new) }
+    // Where there is enough for so many connections, all lines are good, and no failure is named for the source or the sink.
     ensures complete { HasEnough count (outside_of (told_by (W.tells wire.old) (W.faults wire.old)) (told_by (C.tells clock.old) (C.faults clock.old)) (told_by (E.tells keeper.old) (E.faults keeper.old)))
         → TellsWanted name (S.left source.old)
-        → ¬ (Rose (S.faults source.old) (S.faults source.new)) → ¬ (Rose (K.faults sink.old) (K.faults sink.new)) → EndsWhole result }
+        → S.fails source.old ≡ Some [] → K.fails sink.old ≡ Some [] → EndsWhole result }
     // When each fault comes.
     ensures read_fault { result ≡ Status.ReadFault → Rose (S.faults source.old) (S.faults source.new) }
     ensures write_fault { result ≡ Status.WriteFault → Rose (K.faults sink.old) (K.faults sink.new) }
@@ -75,10 +82,12 @@ pub fn consume<S: Source, K: Sink, W: Wire, C: Clock, E: Keeper>(
 }
 
 /// Writes the views and the summary.
+#[tactic(auto, using(siri_lines::proofs::Meeting::sink_more))]
 fn write_end<K: Sink>(alloc: Global, consumed: &Consumed, sink: &mut K) -> Result<(), OutsideError>
     ensures ok { OnOk result (Appends (K.held sink.old) (K.held sink.new) (end_text (record { consumer = consumed.now.consumer; tally = consumed.now.tally }))) }
     ensures err { OnErr result (AppendsFront (K.held sink.old) (K.held sink.new) (end_text (record { consumer = consumed.now.consumer; tally = consumed.now.tally }))) }
     ensures cause { HasOutsideCause (K.faults sink.old) (K.faults sink.new) result }
+    ensures meets { SinkMeets (has_failed result) (K.held sink.old) (K.held sink.new) (K.fails sink.old) (K.fails sink.new) }
 {
     write_views(alloc, &consumed.consumer, sink)?;
     write_summary(alloc, &consumed.tally, sink)
@@ -105,6 +114,8 @@ fn consume_all<S: Source, W: Wire, C: Clock, E: Keeper>(
         (outside_of (told_by (W.tells wire.new) (W.faults wire.new)) (told_by (C.tells clock.new) (C.faults clock.new)) (told_by (E.tells keeper.new) (E.faults keeper.new)))) }
     ensures all { OnOk result (ReadsAll (S.left source.new) Status.Done) }
     ensures read { IfErr result (λ end. end ≡ Status.ReadFault → Rose (S.faults source.old) (S.faults source.new)) }
+    ensures meets { SourceMeets (has_failed_to_read result) (S.left source.old) (S.left source.new) (S.fails source.old) (S.fails source.new) }
+    ensures pieces { ReadsNoFurther (verdict 200 event) (nothing_wanted name) (S.left source.old) (S.left source.new) }
 {
     let Opened {
         mut consumer,

@@ -1,6 +1,11 @@
 // How a run opens.
 ghost use Rattle.std.specs.Prelude.{◌≡◌, ◌≤◌, ◌*◌, length, IfErr, IfOk, OnOk};
 ghost use Rattle.siri_base.specs.Causes.{Rose};
+ghost use Rattle.siri_base.specs.MetFailures.{SourceMeets};
+ghost use Rattle.siri_consume.specs.Reading.{has_failed_to_read};
+ghost use Rattle.siri_lines.specs.Pieces.{ReadsNoFurther};
+ghost use Rattle.siri_lines.specs.RunResult.{verdict};
+ghost use Rattle.siri_consume.specs.Wanting.{event, nothing_wanted};
 ghost use Rattle.siri_lines.specs.Ends.{ReadsAll};
 ghost use Rattle.siri_network.specs.Calls.{outside_of, told_by};
 ghost use Rattle.siri_consume.specs.Opening.{FailsToOpen, opened, own_address};
@@ -24,6 +29,7 @@ pub struct Opened {
 }
 
 /// Raises the number of the start, reads what is wanted, reads the clock, listens, and makes a consumer of this name.
+#[tactic(auto, using(siri_lines::proofs::Meeting::source_none, siri_lines::proofs::Whole::ends_at_once, siri_network::proofs::Statuses::no_read_fault))]
 pub fn open<S: Source, W: Wire, C: Clock, E: Keeper>(
     alloc: Global,
     name: Name,
@@ -43,6 +49,8 @@ pub fn open<S: Source, W: Wire, C: Clock, E: Keeper>(
     ensures may_ask { IfOk result (λ opened. MayAsk opened.consumer opened.wanted) }
     ensures all { OnOk result (ReadsAll (S.left source.new) Status.Done) }
     ensures read { IfErr result (λ end. end ≡ Status.ReadFault → Rose (S.faults source.old) (S.faults source.new)) }
+    ensures meets { SourceMeets (has_failed_to_read result) (S.left source.old) (S.left source.new) (S.fails source.old) (S.fails source.new) }
+    ensures pieces { ReadsNoFurther (verdict 200 event) (nothing_wanted name) (S.left source.old) (S.left source.new) }
 {
     let start = raise(keeper)?;
     let wanted = read_wanted(alloc, source, &name)?;

@@ -1,8 +1,12 @@
 // Reads what a consumer is to ask for.
 ghost use Rattle.std.specs.Prelude.{◌≤◌, length, IfOk, IfErr, IsErrOf};
 ghost use Rattle.siri_base.specs.Causes.{Rose};
+ghost use Rattle.siri_base.specs.MetFailures.{SourceMeets};
 ghost use Rattle.siri_lines.specs.Ends.{ReadsAll};
-ghost use Rattle.siri_consume.specs.Reading.{EndsReading, StopsAt, Wants};
+ghost use Rattle.siri_lines.specs.Pieces.{ReadsNoFurther};
+ghost use Rattle.siri_lines.specs.RunResult.{verdict};
+ghost use Rattle.siri_consume.specs.Wanting.{event, nothing_wanted};
+ghost use Rattle.siri_consume.specs.Reading.{EndsReading, StopsAt, Wants, has_failed_to_read};
 
 use crate::wanted_lines::WantedLines;
 use siri_base::{InMemorySink, List, Name, Source, Status};
@@ -28,7 +32,9 @@ pub fn read_wanted<S: Source>(
     ensures at_most { IfOk result (λ list. length list ≤ 200) }
     ensures all { IfOk result (λ list. ReadsAll (S.left source.new) Status.Done) }
     ensures stops { IfErr result (λ status. StopsAt subscriber.now (S.left source.old) (S.left source.new) status) }
+    ensures pieces { ReadsNoFurther (verdict 200 event) (nothing_wanted subscriber.now) (S.left source.old) (S.left source.new) }
     ensures read { IsErrOf result Status.ReadFault → Rose (S.faults source.old) (S.faults source.new) }
+    ensures meets { SourceMeets (has_failed_to_read result) (S.left source.old) (S.left source.new) (S.fails source.old) (S.fails source.new) }
     ensures ends { IfErr result EndsReading }
 {
     let mut taken = WantedLines::new(alloc, subscriber);

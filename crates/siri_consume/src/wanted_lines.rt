@@ -45,6 +45,7 @@ impl LineTaker for WantedLines<'_> {
 
     ghost fits = { Fits };
 
+    #[tactic(auto, using(siri_lines::proofs::Meeting::sink_none))]
     fn take_line<K: Sink>(&mut self, number: u64, line: &[u8], _: &mut K) -> Result<(), Stop> {
         match line_said(self.alloc, self.subscriber, line) {
             Ok(Some(wanted)) => Ok(self.wanted.push(wanted)?),

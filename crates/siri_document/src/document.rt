@@ -1,7 +1,8 @@
 // Reads the one document of a command, and tells what is made of it.
-ghost use Rattle.std.specs.Prelude.{◌≡◌, ◌≢◌, ◌≤◌, ◌<◌, ◌+◌, ℕ, List, ◌++◌, length, take, drop, IfOk, OnOk};
+ghost use Rattle.std.specs.Prelude.{◌≡◌, ◌≤◌, ◌<◌, ◌+◌, ℕ, List, ◌++◌, length, take, drop, IfOk, OnOk, false};
 ghost use Rattle.std.specs.Io.KnownBytes.{Consumes, IsAtEnd};
 ghost use Rattle.siri_base.specs.Causes.{Rose, HasOutsideCause};
+ghost use Rattle.siri_base.specs.MetFailures.{SinkMeets, SourceMeets, has_failed, is_read_fault, is_write_fault};
 ghost use Rattle.siri_messages.specs.declared.message.Message.{Message as Msg};
 ghost use Rattle.siri_wire.specs.Documents.{Decodes, message_of};
 ghost use Rattle.siri_lines.specs.Ends.{ReadsAll};
@@ -78,7 +79,8 @@ impl Answer {
     fn write<K: Sink>(self, sink: &mut K) -> Status
         ensures text { Tells (K.held sink.old) self (K.held sink.new) result }
         ensures write { result ≡ Status.WriteFault → Rose (K.faults sink.old) (K.faults sink.new) }
-        ensures read { result ≢ Status.ReadFault }
+        ensures read { is_read_fault result ≡ false }
+        ensures meets { SinkMeets (is_write_fault result) (K.held sink.old) (K.held sink.new) (K.fails sink.old) (K.fails sink.new) }
         ensures ends { EndsDocument result }
     {
         match write_text(sink, &self.text) {
@@ -90,7 +92,9 @@ impl Answer {
     }
 }
 
-/// Reads one document, and writes what the command tells of its message, or the refusal.
+/// Reads one document, and writes what the command tells of its message, or the refusal. A source or a sink that fails ends the run
+/// there.
+#[tactic(auto, using(siri_lines::proofs::Meeting::sink_none))]
 pub fn answer_document<T: Telling, S: Source, K: Sink>(
     alloc: Global,
     source: &mut S,
@@ -101,6 +105,8 @@ pub fn answer_document<T: Telling, S: Source, K: Sink>(
     ensures unread { result ≡ Status.ReadFault → sink.new ≡ sink.old }
     ensures read { result ≡ Status.ReadFault → Rose (S.faults source.old) (S.faults source.new) }
     ensures write { result ≡ Status.WriteFault → Rose (K.faults sink.old) (K.faults sink.new) }
+    ensures source_meets { SourceMeets (is_read_fault result) (S.left source.old) (S.left source.new) (S.fails source.old) (S.fails source.new) }
+    ensures sink_meets { SinkMeets (is_write_fault result) (K.held sink.old) (K.held sink.new) (K.fails sink.old) (K.fails sink.new) }
     ensures ends { EndsDocument result }
 {
     match read_document(alloc, source) {
@@ -126,9 +132,11 @@ fn answer_of<T: Telling>(alloc: Global, document: Vec<u8>) -> Result<Answer, Out
 }
 
 /// Reads the document to its end, or to its byte 8,388,609, where it is too long.
+#[tactic(auto, using(siri_lines::proofs::Meeting::source_none, siri_lines::proofs::Meeting::source_more))]
 fn read_document<S: Source>(alloc: Global, source: &mut S) -> Result<Vec<u8>, OutsideError>
     ensures document { IfOk result (λ document. IsDocument (S.left source.old) (S.left source.new) document.items) }
     ensures cause { HasOutsideCause (S.faults source.old) (S.faults source.new) result }
+    ensures meets { SourceMeets (has_failed result) (S.left source.old) (S.left source.new) (S.fails source.old) (S.fails source.new) }
 {
     let mut document = Vec::new(alloc);
     let mut filled = 0;
@@ -173,6 +181,7 @@ fn read_at<S: Source>(
     ensures bytes { IfOk result (λ count. Consumes (S.left source.old) (S.left source.new) (take count (drop filled document.new))) }
     ensures end { IfOk result (λ count. count ≡ 0 → IsAtEnd (S.left source.new)) }
     ensures cause { HasOutsideCause (S.faults source.old) (S.faults source.new) result }
+    ensures meets { SourceMeets (has_failed result) (S.left source.old) (S.left source.new) (S.fails source.old) (S.fails source.new) }
 {
     match source.read(&mut document[filled..]) {
         Ok(count) => Ok(count),

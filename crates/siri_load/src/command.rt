@@ -1,6 +1,7 @@
 // The command `load`.
 ghost use Rattle.std.specs.Prelude.{◌≡◌};
 ghost use Rattle.siri_base.specs.Causes.{Rose};
+ghost use Rattle.siri_base.specs.MetFailures.{SinkMeets, is_write_fault};
 ghost use Rattle.siri_load.specs.Load.{load_text};
 ghost use Rattle.siri_load.specs.Runs.{Writes, EndsLoad};
 
@@ -16,9 +17,11 @@ use std::alloc::Global;
 ///
 /// `Limit` exactly where a line of the script passes a limit, with the number of that line; nothing is written then.
 /// `WriteFault` only where the sink failed, `OutOfMemory` wherever memory is asked for, otherwise `Done`.
+#[tactic(auto, using(siri_lines::proofs::Meeting::sink_none))]
 pub fn load<K: Sink>(alloc: Global, sink: &mut K, seed: u64, count: u64) -> Status
     ensures written { Writes (load_text seed count) (K.held sink.old) (K.held sink.new) result }
     ensures write { result ≡ Status.WriteFault → Rose (K.faults sink.old) (K.faults sink.new) }
+    ensures meets { SinkMeets (is_write_fault result) (K.held sink.old) (K.held sink.new) (K.fails sink.old) (K.fails sink.new) }
     ensures ends { EndsLoad result }
 {
     match summary(alloc, seed, count) {
@@ -32,6 +35,7 @@ pub fn load<K: Sink>(alloc: Global, sink: &mut K, seed: u64, count: u64) -> Stat
 fn write<K: Sink>(sink: &mut K, text: &[u8]) -> Status
     ensures written { Writes (record { text = text.now; status = Status.Done }) (K.held sink.old) (K.held sink.new) result }
     ensures write { result ≡ Status.WriteFault → Rose (K.faults sink.old) (K.faults sink.new) }
+    ensures meets { SinkMeets (is_write_fault result) (K.held sink.old) (K.held sink.new) (K.fails sink.old) (K.fails sink.new) }
     ensures ends { EndsLoad result }
 {
     match write_text(sink, text) {

@@ -3,3 +3,4 @@ pub mod Causes
 pub mod Turns
 pub mod Enough
 pub mod Exchanges
+pub mod Statuses

@@ -1,6 +1,7 @@
 // The line that a run over the network ends with.
 ghost use Rattle.std.specs.Prelude.{◌≡◌, ◌++◌, IfOk, OnErr, OnOk};
 ghost use Rattle.siri_base.specs.Causes.{HasOutsideCause};
+ghost use Rattle.siri_base.specs.MetFailures.{SinkMeets, has_failed};
 ghost use Rattle.std.specs.Io.KnownBytes.{Appends};
 ghost use Rattle.siri_lines.specs.Ends.{AppendsFront};
 ghost use Rattle.siri_network.specs.Summaries.{counted_text, summary_text};
@@ -11,6 +12,7 @@ use siri_lines::write_text;
 use std::alloc::Global;
 
 /// Writes `served N refused R dropped D unsent U` and a line feed.
+#[tactic(auto, using(siri_lines::proofs::Meeting::sink_none))]
 pub fn write_summary<K: Sink>(
     alloc: Global,
     tally: &Tally,
@@ -19,6 +21,7 @@ pub fn write_summary<K: Sink>(
     ensures ok { OnOk result (Appends (K.held sink.old) (K.held sink.new) (summary_text tally.now)) }
     ensures err { OnErr result (AppendsFront (K.held sink.old) (K.held sink.new) (summary_text tally.now)) }
     ensures cause { HasOutsideCause (K.faults sink.old) (K.faults sink.new) result }
+    ensures meets { SinkMeets (has_failed result) (K.held sink.old) (K.held sink.new) (K.fails sink.old) (K.fails sink.new) }
 {
     write_text(sink, &summary(alloc, tally)?)
 }

@@ -15,7 +15,7 @@ use Rattle.siri_world_model.specs.declared.word.Word.{Word}
 use Rattle.siri_world_model.specs.declared.word.Word.TheVariants as word
 use Rattle.siri_world_model.specs.Lines as line
 use Rattle.siri_world_model.specs.Lines.{ToldLine}
-use Rattle.siri_script.specs.Items.{item_text}
+use Rattle.siri_script.specs.Items.{item_line}
 use Rattle.siri_script.specs.Spaced.{line_feed, space, spaced}
 use Rattle.siri_script.specs.ViewLines.{held_text}
 
@@ -101,7 +101,7 @@ told_text (line.Unknown consumer identifier) = spaced (codes "unknown") (consume
 told_text (line.Took receiver word) = spaced (codes "took") (spaced receiver (word_text word))
 told_text (line.NoPacket number) = spaced (codes "no packet") (decimal number)
 told_text (line.View consumer identifier held items quiet) = view_text consumer identifier held items quiet
-told_text (line.Item item) = spaced (codes "item") (item_text item)
+told_text (line.Item item) = item_line item
 
 -- a line
 unfoldable pub line_text : ToldLine → List ℕ

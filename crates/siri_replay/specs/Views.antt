@@ -1,7 +1,8 @@
 -- What the views of a report show, for whoever knows SIRI and not this code. Where a line of a script asks for a view, the
--- report has there, right after the report of the lines before, that there is none, or the view; and where that says
--- `quiet`, its items are those of a direct response at that moment over all observations since the producer's latest start,
--- equal in every field but for predicted times and delays within ChangeBeforeUpdates and the time of record.
+-- report has there, right after the report of the lines before, that there is none, or the view, each of whose items is, as it
+-- stands, one that was sent to the consumer; and where the view says `quiet`, its items are those of a direct response at that
+-- moment over all observations that were taken since the producer's latest start, equal in every field but for predicted times and delays within
+-- ChangeBeforeUpdates and the time of record, which is that of the record sent.
 use Rattle.std.specs.Prelude.{◌≡◌, ℕ, suc, List, [], ◌∷◌, ◌++◌, length, None, Some, Ok}
 use Rattle.std.specs.Io.KnownBytes.{Appends}
 use Rattle.std.specs.Str.Lines.{lines}

@@ -2,6 +2,7 @@
 ghost use Rattle.std.specs.Prelude.{◌≡◌, ◌++◌, IfOk, OnOk, OnErr};
 ghost use Rattle.std.specs.Io.KnownBytes.{Appends};
 ghost use Rattle.siri_base.specs.Causes.{HasOutsideCause};
+ghost use Rattle.siri_base.specs.MetFailures.{SinkMeets, has_failed};
 ghost use Rattle.siri_lines.specs.Ends.{AppendsFront};
 ghost use Rattle.siri_world_model.specs.Lines as line;
 ghost use Rattle.siri_world_model.specs.Lines.{told_line, told_lines};
@@ -19,10 +20,12 @@ use siri_world::{Line, Word};
 use std::alloc::Global;
 
 /// Writes the texts of these lines, one after the other.
+#[tactic(auto, using(siri_lines::proofs::Meeting::sink_none))]
 pub fn write_lines<K: Sink>(alloc: Global, lines: &[Line], sink: &mut K) -> Result<(), OutsideError>
     ensures ok { OnOk result (Appends (K.held sink.old) (K.held sink.new) (lines_text (told_lines lines.now))) }
     ensures err { OnErr result (AppendsFront (K.held sink.old) (K.held sink.new) (lines_text (told_lines lines.now))) }
     ensures cause { HasOutsideCause (K.faults sink.old) (K.faults sink.new) result }
+    ensures meets { SinkMeets (has_failed result) (K.held sink.old) (K.held sink.new) (K.fails sink.old) (K.fails sink.new) }
 {
     for line in lines {
         write_line(alloc, line, sink)?;
@@ -31,11 +34,12 @@ pub fn write_lines<K: Sink>(alloc: Global, lines: &[Line], sink: &mut K) -> Resu
 }
 
 /// Writes the text of a line. The document of an answer or a packet isn't copied.
-#[tactic(auto, unfolding(crate::specs::ReportLines::line_text))]
+#[tactic(auto, using(siri_lines::proofs::Meeting::sink_none), unfolding(crate::specs::ReportLines::line_text))]
 fn write_line<K: Sink>(alloc: Global, line: &Line, sink: &mut K) -> Result<(), OutsideError>
     ensures ok { OnOk result (Appends (K.held sink.old) (K.held sink.new) (line_text (told_line line.now))) }
     ensures err { OnErr result (AppendsFront (K.held sink.old) (K.held sink.new) (line_text (told_line line.now))) }
     ensures cause { HasOutsideCause (K.faults sink.old) (K.faults sink.new) result }
+    ensures meets { SinkMeets (has_failed result) (K.held sink.old) (K.held sink.new) (K.fails sink.old) (K.fails sink.new) }
 {
     match line {
         Line::Started(number) => write_whole(started(alloc, *number)?, sink),
@@ -79,6 +83,7 @@ fn write_document<K: Sink>(front: &[u8], document: &[u8], sink: &mut K) -> Resul
     ensures ok { OnOk result (Appends (K.held sink.old) (K.held sink.new) (spaced front.now document.now ++ line_feed)) }
     ensures err { OnErr result (AppendsFront (K.held sink.old) (K.held sink.new) (spaced front.now document.now ++ line_feed)) }
     ensures cause { HasOutsideCause (K.faults sink.old) (K.faults sink.new) result }
+    ensures meets { SinkMeets (has_failed result) (K.held sink.old) (K.held sink.new) (K.fails sink.old) (K.fails sink.new) }
 {
     write_text(sink, front)?;
     write_text(sink, b" ")?;

@@ -1,6 +1,7 @@
 // What takes the lines of a script.
 ghost use Rattle.std.specs.Prelude.{◌≡◌, [], ◌||◌, IfOk, Err};
-ghost use Rattle.siri_lines.specs.Brings.{Brings, StopCause};
+ghost use Rattle.siri_lines.specs.Brings.{Brings, StopCause, has_failed_to_write};
+ghost use Rattle.siri_base.specs.MetFailures.{SinkMeets};
 ghost use Rattle.siri_world_model.specs.Told.{is_start, told, world_after};
 ghost use Rattle.siri_replay.specs.Report.{World as Happened, by_told, event};
 ghost use Rattle.siri_replay.specs.inner.Standing.{Fits};
@@ -43,10 +44,12 @@ impl Script {
     }
 
     /// The event of the line of this number happens, and its lines are written.
+    #[tactic(auto, using(siri_lines::proofs::Meeting::sink_none, siri_lines::proofs::Meeting::stop_failed))]
     fn happen<K: Sink>(&mut self, number: u64, event: &Event, sink: &mut K) -> Result<(), Stop>
         ensures brings { (events : Happened) → Fits self.old events →
             Brings Fits self.new (K.held sink.old) (K.held sink.new) result (by_told number events event.now (told (world_after events) event.now)) }
         ensures cause { StopCause (K.faults sink.old) (K.faults sink.new) result }
+        ensures meets { SinkMeets (has_failed_to_write result) (K.held sink.old) (K.held sink.new) (K.fails sink.old) (K.fails sink.new) }
     {
         match self.world.step(event) {
             Ok(lines) => {
@@ -67,6 +70,7 @@ impl LineTaker for Script {
 
     ghost fits = { Fits };
 
+    #[tactic(auto, using(siri_lines::proofs::Meeting::sink_none))]
     fn take_line<K: Sink>(&mut self, number: u64, line: &[u8], sink: &mut K) -> Result<(), Stop> {
         match line_said(self.alloc, self.started, line) {
             Ok(Some(event)) => self.happen(number, &event, sink),

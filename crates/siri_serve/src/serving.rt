@@ -1,6 +1,7 @@
 // The command `serve`.
-ghost use Rattle.std.specs.Prelude.{◌≡◌, IfErr, IfOk};
+ghost use Rattle.std.specs.Prelude.{◌≡◌, IfErr, IfOk, Some, []};
 ghost use Rattle.siri_base.specs.Causes.{Rose};
+ghost use Rattle.siri_base.specs.MetFailures.{SinkMeets, is_write_fault};
 ghost use Rattle.siri_network.specs.Calls.{outside_of, told_by};
 ghost use Rattle.siri_network.specs.Enough.{EndsWhole, HasEnough};
 ghost use Rattle.siri_serve.specs.Runs.{EndsServing, ServeRun, ServesAll, ServesNot};
@@ -33,9 +34,10 @@ pub fn serve<K: Sink, W: Wire, C: Clock, E: Keeper>(
         (outside_of (told_by (W.tells wire.new) (W.faults wire.new)) (told_by (C.tells clock.new) (C.faults clock.new)) (told_by (E.tells keeper.new) (E.faults keeper.new)))
         (K.held sink.old) (K.held sink.new) result }
     ensures unwritten { EndsServing result → sink.new ≡ sink.old }
-    // Where there is enough for so many connections, and the sink doesn't fail.
+    ensures meets { SinkMeets (is_write_fault result) (K.held sink.old) (K.held sink.new) (K.fails sink.old) (K.fails sink.new) }
+    // Where there is enough for so many connections, and no failure is named for the sink.
     ensures complete { HasEnough count (outside_of (told_by (W.tells wire.old) (W.faults wire.old)) (told_by (C.tells clock.old) (C.faults clock.old)) (told_by (E.tells keeper.old) (E.faults keeper.old)))
-        → ¬ (Rose (K.faults sink.old) (K.faults sink.new)) → EndsWhole result }
+        → K.fails sink.old ≡ Some [] → EndsWhole result }
     // When each fault comes.
     ensures write_fault { result ≡ Status.WriteFault → Rose (K.faults sink.old) (K.faults sink.new) }
     ensures wire_fault { result ≡ Status.WireFault → Rose (W.faults wire.old) (W.faults wire.new) }

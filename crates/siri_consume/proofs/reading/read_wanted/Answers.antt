@@ -24,5 +24,10 @@ returns g c =
       all = tt;
       stops = stops_at _ _ _ _ _ _ c.in_default.not-Done not_write c.read_lines.ensures.ends (c.read_lines.ensures.report (nothing_wanted c.args.subscriber.now) c.new-taken.ensures);
       read = λ e. let fault : c.read_lines.result ≡ status.ReadFault = cc in c.read_lines.ensures.read fault;
+      pieces = c.read_lines.ensures.pieces (nothing_wanted c.args.subscriber.now) c.new-taken.ensures;
+      meets = c.read_lines.ensures.source_meets;
       ends = ends_reading _ c.in_default.not-Done not_write c.read_lines.ensures.ends;
     }
+
+pub returns-in-Done-clause-pieces : goal.returns-in-Done-clause-pieces
+returns-in-Done-clause-pieces g c = c.read_lines.ensures.pieces (nothing_wanted c.args.subscriber.now) c.new-taken.ensures

@@ -1,5 +1,7 @@
 use Rattle.std.proofs.Common.{◌++◌, length}
 use Rattle.std.proofs.KnownBytes.{Appends-trans}
+use Rattle.siri_base.specs.MetFailures.{has_failed}
+use Rattle.siri_lines.proofs.Meeting.{sink_more}
 use Rattle.siri_lines.proofs.Written.{front_longer, front_more}
 use Rattle.siri_script.specs.Spaced.{line_feed}
 use Rattle.siri_script.specs.ViewLines.{view_line}
@@ -25,3 +27,6 @@ returns-clause-err g c =
     let text = view_line c.args.consumer.now c.args.identifier.now c.args.held.now (length c.args.view.now) in
     let is = line_is c.args.consumer.now c.args.identifier.now c.args.held.now c.args.view.now c.len.result c.in_ok-line.line.items c.in_ok-line.ensures c.len.ensures.number in
     on_err_with c.write_items.result (λ w. front_more _ _ _ (text ++ line_feed) (items_text c.args.view.now) (ended_is _ _ c.in_ok-line.line.items text is c.in_ok-write_whole.ensures.ok) w) c.write_items.ensures.err
+
+pub returns-clause-meets : goal.returns-clause-meets
+returns-clause-meets g c = sink_more (has_failed c.write_items.result) _ _ _ _ _ _ c.in_ok-write_whole.ensures.meets c.write_items.ensures.meets

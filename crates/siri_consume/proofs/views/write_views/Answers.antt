@@ -1,4 +1,7 @@
-use Rattle.std.proofs.Common.{arith}
+use Rattle.std.proofs.Common.{Err, arith, false}
+use Rattle.std.proofs.lemmas.Result.{err_from_is_err_and}
+use Rattle.siri_base.specs.MetFailures.{has_failed}
+use Rattle.siri_lines.proofs.Meeting.{sink_more}
 use Rattle.siri_script.proofs.Results.{on_err}
 use Rattle.siri_consume.specs.inner.Shown.{shown}
 use Rattle.siri_consume.proofs.Pieces.{pieces_all, pieces_cut, pieces_more}
@@ -18,7 +21,13 @@ loop-place-preserved g c =
       written = pieces_more shown (lines_of name) _ _ _ c.args.consumer.now.held c.loop-place.place _ c.in-Some.ensures c.loop-place.invariant.written
           (lines_are _ _ c.name.result.now name (c.in-Some.identifier.now, c.in-Some.held, c.in-Some.view.now) c.name.ensures c.in_ok-write_view.ensures.ok);
       later = omega (arith, c.loop-place.invariant.later, c.write_view.ensures.cause.later);
+      meets = sink_more false _ _ _ _ _ _ c.loop-place.invariant.meets c.in_ok-write_view.ensures.meets;
     }
 
 pub returns-in_default-clause-ok : goal.returns-in_default-clause-ok
 returns-in_default-clause-ok g c = pieces_all shown (lines_of c.args.consumer.now.name) _ _ c.args.consumer.now.held c.loop-place.place c.in_default.ensures c.loop-place.invariant.written
+
+pub returns-in_err-write_view-clause-meets : goal.returns-in_err-write_view-clause-meets
+returns-in_err-write_view-clause-meets g c =
+    let p = err_from_is_err_and c.from_residual.result c.from_residual.ensures.1 in
+    rw (p.1, p.2) (sink_more (has_failed {T = Unit {0}} (Err c.in_err-write_view.field-0.0)) _ _ _ _ _ _ c.loop-place.invariant.meets c.in_err-write_view.ensures.meets)

@@ -1,4 +1,5 @@
-use Rattle.std.proofs.Common.{◌-◌, ◌≤◌, length, take}
+use Rattle.std.proofs.Common.{◌-◌, ◌≤◌, length, take, false}
+use Rattle.siri_base.specs.MetFailures.{SourceMeets}
 use Rattle.std.specs.Io.KnownBytes.{Consumes}
 use Rattle.siri_document.proofs.document.read_document.Given as goal
 
@@ -8,6 +9,7 @@ invariant-loop-filled g l = record {
   within : l.filled ≤ length l.document.items;
   bound : length l.document.items ≤ 8388609;
   later : g.S.Source.faults l.fn.source ≤ g.S.Source.faults l.source;
+  meets : SourceMeets false (g.S.Source.left l.fn.source) (g.S.Source.left l.source) (g.S.Source.fails l.fn.source) (g.S.Source.fails l.source);
 }
 
 abbrev pub decreases-loop-filled : goal.decreases-loop-filled

@@ -17,3 +17,6 @@ returns-in-Ok-clause-views g c = views_reported _ _ _ _ _ (as_report _ _ _ _ _ (
 
 pub returns-in-Err-clause-views : goal.returns-in-Err-clause-views
 returns-in-Err-clause-views g c = views_reported _ _ _ _ _ (as_report _ _ _ _ _ (reports_nothing (verdict 1000000 event) [] _ _))
+
+pub returns-in-Ok-clause-pieces : goal.returns-in-Ok-clause-pieces
+returns-in-Ok-clause-pieces g c = c.read_lines.ensures.pieces [] c.in-Ok.ensures

@@ -1,3 +1,5 @@
+use Rattle.siri_lines.proofs.Meeting.{sink_none}
+use Rattle.siri_network.proofs.Statuses.{no_write_fault}
 use Rattle.siri_serve.proofs.Enough.{ends_whole}
 use Rattle.siri_serve.proofs.Runs.{clock_fault, keeper_fault, run_ended, wire_fault}
 use Rattle.siri_serve.proofs.serving.serve.Goals as goal
@@ -16,3 +18,6 @@ returns-in-Err-clause-keeper_fault g c = keeper_fault _ _ _ _ _ c.in-Err.error c
 
 pub returns-in-Err-clause-complete : goal.returns-in-Err-clause-complete
 returns-in-Err-clause-complete g c = λ has _. ends_whole _ _ _ _ _ c.in-Err.error c.from.result c.from.ensures c.in-Err.ensures.err has
+
+pub returns-in-Err-clause-meets : goal.returns-in-Err-clause-meets
+returns-in-Err-clause-meets g c = rw (c.from.ensures, no_write_fault c.in-Err.error) (sink_none _ _)
