@@ -1,16 +1,17 @@
 //! The command `siri`: makes the adapters over the system, does what its words say, and tells how it ended.
 //!
 //! Stands on `siri_cli`, whose `run` is the whole of the work, on `siri_system` for the network, the clock and the start number,
-//! and on `siri_lines` for the line that tells how a run ended.
+//! and on `siri_lines` for the line that tells how a run ended. A line of the system's own words follows where the wire or the
+//! keeper failed.
 #![tactic(auto)]
 
 use siri_base::{Input, Output, Status};
 use siri_cli::run;
 use siri_lines::write_status;
 use siri_system::{FileKeeper, SystemClock, TcpWire};
-use std::env;
 use std::io::Write;
 use std::process::ExitCode;
+use std::{env, io};
 
 /// What is listed where the words are no command.
 const COMMANDS: &str = "siri replay < SCRIPT
@@ -22,16 +23,21 @@ siri consume NAME HOST:PORT PRODUCER COUNT < SUBSCRIPTIONS
 ";
 
 fn main(rt: HostRuntime) -> ExitCode {
-    let status = run_command(&rt);
+    let mut wire = TcpWire::new(rt);
+    let mut keeper = FileKeeper::new(rt);
+    let status = run_command(&rt, &mut wire, &mut keeper);
     let _ = write_status(rt.alloc(), &mut Output::new(rt.stderr()), &status);
-    if matches!(status, Status::Usage) {
-        list_commands(&rt);
+    match status {
+        Status::Usage => list_commands(&rt),
+        Status::WireFault => tell_fault(&rt, wire.fault()),
+        Status::KeeperFault => tell_fault(&rt, keeper.fault()),
+        _ => {}
     }
     ExitCode::from(status.number())
 }
 
 /// Runs the command over the words after the program's name. Words that aren't UTF-8 are no plain spelling.
-fn run_command(rt: &HostRuntime) -> Status {
+fn run_command(rt: &HostRuntime, wire: &mut TcpWire, keeper: &mut FileKeeper) -> Status {
     let alloc = rt.alloc();
     let Ok(given) = env::args(rt) else {
         return Status::Usage;
@@ -44,10 +50,17 @@ fn run_command(rt: &HostRuntime) -> Status {
         &words,
         &mut Input::new(rt.stdin()),
         &mut Output::new(rt.stdout()),
-        &mut TcpWire::new(*rt),
+        wire,
         &mut SystemClock::new(*rt),
-        &mut FileKeeper::new(*rt),
+        keeper,
     )
+}
+
+/// Tells what the system told of a failure, on a line of standard error.
+fn tell_fault(rt: &HostRuntime, fault: Option<io::Error>) {
+    if let Some(fault) = fault {
+        let _ = writeln!(rt.stderr(), "siri: {fault}");
+    }
 }
 
 /// Lists the commands, a line each, on standard error.
