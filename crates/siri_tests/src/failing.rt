@@ -1,5 +1,8 @@
-// Runs of `serve` over an outside of which calls fail.
-use crate::network::{CHECK, CHECKED, EIGHT, SEVEN, moments_of};
+// Runs of `serve` and `consume` over an outside of which calls fail.
+use crate::network::{
+    ACKNOWLEDGED_UP, CHECK, CHECKED, CONSUMER, Comes, EIGHT, FED, FEED, LISTEN, NOTIFIED, READY,
+    REQUEST, SEVEN, SUBSCRIBE, SUBSCRIBED, SUPPLIED, SUPPLY, TAKEN, WANTED, are_named, moments_of,
+};
 use crate::running::end_over;
 use siri_base::{
     FailingCalls, FailingClock, FailingConnection, FailingKeeper, FailingWire, InMemorySink,
@@ -7,138 +10,239 @@ use siri_base::{
 };
 use std::alloc::Global;
 
-/// What fails: calls, each by how many of that name come before it, and the first connection, by how many bytes are read or
-/// written before.
+/// What is run: the words, the moments to come, what the source has, and the connections to come and to be dialled, each with its
+/// failures; and the calls that fail, each by how many of that name come before it.
 #[derive(Clone, Copy)]
-struct Fails {
-    raise: &'static [usize],
-    listen: &'static [usize],
-    accept: &'static [usize],
+struct Run {
+    words: &'static [&'static str],
+    moments: &'static [i64],
+    input: &'static str,
+    to_accept: &'static [FailingConnection<'static>],
+    to_dial: &'static [FailingConnection<'static>],
+    calls: FailingCalls<'static>,
     now: &'static [usize],
-    read: &'static [usize],
-    write: &'static [usize],
+    raise: &'static [usize],
 }
 
-const NEVER: Fails = Fails {
-    raise: &[],
+const NO_CALLS: FailingCalls<'static> = FailingCalls {
     listen: &[],
     accept: &[],
-    now: &[],
-    read: &[],
-    write: &[],
+    dial: &[],
 };
 
-/// What comes of it: what is written to the connections in the order in which they came, whether it was listened, what is
-/// written at the end, and the status with its text.
-#[derive(Clone, Copy)]
-struct Comes {
-    answered: &'static [&'static str],
-    listened: bool,
-    output: &'static str,
-    number: u8,
-    text: &'static str,
-}
+/// A connection that asks for the producer's status.
+const ASKS: FailingConnection<'static> = FailingConnection {
+    input: CHECK,
+    read_fails: &[],
+    write_fails: &[],
+};
 
-// COUNT, what fails of an outside with two connections that ask for the producer's status, and what comes of it.
-static ROWS: [(&str, Fails, Comes); 6] = [
+/// `serve` for one connection, where two come.
+const SERVE: Run = Run {
+    words: &["serve", "p", LISTEN, "1"],
+    moments: &[SEVEN, EIGHT, EIGHT],
+    input: "",
+    to_accept: &[ASKS, ASKS],
+    to_dial: &[],
+    calls: NO_CALLS,
+    now: &[],
+    raise: &[],
+};
+
+const SERVE_TWO: Run = Run {
+    words: &["serve", "p", LISTEN, "2"],
+    ..SERVE
+};
+
+/// `consume` for one connection, by which a part is notified.
+const CONSUME: Run = Run {
+    words: &["consume", "c", CONSUMER, "http://127.0.0.1:7001/", "1"],
+    moments: &[EIGHT, EIGHT],
+    input: WANTED,
+    to_accept: &[FailingConnection {
+        input: NOTIFIED,
+        ..ASKS
+    }],
+    ..SERVE
+};
+
+// What is run, and what comes of it.
+static ROWS: [(Run, Comes<'static>); 9] = [
     (
-        "1",
-        Fails {
+        Run {
             raise: &[0],
-            ..NEVER
+            ..SERVE
         },
         Comes {
             answered: &[],
-            listened: false,
+            named: &[],
             output: "",
             number: 76,
             text: "siri: keeper fault",
         },
     ),
     (
-        "1",
-        Fails {
-            listen: &[0],
-            ..NEVER
+        Run {
+            calls: FailingCalls {
+                listen: &[0],
+                ..NO_CALLS
+            },
+            ..SERVE
         },
         Comes {
             answered: &[],
-            listened: true,
+            named: &[LISTEN],
             output: "",
             number: 69,
             text: "siri: wire fault",
         },
     ),
     (
-        "2",
-        Fails {
-            accept: &[1],
-            ..NEVER
+        Run {
+            calls: FailingCalls {
+                accept: &[1],
+                ..NO_CALLS
+            },
+            ..SERVE_TWO
         },
         Comes {
             answered: &[CHECKED],
-            listened: true,
+            named: &[LISTEN],
             output: "",
             number: 69,
             text: "siri: wire fault",
         },
     ),
     (
-        "1",
-        Fails { now: &[1], ..NEVER },
+        Run { now: &[1], ..SERVE },
         Comes {
             answered: &[""],
-            listened: true,
+            named: &[LISTEN],
             output: "",
             number: 75,
             text: "siri: clock fault",
         },
     ),
     (
-        "2",
-        Fails {
-            read: &[0],
-            ..NEVER
+        Run {
+            to_accept: &[
+                FailingConnection {
+                    read_fails: &[0],
+                    ..ASKS
+                },
+                ASKS,
+            ],
+            ..SERVE_TWO
         },
         Comes {
             answered: &["", CHECKED],
-            listened: true,
+            named: &[LISTEN],
             output: "served 2 refused 0 dropped 1 unsent 0\n",
             number: 0,
             text: "",
         },
     ),
     (
-        "1",
-        Fails {
-            write: &[0],
-            ..NEVER
+        Run {
+            to_accept: &[FailingConnection {
+                write_fails: &[0],
+                ..ASKS
+            }],
+            ..SERVE
         },
         Comes {
             answered: &[""],
-            listened: true,
+            named: &[LISTEN],
             output: "served 1 refused 0 dropped 1 unsent 0\n",
+            number: 0,
+            text: "",
+        },
+    ),
+    // A subscription's first round can't be sent.
+    (
+        Run {
+            to_accept: &[
+                FailingConnection {
+                    input: SUBSCRIBE,
+                    ..ASKS
+                },
+                FailingConnection {
+                    input: FEED,
+                    ..ASKS
+                },
+            ],
+            calls: FailingCalls {
+                dial: &[0],
+                ..NO_CALLS
+            },
+            ..SERVE_TWO
+        },
+        Comes {
+            answered: &[SUBSCRIBED, FED],
+            named: &[LISTEN, CONSUMER],
+            output: "served 2 refused 0 dropped 0 unsent 1\n",
+            number: 0,
+            text: "",
+        },
+    ),
+    // The consumer's request for its subscription can't be sent, and what is notified all the same is fetched.
+    (
+        Run {
+            to_dial: &[
+                FailingConnection {
+                    input: SUPPLIED,
+                    ..ASKS
+                },
+                FailingConnection {
+                    input: TAKEN,
+                    ..ASKS
+                },
+            ],
+            calls: FailingCalls {
+                dial: &[0],
+                ..NO_CALLS
+            },
+            ..CONSUME
+        },
+        Comes {
+            answered: &[READY, SUPPLY, ACKNOWLEDGED_UP],
+            named: &[CONSUMER, LISTEN, LISTEN, LISTEN],
+            output: "view c S number 1000000 start 1 round 1 items 0\nserved 1 refused 0 dropped 0 unsent 1\n",
+            number: 0,
+            text: "",
+        },
+    ),
+    // Its request for the part that is notified can't be sent.
+    (
+        Run {
+            to_dial: &[
+                FailingConnection {
+                    input: TAKEN,
+                    ..ASKS
+                },
+                FailingConnection {
+                    input: SUPPLIED,
+                    ..ASKS
+                },
+            ],
+            calls: FailingCalls {
+                dial: &[1],
+                ..NO_CALLS
+            },
+            ..CONSUME
+        },
+        Comes {
+            answered: &[REQUEST, READY],
+            named: &[CONSUMER, LISTEN, LISTEN],
+            output: "view c S number 0 start 0 round 0 items 0\nserved 1 refused 0 dropped 0 unsent 1\n",
             number: 0,
             text: "",
         },
     ),
 ];
 
-/// Two connections that ask for the producer's status, of which the first fails so.
-fn two_connections(alloc: Global, fails: &Fails) -> Option<Vec<FailingConnection<'static>>> {
-    let mut all = Vec::new(alloc);
-    all.push(FailingConnection {
-        input: CHECK,
-        read_fails: fails.read,
-        write_fails: fails.write,
-    })
-    .ok()?;
-    all.push(FailingConnection::of(CHECK)).ok()?;
-    Some(all)
-}
-
-/// Whether a wire was written to and listened so.
-fn was_used(wire: &FailingWire<'_>, comes: &Comes) -> bool {
+/// Whether a wire was written to and named its addresses so.
+fn was_used(wire: &FailingWire<'_>, comes: &Comes<'_>) -> bool {
     let mut place = 0usize;
     for answered in comes.answered {
         if wire.written(place) != Some(answered.as_bytes()) {
@@ -146,28 +250,22 @@ fn was_used(wire: &FailingWire<'_>, comes: &Comes) -> bool {
         }
         place = place.saturating_add(1);
     }
-    wire.written(place).is_none() && wire.addresses().is_empty() != comes.listened
+    wire.written(place).is_none() && are_named(wire.addresses(), comes.named)
 }
 
-/// Whether this comes of a run of `serve` for so many connections.
-fn comes_of(alloc: Global, count: &str, fails: &Fails, comes: &Comes) -> Option<bool> {
-    let connections = two_connections(alloc, fails)?;
-    let moments = moments_of(alloc, &[SEVEN, EIGHT, EIGHT])?;
-    let calls = FailingCalls {
-        listen: fails.listen,
-        accept: fails.accept,
-        dial: &[],
-    };
-    let mut wire = FailingWire::new(alloc, &connections, &[], calls);
+/// Whether this comes of a run.
+fn comes_of(alloc: Global, run: &Run, comes: &Comes<'_>) -> Option<bool> {
+    let moments = moments_of(alloc, run.moments)?;
+    let mut wire = FailingWire::new(alloc, run.to_accept, run.to_dial, run.calls);
     let mut sink = InMemorySink::new(alloc);
     let ended = end_over(
         alloc,
-        &["serve", "p", "127.0.0.1:7001", count],
-        &mut InMemorySource::new(b""),
+        run.words,
+        &mut InMemorySource::new(run.input.as_bytes()),
         &mut sink,
         &mut wire,
-        &mut FailingClock::new(&moments, fails.now),
-        &mut FailingKeeper::new(0, fails.raise),
+        &mut FailingClock::new(&moments, run.now),
+        &mut FailingKeeper::new(0, run.raise),
     )
     .ok()?;
     Some(
@@ -178,8 +276,8 @@ fn comes_of(alloc: Global, count: &str, fails: &Fails, comes: &Comes) -> Option<
 }
 
 #[test]
-fn failing_calls_end_a_producer_or_drop_a_connection(rt: HostRuntime) {
-    for (count, fails, comes) in &ROWS {
-        assert_eq!(rt; comes_of(rt.alloc(), count, fails, comes), Some(true));
+fn failing_calls_end_a_run_or_leave_a_connection_or_a_message(rt: HostRuntime) {
+    for (place, (run, comes)) in ROWS.iter().enumerate() {
+        assert_eq!(rt; comes_of(rt.alloc(), run, comes), Some(true), "row {place}");
     }
 }

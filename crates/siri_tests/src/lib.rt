@@ -19,6 +19,8 @@ mod failing;
 #[cfg(test)]
 mod items;
 #[cfg(test)]
+mod long;
+#[cfg(test)]
 mod network;
 #[cfg(test)]
 mod refusals;

@@ -1,7 +1,7 @@
 // The commands over the network: `serve` and `consume` over forms in memory.
 use crate::running::{Ended, end_over};
 use siri_base::{
-    InMemoryClock, InMemoryKeeper, InMemorySink, InMemorySource, InMemoryWire, Moment,
+    InMemoryClock, InMemoryKeeper, InMemorySink, InMemorySource, InMemoryWire, Moment, Name,
 };
 use std::alloc::Global;
 
@@ -20,6 +20,13 @@ const CUT: &[u8] = b"POST / HTTP/1.1\r\nHost: a\r\nContent-Length: 34\r\n\r\n{\"
 /// What `p` answers to it that started at 7 and stands at 8.
 pub const CHECKED: &str =
     "HTTP/1.1 200 OK\r\nContent-Type: application/json\r\nContent-Length: 153\r\nConnection: close\r\n\r\n{\"Siri\":{\"CheckStatusResponse\":{\"ProducerRef\":\"p\",\"ResponseTimestamp\":\"2024-05-01T08:00:00Z\",\"ServiceStartedTime\":\"2024-05-01T07:00:00Z\",\"Status\":true}}}";
+
+/// The same request with 64 fields, as many as a head may have, and with 65.
+const SIXTY_FOUR: &[u8] =
+    b"POST / HTTP/1.1\r\na:\r\na:\r\na:\r\na:\r\na:\r\na:\r\na:\r\na:\r\na:\r\na:\r\na:\r\na:\r\na:\r\na:\r\na:\r\na:\r\na:\r\na:\r\na:\r\na:\r\na:\r\na:\r\na:\r\na:\r\na:\r\na:\r\na:\r\na:\r\na:\r\na:\r\na:\r\na:\r\na:\r\na:\r\na:\r\na:\r\na:\r\na:\r\na:\r\na:\r\na:\r\na:\r\na:\r\na:\r\na:\r\na:\r\na:\r\na:\r\na:\r\na:\r\na:\r\na:\r\na:\r\na:\r\na:\r\na:\r\na:\r\na:\r\na:\r\na:\r\na:\r\na:\r\na:\r\nContent-Length: 34\r\n\r\n{\"Siri\":{\"CheckStatusRequest\":{}}}";
+
+const SIXTY_FIVE: &[u8] =
+    b"POST / HTTP/1.1\r\na:\r\na:\r\na:\r\na:\r\na:\r\na:\r\na:\r\na:\r\na:\r\na:\r\na:\r\na:\r\na:\r\na:\r\na:\r\na:\r\na:\r\na:\r\na:\r\na:\r\na:\r\na:\r\na:\r\na:\r\na:\r\na:\r\na:\r\na:\r\na:\r\na:\r\na:\r\na:\r\na:\r\na:\r\na:\r\na:\r\na:\r\na:\r\na:\r\na:\r\na:\r\na:\r\na:\r\na:\r\na:\r\na:\r\na:\r\na:\r\na:\r\na:\r\na:\r\na:\r\na:\r\na:\r\na:\r\na:\r\na:\r\na:\r\na:\r\na:\r\na:\r\na:\r\na:\r\na:\r\nContent-Length: 34\r\n\r\n{\"Siri\":{\"CheckStatusRequest\":{}}}";
 
 const NOT_POST: &str =
     "HTTP/1.1 405 Method Not Allowed\r\nContent-Type: text/plain\r\nContent-Length: 8\r\nConnection: close\r\n\r\nNotPost\n";
@@ -41,12 +48,12 @@ struct Handed<'a> {
 /// What comes of it: what is written to the connections, in the order in which they came, where it is listened and dialled, what is
 /// written at the end, and the status with its text.
 #[derive(Clone, Copy)]
-struct Comes<'a> {
-    answered: &'a [&'a str],
-    named: &'a [&'a str],
-    output: &'a str,
-    number: u8,
-    text: &'a str,
+pub struct Comes<'a> {
+    pub answered: &'a [&'a str],
+    pub named: &'a [&'a str],
+    pub output: &'a str,
+    pub number: u8,
+    pub text: &'a str,
 }
 
 pub fn moments_of(alloc: Global, moments: &[i64]) -> Option<Vec<Moment>> {
@@ -57,12 +64,18 @@ pub fn moments_of(alloc: Global, moments: &[i64]) -> Option<Vec<Moment>> {
     Some(all)
 }
 
+/// Whether these are the addresses.
+pub fn are_named(addresses: &[Name], named: &[&str]) -> bool {
+    let mut same = addresses.len() == named.len();
+    for (address, name) in addresses.iter().zip(named) {
+        same = same && address.text() == *name;
+    }
+    same
+}
+
 /// Whether a wire was written to and named its addresses so.
 fn was_used(wire: &InMemoryWire<'_>, comes: &Comes<'_>) -> bool {
-    let mut same = wire.addresses().len() == comes.named.len();
-    for (address, named) in wire.addresses().iter().zip(comes.named) {
-        same = same && address.text() == *named;
-    }
+    let mut same = are_named(wire.addresses(), comes.named);
     let mut place = 0usize;
     for answered in comes.answered {
         same = same && wire.written(place) == Some(answered.as_bytes());
@@ -109,15 +122,28 @@ fn comes_of(alloc: Global, words: &[&str], handed: &Handed<'_>, comes: &Comes<'_
     }
 }
 
-const LISTEN: &str = "127.0.0.1:7001";
+pub const LISTEN: &str = "127.0.0.1:7001";
 
 // COUNT, the number that is kept, the moments and the connections to come, and what comes of it.
-static SERVED: [(&str, u64, &[i64], &[&[u8]], Comes<'static>); 6] = [
+static SERVED: [(&str, u64, &[i64], &[&[u8]], Comes<'static>); 7] = [
     (
         "1",
         0,
         &[SEVEN, EIGHT],
         &[CHECK],
+        Comes {
+            answered: &[CHECKED],
+            named: &[LISTEN],
+            output: "served 1 refused 0 dropped 0 unsent 0\n",
+            number: 0,
+            text: "",
+        },
+    ),
+    (
+        "1",
+        0,
+        &[SEVEN, EIGHT],
+        &[SIXTY_FOUR],
         Comes {
             answered: &[CHECKED],
             named: &[LISTEN],
@@ -209,7 +235,7 @@ fn a_producer_serves_connections(rt: HostRuntime) {
 }
 
 /// Requests that are refused, and their responses.
-static REFUSED: [(&[u8], &str); 8] = [
+static REFUSED: [(&[u8], &str); 9] = [
     (b"GET / HTTP/1.1\r\n\r\n", NOT_POST),
     (
         b"POST / HTTP/1.1\r\nContent-Length: 2\r\nContent-Length: 2\r\n\r\n{}",
@@ -226,6 +252,10 @@ static REFUSED: [(&[u8], &str); 8] = [
     (
         b"POST / HTTP/1.1\r\nContent-Length: 8388609\r\n\r\n",
         "HTTP/1.1 413 Payload Too Large\r\nContent-Type: text/plain\r\nContent-Length: 12\r\nConnection: close\r\n\r\nBodyTooLong\n",
+    ),
+    (
+        SIXTY_FIVE,
+        "HTTP/1.1 431 Request Header Fields Too Large\r\nContent-Type: text/plain\r\nContent-Length: 12\r\nConnection: close\r\n\r\nHeadTooLong\n",
     ),
     (b"POST / HTTP/1.1\r\nContent-Length: 2\r\n\r\n{}", MISSING),
     (
@@ -260,17 +290,17 @@ fn refused_requests_are_told_why(rt: HostRuntime) {
 }
 
 /// A subscription of `c` to the visits of `S1`, to be delivered at 127.0.0.1:7002, and its response.
-const SUBSCRIBE: &[u8] =
+pub const SUBSCRIBE: &[u8] =
     b"POST / HTTP/1.1\r\nContent-Length: 282\r\n\r\n{\"Siri\":{\"SubscriptionRequest\":{\"ConsumerAddress\":\"http://127.0.0.1:7002/\",\"MessageIdentifier\":\"1\",\"RequestorRef\":\"c\",\"StopMonitoringSubscriptionRequest\":{\"InitialTerminationTime\":\"2024-05-01T20:00:00Z\",\"StopMonitoringRequest\":{\"MonitoringRef\":\"S1\"},\"SubscriptionIdentifier\":\"S\"}}}}";
 
-const SUBSCRIBED: &str =
+pub const SUBSCRIBED: &str =
     "HTTP/1.1 200 OK\r\nContent-Type: application/json\r\nContent-Length: 215\r\nConnection: close\r\n\r\n{\"Siri\":{\"SubscriptionResponse\":{\"RequestMessageRef\":\"1\",\"ResponseStatus\":[{\"Status\":true,\"SubscriberRef\":\"c\",\"SubscriptionRef\":\"S\",\"ValidUntil\":\"2024-05-01T20:00:00Z\"}],\"ResponseTimestamp\":\"2024-05-01T08:00:00Z\"}}}";
 
 /// A feed of one visit, and its acknowledgement.
-const FEED: &[u8] =
+pub const FEED: &[u8] =
     b"POST / HTTP/1.1\r\nContent-Length: 264\r\n\r\n{\"Siri\":{\"ServiceDelivery\":{\"ResponseMessageIdentifier\":\"f\",\"StopMonitoringDelivery\":{\"MonitoredStopVisit\":[{\"ItemIdentifier\":\"a\",\"MonitoredVehicleJourney\":{\"LineRef\":\"L1\",\"MonitoredCall\":{\"ExpectedDepartureTime\":\"2024-05-01T08:10:00Z\"}},\"MonitoringRef\":\"S1\"}]}}}}";
 
-const FED: &str =
+pub const FED: &str =
     "HTTP/1.1 200 OK\r\nContent-Type: application/json\r\nContent-Length: 141\r\nConnection: close\r\n\r\n{\"Siri\":{\"DataReceivedAcknowledgement\":{\"ConsumerRef\":\"p\",\"RequestMessageRef\":\"f\",\"ResponseTimestamp\":\"2024-05-01T08:00:00Z\",\"Status\":true}}}";
 
 /// The first round, of nothing, the acknowledgement of it, and the second round, of that visit.
@@ -323,11 +353,11 @@ fn rounds_are_sent_out(rt: HostRuntime) {
 }
 
 /// What a consumer wants.
-const WANTED: &str =
+pub const WANTED: &str =
     "{\"StopMonitoringSubscriptionRequest\":{\"ChangeBeforeUpdates\":\"PT0S\",\"InitialTerminationTime\":\"2024-05-01T20:00:00Z\",\"StopMonitoringRequest\":{\"MonitoringRef\":\"S1\",\"PreviewInterval\":\"PT1H\"},\"SubscriptionIdentifier\":\"S\"}}\n";
 
 /// Its request for that.
-const REQUEST: &str =
+pub const REQUEST: &str =
     "POST / HTTP/1.1\r\nHost: 127.0.0.1:7001\r\nContent-Type: application/json\r\nContent-Length: 432\r\nConnection: close\r\n\r\n{\"Siri\":{\"SubscriptionRequest\":{\"ConsumerAddress\":\"http://127.0.0.1:7002/\",\"MessageIdentifier\":\"1000000\",\"RequestTimestamp\":\"2024-05-01T08:00:00Z\",\"RequestorRef\":\"c\",\"StopMonitoringSubscriptionRequest\":[{\"ChangeBeforeUpdates\":\"PT0S\",\"IncrementalUpdates\":true,\"InitialTerminationTime\":\"2024-05-01T20:00:00Z\",\"StopMonitoringRequest\":{\"MonitoringRef\":\"S1\",\"PreviewInterval\":\"PT1H\"},\"SubscriberRef\":\"c\",\"SubscriptionIdentifier\":\"S\"}]}}}";
 
 /// The first part of its first round, and nothing in it.
@@ -340,24 +370,24 @@ const ACKNOWLEDGED: &str =
 
 /// The same part, notified, the answer to that, the request for the part, its response, and the acknowledgement of the part as it
 /// is sent up.
-const NOTIFIED: &[u8] =
+pub const NOTIFIED: &[u8] =
     b"POST / HTTP/1.1\r\nContent-Length: 186\r\n\r\n{\"Siri\":{\"DataReadyNotification\":{\"Extensions\":{\"Number\":1000000,\"Part\":1,\"Round\":1,\"Start\":1,\"SubscriptionRef\":\"S\"},\"ProducerRef\":\"producer\",\"RequestTimestamp\":\"2024-05-01T08:00:00Z\"}}}";
 
-const READY: &str =
+pub const READY: &str =
     "HTTP/1.1 200 OK\r\nContent-Type: application/json\r\nContent-Length: 114\r\nConnection: close\r\n\r\n{\"Siri\":{\"DataReadyAcknowledgement\":{\"ConsumerRef\":\"c\",\"ResponseTimestamp\":\"2024-05-01T08:00:00Z\",\"Status\":true}}}";
 
-const SUPPLY: &str =
+pub const SUPPLY: &str =
     "POST / HTTP/1.1\r\nHost: 127.0.0.1:7001\r\nContent-Type: application/json\r\nContent-Length: 175\r\nConnection: close\r\n\r\n{\"Siri\":{\"DataSupplyRequest\":{\"ConsumerRef\":\"c\",\"Extensions\":{\"Number\":1000000,\"Part\":1,\"Round\":1,\"Start\":1,\"SubscriptionRef\":\"S\"},\"RequestTimestamp\":\"2024-05-01T08:00:00Z\"}}}";
 
-const SUPPLIED: &[u8] =
+pub const SUPPLIED: &[u8] =
     b"HTTP/1.1 200 OK\r\nContent-Length: 314\r\n\r\n{\"Siri\":{\"ServiceDelivery\":{\"ProducerRef\":\"producer\",\"RequestMessageRef\":\"1000000\",\"ResponseTimestamp\":\"2024-05-01T08:00:00Z\",\"Status\":true,\"StopMonitoringDelivery\":[{\"Extensions\":{\"Part\":1,\"Round\":1,\"Start\":1},\"ResponseTimestamp\":\"2024-05-01T08:00:00Z\",\"Status\":true,\"SubscriberRef\":\"c\",\"SubscriptionRef\":\"S\"}]}}}";
 
-const ACKNOWLEDGED_UP: &str =
+pub const ACKNOWLEDGED_UP: &str =
     "POST / HTTP/1.1\r\nHost: 127.0.0.1:7001\r\nContent-Type: application/json\r\nContent-Length: 200\r\nConnection: close\r\n\r\n{\"Siri\":{\"DataReceivedAcknowledgement\":{\"ConsumerRef\":\"c\",\"Extensions\":{\"Number\":1000000,\"Part\":1,\"Round\":1,\"Start\":1,\"SubscriptionRef\":\"S\"},\"ResponseTimestamp\":\"2024-05-01T08:00:00Z\",\"Status\":true}}}";
 
-const TAKEN: &[u8] = b"HTTP/1.1 200 OK\r\nContent-Length: 0\r\n\r\n";
+pub const TAKEN: &[u8] = b"HTTP/1.1 200 OK\r\nContent-Length: 0\r\n\r\n";
 
-const CONSUMER: &str = "127.0.0.1:7002";
+pub const CONSUMER: &str = "127.0.0.1:7002";
 
 // What the source has, the connection to come, those to be dialled, and what comes of it.
 static ASKED: [(&str, &[u8], &[&[u8]], Comes<'static>); 8] = [
