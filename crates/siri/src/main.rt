@@ -1,8 +1,8 @@
 //! The command `siri`: makes the adapters over the system, does what its words say, and tells how it ended.
 //!
-//! Stands on `siri_cli`, whose `run` is the whole of the work, on `siri_system` for the network, the clock and the start number,
-//! and on `siri_lines` for the line that tells how a run ended. A line of the system's own words follows where the wire or the
-//! keeper failed.
+//! Stands on `siri_cli`, whose `run` is the whole of the work, on `siri_system` for the network, the clock and the
+//! start number, and on `siri_base` and `siri_lines` for the line that tells how a run ended. A line of the system's
+//! own words follows where the wire or the keeper failed.
 #![tactic(auto)]
 
 use siri_base::{Input, Output, Status};

@@ -37,7 +37,14 @@ pub record LineState : Type 0 where
 abbrev pub present_of : Option Last → Option Present
 present_of None = None
 present_of (Some last) =
-    option_map (λ source. record { left = record { input = source.bytes.now; read_fails = source.failures; write_fails = last.sink.failures }; written = last.sink.bytes.items }) last.source
+    option_map (λ source. record {
+      left = record {
+        input = source.bytes.now;
+        read_fails = source.failures;
+        write_fails = last.sink.failures;
+      };
+      written = last.sink.bytes.items;
+    }) last.source
 
 -- what was written to the connection that came last, where it is over
 abbrev pub last_over : Option Last → List (List ℕ)

@@ -1,4 +1,5 @@
-// The outside in memory: each trait in a form that fails by no name, and in a form with failures that are named beforehand.
+//! The outside in memory: each trait in a form that fails by no name, and in a form with failures that are named
+//! beforehand.
 
 mod clock;
 mod failures;

@@ -1,5 +1,6 @@
 -- Parts as a message carries them.
-use Rattle.std.proofs.Common.{◌≡◌, ℕ, zero, suc, ◌+◌, ◌*◌, ◌<◌, ◌≤◌, List, [], ◌∷◌, ◌++◌, length, map, filter, fold, take, drop, Bool, true, not, Some, None, slice_get, option_map, refl, ap, sym, ◌∙◌, arith}
+use Rattle.std.proofs.Common.{◌≡◌, ℕ, zero, suc, ◌+◌, ◌*◌, ◌<◌, ◌≤◌, List, [], ◌∷◌, ◌++◌, length, map, filter, fold, take, drop, Bool, true}
+use Rattle.std.proofs.Common.{not, Some, None, slice_get, option_map, refl, ap, sym, ◌∙◌, arith}
 use Rattle.std.specs.List.{AllByRecursion, filter_map, flat_map, list_all, range_with_len}
 use Rattle.std.specs.Map.{keys_of}
 use Rattle.std.proofs.lemmas.Bool.{and_parts, and_from}
@@ -34,13 +35,15 @@ most_of_part list place = omega (arith, length-take 100 (drop (100 * place) list
 
 -- ---- parts one after the other
 
-pub made_as_one : {P : Type 0} (changes_of : P → List KeyChange) (a : Items) (parts : List P) → fold (λ so_far part. apply so_far (changes_of part)) a parts ≡ apply a (flat_map changes_of parts)
+pub made_as_one : {P : Type 0} (changes_of : P → List KeyChange) (a : Items) (parts : List P)
+    → fold (λ so_far part. apply so_far (changes_of part)) a parts ≡ apply a (flat_map changes_of parts)
 made_as_one changes_of a [] = refl
 made_as_one changes_of a (p ∷ parts) = made_as_one changes_of (apply a (changes_of p)) parts ∙ sym (applied_append a (changes_of p) (flat_map changes_of parts))
 
 -- ---- what is carried is the part
 
-items_back : (part : List KeyChange) → are_keyed part ≡ true → map (λ item. (key_of item, Some item)) (filter_map (λ (c : KeyChange). c.1) part) ≡ filter has_item part
+items_back : (part : List KeyChange) → are_keyed part ≡ true
+    → map (λ item. (key_of item, Some item)) (filter_map (λ (c : KeyChange). c.1) part) ≡ filter has_item part
 items_back [] keyed = refl
 items_back ((k, Some x) ∷ part) keyed =
     let parts = and_parts (tied (key_of x) k) (are_keyed part) keyed in
@@ -69,23 +72,27 @@ all_taken p (suc n) (x ∷ xs) t =
     let parts = and_parts (p x) (list_all p xs) t in
     and_from (p x) (list_all p (take n xs)) parts.0 (all_taken p n xs parts.1)
 
-parts_keyed : (list : List KeyChange) (from n : ℕ) → are_keyed list ≡ true → AllByRecursion (λ part. are_keyed part ≡ true) (map (part_after list) (range_with_len from n))
+parts_keyed : (list : List KeyChange) (from n : ℕ) → are_keyed list ≡ true
+    → AllByRecursion (λ part. are_keyed part ≡ true) (map (part_after list) (range_with_len from n))
 parts_keyed list from zero keyed = tt
 parts_keyed list from (suc n) keyed =
     (all_taken is_keyed_change 100 (drop (100 * from) list) (all_dropped is_keyed_change (100 * from) list keyed), parts_keyed list (from + 1) n keyed)
 
-carried_parts : (a : Items) (parts : List (List KeyChange)) → AllByRecursion (λ part. are_keyed part ≡ true) parts → apply_carried a (map carried parts) ≡ apply_parts a parts
+carried_parts : (a : Items) (parts : List (List KeyChange)) → AllByRecursion (λ part. are_keyed part ≡ true) parts
+    → apply_carried a (map carried parts) ≡ apply_parts a parts
 carried_parts a [] keyed = refl
 carried_parts a (p ∷ parts) keyed =
     ap (λ cs. apply_carried (apply a cs) (map carried parts)) (carried_part p keyed.0) ∙ carried_parts (apply a (as_sent p)) parts keyed.1
 
-pub carried_leads : (a t : Items) (incremental : Bool) → InOrder a → InOrder t → is_keyed t ≡ true → apply_carried (base_view a incremental) (map carried (parts_of (load a t incremental))) ≡ t
+pub carried_leads : (a t : Items) (incremental : Bool) → InOrder a → InOrder t → is_keyed t ≡ true
+    → apply_carried (base_view a incremental) (map carried (parts_of (load a t incremental))) ≡ t
 carried_leads a t incremental s r keyed =
     let list = load a t incremental in
     carried_parts (base_view a incremental) (parts_of list) (parts_keyed list 0 (parts_count list) (load_keyed a t incremental keyed))
     ∙ load_leads a t incremental s r
 
-pub carried_views_lead : (a t : Items) (incremental : Bool) → is_view a ≡ true → is_view t ≡ true → apply_carried (base_view a incremental) (map carried (parts_of (load a t incremental))) ≡ t
+pub carried_views_lead : (a t : Items) (incremental : Bool) → is_view a ≡ true → is_view t ≡ true
+    → apply_carried (base_view a incremental) (map carried (parts_of (load a t incremental))) ≡ t
 carried_views_lead a t incremental s r =
     let before = view_parts a s in
     let after = view_parts t r in

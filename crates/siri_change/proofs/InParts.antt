@@ -1,5 +1,6 @@
--- Changes in parts of a part_after, of each the items before the removals.
-use Rattle.std.proofs.Common.{◌≡◌, ℕ, ℤ, option_map, zero, suc, ◌+◌, ◌*◌, ◌/◌, ◌<◌, ◌≤◌, max, List, [], ◌∷◌, ◌++◌, length, map, filter, fold, take, drop, Bool, true, false, not, ◌||◌, Option, Some, None, refl, ap, sym, ◌∙◌, subst, arith}
+-- Changes in parts of a hundred, of each the items before the removals.
+use Rattle.std.proofs.Common.{◌≡◌, ℕ, ℤ, option_map, zero, suc, ◌+◌, ◌*◌, ◌/◌, ◌<◌, ◌≤◌, max, List, [], ◌∷◌, ◌++◌, length, map, filter}
+use Rattle.std.proofs.Common.{fold, take, drop, Bool, true, false, not, ◌||◌, Option, Some, None, refl, ap, sym, ◌∙◌, subst, arith}
 use Rattle.std.specs.List.{flat_map, range_with_len}
 use Rattle.std.specs.List.Sorted.{IsStrictlySortedBy}
 use Rattle.std.specs.Option.{option_eq}
@@ -10,7 +11,7 @@ use Rattle.siri_records.specs.declared.item.Item.{Item}
 use Rattle.siri_records.specs.Near.{is_near}
 use Rattle.siri_records.specs.Order.{key_cmp}
 use Rattle.siri_records.proofs.NearLaws.{near_itself}
-use Rattle.siri_records.specs.Keyed.{Items, InOrder, item_of, with_item, KeyChange, after_change, apply}
+use Rattle.siri_records.specs.Keyed.{Items, InOrder, item_of, with_item, KeyChange, after_change, apply, most_live}
 use Rattle.siri_change.specs.Changes.{keys_of_both, acknowledged_if_near, meets, changes, target}
 use Rattle.siri_change.specs.Parts.{whole, load, base_view, part_after, parts_count, parts_of, has_item, as_sent, apply_parts}
 use Rattle.siri_records.proofs.Placed.{take_whole}
@@ -156,7 +157,8 @@ unfolding all_sent
 applied_parts a [] = refl
 applied_parts a (p ∷ parts) = applied_parts (apply a (as_sent p)) parts ∙ sym (applied_append a (as_sent p) (all_sent parts))
 
-parts_lead : (a t : Items) (cs : List KeyChange) → InOrder a → InOrder t → Fits t cs → ((q : Key) → mentions q cs ≡ false → item_of a q ≡ item_of t q) → apply_parts a (parts_of cs) ≡ t
+parts_lead : (a t : Items) (cs : List KeyChange) → InOrder a → InOrder t → Fits t cs
+    → ((q : Key) → mentions q cs ≡ false → item_of a q ≡ item_of t q) → apply_parts a (parts_of cs) ≡ t
 unfolding all_of
 parts_lead a t cs s r fits elsewhere =
     let same : all_of (parts_of cs) ≡ cs = parts_joined cs in
@@ -183,7 +185,8 @@ load_leads a t false s r =
 
 -- ---- how many
 
-length_with_case : (e f : Key × Item) (a : Items) (o : Ordering) → key_cmp f.0 e.0 ≡ o → length (with_item a f) ≤ length a + 1 → length (with_item (e ∷ a) f) ≤ length (e ∷ a) + 1
+length_with_case : (e f : Key × Item) (a : Items) (o : Ordering) → key_cmp f.0 e.0 ≡ o
+    → length (with_item a f) ≤ length a + 1 → length (with_item (e ∷ a) f) ≤ length (e ∷ a) + 1
 length_with_case e f a Less o rest = rw o (omega arith)
 length_with_case e f a Equal o rest = rw o (omega arith)
 length_with_case e f a Greater o rest = rw o (omega (arith, rest))
@@ -196,7 +199,8 @@ length_both : (a b : Items) → length (fold with_item a b) ≤ length a + lengt
 length_both a [] = omega arith
 length_both a (f ∷ b) = omega (arith, length_both (with_item a f) b, length_with a f)
 
-length_filter_case : {A : Type 0} (p : A → Bool) (x : A) (xs : List A) (t : Bool) → p x ≡ t → length (filter p xs) ≤ length xs → length (filter p (x ∷ xs)) ≤ length (x ∷ xs)
+length_filter_case : {A : Type 0} (p : A → Bool) (x : A) (xs : List A) (t : Bool) → p x ≡ t
+    → length (filter p xs) ≤ length xs → length (filter p (x ∷ xs)) ≤ length (x ∷ xs)
 length_filter_case p x xs true h rest = rw h (omega (arith, rest))
 length_filter_case p x xs false h rest = rw h (omega (arith, rest))
 
@@ -212,13 +216,13 @@ few_changes a t =
     let keys : length ks ≡ length (fold with_item a t) = length_map (λ (e : Key × Item). e.0) (fold with_item a t) in
     omega (arith, mapped, kept, keys, length_both a t)
 
-few_loaded : (a t : Items) (incremental : Bool) → length a ≤ 20000 → length t ≤ 20000 → length (load a t incremental) ≤ 40000
+few_loaded : (a t : Items) (incremental : Bool) → length a ≤ most_live → length t ≤ most_live → length (load a t incremental) ≤ 40000
 few_loaded a t true p q = omega (arith, p, q, few_changes a t)
 few_loaded a t false p q =
     let mapped = length_map {B = KeyChange} (λ (e : Key × Item). (e.0, Some e.1)) t in
     omega (arith, q, mapped)
 
-pub load_few : (a t : Items) (incremental : Bool) → length a ≤ 20000 → length t ≤ 20000 → length (parts_of (load a t incremental)) ≤ 400
+pub load_few : (a t : Items) (incremental : Bool) → length a ≤ most_live → length t ≤ most_live → length (parts_of (load a t incremental)) ≤ 400
 load_few a t incremental p q = few_parts (load a t incremental) (few_loaded a t incremental p q)
 
 -- ---- targets
@@ -231,16 +235,21 @@ pub target_length : (slack : ℤ) (incremental : Bool) (a direct : Items) → le
 target_length slack true a direct = length_map (chosen slack a) direct
 target_length slack false a direct = refl
 
-chosen_case : (slack : ℤ) (a direct : Items) (e : Key × Item) (q : Key) (t : Bool) → tied q e.0 ≡ t → item_of (map (chosen slack a) direct) q ≡ option_map (acknowledged_if_near slack (item_of a q)) (item_of direct q) → item_of (map (chosen slack a) (e ∷ direct)) q ≡ option_map (acknowledged_if_near slack (item_of a q)) (item_of (e ∷ direct) q)
+chosen_case : (slack : ℤ) (a direct : Items) (e : Key × Item) (q : Key) (t : Bool) → tied q e.0 ≡ t
+    → item_of (map (chosen slack a) direct) q ≡ option_map (acknowledged_if_near slack (item_of a q)) (item_of direct q)
+    → item_of (map (chosen slack a) (e ∷ direct)) q ≡ option_map (acknowledged_if_near slack (item_of a q))
+    (item_of (e ∷ direct) q)
 chosen_case slack a direct e q true h rest = rw h (ap (λ k. Some (acknowledged_if_near slack (item_of a k) e.1)) (sym (one_key q e.0 h)))
 chosen_case slack a direct e q false h rest = rw h rest
 
 -- the target has of each key the chosen one of its items
-item_chosen : (slack : ℤ) (a direct : Items) (q : Key) → item_of (map (chosen slack a) direct) q ≡ option_map (acknowledged_if_near slack (item_of a q)) (item_of direct q)
+item_chosen : (slack : ℤ) (a direct : Items) (q : Key)
+    → item_of (map (chosen slack a) direct) q ≡ option_map (acknowledged_if_near slack (item_of a q)) (item_of direct q)
 item_chosen slack a [] q = refl
 item_chosen slack a (e ∷ direct) q = chosen_case slack a direct e q (tied q e.0) refl (item_chosen slack a direct q)
 
-kept_is_near : (slack : ℤ) (held : Item) (listed : Item) (t : Bool) → is_near slack held listed ≡ t → is_near slack (acknowledged_if_near slack (Some held) listed) listed ≡ true
+kept_is_near : (slack : ℤ) (held : Item) (listed : Item) (t : Bool) → is_near slack held listed ≡ t
+    → is_near slack (acknowledged_if_near slack (Some held) listed) listed ≡ true
 kept_is_near slack held listed true h = rw (h, h) refl
 kept_is_near slack held listed false h = rw h (near_itself slack listed)
 
@@ -248,7 +257,8 @@ chosen_is_near : (slack : ℤ) (held : Option Item) (listed : Item) → is_near 
 chosen_is_near slack None listed = near_itself slack listed
 chosen_is_near slack (Some held) listed = kept_is_near slack held listed (is_near slack held listed) refl
 
-agree_chosen : (slack : ℤ) (held : Option Item) (listed : Option Item) → option_eq (is_near slack) (option_map (acknowledged_if_near slack held) listed) listed ≡ true
+agree_chosen : (slack : ℤ) (held : Option Item) (listed : Option Item)
+    → option_eq (is_near slack) (option_map (acknowledged_if_near slack held) listed) listed ≡ true
 agree_chosen slack held None = refl
 agree_chosen slack held (Some listed) = chosen_is_near slack held listed
 

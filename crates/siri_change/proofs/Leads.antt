@@ -42,7 +42,8 @@ some_here : (e : Key × Item) (view : Items) → item_of (e ∷ view) e.0 ≡ So
 some_here e view = item_here e.0 e.1 view
 
 -- views in order that hold the same of each key are one
-same_rest : (q : Key) (e f : Key × Item) (a b : Items) (t : Bool) → tied q e.0 ≡ t → e ≡ f → Above e.0 a → Above f.0 b → item_of (e ∷ a) q ≡ item_of (f ∷ b) q → item_of a q ≡ item_of b q
+same_rest : (q : Key) (e f : Key × Item) (a b : Items) (t : Bool) → tied q e.0 ≡ t → e ≡ f → Above e.0 a → Above f.0 b
+    → item_of (e ∷ a) q ≡ item_of (f ∷ b) q → item_of a q ≡ item_of b q
 same_rest q e f a b true h same above also is =
     let here = one_key q e.0 h in
     ap (item_of a) here ∙ (none_below e.0 a above ∙ sym (none_below f.0 b also) ∙ ap (item_of b) (sym (here ∙ ap (λ x. x.0) same)))
@@ -51,7 +52,8 @@ same_rest q e f a b false h same above also is =
     let right : item_of (f ∷ b) q ≡ item_of b q = rw (← same, h) refl in
     sym left ∙ (is ∙ right)
 
-same_head : (e f : Key × Item) (a b : Items) (o : Ordering) → key_cmp e.0 f.0 ≡ o → Above e.0 a → Above f.0 b → ((q : Key) → item_of (e ∷ a) q ≡ item_of (f ∷ b) q) → e ≡ f
+same_head : (e f : Key × Item) (a b : Items) (o : Ordering) → key_cmp e.0 f.0 ≡ o → Above e.0 a → Above f.0 b
+    → ((q : Key) → item_of (e ∷ a) q ≡ item_of (f ∷ b) q) → e ≡ f
 same_head e f a b Less o above also is =
     absurd (cc (sym (some_here e a) ∙ (is e.0 ∙ none_below e.0 (f ∷ b) (o, above_trans e.0 f.0 (keys_of b) o also))))
 same_head e f a b Greater o above also is =
@@ -90,7 +92,9 @@ cond_swap true false x y z only = refl
 cond_swap false true x y z only = refl
 cond_swap false false x y z only = refl
 
-held_with_case : (k : Key) (x : Item) (e : Key × Item) (a : Items) (q : Key) (o : Ordering) → key_cmp k e.0 ≡ o → item_of (insert_entry key_cmp a k x) q ≡ cond (tied q k) (Some x) (item_of a q) → item_of (insert_entry key_cmp (e ∷ a) k x) q ≡ cond (tied q k) (Some x) (item_of (e ∷ a) q)
+held_with_case : (k : Key) (x : Item) (e : Key × Item) (a : Items) (q : Key) (o : Ordering) → key_cmp k e.0 ≡ o
+    → item_of (insert_entry key_cmp a k x) q ≡ cond (tied q k) (Some x) (item_of a q)
+    → item_of (insert_entry key_cmp (e ∷ a) k x) q ≡ cond (tied q k) (Some x) (item_of (e ∷ a) q)
 held_with_case k x e a q Less o rest = rw o refl
 held_with_case k x e a q Equal o rest =
     let put : insert_entry key_cmp (e ∷ a) k x ≡ (e.0, x) ∷ a = rw o refl in
@@ -114,7 +118,9 @@ held_gone k e a q false h same above =
     let apart : tied q e.0 ≡ false = ap (tied q) (sym same) ∙ h in
     rw apart refl
 
-held_without_case : (k : Key) (e : Key × Item) (a : Items) (q : Key) (t : Bool) → tied k e.0 ≡ t → Above e.0 a → item_of (remove_entry (is_at (key_cmp k)) a) q ≡ cond (tied q k) None (item_of a q) → item_of (remove_entry (is_at (key_cmp k)) (e ∷ a)) q ≡ cond (tied q k) None (item_of (e ∷ a) q)
+held_without_case : (k : Key) (e : Key × Item) (a : Items) (q : Key) (t : Bool) → tied k e.0 ≡ t → Above e.0 a
+    → item_of (remove_entry (is_at (key_cmp k)) a) q ≡ cond (tied q k) None (item_of a q)
+    → item_of (remove_entry (is_at (key_cmp k)) (e ∷ a)) q ≡ cond (tied q k) None (item_of (e ∷ a) q)
 held_without_case k e a q true h above rest =
     let left : remove_entry (is_at (key_cmp k)) (e ∷ a) ≡ a = rw h refl in
     ap (λ l. item_of l q) left ∙ held_gone k e a q (tied q k) refl (one_key k e.0 h) above
@@ -139,7 +145,8 @@ held_after a (k, Some x) q s = held_with k x a q
 
 -- ---- views stay in order
 
-order_with_case : (k : Key) (x : Item) (e : Key × Item) (a : Items) (o : Ordering) → key_cmp k e.0 ≡ o → InOrder (e ∷ a) → InOrder (insert_entry key_cmp a k x) → InOrder (insert_entry key_cmp (e ∷ a) k x)
+order_with_case : (k : Key) (x : Item) (e : Key × Item) (a : Items) (o : Ordering) → key_cmp k e.0 ≡ o → InOrder (e ∷ a)
+    → InOrder (insert_entry key_cmp a k x) → InOrder (insert_entry key_cmp (e ∷ a) k x)
 unfolding IsStrictlySortedBy
 order_with_case k x e a Less o s rest = rw o ((o, above_trans k e.0 (keys_of a) o s.0), s)
 order_with_case k x e a Equal o s rest = rw o s
@@ -150,7 +157,8 @@ unfolding IsStrictlySortedBy
 order_with k x [] s = (tt, tt)
 order_with k x (e ∷ a) s = order_with_case k x e a (key_cmp k e.0) refl s (order_with k x a s.1)
 
-above_without_case : (j k : Key) (e : Key × Item) (a : Items) (t : Bool) → tied k e.0 ≡ t → Above j (e ∷ a) → Above j (remove_entry (is_at (key_cmp k)) a) → Above j (remove_entry (is_at (key_cmp k)) (e ∷ a))
+above_without_case : (j k : Key) (e : Key × Item) (a : Items) (t : Bool) → tied k e.0 ≡ t → Above j (e ∷ a)
+    → Above j (remove_entry (is_at (key_cmp k)) a) → Above j (remove_entry (is_at (key_cmp k)) (e ∷ a))
 above_without_case j k e a true h above rest = rw h (above.1)
 above_without_case j k e a false h above rest = rw h (above.0, rest)
 
@@ -158,7 +166,8 @@ above_without : (j k : Key) (a : Items) → Above j a → Above j (remove_entry 
 above_without j k [] above = tt
 above_without j k (e ∷ a) above = above_without_case j k e a (tied k e.0) refl above (above_without j k a above.1)
 
-order_without_case : (k : Key) (e : Key × Item) (a : Items) (t : Bool) → tied k e.0 ≡ t → InOrder (e ∷ a) → InOrder (remove_entry (is_at (key_cmp k)) a) → InOrder (remove_entry (is_at (key_cmp k)) (e ∷ a))
+order_without_case : (k : Key) (e : Key × Item) (a : Items) (t : Bool) → tied k e.0 ≡ t → InOrder (e ∷ a)
+    → InOrder (remove_entry (is_at (key_cmp k)) a) → InOrder (remove_entry (is_at (key_cmp k)) (e ∷ a))
 unfolding IsStrictlySortedBy
 order_without_case k e a true h s rest = rw h (s.1)
 order_without_case k e a false h s rest = rw h (above_without e.0 k a s.0, rest)
@@ -186,7 +195,8 @@ mentions q cs = list_any (λ c. tied q c.0) cs
 abbrev pub Fits : Items → List KeyChange → Type 0
 Fits t cs = AllByRecursion (λ c. c.1 ≡ item_of t c.0) cs
 
-one_more : (t : Items) (c : KeyChange) (q : Key) (m : Option Item) (b d : Bool) → tied q c.0 ≡ b → c.1 ≡ item_of t c.0 → cond d (item_of t q) (cond b c.1 m) ≡ cond (b || d) (item_of t q) m
+one_more : (t : Items) (c : KeyChange) (q : Key) (m : Option Item) (b d : Bool) → tied q c.0 ≡ b → c.1 ≡ item_of t c.0
+    → cond d (item_of t q) (cond b c.1 m) ≡ cond (b || d) (item_of t q) m
 one_more t c q m true true h fits = refl
 one_more t c q m true false h fits = fits ∙ ap (item_of t) (sym (one_key q c.0 h))
 one_more t c q m false true h fits = refl
@@ -204,9 +214,11 @@ where_same true x y same = refl
 where_same false x y same = same refl
 
 -- they lead to it, where the views are the same elsewhere
-pub leads : (a t : Items) (cs : List KeyChange) → InOrder a → InOrder t → Fits t cs → ((q : Key) → mentions q cs ≡ false → item_of a q ≡ item_of t q) → apply a cs ≡ t
+pub leads : (a t : Items) (cs : List KeyChange) → InOrder a → InOrder t → Fits t cs
+    → ((q : Key) → mentions q cs ≡ false → item_of a q ≡ item_of t q) → apply a cs ≡ t
 leads a t cs s r fits elsewhere =
-    same_views (apply a cs) t (order_applied a cs s) r (λ q. held_applied t a cs q s fits ∙ where_same (mentions q cs) (item_of t q) (item_of a q) (elsewhere q))
+    same_views (apply a cs) t (order_applied a cs s) r
+    (λ q. held_applied t a cs q s fits ∙ where_same (mentions q cs) (item_of t q) (item_of a q) (elsewhere q))
 
 -- ---- the changes of two views
 
@@ -235,7 +247,9 @@ off_right : (b c : Bool) → (b || c) ≡ false → c ≡ false
 off_right true c h = cc
 off_right false c h = h
 
-same_on_case : (a t : Items) (q k : Key) (ks : List Key) (b d : Bool) → agree_on is_same a t k ≡ b → tied q k ≡ d → mentions q (changes_on (k ∷ ks) a t) ≡ false → (d || has q ks) ≡ true → (mentions q (changes_on ks a t) ≡ false → has q ks ≡ true → item_of a q ≡ item_of t q) → item_of a q ≡ item_of t q
+same_on_case : (a t : Items) (q k : Key) (ks : List Key) (b d : Bool) → agree_on is_same a t k ≡ b → tied q k ≡ d
+    → mentions q (changes_on (k ∷ ks) a t) ≡ false → (d || has q ks) ≡ true
+    → (mentions q (changes_on ks a t) ≡ false → has q ks ≡ true → item_of a q ≡ item_of t q) → item_of a q ≡ item_of t q
 same_on_case a t q k ks true true h tie none there rest =
     let here = one_key q k tie in
     ap (item_of a) here ∙ (agree_same (item_of a k) (item_of t k) h ∙ ap (item_of t) (sym here))
@@ -252,7 +266,8 @@ same_on : (a t : Items) (q : Key) (ks : List Key) → mentions q (changes_on ks 
 same_on a t q [] none there = cc
 same_on a t q (k ∷ ks) none there = same_on_case a t q k ks (agree_on is_same a t k) (tied q k) refl refl none there (same_on a t q ks)
 
-none_by_keys_case : (e : Key × Item) (a : Items) (q : Key) (t : Bool) → tied q e.0 ≡ t → (t || has q (keys_of a)) ≡ false → (has q (keys_of a) ≡ false → item_of a q ≡ None) → item_of (e ∷ a) q ≡ None
+none_by_keys_case : (e : Key × Item) (a : Items) (q : Key) (t : Bool) → tied q e.0 ≡ t
+    → (t || has q (keys_of a)) ≡ false → (has q (keys_of a) ≡ false → item_of a q ≡ None) → item_of (e ∷ a) q ≡ None
 none_by_keys_case e a q true h off rest = cc
 none_by_keys_case e a q false h off rest = rw h (rest off)
 
@@ -287,16 +302,21 @@ changes_lead a t s r = leads a t (changes a t) s r (fits_on a t (keys_of_both a 
 agree_none : (test : Item → Item → Bool) (a b : Items) (q : Key) → item_of a q ≡ None → item_of b q ≡ None → agree_on test a b q ≡ true
 agree_none test a b q p r = λ i. option_eq test (p i) (r i)
 
-all_at_case : (test : Item → Item → Bool) (a b : Items) (q k : Key) (ks : List Key) (d : Bool) → tied q k ≡ d → (agree_on test a b k && list_all (agree_on test a b) ks) ≡ true → (d || has q ks) ≡ true → (list_all (agree_on test a b) ks ≡ true → has q ks ≡ true → agree_on test a b q ≡ true) → agree_on test a b q ≡ true
+all_at_case : (test : Item → Item → Bool) (a b : Items) (q k : Key) (ks : List Key) (d : Bool) → tied q k ≡ d
+    → (agree_on test a b k && list_all (agree_on test a b) ks) ≡ true → (d || has q ks) ≡ true
+    → (list_all (agree_on test a b) ks ≡ true → has q ks ≡ true → agree_on test a b q ≡ true)
+    → agree_on test a b q ≡ true
 all_at_case test a b q k ks true tie all there rest =
     ap (agree_on test a b) (one_key q k tie) ∙ (and_parts (agree_on test a b k) (list_all (agree_on test a b) ks) all).0
 all_at_case test a b q k ks false tie all there rest = rest ((and_parts (agree_on test a b k) (list_all (agree_on test a b) ks) all).1) there
 
-all_at : (test : Item → Item → Bool) (a b : Items) (q : Key) (ks : List Key) → list_all (agree_on test a b) ks ≡ true → has q ks ≡ true → agree_on test a b q ≡ true
+all_at : (test : Item → Item → Bool) (a b : Items) (q : Key) (ks : List Key) → list_all (agree_on test a b) ks ≡ true
+    → has q ks ≡ true → agree_on test a b q ≡ true
 all_at test a b q [] all there = cc
 all_at test a b q (k ∷ ks) all there = all_at_case test a b q k ks (tied q k) refl all there (all_at test a b q ks)
 
-agree_case : (test : Item → Item → Bool) (a b : Items) (q : Key) (d : Bool) → has q (keys_of_both a b) ≡ d → list_all (agree_on test a b) (keys_of_both a b) ≡ true → agree_on test a b q ≡ true
+agree_case : (test : Item → Item → Bool) (a b : Items) (q : Key) (d : Bool) → has q (keys_of_both a b) ≡ d
+    → list_all (agree_on test a b) (keys_of_both a b) ≡ true → agree_on test a b q ≡ true
 agree_case test a b q true h all = all_at test a b q (keys_of_both a b) all h
 agree_case test a b q false h all = let n = none_of_both a b q h in agree_none test a b q n.0 n.1
 
@@ -316,7 +336,8 @@ keys_agree slack (Some x) None e = cc
 near_agree : (slack : ℤ) (x y : Option Item) (i j : Item) → option_eq (is_near slack) x y ≡ true → x ≡ Some i → y ≡ Some j → is_near slack i j ≡ true
 near_agree slack x y i j e p q = sym (λ t. option_eq (is_near slack) (p t) (q t)) ∙ e
 
-agree_from : (slack : ℤ) (x y : Option Item) → is_some x ≡ is_some y → ((i j : Item) → x ≡ Some i → y ≡ Some j → is_near slack i j ≡ true) → option_eq (is_near slack) x y ≡ true
+agree_from : (slack : ℤ) (x y : Option Item) → is_some x ≡ is_some y
+    → ((i j : Item) → x ≡ Some i → y ≡ Some j → is_near slack i j ≡ true) → option_eq (is_near slack) x y ≡ true
 agree_from slack None None same near = refl
 agree_from slack (Some x) (Some y) same near = near x y refl refl
 agree_from slack None (Some y) same near = absurd (cc same)

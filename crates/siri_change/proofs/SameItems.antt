@@ -1,5 +1,6 @@
 -- Items that are recorded at one time and near with no slack are equal in every field.
-use Rattle.std.proofs.Common.{◌≡◌, ℕ, ℤ, pos, List, [], ◌∷◌, map, subst, Option, None, Some, Bool, true, false, ◌&&◌, ◌||◌, nat_eq, unsigned_abs, int_lt, ◌-ℤ◌, refl, ap, ◌∙◌, sym, eqb-true, eq-eqb, arith}
+use Rattle.std.proofs.Common.{◌≡◌, ℕ, ℤ, pos, List, [], ◌∷◌, map, subst, Option, None, Some, Bool, true, false, ◌&&◌, ◌||◌, nat_eq}
+use Rattle.std.proofs.Common.{unsigned_abs, int_lt, ◌-ℤ◌, refl, ap, ◌∙◌, sym, eqb-true, eq-eqb, arith}
 use Rattle.std.proofs.lemmas.Bool.{le-ltb}
 use Rattle.std.specs.Bool.{IsTrue}
 use Rattle.std.specs.Prelude.{◌↔◌}
@@ -15,7 +16,9 @@ use Rattle.siri_records.specs.declared.vehicle.Vehicle.{Vehicle}
 use Rattle.siri_records.specs.declared.vehicle.VehicleJourney.{VehicleJourney}
 use Rattle.siri_records.specs.declared.visit.Visit.{Visit}
 use Rattle.siri_records.specs.declared.visit.VisitJourney.{VisitJourney}
-use Rattle.siri_records.specs.Near.{is_close, are_close_moments, is_near_call, is_near_visit_journey, is_near_visit, is_near_journey, is_near_vehicle_journey, is_near_vehicle, is_near, steady_call, steady_visit_journey, steady_visit, steady_journey, steady_vehicle_journey, steady_vehicle}
+use Rattle.siri_records.specs.Near.{is_close, are_close_moments, is_near_call, is_near_visit_journey, is_near_visit, is_near_journey}
+use Rattle.siri_records.specs.Near.{is_near_vehicle_journey, is_near_vehicle, is_near, steady_call, steady_visit_journey, steady_visit}
+use Rattle.siri_records.specs.Near.{steady_journey, steady_vehicle_journey, steady_vehicle}
 use Rattle.siri_records.proofs.NearLaws.{near_agrees, near_itself}
 use Rattle.siri_change.specs.Same.{recorded_at, is_same}
 
@@ -142,9 +145,14 @@ vehicle_of d other = d
 -- recorded at one time, and near with no slack
 pub same_from_near : (a b : Item) → recorded_at a ≡ recorded_at b → is_near (pos 0) a b ≡ true → a ≡ b
 unfolding visit_of journey_of vehicle_of
-same_from_near (item.Visit a) (item.Visit b) r e = ap item.Visit (visit_same a b r (ap (visit_of (steady_visit a)) (near_agrees (pos 0) (item.Visit a) (item.Visit b) e)) e)
-same_from_near (item.Journey a) (item.Journey b) r e = ap item.Journey (journey_same a b r (ap (journey_of (steady_journey a)) (near_agrees (pos 0) (item.Journey a) (item.Journey b) e)) e)
-same_from_near (item.Vehicle a) (item.Vehicle b) r e = ap item.Vehicle (vehicle_same a b r (ap (vehicle_of (steady_vehicle a)) (near_agrees (pos 0) (item.Vehicle a) (item.Vehicle b) e)) e)
+same_from_near (item.Visit a) (item.Visit b) r e = ap item.Visit
+    (visit_same a b r (ap (visit_of (steady_visit a)) (near_agrees (pos 0) (item.Visit a) (item.Visit b) e)) e)
+same_from_near (item.Journey a) (item.Journey b) r e =
+    ap item.Journey (journey_same a b r (ap (journey_of (steady_journey a))
+    (near_agrees (pos 0) (item.Journey a) (item.Journey b) e)) e)
+same_from_near (item.Vehicle a) (item.Vehicle b) r e =
+    ap item.Vehicle (vehicle_same a b r (ap (vehicle_of (steady_vehicle a))
+    (near_agrees (pos 0) (item.Vehicle a) (item.Vehicle b) e)) e)
 same_from_near (item.Situation a) (item.Situation b) r e = near_agrees (pos 0) (item.Situation a) (item.Situation b) e
 same_from_near (item.Visit a) (item.Journey b) r e = cc
 same_from_near (item.Visit a) (item.Vehicle b) r e = cc

@@ -60,7 +60,7 @@ order_test (e ∷ view) s =
 pub record IsView (view : Items) : Type 0 where
   pub ordered : InOrder view
   pub keyed : is_keyed view ≡ true
-  pub small : length view ≤ 20000
+  pub small : length view ≤ most_live
 
 pub view_parts : (view : Items) → is_view view ≡ true → IsView view
 view_parts view t =
@@ -73,7 +73,7 @@ view_from view v =
     and_from (is_in_order view) (is_keyed view && nat_le (length view) most_live) (order_test view v.ordered)
     (and_from (is_keyed view) (nat_le (length view) most_live) v.keyed (le-leb (length view) most_live v.small))
 
-pub view_stated : (view : Items) → (is_view view ≡ true) ↔ (InOrder view × (is_keyed view ≡ true) × (length view ≤ 20000))
+pub view_stated : (view : Items) → (is_view view ≡ true) ↔ (InOrder view × (is_keyed view ≡ true) × (length view ≤ most_live))
 view_stated view = (
   (λ t. let v = view_parts view t in (v.ordered, v.keyed, v.small)),
   (λ p. view_from view (record { ordered = p.0; keyed = p.1; small = p.2 })),
@@ -84,7 +84,9 @@ view_stated view = (
 pub own_key : (x : Item) → tied (key_of x) (key_of x) ≡ true
 own_key x = ap is_eq (key_cmp_same (key_of x))
 
-held_case : (e : Key × Item) (a : Items) (k : Key) (x : Item) (t : Bool) → tied k e.0 ≡ t → tied (key_of e.1) e.0 ≡ true → cond t (Some e.1) (item_of a k) ≡ Some x → (item_of a k ≡ Some x → tied (key_of x) k ≡ true) → tied (key_of x) k ≡ true
+held_case : (e : Key × Item) (a : Items) (k : Key) (x : Item) (t : Bool) → tied k e.0 ≡ t → tied (key_of e.1) e.0 ≡ true
+    → cond t (Some e.1) (item_of a k) ≡ Some x → (item_of a k ≡ Some x → tied (key_of x) k ≡ true)
+    → tied (key_of x) k ≡ true
 held_case e a k x true h own is rest =
     let same : x ≡ e.1 = cc (sym is) in
     (λ i. tied (key_of (same i)) (one_key k e.0 h i)) ∙ own
@@ -97,7 +99,9 @@ item_keyed (e ∷ a) k x t is =
     let parts = and_parts (tied (key_of e.1) e.0) (is_keyed a) t in
     held_case e a k x (tied k e.0) refl parts.0 is (item_keyed a k x parts.1)
 
-with_case : (k : Key) (x : Item) (e : Key × Item) (a : Items) (o : Ordering) → key_cmp k e.0 ≡ o → tied (key_of x) k ≡ true → tied (key_of e.1) e.0 ≡ true → is_keyed a ≡ true → is_keyed (insert_entry key_cmp a k x) ≡ true → is_keyed (insert_entry key_cmp (e ∷ a) k x) ≡ true
+with_case : (k : Key) (x : Item) (e : Key × Item) (a : Items) (o : Ordering) → key_cmp k e.0 ≡ o
+    → tied (key_of x) k ≡ true → tied (key_of e.1) e.0 ≡ true → is_keyed a ≡ true
+    → is_keyed (insert_entry key_cmp a k x) ≡ true → is_keyed (insert_entry key_cmp (e ∷ a) k x) ≡ true
 with_case k x e a Less o own first others rest =
     rw o (and_from (tied (key_of x) k) (tied (key_of e.1) e.0 && is_keyed a) own (and_from (tied (key_of e.1) e.0) (is_keyed a) first others))
 with_case k x e a Equal o own first others rest =
@@ -110,7 +114,9 @@ keyed_with k x (e ∷ a) own t =
     let parts = and_parts (tied (key_of e.1) e.0) (is_keyed a) t in
     with_case k x e a (key_cmp k e.0) refl own parts.0 parts.1 (keyed_with k x a own parts.1)
 
-without_case : (k : Key) (e : Key × Item) (a : Items) (t : Bool) → tied k e.0 ≡ t → tied (key_of e.1) e.0 ≡ true → is_keyed a ≡ true → is_keyed (remove_entry (is_at (key_cmp k)) a) ≡ true → is_keyed (remove_entry (is_at (key_cmp k)) (e ∷ a)) ≡ true
+without_case : (k : Key) (e : Key × Item) (a : Items) (t : Bool) → tied k e.0 ≡ t → tied (key_of e.1) e.0 ≡ true
+    → is_keyed a ≡ true → is_keyed (remove_entry (is_at (key_cmp k)) a) ≡ true
+    → is_keyed (remove_entry (is_at (key_cmp k)) (e ∷ a)) ≡ true
 without_case k e a true h first others rest = rw h others
 without_case k e a false h first others rest = rw h (and_from (tied (key_of e.1) e.0) (is_keyed (remove_entry (is_at (key_cmp k)) a)) first rest)
 
@@ -139,7 +145,8 @@ removals_keyed (k ∷ ks) = removals_keyed ks
 carried_keyed : (xs : List Item) (ks : List Key) → are_keyed (map (λ item. (key_of item, Some item)) xs ++ map (λ key. (key, None)) ks) ≡ true
 carried_keyed [] ks = removals_keyed ks
 carried_keyed (x ∷ xs) ks =
-    and_from (tied (key_of x) (key_of x)) (are_keyed (map (λ item. (key_of item, Some item)) xs ++ map (λ key. (key, None)) ks)) (own_key x) (carried_keyed xs ks)
+    and_from (tied (key_of x) (key_of x)) (are_keyed
+    (map (λ item. (key_of item, Some item)) xs ++ map (λ key. (key, None)) ks)) (own_key x) (carried_keyed xs ks)
 
 pub changes_in_keyed : (part : Carried) → are_keyed (changes_in part) ≡ true
 changes_in_keyed part = carried_keyed part.items part.removals
@@ -153,7 +160,8 @@ change_case t k (Some x) is keyed = item_keyed t k x keyed is
 changes_keyed : (t : Items) (ks : List Key) → is_keyed t ≡ true → are_keyed (map (λ key. (key, item_of t key)) ks) ≡ true
 changes_keyed t [] keyed = refl
 changes_keyed t (k ∷ ks) keyed =
-    and_from (is_keyed_change (k, item_of t k)) (are_keyed (map (λ key. (key, item_of t key)) ks)) (change_case t k (item_of t k) refl keyed) (changes_keyed t ks keyed)
+    and_from (is_keyed_change (k, item_of t k)) (are_keyed (map (λ key. (key, item_of t key)) ks))
+    (change_case t k (item_of t k) refl keyed) (changes_keyed t ks keyed)
 
 whole_keyed : (t : Items) → is_keyed t ≡ true → are_keyed (whole t) ≡ true
 whole_keyed [] keyed = refl
@@ -167,11 +175,15 @@ load_keyed a t false keyed = whole_keyed t keyed
 
 -- ---- targets
 
-chosen_case : (slack : ℤ) (k : Key) (held listed : Item) (t : Bool) → is_near slack held listed ≡ t → tied (key_of held) k ≡ true → tied (key_of listed) k ≡ true → tied (key_of (acknowledged_if_near slack (Some held) listed)) k ≡ true
+chosen_case : (slack : ℤ) (k : Key) (held listed : Item) (t : Bool) → is_near slack held listed ≡ t
+    → tied (key_of held) k ≡ true → tied (key_of listed) k ≡ true
+    → tied (key_of (acknowledged_if_near slack (Some held) listed)) k ≡ true
 chosen_case slack k held listed true h own also = rw h own
 chosen_case slack k held listed false h own also = rw h also
 
-chosen_key : (slack : ℤ) (a : Items) (k : Key) (held : Option Item) (listed : Item) → item_of a k ≡ held → is_keyed a ≡ true → tied (key_of listed) k ≡ true → tied (key_of (acknowledged_if_near slack held listed)) k ≡ true
+chosen_key : (slack : ℤ) (a : Items) (k : Key) (held : Option Item) (listed : Item) → item_of a k ≡ held
+    → is_keyed a ≡ true → tied (key_of listed) k ≡ true → tied
+    (key_of (acknowledged_if_near slack held listed)) k ≡ true
 chosen_key slack a k None listed is keyed own = own
 chosen_key slack a k (Some held) listed is keyed own = chosen_case slack k held listed (is_near slack held listed) refl (item_keyed a k held keyed is) own
 
@@ -183,13 +195,15 @@ chosen_keyed slack a (e ∷ direct) keyed own =
     (chosen_key slack a e.0 (item_of a e.0) e.1 refl keyed parts.0)
     (chosen_keyed slack a direct keyed parts.1)
 
-target_keyed : (slack : ℤ) (incremental : Bool) (a direct : Items) → is_keyed a ≡ true → is_keyed direct ≡ true → is_keyed (target slack incremental a direct) ≡ true
+target_keyed : (slack : ℤ) (incremental : Bool) (a direct : Items) → is_keyed a ≡ true → is_keyed direct ≡ true
+    → is_keyed (target slack incremental a direct) ≡ true
 target_keyed slack true a direct keyed own = chosen_keyed slack a direct keyed own
 target_keyed slack false a direct keyed own = own
 
 -- ---- views stay views
 
-pub view_target : (slack : ℤ) (incremental : Bool) (a direct : Items) → is_view a ≡ true → is_view direct ≡ true → is_view (target slack incremental a direct) ≡ true
+pub view_target : (slack : ℤ) (incremental : Bool) (a direct : Items) → is_view a ≡ true → is_view direct ≡ true
+    → is_view (target slack incremental a direct) ≡ true
 view_target slack incremental a direct s t =
     let acknowledged = view_parts a s in
     let wanted = view_parts direct t in
@@ -199,12 +213,15 @@ view_target slack incremental a direct s t =
       small = omega (arith, target_length slack incremental a direct, wanted.small);
     })
 
-pub view_after : (view : Items) (c : KeyChange) → is_view view ≡ true → is_keyed_change c ≡ true → length (after_change view c) ≤ 20000 → is_view (after_change view c) ≡ true
+pub view_after : (view : Items) (c : KeyChange) → is_view view ≡ true → is_keyed_change c ≡ true
+    → length (after_change view c) ≤ most_live → is_view (after_change view c) ≡ true
 view_after view c t own small =
     let v = view_parts view t in
     view_from (after_change view c) (record { ordered = order_after view c v.ordered; keyed = keyed_after view c own v.keyed; small = small })
 
-fewer_case : (k : Key) (e : Key × Item) (a : Items) (t : Bool) → tied k e.0 ≡ t → length (remove_entry (is_at (key_cmp k)) a) ≤ length a → length (remove_entry (is_at (key_cmp k)) (e ∷ a)) ≤ length (e ∷ a)
+fewer_case : (k : Key) (e : Key × Item) (a : Items) (t : Bool) → tied k e.0 ≡ t
+    → length (remove_entry (is_at (key_cmp k)) a) ≤ length a
+    → length (remove_entry (is_at (key_cmp k)) (e ∷ a)) ≤ length (e ∷ a)
 fewer_case k e a true h rest = rw h (omega arith)
 fewer_case k e a false h rest = rw h (omega (arith, rest))
 
@@ -217,7 +234,8 @@ view_without view k t =
     let v = view_parts view t in
     view_after view (k, None) t refl (omega (arith, fewer k view, v.small))
 
-pub view_carried : (view : Items) (part : Carried) → is_view view ≡ true → length (apply view (changes_in part)) ≤ 20000 → is_view (apply view (changes_in part)) ≡ true
+pub view_carried : (view : Items) (part : Carried) → is_view view ≡ true
+    → length (apply view (changes_in part)) ≤ most_live → is_view (apply view (changes_in part)) ≡ true
 view_carried view part t small =
     let v = view_parts view t in
     view_from (apply view (changes_in part)) (record {

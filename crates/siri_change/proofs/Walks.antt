@@ -1,5 +1,6 @@
 -- Two views side by side, in order of key.
-use Rattle.std.proofs.Common.{◌≡◌, ℕ, ℤ, zero, suc, ◌+◌, List, [], ◌∷◌, ◌++◌, drop, take, map, filter, fold, Bool, true, false, not, ◌&&◌, Some, None, slice_get, refl, ap, sym, ◌∙◌, subst, append_assoc}
+use Rattle.std.proofs.Common.{◌≡◌, ℕ, ℤ, zero, suc, ◌+◌, List, [], ◌∷◌, ◌++◌, drop, take, map, filter, fold, Bool, true, false, not, ◌&&◌}
+use Rattle.std.proofs.Common.{Some, None, slice_get, refl, ap, sym, ◌∙◌, subst, append_assoc}
 use Rattle.std.specs.List.{AllByRecursion, list_all}
 use Rattle.std.specs.List.Sorted.{IsStrictlySortedBy}
 use Rattle.std.specs.Option.{option_eq}
@@ -33,7 +34,8 @@ pub above_trans : (j k : Key) (ks : List Key) → key_cmp j k ≡ Less → AllAb
 above_trans j k [] below a = tt
 above_trans j k (y ∷ ks) below a = (key_cmp_total.trans j k y below a.0, above_trans j k ks below a.1)
 
-above_case : (k : Key) (e : Key × Item) (a : Items) (f : Key × Item) (o : Ordering) → key_cmp f.0 e.0 ≡ o → Above k (e ∷ a) → key_cmp k f.0 ≡ Less → Above k (with_item a f) → Above k (with_item (e ∷ a) f)
+above_case : (k : Key) (e : Key × Item) (a : Items) (f : Key × Item) (o : Ordering) → key_cmp f.0 e.0 ≡ o
+    → Above k (e ∷ a) → key_cmp k f.0 ≡ Less → Above k (with_item a f) → Above k (with_item (e ∷ a) f)
 above_case k e a f Less o above here rest = rw o (here, above)
 above_case k e a f Equal o above here rest = rw o above
 above_case k e a f Greater o above here rest = rw o (above.0, rest)
@@ -108,10 +110,13 @@ on_changed k ks a b apart = rw apart refl
 pub on_same : (k : Key) (ks : List Key) (a b : Items) → agree_on is_same a b k ≡ true → changes_on (k ∷ ks) a b ≡ changes_on ks a b
 on_same k ks a b agree = rw agree refl
 
-agree_alike : (test : Item → Item → Bool) (k : Key) (a a' b b' : Items) → item_of a k ≡ item_of a' k → item_of b k ≡ item_of b' k → agree_on test a b k ≡ agree_on test a' b' k
+agree_alike : (test : Item → Item → Bool) (k : Key) (a a' b b' : Items) → item_of a k ≡ item_of a' k
+    → item_of b k ≡ item_of b' k → agree_on test a b k ≡ agree_on test a' b' k
 agree_alike test k a a' b b' p q = λ i. option_eq test (p i) (q i)
 
-on_alike_case : (k : Key) (ks : List Key) (a a' b b' : Items) (t : Bool) → agree_on is_same a b k ≡ t → item_of a k ≡ item_of a' k → item_of b k ≡ item_of b' k → changes_on ks a b ≡ changes_on ks a' b' → changes_on (k ∷ ks) a b ≡ changes_on (k ∷ ks) a' b'
+on_alike_case : (k : Key) (ks : List Key) (a a' b b' : Items) (t : Bool) → agree_on is_same a b k ≡ t
+    → item_of a k ≡ item_of a' k → item_of b k ≡ item_of b' k → changes_on ks a b ≡ changes_on ks a' b'
+    → changes_on (k ∷ ks) a b ≡ changes_on (k ∷ ks) a' b'
 on_alike_case k ks a a' b b' true t p q rest =
     on_same k ks a b t ∙ (rest ∙ sym (on_same k ks a' b' (sym (agree_alike is_same k a a' b b' p q) ∙ t)))
 on_alike_case k ks a a' b b' false t p q rest =
@@ -153,7 +158,8 @@ changes_kept k x y a b above also same =
     ∙ (on_same k ks ((k, x) ∷ a) ((k, y) ∷ b) (agree_tied is_same k x y a b ∙ same)
     ∙ on_alike ks ((k, x) ∷ a) a ((k, y) ∷ b) b (alike_later ks (k, x) a up) (alike_later ks (k, y) b up))
 
-pub changes_replaced : (k : Key) (x y : Item) (a b : Items) → Above k a → Above k b → is_same x y ≡ false → changes ((k, x) ∷ a) ((k, y) ∷ b) ≡ (k, Some y) ∷ changes a b
+pub changes_replaced : (k : Key) (x y : Item) (a b : Items) → Above k a → Above k b → is_same x y ≡ false
+    → changes ((k, x) ∷ a) ((k, y) ∷ b) ≡ (k, Some y) ∷ changes a b
 changes_replaced k x y a b above also apart =
     let ks = keys_of_both a b in
     let up = above_both k a b above also in
@@ -188,43 +194,54 @@ pub above_past : (k : Key) (a : Items) (i : ℕ) → None ≡ slice_get a i → 
 above_past k a i is = subst (λ (l : Items). Above k l) (sym (drop_past a i (sym is))) tt
 
 module _ (a b : Items) (i j : ℕ) where
-  pub removed_at : (e : Key × Item) → InOrder a → Some e ≡ slice_get a i → Above e.0 (drop j b) → changes (drop i a) (drop j b) ≡ (e.0, None) ∷ changes (drop (i + 1) a) (drop j b)
+  pub removed_at : (e : Key × Item) → InOrder a → Some e ≡ slice_get a i → Above e.0 (drop j b)
+      → changes (drop i a) (drop j b) ≡ (e.0, None) ∷ changes (drop (i + 1) a) (drop j b)
   removed_at e s is above =
       ap (λ l. changes l (drop j b)) (drop_at a i e (sym is)) ∙ changes_removed e (drop (i + 1) a) (drop j b) (above_rest a i e s is) above
 
-  pub added_at : (f : Key × Item) → InOrder b → Some f ≡ slice_get b j → Above f.0 (drop i a) → changes (drop i a) (drop j b) ≡ (f.0, Some f.1) ∷ changes (drop i a) (drop (j + 1) b)
+  pub added_at : (f : Key × Item) → InOrder b → Some f ≡ slice_get b j → Above f.0 (drop i a)
+      → changes (drop i a) (drop j b) ≡ (f.0, Some f.1) ∷ changes (drop i a) (drop (j + 1) b)
   added_at f s is above =
       ap (λ l. changes (drop i a) l) (drop_at b j f (sym is)) ∙ changes_added f (drop i a) (drop (j + 1) b) above (above_rest b j f s is)
 
   -- both views from their places on, where the keys there tie
-  tied_at : (e f : Key × Item) → Some e ≡ slice_get a i → Some f ≡ slice_get b j → key_cmp e.0 f.0 ≡ Equal → (drop i a ≡ (f.0, e.1) ∷ drop (i + 1) a) × (drop j b ≡ (f.0, f.1) ∷ drop (j + 1) b)
+  tied_at : (e f : Key × Item) → Some e ≡ slice_get a i → Some f ≡ slice_get b j → key_cmp e.0 f.0 ≡ Equal
+      → (drop i a ≡ (f.0, e.1) ∷ drop (i + 1) a) × (drop j b ≡ (f.0, f.1) ∷ drop (j + 1) b)
   tied_at e f is also tie =
       (drop_at a i e (sym is) ∙ (λ t. (key_cmp_exact e.0 f.0 tie t, e.1) ∷ drop (i + 1) a), drop_at b j f (sym also))
 
   above_tied : (e f : Key × Item) → InOrder a → Some e ≡ slice_get a i → key_cmp e.0 f.0 ≡ Equal → Above f.0 (drop (i + 1) a)
   above_tied e f s is tie = subst (λ (k : Key). Above k (drop (i + 1) a)) (key_cmp_exact e.0 f.0 tie) (above_rest a i e s is)
 
-  pub kept_at : (e f : Key × Item) → InOrder a → InOrder b → Some e ≡ slice_get a i → Some f ≡ slice_get b j → key_cmp e.0 f.0 ≡ Equal → is_same e.1 f.1 ≡ true → changes (drop i a) (drop j b) ≡ changes (drop (i + 1) a) (drop (j + 1) b)
+  pub kept_at : (e f : Key × Item) → InOrder a → InOrder b → Some e ≡ slice_get a i → Some f ≡ slice_get b j
+      → key_cmp e.0 f.0 ≡ Equal → is_same e.1 f.1 ≡ true → changes (drop i a) (drop j b) ≡ changes (drop (i + 1) a)
+      (drop (j + 1) b)
   kept_at e f s t is also tie same =
       let at_both = tied_at e f is also tie in
-      (λ u. changes (at_both.0 u) (at_both.1 u)) ∙ changes_kept f.0 e.1 f.1 (drop (i + 1) a) (drop (j + 1) b) (above_tied e f s is tie) (above_rest b j f t also) same
+      (λ u. changes (at_both.0 u) (at_both.1 u)) ∙ changes_kept f.0 e.1 f.1 (drop (i + 1) a) (drop (j + 1) b)
+      (above_tied e f s is tie) (above_rest b j f t also) same
 
-  pub replaced_at : (e f : Key × Item) → InOrder a → InOrder b → Some e ≡ slice_get a i → Some f ≡ slice_get b j → key_cmp e.0 f.0 ≡ Equal → is_same e.1 f.1 ≡ false → changes (drop i a) (drop j b) ≡ (f.0, Some f.1) ∷ changes (drop (i + 1) a) (drop (j + 1) b)
+  pub replaced_at : (e f : Key × Item) → InOrder a → InOrder b → Some e ≡ slice_get a i → Some f ≡ slice_get b j
+      → key_cmp e.0 f.0 ≡ Equal → is_same e.1 f.1 ≡ false
+      → changes (drop i a) (drop j b) ≡ (f.0, Some f.1) ∷ changes (drop (i + 1) a) (drop (j + 1) b)
   replaced_at e f s t is also tie apart =
       let at_both = tied_at e f is also tie in
-      (λ u. changes (at_both.0 u) (at_both.1 u)) ∙ changes_replaced f.0 e.1 f.1 (drop (i + 1) a) (drop (j + 1) b) (above_tied e f s is tie) (above_rest b j f t also) apart
+      (λ u. changes (at_both.0 u) (at_both.1 u)) ∙ changes_replaced f.0 e.1 f.1 (drop (i + 1) a) (drop (j + 1) b)
+      (above_tied e f s is tie) (above_rest b j f t also) apart
 
 pub none_left : (a b : Items) (i j : ℕ) → None ≡ slice_get a i → None ≡ slice_get b j → changes (drop i a) (drop j b) ≡ []
 none_left a b i j is also = rw (drop_past a i (sym is), drop_past b j (sym also)) refl
 
 -- one more change was written
-pub written : (done more now next whole : List KeyChange) (c d : KeyChange) → more ≡ done ++ c ∷ [] → c ≡ d → now ≡ d ∷ next → done ++ now ≡ whole → more ++ next ≡ whole
+pub written : (done more now next whole : List KeyChange) (c d : KeyChange) → more ≡ done ++ c ∷ [] → c ≡ d
+    → now ≡ d ∷ next → done ++ now ≡ whole → more ++ next ≡ whole
 written done more now next whole c d one same step all =
     ap (λ l. l ++ next) one ∙ (append_assoc done (c ∷ []) next ∙ (ap (λ x. done ++ x ∷ next) same ∙ (ap (λ l. done ++ l) (sym step) ∙ all)))
 
 -- ---- meets
 
-all_alike : (test : Item → Item → Bool) (ks : List Key) (a a' b b' : Items) → Alike ks a a' → Alike ks b b' → list_all (agree_on test a b) ks ≡ list_all (agree_on test a' b') ks
+all_alike : (test : Item → Item → Bool) (ks : List Key) (a a' b b' : Items) → Alike ks a a' → Alike ks b b'
+    → list_all (agree_on test a b) ks ≡ list_all (agree_on test a' b') ks
 all_alike test [] a a' b b' p q = refl
 all_alike test (k ∷ ks) a a' b b' p q = λ i. agree_alike test k a a' b b' p.0 q.0 i && all_alike test ks a a' b b' p.1 q.1 i
 
@@ -241,14 +258,17 @@ unmet_second slack f a b above also =
     ap (λ ks. list_all (agree_on (is_near slack) a (f ∷ b)) ks) (keys_second f a b above also) ∙ rw apart refl
 
 -- a key that both have
-met_tied : (slack : ℤ) (k : Key) (x y : Item) (a b : Items) → Above k a → Above k b → meets slack ((k, x) ∷ a) ((k, y) ∷ b) ≡ (is_near slack x y && meets slack a b)
+met_tied : (slack : ℤ) (k : Key) (x y : Item) (a b : Items) → Above k a → Above k b
+    → meets slack ((k, x) ∷ a) ((k, y) ∷ b) ≡ (is_near slack x y && meets slack a b)
 met_tied slack k x y a b above also =
     let ks = keys_of_both a b in
     let up = above_both k a b above also in
     ap (λ l. list_all (agree_on (is_near slack) ((k, x) ∷ a) ((k, y) ∷ b)) l) (keys_tied k x y a b also)
-    ∙ (λ i. agree_tied (is_near slack) k x y a b i && all_alike (is_near slack) ks ((k, x) ∷ a) a ((k, y) ∷ b) b (alike_later ks (k, x) a up) (alike_later ks (k, y) b up) i)
+    ∙ (λ i. agree_tied (is_near slack) k x y a b i && all_alike (is_near slack) ks ((k, x) ∷ a) a ((k, y) ∷ b) b
+    (alike_later ks (k, x) a up) (alike_later ks (k, y) b up) i)
 
-met_case : (slack : ℤ) (e f : Key × Item) (a b : Items) (o : Ordering) → key_cmp e.0 f.0 ≡ o → Above e.0 a → Above f.0 b → meets slack (e ∷ a) (f ∷ b) ≡ ((is_eq o && is_near slack e.1 f.1) && meets slack a b)
+met_case : (slack : ℤ) (e f : Key × Item) (a b : Items) (o : Ordering) → key_cmp e.0 f.0 ≡ o → Above e.0 a → Above f.0 b
+    → meets slack (e ∷ a) (f ∷ b) ≡ ((is_eq o && is_near slack e.1 f.1) && meets slack a b)
 met_case slack e f a b Less o above also = unmet_first slack e a (f ∷ b) (o, above_trans e.0 f.0 (keys_of b) o also)
 met_case slack e f a b Greater o above also =
     let below = reversed f.0 e.0 Greater o in
@@ -257,7 +277,9 @@ met_case slack e f a b Equal o above also =
     let same = key_cmp_exact e.0 f.0 o in
     (λ t. meets slack ((same t, e.1) ∷ a) (f ∷ b)) ∙ met_tied slack f.0 e.1 f.1 a b (subst (λ (k : Key). Above k a) same above) also
 
-pub met_at : (slack : ℤ) (a b : Items) (i : ℕ) (e f : Key × Item) → InOrder a → InOrder b → Some e ≡ slice_get a i → Some f ≡ slice_get b i → meets slack (drop i a) (drop i b) ≡ ((is_eq (key_cmp e.0 f.0) && is_near slack e.1 f.1) && meets slack (drop (i + 1) a) (drop (i + 1) b))
+pub met_at : (slack : ℤ) (a b : Items) (i : ℕ) (e f : Key × Item) → InOrder a → InOrder b → Some e ≡ slice_get a i
+    → Some f ≡ slice_get b i → meets slack (drop i a)
+    (drop i b) ≡ ((is_eq (key_cmp e.0 f.0) && is_near slack e.1 f.1) && meets slack (drop (i + 1) a) (drop (i + 1) b))
 met_at slack a b i e f s t is also =
     (λ u. meets slack (drop_at a i e (sym is) u) (drop_at b i f (sym also) u))
     ∙ met_case slack e f (drop (i + 1) a) (drop (i + 1) b) (key_cmp e.0 f.0) refl (above_rest a i e s is) (above_rest b i f t also)
@@ -265,11 +287,13 @@ met_at slack a b i e f s t is also =
 pub met_past : (slack : ℤ) (a b : Items) (i : ℕ) → None ≡ slice_get a i → None ≡ slice_get b i → meets slack (drop i a) (drop i b) ≡ true
 met_past slack a b i is also = rw (drop_past a i (sym is), drop_past b i (sym also)) refl
 
-pub unmet_longer : (slack : ℤ) (a b : Items) (i : ℕ) (e : Key × Item) → Some e ≡ slice_get a i → None ≡ slice_get b i → meets slack (drop i a) (drop i b) ≡ false
+pub unmet_longer : (slack : ℤ) (a b : Items) (i : ℕ) (e : Key × Item) → Some e ≡ slice_get a i → None ≡ slice_get b i
+    → meets slack (drop i a) (drop i b) ≡ false
 unmet_longer slack a b i e is also =
     (λ u. meets slack (drop_at a i e (sym is) u) (drop_past b i (sym also) u)) ∙ unmet_first slack e (drop (i + 1) a) [] tt
 
-pub unmet_shorter : (slack : ℤ) (a b : Items) (i : ℕ) (f : Key × Item) → InOrder b → None ≡ slice_get a i → Some f ≡ slice_get b i → meets slack (drop i a) (drop i b) ≡ false
+pub unmet_shorter : (slack : ℤ) (a b : Items) (i : ℕ) (f : Key × Item) → InOrder b → None ≡ slice_get a i
+    → Some f ≡ slice_get b i → meets slack (drop i a) (drop i b) ≡ false
 unmet_shorter slack a b i f t is also =
     (λ u. meets slack (drop_past a i (sym is) u) (drop_at b i f (sym also) u)) ∙ unmet_second slack f [] (drop (i + 1) b) tt (above_rest b i f t also)
 
@@ -282,7 +306,9 @@ pub keys_chosen : (slack : ℤ) (acknowledged l : Items) → keys_of (map (chose
 keys_chosen slack acknowledged [] = refl
 keys_chosen slack acknowledged (e ∷ l) = ap (λ ks. e.0 ∷ ks) (keys_chosen slack acknowledged l)
 
-chosen_append : (slack : ℤ) (acknowledged l : Items) (e : Key × Item) → map (chosen slack acknowledged) (l ++ e ∷ []) ≡ map (chosen slack acknowledged) l ++ chosen slack acknowledged e ∷ []
+chosen_append : (slack : ℤ) (acknowledged l : Items) (e : Key × Item)
+    → map (chosen slack acknowledged) (l ++ e ∷ []) ≡ map (chosen slack acknowledged) l
+    ++ chosen slack acknowledged e ∷ []
 chosen_append slack acknowledged [] e = refl
 chosen_append slack acknowledged (x ∷ l) e = ap (λ t. chosen slack acknowledged x ∷ t) (chosen_append slack acknowledged l e)
 
@@ -300,7 +326,9 @@ order_taken (e ∷ l) zero s = tt
 order_taken (e ∷ l) (suc i) s = (above_taken e.0 l i s.0, order_taken l i s.1)
 
 -- the next key is above those before it
-pub next_in_order : (slack : ℤ) (acknowledged direct target : Items) (i : ℕ) (e : Key × Item) (k : Key) → InOrder direct → Some e ≡ slice_get direct i → target ≡ map (chosen slack acknowledged) (take i direct) → k ≡ e.0 → IsStrictlySortedBy key_cmp (keys_of target ++ k ∷ [])
+pub next_in_order : (slack : ℤ) (acknowledged direct target : Items) (i : ℕ) (e : Key × Item) (k : Key) → InOrder direct
+    → Some e ≡ slice_get direct i → target ≡ map (chosen slack acknowledged) (take i direct) → k ≡ e.0
+    → IsStrictlySortedBy key_cmp (keys_of target ++ k ∷ [])
 next_in_order slack acknowledged direct target i e k s is so_far same =
     let keys : keys_of target ++ k ∷ [] ≡ keys_of (take (i + 1) direct) =
     (λ t. keys_of (so_far t) ++ same t ∷ [])
@@ -308,7 +336,10 @@ next_in_order slack acknowledged direct target i e k s is so_far same =
     ∙ (sym (keys_append (take i direct) e) ∙ ap keys_of (sym (take_at direct i e (sym is))))) in
     rw keys (order_taken direct (i + 1) s)
 
-pub chosen_next : (slack : ℤ) (acknowledged direct target more : Items) (i : ℕ) (e : Key × Item) (k : Key) (x : Item) → Some e ≡ slice_get direct i → target ≡ map (chosen slack acknowledged) (take i direct) → more ≡ target ++ (k, x) ∷ [] → k ≡ e.0 → x ≡ acknowledged_if_near slack (item_of acknowledged e.0) e.1 → more ≡ map (chosen slack acknowledged) (take (i + 1) direct)
+pub chosen_next : (slack : ℤ) (acknowledged direct target more : Items) (i : ℕ) (e : Key × Item) (k : Key) (x : Item)
+    → Some e ≡ slice_get direct i → target ≡ map (chosen slack acknowledged) (take i direct)
+    → more ≡ target ++ (k, x) ∷ [] → k ≡ e.0 → x ≡ acknowledged_if_near slack (item_of acknowledged e.0) e.1
+    → more ≡ map (chosen slack acknowledged) (take (i + 1) direct)
 chosen_next slack acknowledged direct target more i e k x is so_far one same which =
     one
     ∙ ((λ t. so_far t ++ (same t, which t) ∷ [])
@@ -319,14 +350,21 @@ chosen_next slack acknowledged direct target more i e k x is so_far one same whi
 both_tests : (r t u : Bool) → r ≡ t → r ≡ false → (t && u) ≡ false
 both_tests r t u is apart = ap (λ x. x && u) (sym is ∙ apart)
 
-pub apart_here : (slack : ℤ) (a b : Items) (i : ℕ) (e f : Key × Item) (r : Bool) → InOrder a → InOrder b → Some e ≡ slice_get a i → Some f ≡ slice_get b i → r ≡ (is_eq (key_cmp e.0 f.0) && is_near slack e.1 f.1) → r ≡ false → meets slack (drop i a) (drop i b) ≡ meets slack a b → true ≡ not (meets slack a b)
+pub apart_here : (slack : ℤ) (a b : Items) (i : ℕ) (e f : Key × Item) (r : Bool) → InOrder a → InOrder b
+    → Some e ≡ slice_get a i → Some f ≡ slice_get b i → r ≡ (is_eq (key_cmp e.0 f.0) && is_near slack e.1 f.1)
+    → r ≡ false → meets slack (drop i a) (drop i b) ≡ meets slack a b → true ≡ not (meets slack a b)
 apart_here slack a b i e f r s t is also told apart so_far =
     sym (ap not (sym so_far ∙ (met_at slack a b i e f s t is also ∙ both_tests r _ _ told apart)))
 
-pub met_here : (slack : ℤ) (a b : Items) (i : ℕ) (e f : Key × Item) (r : Bool) → InOrder a → InOrder b → Some e ≡ slice_get a i → Some f ≡ slice_get b i → r ≡ (is_eq (key_cmp e.0 f.0) && is_near slack e.1 f.1) → r ≡ true → meets slack (drop i a) (drop i b) ≡ meets slack a b → meets slack (drop (i + 1) a) (drop (i + 1) b) ≡ meets slack a b
+pub met_here : (slack : ℤ) (a b : Items) (i : ℕ) (e f : Key × Item) (r : Bool) → InOrder a → InOrder b
+    → Some e ≡ slice_get a i → Some f ≡ slice_get b i → r ≡ (is_eq (key_cmp e.0 f.0) && is_near slack e.1 f.1)
+    → r ≡ true → meets slack (drop i a) (drop i b) ≡ meets slack a b
+    → meets slack (drop (i + 1) a) (drop (i + 1) b) ≡ meets slack a b
 met_here slack a b i e f r s t is also told near so_far =
     ap (λ x. x && meets slack (drop (i + 1) a) (drop (i + 1) b)) (sym near ∙ told) ∙ (sym (met_at slack a b i e f s t is also) ∙ so_far)
 
-pub all_chosen : (slack : ℤ) (incremental : Bool) (acknowledged direct so_far : Items) (i : ℕ) → incremental ≡ true → so_far ≡ map (chosen slack acknowledged) (take i direct) → None ≡ slice_get direct i → so_far ≡ target slack incremental acknowledged direct
+pub all_chosen : (slack : ℤ) (incremental : Bool) (acknowledged direct so_far : Items) (i : ℕ) → incremental ≡ true
+    → so_far ≡ map (chosen slack acknowledged) (take i direct) → None ≡ slice_get direct i
+    → so_far ≡ target slack incremental acknowledged direct
 all_chosen slack incremental acknowledged direct so_far i on is past =
     is ∙ (ap (map (chosen slack acknowledged)) (take_past direct i (sym past)) ∙ rw on refl)

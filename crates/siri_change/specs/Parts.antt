@@ -1,6 +1,7 @@
 -- What a round carries, the parts that it is cut in (MoreData of EN 15531-2), and a part as a functional delivery carries
 -- it.
-use Rattle.std.specs.Prelude.{ℕ, ◌+◌, ◌*◌, ◌/◌, max, Bool, not, List, [], ◌++◌, length, map, filter, filter_map, fold, take, drop, Some, None, is_some, if◌then◌else◌}
+use Rattle.std.specs.Prelude.{ℕ, ◌+◌, ◌*◌, ◌/◌, max, Bool, not, List, [], ◌++◌, length, map, filter, filter_map, fold, take, drop, Some}
+use Rattle.std.specs.Prelude.{None, is_some, if◌then◌else◌}
 use Rattle.std.specs.List.{range_with_len}
 use Rattle.std.specs.Map.{keys_of}
 use Rattle.siri_records.specs.declared.key.Key.{Key}

@@ -1,9 +1,10 @@
-// How views differ, and what leads from one to another.
+//! How views differ, and what leads from one to another.
+
 ghost use Rattle.std.specs.Prelude.{◌≡◌, ◌&&◌, not, IfOk, Some, None, option_map};
 ghost use Rattle.std.specs.Ordering.{is_eq};
 ghost use Rattle.siri_records.specs.Near.{is_near};
 ghost use Rattle.siri_records.specs.Order.{key_cmp};
-ghost use Rattle.siri_change.specs.Changes as definition;
+ghost use Rattle.siri_change.specs.Changes.{acknowledged_if_near, changes, meets, target};
 
 use crate::{Change, View, same};
 use siri_base::{Copies, List, OutOfMemory, Span};
@@ -11,12 +12,13 @@ use siri_records::{Item, Key, near};
 use std::cmp::Ordering;
 use std::rc::Rc;
 
+/// A key of a view and its item, which other views may hold too.
 type Entry = (Key, Rc<Item>);
 
 /// Whether two views differ: they don't have the same keys, or the two items of some key aren't near with the slack. It
 /// goes over both once and takes no memory.
 pub fn differ(view: &View, wanted: &View, slack: Span) -> bool
-    ensures { result ≡ not (definition.meets slack view.now wanted.now) }
+    ensures { result ≡ not (meets slack view.now wanted.now) }
 {
     let mut place = 0;
     loop {
@@ -34,13 +36,14 @@ pub fn differ(view: &View, wanted: &View, slack: Span) -> bool
     }
 }
 
+/// Keys by service, then by their names in turn, an absent name first: the order of views.
 fn compare(a: &Key, b: &Key) -> Ordering
     ensures { result ≡ key_cmp a.now b.now }
 {
     a.cmp(b)
 }
 
-// Whether two entries have one key and near items.
+/// Whether two entries have one key and near items.
 fn near_entries(a: &Entry, b: &Entry, slack: Span) -> bool
     ensures { result ≡ (is_eq (key_cmp a.now.0 b.now.0) && is_near slack a.now.1.value b.now.1.value) }
 {
@@ -56,7 +59,7 @@ pub fn target(
     slack: Span,
     incremental: bool,
 ) -> Result<View, OutOfMemory>
-    ensures { IfOk result (λ target. target ≡ definition.target slack incremental acknowledged.now direct.now) }
+    ensures { IfOk result (λ goal. goal ≡ target slack incremental acknowledged.now direct.now) }
 {
     if !incremental {
         return direct.copy();
@@ -75,13 +78,13 @@ pub fn target(
     }
 }
 
-// The acknowledged item of a key where there is one and it is near, else the new one.
+/// The acknowledged item of a key where there is one and it is near, else the new one.
 fn acknowledged_if_near<'a>(
     held: Option<&'a Rc<Item>>,
     new: &'a Rc<Item>,
     slack: Span,
 ) -> &'a Rc<Item>
-    ensures { result.now.value ≡ definition.acknowledged_if_near slack (option_map (λ item. item.now.value) held.entry) new.now.value }
+    ensures { result.now.value ≡ acknowledged_if_near slack (option_map (λ item. item.now.value) held.entry) new.now.value }
 {
     match held {
         Some(held) if near(held, new, slack) => held,
@@ -90,9 +93,10 @@ fn acknowledged_if_near<'a>(
 }
 
 /// The changes that lead from one view to another: in order of key, each key on which they differ, with the item that
-/// the second has of it, or with none. Items differ where they aren't equal in every field. It goes over both views once.
+/// the second has of it, or with none. Items differ where they aren't equal in every field. It goes over both views
+/// once.
 pub fn changes(before: &View, after: &View) -> Result<List<Change>, OutOfMemory>
-    ensures { IfOk result (λ list. list ≡ definition.changes before.now after.now) }
+    ensures { IfOk result (λ list. list ≡ changes before.now after.now) }
 {
     let mut list = List::new(after.allocator());
     let mut old_place = 0;
@@ -129,7 +133,7 @@ pub fn changes(before: &View, after: &View) -> Result<List<Change>, OutOfMemory>
     }
 }
 
-// The change that removes the key of an entry.
+/// The change that removes the key of an entry.
 fn removal(entry: &Entry) -> Result<Change, OutOfMemory>
     ensures { IfOk result (λ change. change ≡ (entry.now.0, None)) }
 {
@@ -139,7 +143,7 @@ fn removal(entry: &Entry) -> Result<Change, OutOfMemory>
     })
 }
 
-// The change that makes an entry's item the one of its key.
+/// The change that makes an entry's item the one of its key.
 fn addition(entry: &Entry) -> Result<Change, OutOfMemory>
     ensures { IfOk result (λ change. change ≡ (entry.now.0, Some entry.now.1.value)) }
 {

@@ -1,8 +1,9 @@
-// What follows from the definitions of views and changes.
+//! What follows from the definitions of views and changes.
+
 ghost use Rattle.std.specs.Prelude.{◌≡◌, ◌↔◌, ◌<◌, ◌≤◌, ℕ, ℤ, Bool, true, List, [], length, map, flat_map, slice_get, Some, None};
 ghost use Rattle.siri_records.specs.declared.item.Item.{Item};
 ghost use Rattle.siri_records.specs.declared.key.Key.{Key};
-ghost use Rattle.siri_records.specs.Keyed.{Items, InOrder, KeyChange, after_change, apply};
+ghost use Rattle.siri_records.specs.Keyed.{Items, InOrder, KeyChange, after_change, apply, most_live};
 ghost use Rattle.siri_change.specs.Same.{is_same};
 ghost use Rattle.siri_change.specs.Changes.{Meets, meets, target, changes};
 ghost use Rattle.siri_change.specs.Views.{is_keyed, is_view, is_keyed_change, are_keyed};
@@ -13,7 +14,8 @@ pub fn same_items_are_equal()
     ensures { (a b : Item) → (is_same a b ≡ true) ↔ (a ≡ b) }
 {}
 
-/// A law: a view meets another by the test exactly where they have the same keys and the two items of each key are near.
+/// A law: a view meets another by the test exactly where they have the same keys and the two items of each key are
+/// near.
 pub fn views_that_meet_are_near()
     ensures { (slack : ℤ) (view list : Items) → (meets slack view list ≡ true) ↔ Meets slack view list }
 {}
@@ -28,7 +30,7 @@ pub fn changes_lead_to_the_view()
 pub fn parts_lead_to_the_target()
     ensures whole { (acknowledged target : Items) (incremental : Bool) → InOrder acknowledged → InOrder target → apply_parts (base_view acknowledged incremental) (parts_of (load acknowledged target incremental)) ≡ target }
     ensures some_part { (list : List KeyChange) → 0 < length (parts_of list) }
-    ensures few_parts { (acknowledged target : Items) (incremental : Bool) → length acknowledged ≤ 20000 → length target ≤ 20000 → length (parts_of (load acknowledged target incremental)) ≤ 400 }
+    ensures few_parts { (acknowledged target : Items) (incremental : Bool) → length acknowledged ≤ most_live → length target ≤ most_live → length (parts_of (load acknowledged target incremental)) ≤ 400 }
 {}
 
 /// A law: the target of a round meets the direct response that it was made for. So once it is acknowledged, no further
@@ -45,7 +47,8 @@ pub fn views_stay_in_order()
     ensures length { (slack : ℤ) (incremental : Bool) (acknowledged direct : Items) → length (target slack incremental acknowledged direct) ≡ length direct }
 {}
 
-/// A law: the parts of a list, joined in order, are the list. Each is the next hundred of it, and none has more than 100.
+/// A law: the parts of a list, joined in order, are the list. Each is the next hundred of it, and none has more than
+/// 100.
 pub fn parts_are_the_list<A>()
     ensures joined { (list : List A) → flat_map (λ part. part) (parts_of list) ≡ list }
     ensures count { (list : List A) → length (parts_of list) ≡ parts_count list }
@@ -67,8 +70,8 @@ pub fn items_carry_their_keys()
     ensures load { (acknowledged target : Items) (incremental : Bool) → is_keyed target ≡ true → are_keyed (load acknowledged target incremental) ≡ true }
 {}
 
-/// A law: what a round's parts carry leads to its target, one after the other, where its items are under their own keys.
-/// There is at least one part, and of views at most 400.
+/// A law: what a round's parts carry leads to its target, one after the other, where its items are under their own
+/// keys. There is at least one part, and of views at most 400.
 pub fn carried_parts_lead_to_the_target()
     ensures whole { (acknowledged target : Items) (incremental : Bool) → InOrder acknowledged → InOrder target → is_keyed target ≡ true
         → apply_carried (base_view acknowledged incremental) (map carried (parts_of (load acknowledged target incremental))) ≡ target }
@@ -81,15 +84,15 @@ pub fn carried_parts_lead_to_the_target()
 
 /// A law: the test of a view says that it is in order of key, each item under its own, and has at most 20,000.
 pub fn views_are_tested()
-    ensures { (view : Items) → (is_view view ≡ true) ↔ (InOrder view × (is_keyed view ≡ true) × (length view ≤ 20000)) }
+    ensures { (view : Items) → (is_view view ≡ true) ↔ (InOrder view × (is_keyed view ≡ true) × (length view ≤ most_live)) }
 {}
 
-/// A law: a view stays one. The empty one is; after a removal it is; after an item of its own key, and after what a part
-/// carries, it is while it has at most 20,000; the target of two views is.
+/// A law: a view stays one. The empty one is; after a removal it is; after an item of its own key, and after what a
+/// part carries, it is while it has at most 20,000; the target of two views is.
 pub fn views_stay_views()
     ensures empty { is_view [] ≡ true }
     ensures removal { (view : Items) (key : Key) → is_view view ≡ true → is_view (after_change view (key, None)) ≡ true }
-    ensures change { (view : Items) (change : KeyChange) → is_view view ≡ true → is_keyed_change change ≡ true → length (after_change view change) ≤ 20000 → is_view (after_change view change) ≡ true }
-    ensures part { (view : Items) (part : Carried) → is_view view ≡ true → length (apply view (changes_in part)) ≤ 20000 → is_view (apply view (changes_in part)) ≡ true }
+    ensures change { (view : Items) (change : KeyChange) → is_view view ≡ true → is_keyed_change change ≡ true → length (after_change view change) ≤ most_live → is_view (after_change view change) ≡ true }
+    ensures part { (view : Items) (part : Carried) → is_view view ≡ true → length (apply view (changes_in part)) ≤ most_live → is_view (apply view (changes_in part)) ≡ true }
     ensures target { (slack : ℤ) (incremental : Bool) (acknowledged direct : Items) → is_view acknowledged ≡ true → is_view direct ≡ true → is_view (target slack incremental acknowledged direct) ≡ true }
 {}

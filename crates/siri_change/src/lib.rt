@@ -1,7 +1,7 @@
 //! Views of current items, and what leads from one view to another.
 //!
-//! A view holds items by their keys. Of a subscription there are two: the acknowledged view, which the consumer is known
-//! to hold, and the direct response, which it ought to hold.
+//! A view holds items by their keys. Of a subscription there are two: the acknowledged view, which the consumer is
+//! known to hold, and the direct response, which it ought to hold.
 //!
 //! ```text
 //!     acknowledged view, direct response, slack -> differ             whether a round of changes is due

@@ -1,4 +1,5 @@
-// When two items are equal in every field.
+//! When two items are equal in every field.
+
 ghost use Rattle.std.specs.Prelude.{◌≡◌, ◌↔◌, IsTrue, pos};
 ghost use Rattle.siri_change.specs.Same.{recorded_at, is_same};
 
@@ -13,6 +14,7 @@ pub fn same(a: &Item, b: &Item) -> bool
     recorded_at(a) == recorded_at(b) && near(a, b, no_slack())
 }
 
+/// The RecordedAtTime of an item, which nearness doesn't look at; a situation has none.
 fn recorded_at(item: &Item) -> Option<Moment>
     ensures { result ≡ recorded_at item.now }
 {
@@ -24,6 +26,7 @@ fn recorded_at(item: &Item) -> Option<Moment>
     }
 }
 
+/// The slack zero, with which items that are near have equal expected times and delays.
 fn no_slack() -> Span
     ensures { result ≡ pos 0 }
 {

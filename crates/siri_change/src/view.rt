@@ -1,4 +1,5 @@
-// Views of current items.
+//! Views of current items.
+
 ghost use Rattle.std.specs.Prelude.{◌≡◌, [], ◌∷◌, ◌++◌, length, option_map, slice_get, ◌+◌, ◌<◌, ◌^◌, IsNone, IsSome, IsOk, OnSome, OnOk, OnErr};
 ghost use Rattle.std.specs.List.Sorted.{IsStrictlySortedBy};
 ghost use Rattle.std.specs.Map.{keys_of};
@@ -83,8 +84,8 @@ impl View {
         self.items.entry(place)
     }
 
-    /// Makes a change: an item becomes the one of its key, and a removal removes the key, where it is held. After want of
-    /// memory the view is as before; a removal, and an item of a held key, take none.
+    /// Makes a change: an item becomes the one of its key, and a removal removes the key, where it is held. After want
+    /// of memory the view is as before; a removal, and an item of a held key, take none.
     pub fn put_change(&mut self, change: Change) -> Result<(), OutOfMemory>
         ensures ok { OnOk result (self.new ≡ after_change self.old change) }
         ensures err { OnErr result (self.new ≡ self.old) }
@@ -112,6 +113,7 @@ impl View {
         self.items.push_last(key, item)
     }
 
+    /// The allocator of its entries, for a view that is made from it.
     pub(crate) fn allocator(&self) -> Global {
         self.items.allocator()
     }

@@ -1,1 +1,5 @@
 pub mod Listens
+pub mod Lists
+pub mod Memory
+pub mod Places
+mod Examples

@@ -4,12 +4,13 @@ use Rattle.std.specs.Prelude.{◌&&◌, if◌then◌else◌, option_map, nat_le}
 use Rattle.std.specs.List.{list_any}
 use Rattle.std.proofs.lemmas.Bool.{and_parts, leb-true}
 use Rattle.siri_http.specs.Addresses.{is_host_with_port}
-use Rattle.siri_http.specs.Bodies.{number_of}
+use Rattle.siri_base.specs.Numbers.{number_of}
 use Rattle.siri_http.specs.declared.address.Address.{Address as Producer}
-use Rattle.siri_words.specs.Arguments.{count_of, is_listen, is_name, producer_of}
-use Rattle.siri_words.specs.Commands.{begins_with_minus, command_by, command_named, command_of, command_with, consume_by, consume_of, consume_with, is_word, load_by, load_of, load_with, plain_of, serve_by, serve_of}
-use Rattle.siri_words.specs.declared.command.Command.{Command}
-use Rattle.siri_words.specs.declared.command.Command.TheVariants.{Replay, Check, Convert, Serve, Consume}
+use Rattle.siri_cli.specs.Arguments.{count_of, is_listen, is_name, producer_of, most_events, most_connections}
+use Rattle.siri_cli.specs.Commands.{begins_with_minus, command_by, command_named, command_of, command_with, consume_by, consume_of}
+use Rattle.siri_cli.specs.Commands.{consume_with, is_word, load_by, load_of, load_with, plain_of, serve_by, serve_of}
+use Rattle.siri_cli.specs.declared.command.Command.{Command}
+use Rattle.siri_cli.specs.declared.command.Command.TheVariants.{Replay, Check, Convert, Serve, Consume}
 
 abbrev Bounded : Option Command → Type 0
 Bounded (Some (Consume name listen producer count)) = nat_le (length listen) 247 ≡ true
@@ -28,7 +29,7 @@ bounded_loads : (arguments : List (List ℕ)) → Bounded (load_of arguments)
 unfolding load_by
 bounded_loads [] = tt
 bounded_loads (seed ∷ []) = tt
-bounded_loads (seed ∷ count ∷ []) = bounded_load (number_of seed) (count_of 0 20000 count)
+bounded_loads (seed ∷ count ∷ []) = bounded_load (number_of seed) (count_of 0 most_events count)
 bounded_loads (seed ∷ count ∷ more ∷ rest) = tt
 
 bounded_serve : (name listen : List ℕ) (count : Option ℕ) → Bounded (option_map (Serve name listen) count)
@@ -40,10 +41,13 @@ unfolding serve_by
 bounded_serves [] = tt
 bounded_serves (name ∷ []) = tt
 bounded_serves (name ∷ listen ∷ []) = tt
-bounded_serves (name ∷ listen ∷ count ∷ []) = bounded_where (is_name name && is_listen listen) (option_map (Serve name listen) (count_of 1 1000000 count)) (λ good. bounded_serve name listen (count_of 1 1000000 count))
+bounded_serves (name ∷ listen ∷ count ∷ []) = bounded_where (is_name name && is_listen listen)
+    (option_map (Serve name listen) (count_of 1 most_connections count))
+    (λ good. bounded_serve name listen (count_of 1 most_connections count))
 bounded_serves (name ∷ listen ∷ count ∷ more ∷ rest) = tt
 
-bounded_consume : (name listen : List ℕ) (producer : Option Producer) (count : Option ℕ) → nat_le (length listen) 247 ≡ true → Bounded (consume_with name listen producer count)
+bounded_consume : (name listen : List ℕ) (producer : Option Producer) (count : Option ℕ)
+    → nat_le (length listen) 247 ≡ true → Bounded (consume_with name listen producer count)
 bounded_consume name listen (Some producer) (Some count) short = short
 bounded_consume name listen (Some producer) None short = tt
 bounded_consume name listen None count short = tt
@@ -60,8 +64,8 @@ bounded_consumes (name ∷ []) = tt
 bounded_consumes (name ∷ listen ∷ []) = tt
 bounded_consumes (name ∷ listen ∷ producer ∷ []) = tt
 bounded_consumes (name ∷ listen ∷ producer ∷ count ∷ []) =
-    bounded_where (is_name name && is_listen listen) (consume_with name listen (producer_of producer) (count_of 1 1000000 count))
-    (λ good. bounded_consume name listen (producer_of producer) (count_of 1 1000000 count) (short_listen name listen good))
+    bounded_where (is_name name && is_listen listen) (consume_with name listen (producer_of producer) (count_of 1 most_connections count))
+    (λ good. bounded_consume name listen (producer_of producer) (count_of 1 most_connections count) (short_listen name listen good))
 bounded_consumes (name ∷ listen ∷ producer ∷ count ∷ more ∷ rest) = tt
 
 bounded_either : (test : Bool) (one other : Option Command) → Bounded one → Bounded other → Bounded (if test then one else other)
@@ -83,7 +87,8 @@ unfolding command_with
 bounded_with word arguments =
     bounded_either (is_word word (codes "load")) (load_of arguments) _ (bounded_loads arguments)
     (bounded_either (is_word word (codes "serve")) (serve_of arguments) _ (bounded_serves arguments)
-    (bounded_either (is_word word (codes "consume")) (consume_of arguments) (plain_of word arguments) (bounded_consumes arguments) (bounded_plain word arguments)))
+    (bounded_either (is_word word (codes "consume")) (consume_of arguments) (plain_of word arguments)
+    (bounded_consumes arguments) (bounded_plain word arguments)))
 
 bounded_by : (words : List (List ℕ)) → Bounded (command_by words)
 bounded_by [] = tt
@@ -93,5 +98,6 @@ bounded : (words : List (List ℕ)) → Bounded (command_of words)
 unfolding command_of
 bounded words = bounded_either (list_any begins_with_minus words) None (command_by words) tt (bounded_by words)
 
-pub listen_bound : (words : List (List ℕ)) (name listen : List ℕ) (producer : Producer) (count : ℕ) → Some (Consume name listen producer count) ≡ command_of words → length listen ≤ 247
+pub listen_bound : (words : List (List ℕ)) (name listen : List ℕ) (producer : Producer) (count : ℕ)
+    → Some (Consume name listen producer count) ≡ command_of words → length listen ≤ 247
 listen_bound words name listen producer count is = leb-true (length listen) 247 (subst Bounded (sym is) (bounded words))

@@ -2,8 +2,8 @@
 use Rattle.std.specs.Prelude.{Option, Some}
 use Rattle.siri_base.specs.declared.status.Status.{Status}
 use Rattle.siri_base.specs.declared.status.Status.TheVariants as status
-use Rattle.siri_words.specs.declared.command.Command.{Command}
-use Rattle.siri_words.specs.declared.command.Command.TheVariants.{Check, Convert, Load, Serve, Consume}
+use Rattle.siri_cli.specs.declared.command.Command.{Command}
+use Rattle.siri_cli.specs.declared.command.Command.TheVariants.{Check, Convert, Load, Serve, Consume}
 
 -- the command reads one document
 abbrev pub TakesDocument : Option Command → Type 0

@@ -1,141 +1,135 @@
-// The top call.
-ghost use Rattle.std.specs.Prelude.{◌≡◌, ◌↔◌, ℕ, List, [], map, string_bytes, Some, None};
-ghost use Rattle.siri_base.specs.Causes.{Rose};
-ghost use Rattle.siri_base.specs.MetFailures.{SinkMeets, SourceMeets, is_read_fault, is_write_fault};
-ghost use Rattle.siri_http.specs.declared.address.Address.{Address as Target};
-ghost use Rattle.siri_lines.specs.Ends.{ReadsAll};
-ghost use Rattle.siri_lines.specs.Pieces.{ReadsNoFurther};
-ghost use Rattle.siri_lines.specs.RunResult.{verdict};
-ghost use Rattle.siri_document.specs.OneDocument.{Answers, EndsDocument, check_text, convert_text};
-ghost use Rattle.siri_lines.specs.Reports.{Reports};
-ghost use Rattle.siri_lines.specs.Stops.{EndsReading};
-ghost use Rattle.siri_cli.specs.Run.{EndsEarly, IsLoad, IsOnNetwork, ReadsInput, ReadsNothing, TakesDocument, UsesNone};
-ghost use Rattle.siri_load.specs.Load.{load_text};
-ghost use Rattle.siri_load.specs.Runs.{EndsLoad, Writes};
-ghost use Rattle.siri_network.specs.Calls.{outside_of, told_by};
-ghost use Rattle.siri_network.specs.Enough.{EndsWhole, HasEnough};
-ghost use Rattle.siri_replay.specs.Report.{report};
-ghost use Rattle.siri_replay.specs.Views.{ReportsViews, brings};
-ghost use Rattle.siri_serve.specs.Runs.{ServeRun};
-ghost use Rattle.siri_consume.specs.Reading.{TellsWanted};
-ghost use Rattle.siri_consume.specs.Wanting.{event as wanted, nothing_wanted};
-ghost use Rattle.siri_consume.specs.Runs.{ConsumeRun};
-ghost use Rattle.siri_words.specs.Commands.{command_of};
+//! The commands.
 
-use siri_base::{Clock, Keeper, OutOfMemory, Sink, Source, Status, Wire};
-use siri_consume::consume;
-use siri_document::{Check, Convert, answer_document};
-use siri_load::load;
-use siri_replay::replay;
-use siri_serve::serve;
-use siri_words::Command;
+ghost use Rattle.std.specs.Prelude.{◌≡◌, map, string_bytes, None, Ok, IfOk, OnErr};
+ghost use Rattle.std.specs.List.{list_any};
+ghost use Rattle.siri_cli.specs.Commands.{HasArguments, begins_with_minus, command_by, command_named, command_of, command_with, plain_of};
+
+use crate::consume::consume;
+use crate::load::load;
+use crate::serve::serve;
+use siri_base::{Name, OutOfMemory};
+use siri_http::Address;
 use std::alloc::Global;
 
-/// Does what the words after the program's name say: `replay` reads a script and writes its report, `check` and
-/// `convert` read one document and write what is told of it, `load` plays a large script that is made from a number, `serve` is a
-/// producer over the network, and `consume` a consumer. A view that a report tells as `quiet` lists the items of a direct
-/// response at that moment over all observations that were taken since the producer's latest start, whatever packets were lost.
-///
-/// `Usage` exactly where the words are no plain spelling of a command. `Refused` where the document of `check` or
-/// `convert` is refused. `Script` and `Limit` where a line of a script, or of what a consumer wants, is refused or passes a limit, each
-/// with the number of that line. `ReadFault`, `WriteFault`, `WireFault`, `ClockFault` and `KeeperFault` only where the source, the sink, the wire,
-/// the clock or the keeper failed, the wire to listen or to accept; `OutOfMemory` wherever memory is asked for, otherwise
-/// `Done`. Only `serve` and `consume` use the wire, the clock and the keeper.
-#[tactic(auto, using(siri_lines::proofs::Meeting::sink_none, siri_lines::proofs::Meeting::source_none, siri_lines::proofs::Whole::ends_at_once))]
-pub fn run<S: Source, K: Sink, W: Wire, C: Clock, E: Keeper>(
-    alloc: Global,
-    words: &[String],
-    source: &mut S,
-    sink: &mut K,
-    wire: &mut W,
-    clock: &mut C,
-    keeper: &mut E,
-) -> Status
-    // What each command writes, and which status ends it.
-    ensures replay { command_of (map string_bytes words.now) ≡ Some Command.Replay
-        → Reports report (S.left source.old) (S.left source.new) (K.held sink.old) (K.held sink.new) result }
-    ensures views { command_of (map string_bytes words.now) ≡ Some Command.Replay
-        → ReportsViews (S.left source.old) (S.left source.new) (K.held sink.old) (K.held sink.new) result }
-    ensures check { command_of (map string_bytes words.now) ≡ Some Command.Check
-        → Answers check_text (S.left source.old) (S.left source.new) (K.held sink.old) (K.held sink.new) result }
-    ensures convert { command_of (map string_bytes words.now) ≡ Some Command.Convert
-        → Answers convert_text (S.left source.old) (S.left source.new) (K.held sink.old) (K.held sink.new) result }
-    ensures load { (seed count : ℕ) → command_of (map string_bytes words.now) ≡ Some (Command.Load seed count)
-        → Writes (load_text seed count) (K.held sink.old) (K.held sink.new) result }
-    ensures serve { (name listen : List ℕ) (count : ℕ) → command_of (map string_bytes words.now) ≡ Some (Command.Serve name listen count)
-        → ServeRun name listen count
-        (outside_of (told_by (W.tells wire.old) (W.faults wire.old)) (told_by (C.tells clock.old) (C.faults clock.old)) (told_by (E.tells keeper.old) (E.faults keeper.old)))
-        (outside_of (told_by (W.tells wire.new) (W.faults wire.new)) (told_by (C.tells clock.new) (C.faults clock.new)) (told_by (E.tells keeper.new) (E.faults keeper.new)))
-        (K.held sink.old) (K.held sink.new) result }
-    ensures consume { (name listen : List ℕ) (producer : Target) (count : ℕ) → command_of (map string_bytes words.now) ≡ Some (Command.Consume name listen producer count)
-        → ConsumeRun name listen (producer.host, producer.path) count (S.left source.old) (S.left source.new)
-        (outside_of (told_by (W.tells wire.old) (W.faults wire.old)) (told_by (C.tells clock.old) (C.faults clock.old)) (told_by (E.tells keeper.old) (E.faults keeper.old)))
-        (outside_of (told_by (W.tells wire.new) (W.faults wire.new)) (told_by (C.tells clock.new) (C.faults clock.new)) (told_by (E.tells keeper.new) (E.faults keeper.new)))
-        (K.held sink.old) (K.held sink.new) result }
+/// What the words ask for.
+#[derive(Debug, Drop)]
+pub enum Command {
+    /// Reads a script, and writes its report.
+    Replay,
+    /// Reads one document, and writes the name of its message, or the refusal.
+    Check,
+    /// Reads one document, and writes its message's canonical text, or the refusal.
+    Convert,
+    /// Plays a large script that is made from a number, and writes one line of it.
+    Load {
+        /// The number that it is made from.
+        seed: u64,
+        /// How many events are drawn, at most 20,000.
+        count: u64,
+    },
+    /// Serves connections as a producer.
+    Serve {
+        /// The producer's name.
+        name: Name,
+        /// The host and the port that it listens at.
+        listen: Name,
+        /// How many connections it serves, 1 to 1,000,000.
+        count: u64,
+    },
+    /// Serves connections as a consumer of one producer.
+    Consume {
+        /// The consumer's name.
+        name: Name,
+        /// The host and the port that it listens at.
+        listen: Name,
+        /// The producer's address.
+        producer: Address,
+        /// How many connections it serves, 1 to 1,000,000.
+        count: u64,
+    },
+}
 
-    // A run over the network does its work whole where there is enough for so many connections and no failure is named for the sink,
-    // nor for the source, whatever happens within a connection.
-    ensures serve_whole { (name listen : List ℕ) (count : ℕ) → command_of (map string_bytes words.now) ≡ Some (Command.Serve name listen count)
-        → HasEnough count (outside_of (told_by (W.tells wire.old) (W.faults wire.old)) (told_by (C.tells clock.old) (C.faults clock.old)) (told_by (E.tells keeper.old) (E.faults keeper.old)))
-        → K.fails sink.old ≡ Some [] → EndsWhole result }
-    ensures consume_whole { (name listen : List ℕ) (producer : Target) (count : ℕ) → command_of (map string_bytes words.now) ≡ Some (Command.Consume name listen producer count)
-        → HasEnough count (outside_of (told_by (W.tells wire.old) (W.faults wire.old)) (told_by (C.tells clock.old) (C.faults clock.old)) (told_by (E.tells keeper.old) (E.faults keeper.old)))
-        → TellsWanted name (S.left source.old)
-        → S.fails source.old ≡ Some [] → K.fails sink.old ≡ Some [] → EndsWhole result }
-
-    // A failure that is named of the source or of the sink, and met, ends the run there: nothing is read or written after it. Nor
-    // is anything read of a script, or of what a consumer wants, beyond the piece in which the end of a line lay that ended it.
-    ensures source_meets { SourceMeets (is_read_fault result) (S.left source.old) (S.left source.new) (S.fails source.old) (S.fails source.new) }
-    ensures sink_meets { SinkMeets (is_write_fault result) (K.held sink.old) (K.held sink.new) (K.fails sink.old) (K.fails sink.new) }
-    ensures pieces { command_of (map string_bytes words.now) ≡ Some Command.Replay → ReadsNoFurther brings [] (S.left source.old) (S.left source.new) }
-    ensures wanted_pieces { (name listen : List ℕ) (producer : Target) (count : ℕ) → command_of (map string_bytes words.now) ≡ Some (Command.Consume name listen producer count)
-        → ReadsNoFurther (verdict 200 wanted) (nothing_wanted name) (S.left source.old) (S.left source.new) }
-
-    // What was read, and where nothing was done.
-    ensures all { ReadsInput (command_of (map string_bytes words.now)) → ReadsAll (S.left source.new) result }
-    ensures input { ReadsNothing (command_of (map string_bytes words.now)) → source.new ≡ source.old }
-    ensures usage { (result ≡ Status.Usage) ↔ (command_of (map string_bytes words.now) ≡ None) }
-    ensures nothing { result ≡ Status.Usage → (source.new ≡ source.old) × (sink.new ≡ sink.old) }
-
-    // What each status comes of.
-    ensures read { result ≡ Status.ReadFault → Rose (S.faults source.old) (S.faults source.new) }
-    ensures write { result ≡ Status.WriteFault → Rose (K.faults sink.old) (K.faults sink.new) }
-    ensures wire_fault { result ≡ Status.WireFault → Rose (W.faults wire.old) (W.faults wire.new) }
-    ensures clock_fault { result ≡ Status.ClockFault → Rose (C.faults clock.old) (C.faults clock.new) }
-    ensures keeper_fault { result ≡ Status.KeeperFault → Rose (E.faults keeper.old) (E.faults keeper.new) }
-    ensures refused { result ≡ Status.Refused → TakesDocument (command_of (map string_bytes words.now)) }
-    ensures document { TakesDocument (command_of (map string_bytes words.now)) → EndsDocument result }
-    ensures unread { TakesDocument (command_of (map string_bytes words.now)) → result ≡ Status.ReadFault → sink.new ≡ sink.old }
-    ensures script { command_of (map string_bytes words.now) ≡ Some Command.Replay → EndsReading result }
-    ensures made { IsLoad (command_of (map string_bytes words.now)) → EndsLoad result }
-    ensures unwritten { IsOnNetwork (command_of (map string_bytes words.now)) → EndsEarly result → sink.new ≡ sink.old }
-
-    // The rest of the outside.
-    ensures unused { UsesNone (command_of (map string_bytes words.now))
-        → (wire.new ≡ wire.old) × (clock.new ≡ clock.old) × (keeper.new ≡ keeper.old) }
-{
-    let command = match Command::read(alloc, words) {
-        Ok(Some(command)) => command,
-        Ok(None) => return Status::Usage,
-        Err(OutOfMemory) => return Status::OutOfMemory,
-    };
-    match command {
-        Command::Replay => replay(alloc, source, sink),
-        Command::Check => answer_document::<Check, S, K>(alloc, source, sink),
-        Command::Convert => answer_document::<Convert, S, K>(alloc, source, sink),
-        Command::Load { seed, count } => load(alloc, sink, seed, count),
-        Command::Serve {
-            name,
-            listen,
-            count,
-        } => serve(alloc, name, &listen, count, sink, wire, clock, keeper),
-        Command::Consume {
-            name,
-            listen,
-            producer,
-            count,
-        } => consume(
-            alloc, name, &listen, &producer, count, source, sink, wire, clock, keeper,
-        ),
+impl Command {
+    /// The command of the words after the program's name, or `None` exactly where they are no plain spelling of one.
+    /// Only a command with arguments takes memory.
+    #[tactic(auto, unfolding(crate::specs::Commands::command_of), using(crate::proofs::Lists::any_of_map))]
+    pub fn read(alloc: Global, words: &[String]) -> Result<Option<Command>, OutOfMemory>
+        ensures value { IfOk result (λ command. command ≡ command_of (map string_bytes words.now)) }
+        ensures none { command_of (map string_bytes words.now) ≡ None → result ≡ Ok None }
+        ensures memory { OnErr result (HasArguments (command_of (map string_bytes words.now))) }
+    {
+        if begin_with_minus(words) {
+            return Ok(None);
+        }
+        Command::by(alloc, words)
     }
+
+    /// The command of words of which none begins with `-`.
+    fn by(alloc: Global, words: &[String]) -> Result<Option<Command>, OutOfMemory>
+        ensures value { IfOk result (λ command. command ≡ command_by (map string_bytes words.now)) }
+        ensures none { command_by (map string_bytes words.now) ≡ None → result ≡ Ok None }
+        ensures memory { OnErr result (HasArguments (command_by (map string_bytes words.now))) }
+    {
+        match words {
+            [] => Ok(None),
+            [word, arguments @ ..] => Command::with(alloc, word.as_str(), arguments),
+        }
+    }
+
+    /// The command of a word with its arguments.
+    #[tactic(auto, unfolding(crate::specs::Commands::command_with))]
+    fn with(alloc: Global, word: &str, arguments: &[String]) -> Result<Option<Command>, OutOfMemory>
+        ensures value { IfOk result (λ command. command ≡ command_with word.now (map string_bytes arguments.now)) }
+        ensures none { command_with word.now (map string_bytes arguments.now) ≡ None → result ≡ Ok None }
+        ensures memory { OnErr result (HasArguments (command_with word.now (map string_bytes arguments.now))) }
+    {
+        if word == "load" {
+            load(alloc, arguments)
+        } else if word == "serve" {
+            serve(alloc, arguments)
+        } else if word == "consume" {
+            consume(alloc, arguments)
+        } else {
+            Ok(Command::plain(word, arguments))
+        }
+    }
+
+    /// The command of a word that has no arguments; with any there is none.
+    fn plain(word: &str, arguments: &[String]) -> Option<Command>
+        ensures { result ≡ plain_of word.now (map string_bytes arguments.now) }
+    {
+        match arguments {
+            [] => Command::named(word),
+            [_, ..] => None,
+        }
+    }
+
+    /// The command `replay`, `check` or `convert`; of any other word there is none.
+    fn named(word: &str) -> Option<Command>
+        ensures { result ≡ command_named word.now }
+    {
+        if word == "replay" {
+            Some(Command::Replay)
+        } else if word == "check" {
+            Some(Command::Check)
+        } else if word == "convert" {
+            Some(Command::Convert)
+        } else {
+            None
+        }
+    }
+}
+
+/// Whether a word begins with `-`.
+fn begins_with_minus(word: &str) -> bool
+    ensures { result ≡ begins_with_minus word.now }
+{
+    matches!(word.as_bytes(), [b'-', ..])
+}
+
+/// Whether one of the words begins with `-`.
+fn begin_with_minus(words: &[String]) -> bool
+    ensures { result ≡ list_any (λ word. begins_with_minus (string_bytes word)) words.now }
+{
+    words.iter().any(|word| begins_with_minus(word.as_str()))
 }

@@ -1,11 +1,11 @@
-//! The command: what the words say is done, from bytes to bytes.
+//! The command: what the words of the command line ask for, and what is done of it, from bytes to bytes.
 //!
 //! `run` is the top call. Its contract says, for every input, in whatever pieces it comes, which bytes are written and
 //! which status ends the run.
 //!
 //! ```text
 //! words -> Command           source -> replay         -> sink
-//!          (siri_words)                (siri_replay)
+//!                                      (siri_replay)
 //!
 //!                            source -> check, convert -> sink
 //!                                      (siri_document)
@@ -20,10 +20,23 @@
 //!                                      (siri_consume)
 //! ```
 //!
-//! Stands on a crate for each command, and on `siri_words` for what the words ask for. It looks into no line and no document, and
-//! knows no socket.
+//! The words are `replay`, `check`, `convert`, `load SEED COUNT`, `serve NAME LISTEN COUNT` and `consume NAME LISTEN
+//! PRODUCER COUNT`. These are all spellings, whole: no word is left out, none stands before them, and none begins with
+//! `-`. Whether words are one of them is decided here (`is_load`, `is_serve`, `is_consume`), which takes no memory;
+//! only then `clap` is handed them, behind `--`, and gives the value of each argument, of which the command is made.
+//!
+//! Stands on a crate for each command (`siri_replay`, `siri_document`, `siri_load`, `siri_serve`, `siri_consume`), on
+//! `siri_base` for names, on `siri_http` for hosts, ports and addresses, and on `clap`. It looks into no line and no
+//! document, and knows no socket.
 #![tactic(auto)]
 
+mod arguments;
 mod command;
+mod consume;
+mod load;
+mod running;
+mod serve;
+mod values;
 
-pub use command::run;
+pub use command::Command;
+pub use running::run;

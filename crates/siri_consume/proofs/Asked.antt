@@ -5,7 +5,7 @@ use Rattle.std.specs.List.{list_any}
 use Rattle.std.proofs.lemmas.List.{length-map}
 use Rattle.std.proofs.lemmas.List.Sums.{length-filter, count_by-le-length}
 use Rattle.siri_topic.specs.declared.subscription.Subscription.{Subscription}
-use Rattle.siri_view.specs.Consuming.{Consuming, asked_for, count_after, is_new}
+use Rattle.siri_view.specs.Consuming.{Consuming, asked_for, count_after, is_new, most_held}
 use Rattle.siri_view.specs.Sending.{is_identified, own, with_first}
 use Rattle.siri_wire.specs.declared.wanted.Wanted.{Wanted}
 use Rattle.siri_consume.specs.Consumption.{subscriptions}
@@ -26,7 +26,7 @@ firsts_within before (s ∷ list) =
     omega arith
 
 -- it doesn't ask for too many
-pub none_too_many : (c : Consuming) (list : List Wanted) → MayAsk c list → 200 < count_after c (subscriptions list) → ⊥
+pub none_too_many : (c : Consuming) (list : List Wanted) → MayAsk c list → most_held < count_after c (subscriptions list) → ⊥
 none_too_many c list may more =
     let asked = asked_for c (subscriptions list) in
     let new = length-filter (is_new c.held) asked in

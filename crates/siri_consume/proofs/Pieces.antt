@@ -26,14 +26,19 @@ module _ {X Y : Type 0} (shows : X → Y) (text : Y → List ℕ) where
           ∙ ap (λ t. texts (take i xs) ++ t) (append-nil (text (shows x)) ∙ ap text (sym same))
 
   -- one more was written
-  pub pieces_more : (a b c : Bytes) (xs : List X) (i : ℕ) (y : Y) → Some y ≡ option_map shows (slice_get xs i) → Appends a b (texts (take i xs)) → Appends b c (text y) → Appends a c (texts (take (i + 1) xs))
+  pub pieces_more : (a b c : Bytes) (xs : List X) (i : ℕ) (y : Y) → Some y ≡ option_map shows (slice_get xs i)
+      → Appends a b (texts (take i xs)) → Appends b c (text y) → Appends a c (texts (take (i + 1) xs))
   pieces_more a b c xs i y is p q = subst (Appends a c) (sym (piece_more xs i y is)) (Appends-trans a b c (texts (take i xs)) (text y) p q)
 
   -- a front of the next was written
-  pub pieces_cut : (a b c : Bytes) (xs : List X) (i : ℕ) (y : Y) → Some y ≡ option_map shows (slice_get xs i) → Appends a b (texts (take i xs)) → AppendsFront b c (text y) → AppendsFront a c (texts xs)
+  pub pieces_cut : (a b c : Bytes) (xs : List X) (i : ℕ) (y : Y) → Some y ≡ option_map shows (slice_get xs i)
+      → Appends a b (texts (take i xs)) → AppendsFront b c (text y) → AppendsFront a c (texts xs)
   pieces_cut a b c xs i y is p w =
-      let front : AppendsFront a c (texts (take (i + 1) xs)) = subst (AppendsFront a c) (sym (piece_more xs i y is)) (front_more a b c (texts (take i xs)) (text y) p w) in
-      let whole : texts (take (i + 1) xs) ++ texts (drop (i + 1) xs) ≡ texts xs = sym (flat_map-append (λ x. text (shows x)) (take (i + 1) xs) (drop (i + 1) xs)) ∙ ap texts (take-append-drop (i + 1) xs) in
+      let front : AppendsFront a c (texts (take (i + 1) xs)) =
+      subst (AppendsFront a c) (sym (piece_more xs i y is)) (front_more a b c (texts (take i xs)) (text y) p w) in
+      let whole : texts (take (i + 1) xs) ++ texts (drop (i + 1) xs) ≡ texts xs =
+      sym (flat_map-append (λ x. text (shows x)) (take (i + 1) xs) (drop (i + 1) xs))
+      ∙ ap texts (take-append-drop (i + 1) xs) in
       subst (AppendsFront a c) whole (front_longer a c (texts (take (i + 1) xs)) (texts (drop (i + 1) xs)) front)
 
   -- nothing of the next was written

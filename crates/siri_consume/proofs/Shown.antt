@@ -34,9 +34,12 @@ front_is a b text same is p = subst (λ (t : List ℕ). AppendsFront a b (t ++ l
 pub lines_are : (a b : Bytes) (name same : Name) (s : Name × Held × Items) → name ≡ same → Appends a b (lines_of name s) → Appends a b (lines_of same s)
 lines_are a b name same s is p = subst (λ (n : Name). Appends a b (lines_of n s)) is p
 
-pub front_are : (a b : Bytes) (name same : Name) (s : Name × Held × Items) → name ≡ same → AppendsFront a b (lines_of name s) → AppendsFront a b (lines_of same s)
+pub front_are : (a b : Bytes) (name same : Name) (s : Name × Held × Items) → name ≡ same
+    → AppendsFront a b (lines_of name s) → AppendsFront a b (lines_of same s)
 front_are a b name same s is p = subst (λ (n : Name). AppendsFront a b (lines_of n s)) is p
 
 -- the line of a view with as many items
-pub line_is : (consumer identifier : Name) (held : Held) (view : Items) (items : ℕ) (text : List ℕ) → text ≡ view_line consumer identifier held items → items ≡ length view → text ≡ view_line consumer identifier held (length view)
+pub line_is : (consumer identifier : Name) (held : Held) (view : Items) (items : ℕ) (text : List ℕ)
+    → text ≡ view_line consumer identifier held items → items ≡ length view
+    → text ≡ view_line consumer identifier held (length view)
 line_is consumer identifier held view items text is number = is ∙ ap (view_line consumer identifier held) number

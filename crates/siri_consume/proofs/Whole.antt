@@ -8,8 +8,8 @@ use Rattle.siri_base.specs.OutsideCalls.{ClockState, KeeperState}
 use Rattle.siri_base.specs.Wires.{WireState}
 use Rattle.siri_base.specs.declared.status.Status.{Status}
 use Rattle.siri_base.specs.declared.status.Status.TheVariants as status
-use Rattle.siri_exchange.specs.declared.tally.Tally.{Tally}
-use Rattle.siri_exchange.specs.Tallies.{nothing_yet}
+use Rattle.siri_http.specs.declared.tally.Tally.{Tally}
+use Rattle.siri_http.specs.Tallies.{nothing_yet}
 use Rattle.siri_ends.specs.At.{consumer_at}
 use Rattle.siri_ends.specs.SendingUp.{FirstSendsUp, SendsUp}
 use Rattle.siri_lines.specs.Ends.{AppendsFront, Bytes, ReadsAll}
@@ -29,18 +29,31 @@ use Rattle.siri_consume.proofs.Made.{state_of}
 use Rattle.siri_consume.proofs.Causes.{clock_rose, keeper_rose, wire_rose}
 
 -- what was asked, as the run has it
-asks_all : (target : Target) (list : List Wanted) (first begun later : Consuming) (none tally : Tally) (wire after : Told WireState) (clock : Told ClockState) (keeper : Told KeeperState) → begun ≡ first → none ≡ nothing_yet
-    → SendsUp target.0 target.1 (requests begun list) (consumer_at (after_asking begun list) none wire.tells wire.faults) (consumer_at later tally after.tells after.faults)
+asks_all : (target : Target) (list : List Wanted) (first begun later : Consuming) (none tally : Tally)
+    (wire after : Told WireState) (clock : Told ClockState) (keeper : Told KeeperState) → begun ≡ first
+    → none ≡ nothing_yet
+    → SendsUp target.0 target.1 (requests begun list)
+    (consumer_at (after_asking begun list) none wire.tells wire.faults)
+    (consumer_at later tally after.tells after.faults)
     → Asks target list first (outside_of wire clock keeper) (running (state_of later tally) (outside_of after clock keeper))
 asks_all target list first begun later none tally wire after clock keeper is nothing sends = record {
-  sends = subst (λ t. SendsUp target.0 target.1 (requests first list) (consumer_at (after_asking first list) t wire.tells wire.faults) (consumer_at later tally after.tells after.faults)) nothing (subst (λ c. SendsUp target.0 target.1 (requests c list) (consumer_at (after_asking c list) none wire.tells wire.faults) (consumer_at later tally after.tells after.faults)) is sends);
+  sends = subst (λ t. SendsUp target.0 target.1 (requests first list)
+      (consumer_at (after_asking first list) t wire.tells wire.faults)
+      (consumer_at later tally after.tells after.faults)) nothing
+      (subst (λ c. SendsUp target.0 target.1 (requests c list)
+      (consumer_at (after_asking c list) none wire.tells wire.faults)
+      (consumer_at later tally after.tells after.faults)) is sends);
   rest = refl;
 }
 
 -- it opened, asked, and answered every connection
-pub all_consumed : (name listen : List ℕ) (target : Target) (count : ℕ) (input : Bytes) (list : List Wanted) (begun later last : Consuming) (none first tally : Tally) (from : Outside) (wire after : Told WireState) (clock : Told ClockState) (keeper : Told KeeperState) (to : Outside) → none ≡ nothing_yet
+pub all_consumed : (name listen : List ℕ) (target : Target) (count : ℕ) (input : Bytes) (list : List Wanted)
+    (begun later last : Consuming) (none first tally : Tally) (from : Outside) (wire after : Told WireState)
+    (clock : Told ClockState) (keeper : Told KeeperState) (to : Outside) → none ≡ nothing_yet
     → OpensConsumer name listen input list begun from (outside_of wire clock keeper)
-    → SendsUp target.0 target.1 (requests begun list) (consumer_at (after_asking begun list) none wire.tells wire.faults) (consumer_at later first after.tells after.faults)
+    → SendsUp target.0 target.1 (requests begun list)
+    (consumer_at (after_asking begun list) none wire.tells wire.faults)
+    (consumer_at later first after.tells after.faults)
     → ConsumesTurns target count (running (state_of later first) (outside_of after clock keeper)) (running (state_of last tally) to)
     → ConsumesAll name listen target count input (state_of last tally) from to
 all_consumed name listen target count input list begun later last none first tally from wire after clock keeper to nothing opens sends turns = record {
@@ -58,7 +71,9 @@ all_consumed name listen target count input list begun later last none first tal
 }
 
 -- it opened, and there was no memory to ask
-pub ask_stopped : (name listen : List ℕ) (target : Target) (count : ℕ) (input left : Bytes) (list : List Wanted) (begun : Consuming) (from : Outside) (wire after : Told WireState) (clock : Told ClockState) (keeper : Told KeeperState)
+pub ask_stopped : (name listen : List ℕ) (target : Target) (count : ℕ) (input left : Bytes) (list : List Wanted)
+    (begun : Consuming) (from : Outside) (wire after : Told WireState) (clock : Told ClockState)
+    (keeper : Told KeeperState)
     → OpensConsumer name listen input list begun from (outside_of wire clock keeper)
     → (after ≡ wire) ⊎ FirstSendsUp target.0 target.1 (requests begun list) (after_asking begun list) wire.tells after.tells
     → ConsumesNot name listen target count input left status.OutOfMemory from (outside_of after clock keeper)
@@ -71,15 +86,21 @@ ask_stopped name listen target count input left list begun from wire after clock
       open_ = outside_of wire clock keeper;
       opens = opens.opens;
       asks = record {
-        sends = subst (λ c. (after ≡ wire) ⊎ FirstSendsUp target.0 target.1 (requests c list) (after_asking c list) wire.tells after.tells) opens.consumer_is some;
+        sends = subst (λ c. (after ≡ wire) ⊎ FirstSendsUp target.0 target.1 (requests c list)
+            (after_asking c list) wire.tells after.tells) opens.consumer_is some;
         rest = refl;
       };
     }))
 
 -- it opened and asked, and a turn ended it
-pub turn_ended : (name listen : List ℕ) (target : Target) (count : ℕ) (input left : Bytes) (list : List Wanted) (begun later : Consuming) (none first : Tally) (from : Outside) (wire after : Told WireState) (clock : Told ClockState) (keeper : Told KeeperState) (to : Outside) (e : NetworkError) (end : Status) → none ≡ nothing_yet → end ≡ status_of e
+pub turn_ended : (name listen : List ℕ) (target : Target) (count : ℕ) (input left : Bytes) (list : List Wanted)
+    (begun later : Consuming) (none first : Tally) (from : Outside) (wire after : Told WireState)
+    (clock : Told ClockState) (keeper : Told KeeperState) (to : Outside) (e : NetworkError) (end : Status)
+    → none ≡ nothing_yet → end ≡ status_of e
     → OpensConsumer name listen input list begun from (outside_of wire clock keeper)
-    → SendsUp target.0 target.1 (requests begun list) (consumer_at (after_asking begun list) none wire.tells wire.faults) (consumer_at later first after.tells after.faults)
+    → SendsUp target.0 target.1 (requests begun list)
+    (consumer_at (after_asking begun list) none wire.tells wire.faults)
+    (consumer_at later first after.tells after.faults)
     → EndsInTurns target count e (running (state_of later first) (outside_of after clock keeper)) to
     → ConsumesNot name listen target count input left end from to
 turn_ended name listen target count input left list begun later none first from wire after clock keeper to e end nothing is opens sends ends =
@@ -159,7 +180,8 @@ by_error e end is = subst IsEarly (sym is) (error_early e)
 no_memory : (end : Status) → end ≡ status.OutOfMemory → IsEarly end
 no_memory end is = subst IsEarly (sym is) tt
 
-early : (name listen : List ℕ) (target : Target) (count : ℕ) (input left : Bytes) (end : Status) (from to : Outside) → ConsumesNot name listen target count input left end from to → IsEarly end
+early : (name listen : List ℕ) (target : Target) (count : ℕ) (input left : Bytes) (end : Status) (from to : Outside)
+    → ConsumesNot name listen target count input left end from to → IsEarly end
 early name listen target count input left end from to (inl (inl raise)) = by_error raise.error end raise.end_is
 early name listen target count input left end from to (inl (inr (inl read))) = reading_early end read.ends
 early name listen target count input left end from to (inl (inr (inr (inl tell)))) = by_error tell.error end tell.end_is
@@ -169,9 +191,12 @@ early name listen target count input left end from to (inr (inl ask)) = no_memor
 early name listen target count input left end from to (inr (inr turn)) = by_error turn.error end turn.end_is
 
 -- it ended before every connection was answered
-pub run_ended : (name listen : List ℕ) (target : Target) (count : ℕ) (input left : Bytes) (from to : Outside) (held : Bytes) (end : Status) → ConsumesNot name listen target count input left end from to → ConsumeRun name listen target count input left from to held held end
+pub run_ended : (name listen : List ℕ) (target : Target) (count : ℕ) (input left : Bytes) (from to : Outside)
+    (held : Bytes) (end : Status) → ConsumesNot name listen target count input left end from to
+    → ConsumeRun name listen target count input left from to held held end
 run_ended name listen target count input left from to held status.Done ends = absurd (early name listen target count input left status.Done from to ends)
-run_ended name listen target count input left from to held status.WriteFault ends = absurd (early name listen target count input left status.WriteFault from to ends)
+run_ended name listen target count input left from to held status.WriteFault ends =
+    absurd (early name listen target count input left status.WriteFault from to ends)
 run_ended name listen target count input left from to held status.OutOfMemory ends = inr (ends, refl)
 run_ended name listen target count input left from to held status.Refused ends = (ends, refl)
 run_ended name listen target count input left from to held status.Usage ends = (ends, refl)
@@ -184,20 +209,34 @@ run_ended name listen target count input left from to held status.KeeperFault en
 
 -- when each fault comes
 
-pub not_write : (name listen : List ℕ) (target : Target) (count : ℕ) (input left : Bytes) (from to : Outside) (end : Status) → ConsumesNot name listen target count input left end from to → end ≡ status.WriteFault → ⊥
+pub not_write : (name listen : List ℕ) (target : Target) (count : ℕ) (input left : Bytes) (from to : Outside)
+    (end : Status) → ConsumesNot name listen target count input left end from to → end ≡ status.WriteFault → ⊥
 not_write name listen target count input left from to end ends is = subst IsEarly is (early name listen target count input left end from to ends)
 
-pub not_done : (name listen : List ℕ) (target : Target) (count : ℕ) (input left : Bytes) (from to : Outside) (end : Status) → ConsumesNot name listen target count input left end from to → end ≡ status.Done → ⊥
+pub not_done : (name listen : List ℕ) (target : Target) (count : ℕ) (input left : Bytes) (from to : Outside)
+    (end : Status) → ConsumesNot name listen target count input left end from to → end ≡ status.Done → ⊥
 not_done name listen target count input left from to end ends is = subst IsEarly is (early name listen target count input left end from to ends)
 
-pub wire_fault : (name listen : List ℕ) (target : Target) (count : ℕ) (input left : Bytes) (from to : Outside) (end : Status) → ConsumesNot name listen target count input left end from to → end ≡ status.WireFault → Rose from.wire.faults to.wire.faults
-wire_fault name listen target count input left from to end ends is = wire_rose name listen target count input left from to (subst (λ e. ConsumesNot name listen target count input left e from to) is ends)
+pub wire_fault : (name listen : List ℕ) (target : Target) (count : ℕ) (input left : Bytes) (from to : Outside)
+    (end : Status) → ConsumesNot name listen target count input left end from to → end ≡ status.WireFault
+    → Rose from.wire.faults to.wire.faults
+wire_fault name listen target count input left from to end ends is =
+    wire_rose name listen target count input left from to
+    (subst (λ e. ConsumesNot name listen target count input left e from to) is ends)
 
-pub clock_fault : (name listen : List ℕ) (target : Target) (count : ℕ) (input left : Bytes) (from to : Outside) (end : Status) → ConsumesNot name listen target count input left end from to → end ≡ status.ClockFault → Rose from.clock.faults to.clock.faults
-clock_fault name listen target count input left from to end ends is = clock_rose name listen target count input left from to (subst (λ e. ConsumesNot name listen target count input left e from to) is ends)
+pub clock_fault : (name listen : List ℕ) (target : Target) (count : ℕ) (input left : Bytes) (from to : Outside)
+    (end : Status) → ConsumesNot name listen target count input left end from to → end ≡ status.ClockFault
+    → Rose from.clock.faults to.clock.faults
+clock_fault name listen target count input left from to end ends is =
+    clock_rose name listen target count input left from to
+    (subst (λ e. ConsumesNot name listen target count input left e from to) is ends)
 
-pub keeper_fault : (name listen : List ℕ) (target : Target) (count : ℕ) (input left : Bytes) (from to : Outside) (end : Status) → ConsumesNot name listen target count input left end from to → end ≡ status.KeeperFault → Rose from.keeper.faults to.keeper.faults
-keeper_fault name listen target count input left from to end ends is = keeper_rose name listen target count input left from to (subst (λ e. ConsumesNot name listen target count input left e from to) is ends)
+pub keeper_fault : (name listen : List ℕ) (target : Target) (count : ℕ) (input left : Bytes) (from to : Outside)
+    (end : Status) → ConsumesNot name listen target count input left end from to → end ≡ status.KeeperFault
+    → Rose from.keeper.faults to.keeper.faults
+keeper_fault name listen target count input left from to end ends is =
+    keeper_rose name listen target count input left from to
+    (subst (λ e. ConsumesNot name listen target count input left e from to) is ends)
 
 -- nothing is said of what is left where the work wasn't done
 reads_unless : (left : Bytes) (end : Status) → (end ≡ status.Done → ⊥) → ReadsAll left end
@@ -214,5 +253,6 @@ reads_unless (Some left) status.WriteFault not = tt
 reads_unless (Some left) status.ClockFault not = tt
 reads_unless (Some left) status.KeeperFault not = tt
 
-pub reads_early : (name listen : List ℕ) (target : Target) (count : ℕ) (input left : Bytes) (from to : Outside) (end : Status) → ConsumesNot name listen target count input left end from to → ReadsAll left end
+pub reads_early : (name listen : List ℕ) (target : Target) (count : ℕ) (input left : Bytes) (from to : Outside)
+    (end : Status) → ConsumesNot name listen target count input left end from to → ReadsAll left end
 reads_early name listen target count input left from to end ends = reads_unless left end (not_done name listen target count input left from to end ends)

@@ -1,8 +1,8 @@
 -- A consumer that answers connections (EN 15531-2 for what is said, RFC 9112 for how).
 use Rattle.std.specs.Prelude.{◌≡◌, ◌⊎◌, ℕ, List, [], ◌∷◌, map}
 use Rattle.siri_base.specs.Wires.{WireState}
-use Rattle.siri_exchange.specs.Tallies.{nothing_yet}
-use Rattle.siri_exchange.specs.declared.tally.Tally.{Tally}
+use Rattle.siri_http.specs.Tallies.{nothing_yet}
+use Rattle.siri_http.specs.declared.tally.Tally.{Tally}
 use Rattle.siri_messages.specs.declared.message.Message.{Message}
 use Rattle.siri_topic.specs.declared.subscription.Subscription.{Subscription}
 use Rattle.siri_view.specs.Consuming.{Consuming, after_subscribe, clocked, request_for}

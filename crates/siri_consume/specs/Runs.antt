@@ -66,7 +66,8 @@ abbrev pub end_text : Consumption → List ℕ
 end_text end = views_text end.consumer ++ summary_text end.tally
 
 -- every connection was answered, and this much of its text was written
-pub record Tells (Writes : Bytes → Bytes → List ℕ → Type 0) (name listen : List ℕ) (target : Target) (count : ℕ) (input : Bytes) (from to : Outside) (old new : Bytes) : Type 0 where
+pub record Tells (Writes : Bytes → Bytes → List ℕ → Type 0) (name listen : List ℕ) (target : Target) (count : ℕ)
+    (input : Bytes) (from to : Outside) (old new : Bytes) : Type 0 where
   pub end : Consumption
   pub consumes : ConsumesAll name listen target count input end from to
   pub writes : Writes old new (end_text end)

@@ -40,9 +40,13 @@ by_said n asking (Err why) = RunEnds (status.Script n why)
 abbrev pub event : Events Asking
 event n asking line = by_said n asking (line_said asking.subscriber line)
 
--- the same of at most 200 lines: a line's length is tested first, then its number, then what it says
+-- the most lines, and so the most subscriptions, that a run asks for
+abbrev pub most_wanted : ℕ
+most_wanted = 200
+
+-- the same of at most so many lines: a line's length is tested first, then its number, then what it says
 abbrev pub brings : Events Asking
-brings = verdict 200 event
+brings = verdict most_wanted event
 
 -- ---- all lines
 

@@ -1,4 +1,5 @@
-// The command `consume`.
+//! The command `consume`.
+
 ghost use Rattle.std.specs.Prelude.{◌≡◌, ◌≤◌, length, IfErr, IfOk, OnErr, OnOk, Some, []};
 ghost use Rattle.std.specs.Io.KnownBytes.{Appends};
 ghost use Rattle.siri_base.specs.Causes.{HasOutsideCause, Rose};
@@ -6,8 +7,8 @@ ghost use Rattle.siri_base.specs.MetFailures.{SinkMeets, SourceMeets, has_failed
 ghost use Rattle.siri_lines.specs.Ends.{AppendsFront, ReadsAll};
 ghost use Rattle.siri_lines.specs.Pieces.{ReadsNoFurther};
 ghost use Rattle.siri_lines.specs.RunResult.{verdict};
-ghost use Rattle.siri_network.specs.Calls.{outside_of, told_by};
-ghost use Rattle.siri_consume.specs.Wanting.{event, nothing_wanted};
+ghost use Rattle.siri_network.specs.Calls.{outside_told};
+ghost use Rattle.siri_consume.specs.Wanting.{event, nothing_wanted, most_wanted};
 ghost use Rattle.siri_network.specs.Enough.{EndsWhole, HasEnough};
 ghost use Rattle.siri_consume.specs.Reading.{TellsWanted, has_failed_to_read};
 ghost use Rattle.siri_consume.specs.Runs.{ConsumeRun, ConsumesAll, ConsumesNot, EndsConsuming, end_text};
@@ -29,13 +30,15 @@ struct Consumed {
     tally: Tally,
 }
 
-/// A consumer of this name for so many connections at `HOST:PORT`, of at most 247 bytes: it raises the number of its start, reads its
-/// lines, each a wanted subscription, reads the clock, listens, and asks the producer for all that is wanted; then it answers each
-/// connection at the clock's moment. In the end it writes its views and `served N refused R dropped D unsent U`.
+/// A consumer of this name for so many connections at `HOST:PORT`, of at most 247 bytes: it raises the number of its
+/// start, reads its lines, each a wanted subscription, reads the clock, listens, and asks the producer for all that is
+/// wanted; then it answers each connection at the clock's moment. In the end it writes its views and `served N refused
+/// R dropped D unsent U`.
 ///
-/// `Script` and `Limit` exactly at the first line that isn't taken. `ReadFault`, `KeeperFault`, `WireFault` and `ClockFault` only where the
-/// source, the keeper, the wire or the clock failed, the wire to listen or to accept; nothing is written then, nor where a line
-/// isn't taken. `WriteFault` only where the sink failed, `OutOfMemory` wherever memory is asked for, otherwise `Done`.
+/// `Script` and `Limit` exactly at the first line that isn't taken. `ReadFault`, `KeeperFault`, `WireFault` and
+/// `ClockFault` only where the source, the keeper, the wire or the clock failed, the wire to listen or to accept;
+/// nothing is written then, nor where a line isn't taken. `WriteFault` only where the sink failed, `OutOfMemory`
+/// wherever memory is asked for, otherwise `Done`.
 pub fn consume<S: Source, K: Sink, W: Wire, C: Clock, E: Keeper>(
     alloc: Global,
     name: Name,
@@ -50,16 +53,17 @@ pub fn consume<S: Source, K: Sink, W: Wire, C: Clock, E: Keeper>(
 ) -> Status
     requires { length address.now ≤ 247 }
     ensures run { ConsumeRun name address.now (producer.now.host, producer.now.path) count (S.left source.old) (S.left source.new)
-        (outside_of (told_by (W.tells wire.old) (W.faults wire.old)) (told_by (C.tells clock.old) (C.faults clock.old)) (told_by (E.tells keeper.old) (E.faults keeper.old)))
-        (outside_of (told_by (W.tells wire.new) (W.faults wire.new)) (told_by (C.tells clock.new) (C.faults clock.new)) (told_by (E.tells keeper.new) (E.faults keeper.new)))
+        (outside_told W.Wire C.Clock E.Keeper wire.old clock.old keeper.old)
+        (outside_told W.Wire C.Clock E.Keeper wire.new clock.new keeper.new)
         (K.held sink.old) (K.held sink.new) result }
-    ensures pieces { ReadsNoFurther (verdict 200 event) (nothing_wanted name) (S.left source.old) (S.left source.new) }
+    ensures pieces { ReadsNoFurther (verdict most_wanted event) (nothing_wanted name) (S.left source.old) (S.left source.new) }
     ensures all { ReadsAll (S.left source.new) result }
     ensures unwritten { EndsConsuming result → sink.new ≡ sink.old }
     ensures source_meets { SourceMeets (is_read_fault result) (S.left source.old) (S.left source.new) (S.fails source.old) (S.fails source.new) }
     ensures sink_meets { SinkMeets (is_write_fault result) (K.held sink.old) (K.held sink.new) (K.fails sink.old) (K.fails sink.new) }
-    // Where there is enough for so many connections, all lines are good, and no failure is named for the source or the sink.
-    ensures complete { HasEnough count (outside_of (told_by (W.tells wire.old) (W.faults wire.old)) (told_by (C.tells clock.old) (C.faults clock.old)) (told_by (E.tells keeper.old) (E.faults keeper.old)))
+    // Where there is enough for so many connections, all lines are good, and no failure is named for the source or the
+    // sink.
+    ensures complete { HasEnough count (outside_told W.Wire C.Clock E.Keeper wire.old clock.old keeper.old)
         → TellsWanted name (S.left source.old)
         → S.fails source.old ≡ Some [] → K.fails sink.old ≡ Some [] → EndsWhole result }
     // When each fault comes.
@@ -107,15 +111,15 @@ fn consume_all<S: Source, W: Wire, C: Clock, E: Keeper>(
 ) -> Result<Consumed, Status>
     requires { length address.now ≤ 247 }
     ensures ok { IfOk result (λ consumed. ConsumesAll name address.now (producer.now.host, producer.now.path) count (S.left source.old) (record { consumer = consumed.consumer; tally = consumed.tally })
-        (outside_of (told_by (W.tells wire.old) (W.faults wire.old)) (told_by (C.tells clock.old) (C.faults clock.old)) (told_by (E.tells keeper.old) (E.faults keeper.old)))
-        (outside_of (told_by (W.tells wire.new) (W.faults wire.new)) (told_by (C.tells clock.new) (C.faults clock.new)) (told_by (E.tells keeper.new) (E.faults keeper.new)))) }
+        (outside_told W.Wire C.Clock E.Keeper wire.old clock.old keeper.old)
+        (outside_told W.Wire C.Clock E.Keeper wire.new clock.new keeper.new)) }
     ensures err { IfErr result (λ end. ConsumesNot name address.now (producer.now.host, producer.now.path) count (S.left source.old) (S.left source.new) end
-        (outside_of (told_by (W.tells wire.old) (W.faults wire.old)) (told_by (C.tells clock.old) (C.faults clock.old)) (told_by (E.tells keeper.old) (E.faults keeper.old)))
-        (outside_of (told_by (W.tells wire.new) (W.faults wire.new)) (told_by (C.tells clock.new) (C.faults clock.new)) (told_by (E.tells keeper.new) (E.faults keeper.new)))) }
+        (outside_told W.Wire C.Clock E.Keeper wire.old clock.old keeper.old)
+        (outside_told W.Wire C.Clock E.Keeper wire.new clock.new keeper.new)) }
     ensures all { OnOk result (ReadsAll (S.left source.new) Status.Done) }
     ensures read { IfErr result (λ end. end ≡ Status.ReadFault → Rose (S.faults source.old) (S.faults source.new)) }
     ensures meets { SourceMeets (has_failed_to_read result) (S.left source.old) (S.left source.new) (S.fails source.old) (S.fails source.new) }
-    ensures pieces { ReadsNoFurther (verdict 200 event) (nothing_wanted name) (S.left source.old) (S.left source.new) }
+    ensures pieces { ReadsNoFurther (verdict most_wanted event) (nothing_wanted name) (S.left source.old) (S.left source.new) }
 {
     let Opened {
         mut consumer,

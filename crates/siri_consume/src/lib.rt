@@ -11,11 +11,13 @@
 //!   the views, with their items, and the counts --> sink                                       (views.rt, consuming.rt)
 //! ```
 //!
-//! The contract of `consume` says which calls of the outside are made, what is asked for, what each connection is answered, what is
-//! sent to the producer, what is counted and written, and which status ends the run.
+//! The contract of `consume` says which calls of the outside are made, what is asked for, what each connection is
+//! answered, what is sent to the producer, what is counted and written, and which status ends the run.
 //!
-//! Stands on `siri_ends` for a turn, on `siri_network` for the calls of the outside, on `siri_lines` and `siri_script` for lines and for the
-//! texts of views and items. It knows no socket and no file.
+//! Stands on `siri_ends` for a turn of a consumer (`siri_view`), on `siri_network` for the calls of the outside, on
+//! `siri_lines` and `siri_script` for lines and for the texts of views and items, on `siri_wire` and `siri_messages`
+//! for what is wanted, and on `siri_base`, `siri_http`, `siri_topic` and `siri_change` for what these speak of. It
+//! knows no socket and no file.
 #![tactic(auto)]
 
 mod consuming;

@@ -1,13 +1,14 @@
-// How a run opens.
+//! How a run opens.
+
 ghost use Rattle.std.specs.Prelude.{◌≡◌, ◌≤◌, ◌*◌, length, IfErr, IfOk, OnOk};
 ghost use Rattle.siri_base.specs.Causes.{Rose};
 ghost use Rattle.siri_base.specs.MetFailures.{SourceMeets};
 ghost use Rattle.siri_consume.specs.Reading.{has_failed_to_read};
 ghost use Rattle.siri_lines.specs.Pieces.{ReadsNoFurther};
 ghost use Rattle.siri_lines.specs.RunResult.{verdict};
-ghost use Rattle.siri_consume.specs.Wanting.{event, nothing_wanted};
+ghost use Rattle.siri_consume.specs.Wanting.{event, nothing_wanted, most_wanted};
 ghost use Rattle.siri_lines.specs.Ends.{ReadsAll};
-ghost use Rattle.siri_network.specs.Calls.{outside_of, told_by};
+ghost use Rattle.siri_network.specs.Calls.{outside_told};
 ghost use Rattle.siri_consume.specs.Opening.{FailsToOpen, opened, own_address};
 ghost use Rattle.siri_consume.specs.inner.Steps.{MayAsk, OpensConsumer};
 
@@ -19,18 +20,18 @@ use siri_wire::Wanted;
 use std::alloc::Global;
 
 /// How many numbers a consumer may use in one run: the next run's begin after them.
-const NUMBERS: u64 = 1_000_000;
+const NUMBERS_OF_A_START: u64 = 1_000_000;
 
 /// A consumer, and what it is to ask for.
 #[derive(Drop)]
-pub struct Opened {
+pub(crate) struct Opened {
     pub consumer: Consumer,
     pub wanted: List<Wanted>,
 }
 
 /// Raises the number of the start, reads what is wanted, reads the clock, listens, and makes a consumer of this name.
 #[tactic(auto, using(siri_lines::proofs::Meeting::source_none, siri_lines::proofs::Whole::ends_at_once, siri_network::proofs::Statuses::no_read_fault))]
-pub fn open<S: Source, W: Wire, C: Clock, E: Keeper>(
+pub(crate) fn open<S: Source, W: Wire, C: Clock, E: Keeper>(
     alloc: Global,
     name: Name,
     address: &Name,
@@ -41,16 +42,16 @@ pub fn open<S: Source, W: Wire, C: Clock, E: Keeper>(
 ) -> Result<Opened, Status>
     requires { length address.now ≤ 247 }
     ensures ok { IfOk result (λ opened. OpensConsumer name address.now (S.left source.old) opened.wanted opened.consumer
-        (outside_of (told_by (W.tells wire.old) (W.faults wire.old)) (told_by (C.tells clock.old) (C.faults clock.old)) (told_by (E.tells keeper.old) (E.faults keeper.old)))
-        (outside_of (told_by (W.tells wire.new) (W.faults wire.new)) (told_by (C.tells clock.new) (C.faults clock.new)) (told_by (E.tells keeper.new) (E.faults keeper.new)))) }
+        (outside_told W.Wire C.Clock E.Keeper wire.old clock.old keeper.old)
+        (outside_told W.Wire C.Clock E.Keeper wire.new clock.new keeper.new)) }
     ensures err { IfErr result (λ end. FailsToOpen name address.now (S.left source.old) (S.left source.new) end
-        (outside_of (told_by (W.tells wire.old) (W.faults wire.old)) (told_by (C.tells clock.old) (C.faults clock.old)) (told_by (E.tells keeper.old) (E.faults keeper.old)))
-        (outside_of (told_by (W.tells wire.new) (W.faults wire.new)) (told_by (C.tells clock.new) (C.faults clock.new)) (told_by (E.tells keeper.new) (E.faults keeper.new)))) }
+        (outside_told W.Wire C.Clock E.Keeper wire.old clock.old keeper.old)
+        (outside_told W.Wire C.Clock E.Keeper wire.new clock.new keeper.new)) }
     ensures may_ask { IfOk result (λ opened. MayAsk opened.consumer opened.wanted) }
     ensures all { OnOk result (ReadsAll (S.left source.new) Status.Done) }
     ensures read { IfErr result (λ end. end ≡ Status.ReadFault → Rose (S.faults source.old) (S.faults source.new)) }
     ensures meets { SourceMeets (has_failed_to_read result) (S.left source.old) (S.left source.new) (S.fails source.old) (S.fails source.new) }
-    ensures pieces { ReadsNoFurther (verdict 200 event) (nothing_wanted name) (S.left source.old) (S.left source.new) }
+    ensures pieces { ReadsNoFurther (verdict most_wanted event) (nothing_wanted name) (S.left source.old) (S.left source.new) }
 {
     let start = raise(keeper)?;
     let wanted = read_wanted(alloc, source, &name)?;
@@ -76,7 +77,7 @@ fn consumer_of(
     ensures { IfOk result (λ consumer. consumer ≡ opened name address.now start moment) }
 {
     let own = own_address(alloc, address)?;
-    let mut consumer = Consumer::new(alloc, name, Some(own), NUMBERS * start)?;
+    let mut consumer = Consumer::new(alloc, name, Some(own), NUMBERS_OF_A_START * start)?;
     consumer.clock(moment);
     Ok(consumer)
 }

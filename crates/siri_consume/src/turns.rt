@@ -1,11 +1,11 @@
-// What a run sends at first, and its turns.
+//! What a run sends at first, and its turns.
+
 ghost use Rattle.std.specs.Prelude.{◌≡◌, ◌⊎◌, IfErr, IfOk, OnErr, OnOk};
 ghost use Rattle.siri_base.specs.OutsideCalls.{KeeperState};
 ghost use Rattle.siri_ends.specs.At.{consumer_at};
 ghost use Rattle.siri_ends.specs.SendingUp.{FirstSendsUp, SendsUp};
-ghost use Rattle.siri_network.specs.Calls.{Told, outside_of, told_by};
+ghost use Rattle.siri_network.specs.Calls.{Told, outside_with, told_by};
 ghost use Rattle.siri_network.specs.Turns.{running};
-ghost use Rattle.siri_consume.specs.Consumption as definition;
 ghost use Rattle.siri_consume.specs.inner.Steps.{MayAsk};
 ghost use Rattle.siri_consume.specs.Consumption.{ConsumesTurn, ConsumesTurns, EndsAtTurn, EndsInTurns, after_asking, requests, subscriptions};
 
@@ -44,7 +44,7 @@ fn ask(
 }
 
 /// Sends what is asked for, and what is replied to the response.
-pub fn ask_all<W: Wire>(
+pub(crate) fn ask_all<W: Wire>(
     alloc: Global,
     producer: &Address,
     wire: &mut W,
@@ -66,7 +66,7 @@ pub fn ask_all<W: Wire>(
 
 /// The subscriptions that are wanted.
 fn subscriptions(alloc: Global, wanted: &[Wanted]) -> Result<List<Subscription>, OutOfMemory>
-    ensures { IfOk result (λ list. list ≡ definition.subscriptions wanted.now) }
+    ensures { IfOk result (λ list. list ≡ subscriptions wanted.now) }
 {
     let mut list = List::new(alloc);
     for one in wanted {
@@ -85,11 +85,11 @@ fn consume_next<W: Wire, C: Clock>(
     tally: &mut Tally,
 ) -> Result<(), NetworkError>
     ensures ok { OnOk result ((keeper : Told KeeperState) → ConsumesTurn (producer.now.host, producer.now.path)
-        (running (record { consumer = consumer.old; tally = tally.old }) (outside_of (told_by (W.tells wire.old) (W.faults wire.old)) (told_by (C.tells clock.old) (C.faults clock.old)) keeper))
-        (running (record { consumer = consumer.new; tally = tally.new }) (outside_of (told_by (W.tells wire.new) (W.faults wire.new)) (told_by (C.tells clock.new) (C.faults clock.new)) keeper))) }
+        (running (record { consumer = consumer.old; tally = tally.old }) (outside_with W.Wire C.Clock wire.old clock.old keeper))
+        (running (record { consumer = consumer.new; tally = tally.new }) (outside_with W.Wire C.Clock wire.new clock.new keeper))) }
     ensures err { IfErr result (λ error. (keeper : Told KeeperState) → EndsAtTurn (producer.now.host, producer.now.path) error
-        (running (record { consumer = consumer.old; tally = tally.old }) (outside_of (told_by (W.tells wire.old) (W.faults wire.old)) (told_by (C.tells clock.old) (C.faults clock.old)) keeper))
-        (outside_of (told_by (W.tells wire.new) (W.faults wire.new)) (told_by (C.tells clock.new) (C.faults clock.new)) keeper)) }
+        (running (record { consumer = consumer.old; tally = tally.old }) (outside_with W.Wire C.Clock wire.old clock.old keeper))
+        (outside_with W.Wire C.Clock wire.new clock.new keeper)) }
 {
     accept(wire)?;
     let moment = now(clock)?;
@@ -99,7 +99,7 @@ fn consume_next<W: Wire, C: Clock>(
 }
 
 /// Answers so many connections, one after the other.
-pub fn consume_connections<W: Wire, C: Clock>(
+pub(crate) fn consume_connections<W: Wire, C: Clock>(
     alloc: Global,
     count: u64,
     producer: &Address,
@@ -109,11 +109,11 @@ pub fn consume_connections<W: Wire, C: Clock>(
     tally: &mut Tally,
 ) -> Result<(), NetworkError>
     ensures ok { OnOk result ((keeper : Told KeeperState) → ConsumesTurns (producer.now.host, producer.now.path) count
-        (running (record { consumer = consumer.old; tally = tally.old }) (outside_of (told_by (W.tells wire.old) (W.faults wire.old)) (told_by (C.tells clock.old) (C.faults clock.old)) keeper))
-        (running (record { consumer = consumer.new; tally = tally.new }) (outside_of (told_by (W.tells wire.new) (W.faults wire.new)) (told_by (C.tells clock.new) (C.faults clock.new)) keeper))) }
+        (running (record { consumer = consumer.old; tally = tally.old }) (outside_with W.Wire C.Clock wire.old clock.old keeper))
+        (running (record { consumer = consumer.new; tally = tally.new }) (outside_with W.Wire C.Clock wire.new clock.new keeper))) }
     ensures err { IfErr result (λ error. (keeper : Told KeeperState) → EndsInTurns (producer.now.host, producer.now.path) count error
-        (running (record { consumer = consumer.old; tally = tally.old }) (outside_of (told_by (W.tells wire.old) (W.faults wire.old)) (told_by (C.tells clock.old) (C.faults clock.old)) keeper))
-        (outside_of (told_by (W.tells wire.new) (W.faults wire.new)) (told_by (C.tells clock.new) (C.faults clock.new)) keeper)) }
+        (running (record { consumer = consumer.old; tally = tally.old }) (outside_with W.Wire C.Clock wire.old clock.old keeper))
+        (outside_with W.Wire C.Clock wire.new clock.new keeper)) }
 {
     for _turn in 0..count {
         consume_next(alloc, producer, wire, clock, consumer, tally)?;

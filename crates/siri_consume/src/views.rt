@@ -1,4 +1,5 @@
-// Writes what a consumer shows.
+//! Writes what a consumer shows.
+
 ghost use Rattle.std.specs.Prelude.{◌≡◌, ◌++◌, length, option_map, slice_get, OnOk, OnErr};
 ghost use Rattle.std.specs.Io.KnownBytes.{Appends};
 ghost use Rattle.siri_base.specs.Causes.{HasOutsideCause};
@@ -15,8 +16,8 @@ use siri_script::{item_line, view_line, write_whole};
 use siri_view::{Consumer, Held};
 use std::alloc::Global;
 
-/// Writes the view of each subscription that a consumer holds, in byte order of their identifiers: the line `view CONSUMER ID number N
-/// start S round R items K`, and a line for each item, in order of key.
+/// Writes the view of each subscription that a consumer holds, in byte order of their identifiers: the line `view
+/// CONSUMER ID number N start S round R items K`, and a line for each item, in order of key.
 #[tactic(auto, using(siri_lines::proofs::Meeting::sink_none, siri_lines::proofs::Meeting::sink_more))]
 pub fn write_views<K: Sink>(
     alloc: Global,
@@ -37,7 +38,8 @@ pub fn write_views<K: Sink>(
     Ok(())
 }
 
-/// What is shown at a place, in byte order of the identifiers: the identifier, and the view with the round that it is of.
+/// What is shown at a place, in byte order of the identifiers: the identifier, and the view with the round that it is
+/// of.
 fn shown_at(consumer: &Consumer, place: usize) -> Option<(&Name, Held, &View)>
     ensures { option_map (λ s. (s.0.now, s.1, s.2.now)) result ≡ option_map shown (slice_get consumer.now.held place) }
 {

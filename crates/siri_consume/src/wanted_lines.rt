@@ -1,4 +1,5 @@
-// What takes the lines that want subscriptions.
+//! What takes the lines that want subscriptions.
+
 ghost use Rattle.std.specs.Prelude.{◌≡◌, []};
 ghost use Rattle.siri_script.specs.Reads.{Reads};
 ghost use Rattle.siri_consume.specs.Wanting.{Asking, event, line_said};
@@ -12,7 +13,7 @@ use std::alloc::Global;
 
 /// The subscriptions that the lines taken so far want in the name of a subscriber.
 #[derive(Drop)]
-pub struct WantedLines<'a> {
+pub(crate) struct WantedLines<'a> {
     alloc: Global,
     subscriber: &'a Name,
     wanted: List<Wanted>,
@@ -20,7 +21,7 @@ pub struct WantedLines<'a> {
 
 impl<'a> WantedLines<'a> {
     /// No line was taken. It takes no memory.
-    pub fn new(alloc: Global, subscriber: &'a Name) -> Self
+    pub(crate) fn new(alloc: Global, subscriber: &'a Name) -> Self
         ensures { Fits result (record { subscriber = subscriber.entry.now; wanted = [] }) }
     {
         WantedLines {
@@ -31,7 +32,7 @@ impl<'a> WantedLines<'a> {
     }
 
     /// What the lines want, in their order.
-    pub fn into_wanted(self) -> List<Wanted>
+    pub(crate) fn into_wanted(self) -> List<Wanted>
         ensures { (asking : Asking) → Fits self.entry asking → result ≡ asking.wanted }
     {
         self.wanted

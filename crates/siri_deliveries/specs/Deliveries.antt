@@ -18,12 +18,20 @@ use Rattle.siri_items.specs.Situations.{situation}
 use Rattle.siri_items.specs.Proper.{IsProper, service_of}
 use Rattle.siri_items.specs.Written.{written_item}
 use Rattle.siri_deliveries.specs.Removals.{visit_cancellation, vehicle_cancellation, removed_journey, removed_situation, IsProperRemoval, a_removal}
-use Rattle.siri_deliveries.specs.Parts.{heading_table, heading_of, with_heading, no_round, IsPlaced, position_of, a_place, no_extensions, extensions_of, some_extensions, delivery_of}
+use Rattle.siri_deliveries.specs.Parts.{heading_table, heading_of, with_heading, no_round, IsPlaced, position_of, a_place, no_extensions}
+use Rattle.siri_deliveries.specs.Parts.{extensions_of, some_extensions, delivery_of}
 use Rattle.siri_deliveries.specs.Frames.{journeys_of_frames, written_frame}
 use Rattle.siri_deliveries.specs.Rows.{an_error, with_default, flag_where_true, entries}
 use Rattle.siri_deliveries.specs.declared.read_parts.DeliveryExtensions.{DeliveryExtensions}
 use Rattle.siri_deliveries.specs.declared.read_parts.Heading.{Heading}
-use Rattle.siri_deliveries.specs.declared.names.TheConstants.{RESPONSE_TIMESTAMP, PRODUCER_REF, RESPONSE_MESSAGE_IDENTIFIER, REQUEST_MESSAGE_REF, STATUS, ERROR_CONDITION, MORE_DATA, EXTENSIONS, MONITORED_STOP_VISIT, MONITORED_STOP_VISIT_CANCELLATION, ESTIMATED_JOURNEY_VERSION_FRAME, VEHICLE_ACTIVITY, VEHICLE_ACTIVITY_CANCELLATION, SITUATIONS, PT_SITUATION_ELEMENT, STOP_MONITORING_DELIVERY, ESTIMATED_TIMETABLE_DELIVERY, VEHICLE_MONITORING_DELIVERY, SITUATION_EXCHANGE_DELIVERY}
+use Rattle.siri_deliveries.specs.declared.names.TheConstants.{RESPONSE_TIMESTAMP, PRODUCER_REF, RESPONSE_MESSAGE_IDENTIFIER}
+use Rattle.siri_deliveries.specs.declared.names.TheConstants.{REQUEST_MESSAGE_REF, STATUS, ERROR_CONDITION, MORE_DATA, EXTENSIONS}
+use Rattle.siri_deliveries.specs.declared.names.TheConstants.{MONITORED_STOP_VISIT, MONITORED_STOP_VISIT_CANCELLATION}
+use Rattle.siri_deliveries.specs.declared.names.TheConstants.{ESTIMATED_JOURNEY_VERSION_FRAME, VEHICLE_ACTIVITY}
+use Rattle.siri_deliveries.specs.declared.names.TheConstants.{VEHICLE_ACTIVITY_CANCELLATION, SITUATIONS, PT_SITUATION_ELEMENT}
+use Rattle.siri_deliveries.specs.declared.names.TheConstants.{STOP_MONITORING_DELIVERY, ESTIMATED_TIMETABLE_DELIVERY}
+use Rattle.siri_deliveries.specs.declared.names.TheConstants.{VEHICLE_MONITORING_DELIVERY, SITUATION_EXCHANGE_DELIVERY}
+use Rattle.siri_deliveries.specs.Limits.{most_entries}
 
 -- ---- items
 
@@ -65,7 +73,7 @@ in_frames = record {
   read = journeys_of_frames;
   Spelled = λ d items. journeys_of_frames d ≡ Ok items;
   write = λ items. (ESTIMATED_JOURNEY_VERSION_FRAME.now, written_list written_frame items) ∷ [];
-  Is = IsListWithin 20000 (IsProperOf service.Timetable);
+  Is = IsListWithin most_entries (IsProperOf service.Timetable);
   blank = λ items. false;
 }
 
@@ -74,15 +82,17 @@ in_frames = record {
 -- the delivery of a service
 abbrev pub IsProperDelivery : Service → FunctionalDelivery → Type 0
 IsProperDelivery s d =
-    AllProper heading_table (heading_of d) × (IsPlaced (position_of d) × (IsListWithin 20000 (IsProperOf s) d.items × (IsListWithin 20000 (IsProperRemoval s) d.removals × ⊤)))
+    AllProper heading_table (heading_of d) × (IsPlaced (position_of d)
+    × (IsListWithin most_entries (IsProperOf s) d.items
+    × (IsListWithin most_entries (IsProperRemoval s) d.removals × ⊤)))
 
 -- StopMonitoringDelivery: visits, and visits that are no more
 abbrev pub stop_delivery_table : Table FunctionalDelivery
 stop_delivery_table =
     with_heading ∷
     with_default a_place no_round EXTENSIONS.now position_of ∷
-    entries (an_item visit_item service.Stop) 20000 MONITORED_STOP_VISIT.now (λ d. d.items) ∷
-    entries (a_removal visit_cancellation service.Stop) 20000 MONITORED_STOP_VISIT_CANCELLATION.now (λ d. d.removals) ∷ []
+    entries (an_item visit_item service.Stop) most_entries MONITORED_STOP_VISIT.now (λ d. d.items) ∷
+    entries (a_removal visit_cancellation service.Stop) most_entries MONITORED_STOP_VISIT_CANCELLATION.now (λ d. d.removals) ∷ []
 
 unfoldable pub stop_monitoring_delivery : Data → Result FunctionalDelivery Refusal
 stop_monitoring_delivery d = read_all stop_delivery_table delivery_of d
@@ -117,8 +127,8 @@ abbrev pub vehicle_delivery_table : Table FunctionalDelivery
 vehicle_delivery_table =
     with_heading ∷
     with_default a_place no_round EXTENSIONS.now position_of ∷
-    entries (an_item vehicle_item service.Vehicle) 20000 VEHICLE_ACTIVITY.now (λ d. d.items) ∷
-    entries (a_removal vehicle_cancellation service.Vehicle) 20000 VEHICLE_ACTIVITY_CANCELLATION.now (λ d. d.removals) ∷ []
+    entries (an_item vehicle_item service.Vehicle) most_entries VEHICLE_ACTIVITY.now (λ d. d.items) ∷
+    entries (a_removal vehicle_cancellation service.Vehicle) most_entries VEHICLE_ACTIVITY_CANCELLATION.now (λ d. d.removals) ∷ []
 
 unfoldable pub vehicle_monitoring_delivery : Data → Result FunctionalDelivery Refusal
 vehicle_monitoring_delivery d = read_all vehicle_delivery_table delivery_of d
@@ -138,7 +148,7 @@ abbrev pub situation_delivery_table : Table FunctionalDelivery
 situation_delivery_table =
     with_heading ∷
     with_default (some_extensions removed_situation service.Situation) no_extensions EXTENSIONS.now extensions_of ∷
-    entries_inside (an_item situation_item service.Situation) 20000 SITUATIONS.now PT_SITUATION_ELEMENT.now (λ d. d.items) ∷ []
+    entries_inside (an_item situation_item service.Situation) most_entries SITUATIONS.now PT_SITUATION_ELEMENT.now (λ d. d.items) ∷ []
 
 unfoldable pub situation_exchange_delivery : Data → Result FunctionalDelivery Refusal
 situation_exchange_delivery d = read_all situation_delivery_table with_extensions d

@@ -14,6 +14,7 @@ use Rattle.siri_items.specs.Written.{written_item}
 use Rattle.siri_items.specs.Journeys.{journey}
 use Rattle.siri_items.specs.declared.names.TheConstants.{RECORDED_AT_TIME}
 use Rattle.siri_deliveries.specs.declared.names.TheConstants.{ESTIMATED_VEHICLE_JOURNEY, ESTIMATED_JOURNEY_VERSION_FRAME}
+use Rattle.siri_deliveries.specs.Limits.{most_entries}
 
 -- a journey's own RecordedAtTime, or its frame's where that is absent
 abbrev pub own_or : Option ℕ → Option ℕ → Option ℕ
@@ -41,7 +42,7 @@ concat_frames frames = flat_map (λ items. items) frames
 
 -- there may be 20,000 of them in all
 abbrev pub few_in_all : List Item → Result (List Item) Refusal
-few_in_all items = if nat_le (length items) 20000 then Ok items else refused TooMany
+few_in_all items = if nat_le (length items) most_entries then Ok items else refused TooMany
 
 -- the bound is tested after the entries
 unfoldable pub frames_of : Data → Result (List Item) Refusal

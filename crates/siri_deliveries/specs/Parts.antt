@@ -17,7 +17,9 @@ use Rattle.siri_deliveries.specs.declared.read_parts.DeliveryExtensions.{Deliver
 use Rattle.siri_deliveries.specs.Removals.{IsProperRemoval, written_removal}
 use Rattle.siri_deliveries.specs.Rows.{an_error, with_default}
 use Rattle.siri_deliveries.specs.Absence.{lacks}
-use Rattle.siri_deliveries.specs.declared.names.TheConstants.{RESPONSE_TIMESTAMP, SUBSCRIBER_REF, SUBSCRIPTION_REF, STATUS, ERROR_CONDITION, START, ROUND, PART, REMOVED}
+use Rattle.siri_deliveries.specs.declared.names.TheConstants.{RESPONSE_TIMESTAMP, SUBSCRIBER_REF, SUBSCRIPTION_REF, STATUS, ERROR_CONDITION}
+use Rattle.siri_deliveries.specs.declared.names.TheConstants.{START, ROUND, PART, REMOVED}
+use Rattle.siri_deliveries.specs.Limits.{most_entries}
 
 -- ---- the rows before Extensions (EN 15531-2)
 
@@ -44,7 +46,13 @@ unfoldable pub heading : Data → Result Heading Refusal
 heading d = read_all heading_table make_heading d
 
 abbrev pub heading_of : FunctionalDelivery → Heading
-heading_of d = record { response_timestamp = d.response_timestamp; subscriber_ref = d.subscriber_ref; subscription_ref = d.subscription_ref; status = d.status; error_condition = d.error_condition }
+heading_of d = record {
+  response_timestamp = d.response_timestamp;
+  subscriber_ref = d.subscriber_ref;
+  subscription_ref = d.subscription_ref;
+  status = d.status;
+  error_condition = d.error_condition;
+}
 
 -- they stand among those of a delivery
 abbrev pub with_heading : Row FunctionalDelivery
@@ -110,7 +118,7 @@ a_place = record { rule = table round_position; writing = written_position; Is =
 unfoldable pub delivery_extensions : (Data → Result Key Refusal) → Data → Result DeliveryExtensions Refusal
 delivery_extensions removed d = do
   round_position ← round_position d
-  removals ← list (table removed) 20000 REMOVED.now d
+  removals ← list (table removed) most_entries REMOVED.now d
   Ok (record { round_position = round_position; removals = removals })
 
 -- Extensions that are absent tell of no round, and of nothing removed
@@ -132,7 +140,11 @@ abbrev pub written_removed : FunctionalDelivery → Option Data
 written_removed d = written_extensions (extensions_of d)
 
 abbrev pub some_extensions : (Data → Result Key Refusal) → Service → Kind DeliveryExtensions
-some_extensions removed s = record { rule = table (delivery_extensions removed); writing = written_extensions; Is = λ e. IsPlaced e.round_position × IsListWithin 20000 (IsProperRemoval s) e.removals }
+some_extensions removed s = record {
+  rule = table (delivery_extensions removed);
+  writing = written_extensions;
+  Is = λ e. IsPlaced e.round_position × IsListWithin most_entries (IsProperRemoval s) e.removals;
+}
 
 -- ---- the whole
 

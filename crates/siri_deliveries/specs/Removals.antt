@@ -10,7 +10,8 @@ use Rattle.siri_tables.specs.Rules.{name, table, row, required_row}
 use Rattle.siri_tables.specs.Proper.{IsName}
 use Rattle.siri_tables.specs.Writing.{Row, row_object, written_text}
 use Rattle.siri_tables.specs.Tables.{Kind}
-use Rattle.siri_items.specs.declared.names.TheConstants.{MONITORING_REF, LINE_REF, DIRECTION_REF, DATA_FRAME_REF, DATED_VEHICLE_JOURNEY_REF, PARTICIPANT_REF, SITUATION_NUMBER}
+use Rattle.siri_items.specs.declared.names.TheConstants.{MONITORING_REF, LINE_REF, DIRECTION_REF, DATA_FRAME_REF, DATED_VEHICLE_JOURNEY_REF}
+use Rattle.siri_items.specs.declared.names.TheConstants.{PARTICIPANT_REF, SITUATION_NUMBER}
 use Rattle.siri_deliveries.specs.declared.names.TheConstants.{ITEM_REF}
 
 -- MonitoredStopVisitCancellation: a visit that is no more (EN 15531-3)

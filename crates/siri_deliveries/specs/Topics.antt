@@ -12,7 +12,8 @@ use Rattle.siri_topic.specs.declared.topics.TimetableTopic.{TimetableTopic}
 use Rattle.siri_topic.specs.declared.topics.Topic.{Topic}
 use Rattle.siri_topic.specs.declared.topics.Topic.TheVariants as topics
 use Rattle.siri_topic.specs.declared.topics.VehicleTopic.{VehicleTopic}
-use Rattle.siri_items.specs.declared.names.TheConstants.{MONITORING_REF, LINE_REF, DIRECTION_REF, OPERATOR_REF, DESTINATION_REF, START_TIME, VEHICLE_REF, STOP_POINT_REF}
+use Rattle.siri_items.specs.declared.names.TheConstants.{MONITORING_REF, LINE_REF, DIRECTION_REF, OPERATOR_REF, DESTINATION_REF, START_TIME}
+use Rattle.siri_items.specs.declared.names.TheConstants.{VEHICLE_REF, STOP_POINT_REF}
 use Rattle.siri_tables.specs.Refusals.{Refusal, ◌>>=◌}
 use Rattle.siri_tables.specs.Rules.{table}
 use Rattle.siri_tables.specs.Tables.{Kind, optional, mandatory, entries_inside, a_name, a_moment, a_number, Table, Maker, read_all, AllProper, all_written}

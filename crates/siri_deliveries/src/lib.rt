@@ -5,14 +5,15 @@
 //!   tokens <-written-        tokens <-----------written---------------
 //! ```
 //!
-//! Each is a table: the topics that are asked for, the ServiceDelivery that answers, in it the deliveries of the four services,
-//! and in these the items, cancellations and removals. The files `read_*` have the tables as they are read, `write_*` as they are
-//! written; the definition of each stands in `specs/`, row beside row. Here, too, stand the names of all members that messages
-//! have, and what the messages of `siri_wire` share with deliveries: errors, flags, texts that are absent.
+//! Each is a table: the topics that are asked for, the ServiceDelivery that answers, in it the deliveries of the four
+//! services, and in these the items, cancellations and removals. The files `read_*` have the tables as they are read,
+//! `write_*` as they are written; the definition of each stands in `specs/`, row beside row. Here, too, stand the names
+//! of all members that messages have, and what the messages of `siri_wire` share with deliveries: errors, flags, texts
+//! that are absent.
 //!
-//! Stands on `siri_tables`, which has the rules of values and rows and the refusals, on `siri_items` for the tables of items,
-//! on `siri_messages`, `siri_topic` and `siri_records` for what is read and written, and on `siri_base` and `siri_json`. It
-//! keeps no state, knows no document, no clock and no connection.
+//! Stands on `siri_tables`, which has the rules of values and rows and the refusals, on `siri_items` for the tables of
+//! items, on `siri_messages`, `siri_topic` and `siri_records` for what is read and written, and on `siri_base` and
+//! `siri_json`. It keeps no state, knows no document, no clock and no connection.
 #![tactic(auto)]
 
 mod absence;

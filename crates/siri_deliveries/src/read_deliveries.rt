@@ -19,8 +19,10 @@ use siri_tables::rows::{list, list_inside, row};
 use siri_tables::rules::{FlagRule, MomentRule, NameRule, Table};
 use std::alloc::Global;
 
+/// The most deliveries of each service in a ServiceDelivery; with more their list is `TooMany`.
 const MOST_DELIVERIES: usize = 100;
 
+/// A MonitoredStopVisit as an item.
 struct VisitItemTable;
 
 impl Table for VisitItemTable {
@@ -34,6 +36,7 @@ impl Table for VisitItemTable {
     }
 }
 
+/// A VehicleActivity as an item.
 struct VehicleItemTable;
 
 impl Table for VehicleItemTable {
@@ -47,6 +50,7 @@ impl Table for VehicleItemTable {
     }
 }
 
+/// A PtSituationElement as an item.
 struct SituationItemTable;
 
 impl Table for SituationItemTable {
@@ -61,7 +65,7 @@ impl Table for SituationItemTable {
 }
 
 /// Visits, and visits that are no more (EN 15531-3, StopMonitoringDelivery), at most 20,000 of each.
-pub struct StopMonitoringDeliveryTable;
+pub(crate) struct StopMonitoringDeliveryTable;
 
 impl Table for StopMonitoringDeliveryTable {
     type Out = FunctionalDelivery;
@@ -86,7 +90,7 @@ impl Table for StopMonitoringDeliveryTable {
 
 /// Journeys in frames, and journeys that are shown no more (EN 15531-3, EstimatedTimetableDelivery), at most 20,000 of
 /// each.
-pub struct EstimatedTimetableDeliveryTable;
+pub(crate) struct EstimatedTimetableDeliveryTable;
 
 impl Table for EstimatedTimetableDeliveryTable {
     type Out = FunctionalDelivery;
@@ -108,7 +112,7 @@ impl Table for EstimatedTimetableDeliveryTable {
 }
 
 /// Vehicle activities, and those that are no more (EN 15531-3, VehicleMonitoringDelivery), at most 20,000 of each.
-pub struct VehicleMonitoringDeliveryTable;
+pub(crate) struct VehicleMonitoringDeliveryTable;
 
 impl Table for VehicleMonitoringDeliveryTable {
     type Out = FunctionalDelivery;
@@ -133,7 +137,7 @@ impl Table for VehicleMonitoringDeliveryTable {
 
 /// Situations, and situations that are shown no more (CEN/TS 15531-5, SituationExchangeDelivery), at most 20,000 of
 /// each.
-pub struct SituationExchangeDeliveryTable;
+pub(crate) struct SituationExchangeDeliveryTable;
 
 impl Table for SituationExchangeDeliveryTable {
     type Out = FunctionalDelivery;

@@ -20,6 +20,7 @@ use std::alloc::Global;
 /// A frame's journeys (EN 15531-3, EstimatedJourneyVersionFrame), each with its own RecordedAtTime or the frame's.
 struct FrameTable;
 
+/// The item of a frame's journey: where it has no RecordedAtTime, it takes the frame's.
 fn journey_of_frame(frame: &Option<Moment>, mut journey: Journey) -> Item
     ensures { result ≡ journey_of_frame frame.now journey }
 {
@@ -27,6 +28,7 @@ fn journey_of_frame(frame: &Option<Moment>, mut journey: Journey) -> Item
     Item::Journey(journey)
 }
 
+/// The items of a frame's journeys, in order, each with its own RecordedAtTime or the frame's.
 fn journeys_of_frame(
     alloc: Global,
     frame: &Option<Moment>,
@@ -41,6 +43,7 @@ fn journeys_of_frame(
     Ok(List::of(items))
 }
 
+/// The journeys at EstimatedVehicleJourney of a frame, none where it is absent; no bound is tested here.
 #[tactic(auto, unfolding(crate::specs::Frames::journeys))]
 fn journeys(alloc: Global, tree: &Tree<'_>) -> Result<List<Journey>, TableError>
     ensures { Gives result (journeys (shown tree.now)) }
@@ -68,6 +71,7 @@ impl Table for FrameTable {
     }
 }
 
+/// The items of all frames in one list, frame by frame.
 fn concat_frames(alloc: Global, frames: List<List<Item>>) -> Result<List<Item>, OutOfMemory>
     ensures { IfOk result (λ items. items ≡ concat_frames frames) }
 {
@@ -78,6 +82,7 @@ fn concat_frames(alloc: Global, frames: List<List<Item>>) -> Result<List<Item>, 
     Ok(List::of(items))
 }
 
+/// The journeys of all frames of a list, or `TooMany` above 20,000, after what the frames are refused for.
 #[tactic(auto, unfolding(crate::specs::Frames::frames_of))]
 fn frames_of(alloc: Global, value: &Tree<'_>) -> Result<List<Item>, TableError>
     ensures { Gives result (frames_of (shown value.now)) }
@@ -93,7 +98,7 @@ fn frames_of(alloc: Global, value: &Tree<'_>) -> Result<List<Item>, TableError>
 /// The journeys of all frames of a delivery, at most 20,000: otherwise `TooMany` at EstimatedJourneyVersionFrame, after
 /// what its entries are refused for.
 #[tactic(auto, unfolding(crate::specs::Frames::journeys_of_frames))]
-pub fn journeys_of_frames(alloc: Global, tree: &Tree<'_>) -> Result<List<Item>, TableError>
+pub(crate) fn journeys_of_frames(alloc: Global, tree: &Tree<'_>) -> Result<List<Item>, TableError>
     ensures { Gives result (journeys_of_frames (shown tree.now)) }
 {
     match member(tree, names::ESTIMATED_JOURNEY_VERSION_FRAME) {

@@ -20,10 +20,10 @@ use siri_tables::rules::{FlagRule, MomentRule, NameRule, NumberRule, Table};
 use std::alloc::Global;
 
 /// The most entries of a list of items or removals.
-pub const MOST_ENTRIES: usize = 20_000;
+pub(crate) const MOST_ENTRIES: usize = 20_000;
 
 /// The rows of a functional delivery before its Extensions (EN 15531-2).
-pub struct Heading {
+pub(crate) struct Heading {
     pub response_timestamp: Option<Moment>,
     pub subscriber_ref: Option<Name>,
     pub subscription_ref: Option<Name>,
@@ -58,11 +58,11 @@ pub struct DeliveryExtensions {
     pub removals: List<Key>,
 }
 
-/// What a functional delivery says before its Extensions (EN 15531-2): ResponseTimestamp, SubscriberRef, SubscriptionRef,
-/// Status, which is true where it is absent, and ErrorCondition. No row is required; each is refused at its member, the
-/// first in this order.
+/// What a functional delivery says before its Extensions (EN 15531-2): ResponseTimestamp, SubscriberRef,
+/// SubscriptionRef, Status, which is true where it is absent, and ErrorCondition. No row is required; each is refused
+/// at its member, the first in this order.
 #[tactic(auto, unfolding(crate::specs::Parts::heading))]
-pub fn read_heading(alloc: Global, tree: &Tree<'_>) -> Result<Heading, TableError>
+pub(crate) fn read_heading(alloc: Global, tree: &Tree<'_>) -> Result<Heading, TableError>
     ensures { Gives result (heading (shown tree.now)) }
 {
     Ok(Heading {
@@ -76,7 +76,7 @@ pub fn read_heading(alloc: Global, tree: &Tree<'_>) -> Result<Heading, TableErro
 
 impl Heading {
     /// The delivery of these items and removals.
-    pub fn delivery(
+    pub(crate) fn delivery(
         self,
         round_position: RoundPosition,
         items: List<Item>,
@@ -108,7 +108,7 @@ impl Heading {
 
 impl RoundPosition {
     /// In no round.
-    pub fn no_round() -> RoundPosition
+    pub(crate) fn no_round() -> RoundPosition
         ensures { result ≡ no_round }
     {
         RoundPosition {
@@ -119,6 +119,7 @@ impl RoundPosition {
     }
 }
 
+/// Start, Round and Part of a delivery in a round: each is required, `Missing` at it otherwise.
 #[tactic(auto, unfolding(crate::specs::Parts::within_round))]
 fn within_round(alloc: Global, tree: &Tree<'_>) -> Result<RoundPosition, TableError>
     ensures { Gives result (within_round (shown tree.now)) }
@@ -132,7 +133,7 @@ fn within_round(alloc: Global, tree: &Tree<'_>) -> Result<RoundPosition, TableEr
 
 /// Where in a round a delivery of visits or vehicles stands (this profile's own): where Round stands, Start and Part
 /// have to; where it doesn't, they aren't looked at.
-pub struct RoundPositionTable;
+pub(crate) struct RoundPositionTable;
 
 impl Table for RoundPositionTable {
     type Out = RoundPosition;
@@ -149,7 +150,7 @@ impl Table for RoundPositionTable {
 }
 
 /// Where in a round a delivery of journeys stands, and the journeys that are shown no more, at most 20,000.
-pub struct JourneyExtensionsTable;
+pub(crate) struct JourneyExtensionsTable;
 
 impl Table for JourneyExtensionsTable {
     type Out = DeliveryExtensions;
@@ -166,7 +167,7 @@ impl Table for JourneyExtensionsTable {
 }
 
 /// Where in a round a delivery of situations stands, and the situations that are shown no more, at most 20,000.
-pub struct SituationExtensionsTable;
+pub(crate) struct SituationExtensionsTable;
 
 impl Table for SituationExtensionsTable {
     type Out = DeliveryExtensions;
@@ -182,8 +183,9 @@ impl Table for SituationExtensionsTable {
     }
 }
 
-/// What the Extensions of a delivery tell: where they are absent, that it stands in no round and that nothing is removed.
-pub fn extensions_or_empty(
+/// What the Extensions of a delivery tell: where they are absent, that it stands in no round and that nothing is
+/// removed.
+pub(crate) fn extensions_or_empty(
     alloc: Global,
     extensions: Option<DeliveryExtensions>,
 ) -> DeliveryExtensions

@@ -12,7 +12,7 @@ use siri_tables::rules::{NameRule, Table};
 use std::alloc::Global;
 
 /// The key of a visit that is no more (EN 15531-3, MonitoredStopVisitCancellation).
-pub struct VisitCancellationTable;
+pub(crate) struct VisitCancellationTable;
 
 impl Table for VisitCancellationTable {
     type Out = Key;
@@ -29,7 +29,7 @@ impl Table for VisitCancellationTable {
 }
 
 /// The key of a vehicle whose activity is no more (EN 15531-3, VehicleActivityCancellation).
-pub struct VehicleCancellationTable;
+pub(crate) struct VehicleCancellationTable;
 
 impl Table for VehicleCancellationTable {
     type Out = Key;
@@ -45,7 +45,7 @@ impl Table for VehicleCancellationTable {
 }
 
 /// The key of a journey that is shown no more (this profile's own, among the Extensions of a timetable's delivery).
-pub struct RemovedJourneyTable;
+pub(crate) struct RemovedJourneyTable;
 
 impl Table for RemovedJourneyTable {
     type Out = Key;
@@ -64,7 +64,7 @@ impl Table for RemovedJourneyTable {
 }
 
 /// The key of a situation that is shown no more (this profile's own, among the Extensions of a delivery of situations).
-pub struct RemovedSituationTable;
+pub(crate) struct RemovedSituationTable;
 
 impl Table for RemovedSituationTable {
     type Out = Key;

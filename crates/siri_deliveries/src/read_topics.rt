@@ -15,8 +15,10 @@ use siri_tables::rules::{MomentRule, NameRule, NonNegativeSpanRule, NumberRule, 
 use siri_topic::{LineDirection, SituationTopic, StopTopic, TimetableTopic, Topic, VehicleTopic};
 use std::alloc::Global;
 
+/// The most entries of LineDirection in the Lines of a timetable topic; with more it is `TooMany`.
 const MOST_LINES: usize = 100;
 
+/// The rows of a StopMonitoringRequest, with MaximumStopVisits; only MonitoringRef is required.
 #[tactic(auto, unfolding(crate::specs::Topics::read_stop_topic_rows))]
 fn read_stop_topic_rows(alloc: Global, tree: &Tree<'_>) -> Result<StopTopic, TableError>
     ensures { Gives result (read_stop_topic_rows (shown tree.now)) }

@@ -20,12 +20,14 @@ use siri_records::Item;
 use siri_tables::rules::{FlagRule, MomentRule, NameRule, NumberRule};
 use siri_tables::writing::{Written, list, list_inside, optional, required};
 
+/// Whether Start, Round or Part is there: where none is, no place is written.
 fn has_place(delivery: &FunctionalDelivery) -> bool
     ensures { result ≡ any_written (rows_of_place delivery.now []) }
 {
     delivery.start.is_some() || delivery.round.is_some() || delivery.part.is_some()
 }
 
+/// Writes the object of a place in a round: Part, Round and Start, each where it is there.
 #[tactic(auto, using(crate::proofs::InOrder::place_in_order))]
 fn write_place(out: &mut Output, delivery: &FunctionalDelivery) -> Result<(), OutOfMemory>
     ensures { OnOk result (out.new ≡ out.old ++ tokens_of (row_object (rows_of_place delivery.now []))) }
@@ -37,6 +39,7 @@ fn write_place(out: &mut Output, delivery: &FunctionalDelivery) -> Result<(), Ou
     out.end_object()
 }
 
+/// Writes the row Extensions of a delivery of visits or vehicles, left out where it has no place in a round.
 #[tactic(auto, using(crate::proofs::InOrder::place_left_out, crate::proofs::InOrder::place_written))]
 fn place_row(out: &mut Output, delivery: &FunctionalDelivery) -> Result<(), OutOfMemory>
     ensures { OnOk result (out.new ≡ out.old ++ row_tokens EXTENSIONS.now (written_place delivery.now)) }
@@ -48,6 +51,7 @@ fn place_row(out: &mut Output, delivery: &FunctionalDelivery) -> Result<(), OutO
     write_place(out, delivery)
 }
 
+/// Whether Start, Round or Part is there, or anything was removed.
 #[tactic(auto, using(crate::proofs::InOrder::any_removed))]
 fn has_removed(delivery: &FunctionalDelivery) -> bool
     ensures { result ≡ any_written (rows_of_place delivery.now ((REMOVED.now, written_list written_removal delivery.now.removals) ∷ [])) }
@@ -58,6 +62,7 @@ fn has_removed(delivery: &FunctionalDelivery) -> bool
         || delivery.removals.len() > 0
 }
 
+/// Writes the object of Part, Removed, Round and Start, each where it is there.
 #[tactic(auto, using(crate::proofs::InOrder::removed_in_order))]
 fn write_removed(out: &mut Output, delivery: &FunctionalDelivery) -> Result<(), OutOfMemory>
     ensures { OnOk result (out.new ≡ out.old
@@ -71,6 +76,7 @@ fn write_removed(out: &mut Output, delivery: &FunctionalDelivery) -> Result<(), 
     out.end_object()
 }
 
+/// Writes the row Extensions of a delivery of journeys or situations, left out where its object would be empty.
 #[tactic(auto, using(crate::proofs::InOrder::removed_left_out, crate::proofs::InOrder::removed_written))]
 fn removed_row(out: &mut Output, delivery: &FunctionalDelivery) -> Result<(), OutOfMemory>
     ensures { OnOk result (out.new ≡ out.old ++ row_tokens EXTENSIONS.now (written_removed delivery.now)) }
@@ -82,6 +88,7 @@ fn removed_row(out: &mut Output, delivery: &FunctionalDelivery) -> Result<(), Ou
     write_removed(out, delivery)
 }
 
+/// A StopMonitoringDelivery; what was removed stands at MonitoredStopVisitCancellation.
 struct StopDeliveryWriting;
 
 impl Written for StopDeliveryWriting {
@@ -108,6 +115,7 @@ impl Written for StopDeliveryWriting {
     }
 }
 
+/// An EstimatedTimetableDelivery; what was removed stands at Removed in its Extensions.
 struct TimetableDeliveryWriting;
 
 impl Written for TimetableDeliveryWriting {
@@ -129,6 +137,7 @@ impl Written for TimetableDeliveryWriting {
     }
 }
 
+/// A VehicleMonitoringDelivery; what was removed stands at VehicleActivityCancellation.
 struct VehicleDeliveryWriting;
 
 impl Written for VehicleDeliveryWriting {
@@ -155,6 +164,7 @@ impl Written for VehicleDeliveryWriting {
     }
 }
 
+/// Writes the row Situations, each as a PtSituationElement; it is left out where there are none.
 #[tactic(auto, unfolding(crate::specs::Deliveries::written_situations))]
 fn situations_row(out: &mut Output, items: &List<Item>) -> Result<(), OutOfMemory>
     ensures { OnOk result (out.new ≡ out.old ++ row_tokens SITUATIONS.now (written_situations items.now)) }
@@ -162,6 +172,7 @@ fn situations_row(out: &mut Output, items: &List<Item>) -> Result<(), OutOfMemor
     list_inside::<ItemWriting>(out, names::SITUATIONS, names::PT_SITUATION_ELEMENT, items)
 }
 
+/// A SituationExchangeDelivery; what was removed stands at Removed in its Extensions.
 struct SituationDeliveryWriting;
 
 impl Written for SituationDeliveryWriting {

@@ -19,7 +19,7 @@ use siri_tables::rules::{MomentRule, NameRule};
 use siri_tables::writing::{Written, optional, required};
 
 /// An item in a list of items, by the table of its service.
-pub struct ItemWriting;
+pub(crate) struct ItemWriting;
 
 impl Written for ItemWriting {
     type Of = Item;
@@ -31,6 +31,7 @@ impl Written for ItemWriting {
     }
 }
 
+/// The RecordedAtTime that the frame of a journey carries; an item of another service has none.
 fn frame_time(item: &Item) -> Option<Moment>
     ensures { result ≡ frame_time item.now }
 {
@@ -40,6 +41,7 @@ fn frame_time(item: &Item) -> Option<Moment>
     }
 }
 
+/// Writes the row EstimatedVehicleJourney of a frame: a list of one journey, without its RecordedAtTime.
 #[tactic(auto, using(crate::proofs::InOrder::journey_row_is))]
 fn journey_row(out: &mut Output, item: &Item) -> Result<(), OutOfMemory>
     ensures { OnOk result (out.new ≡ out.old ++ row_tokens ESTIMATED_VEHICLE_JOURNEY.now (array_unless_empty (written_item item.now ∷ []))) }
@@ -51,7 +53,7 @@ fn journey_row(out: &mut Output, item: &Item) -> Result<(), OutOfMemory>
 }
 
 /// A journey in an EstimatedJourneyVersionFrame of its own, which carries the journey's RecordedAtTime.
-pub struct FrameWriting;
+pub(crate) struct FrameWriting;
 
 impl Written for FrameWriting {
     type Of = Item;
@@ -67,6 +69,7 @@ impl Written for FrameWriting {
     }
 }
 
+/// Writes the object of a visit that was removed: ItemRef and MonitoringRef.
 #[tactic(auto, using(crate::proofs::InOrder::removed_visit_in_order))]
 fn removed_visit(out: &mut Output, monitoring: &Name, item: &Name) -> Result<(), OutOfMemory>
     ensures { OnOk result (out.new ≡ out.old ++ tokens_of (row_object (rows_of_removal (Key.Visit monitoring.now item.now)))) }
@@ -77,6 +80,7 @@ fn removed_visit(out: &mut Output, monitoring: &Name, item: &Name) -> Result<(),
     out.end_object()
 }
 
+/// Writes the object of a journey that was removed: LineRef, how it is named, DirectionRef where there is one.
 #[tactic(auto, using(crate::proofs::InOrder::removed_journey_in_order))]
 fn removed_journey(
     out: &mut Output,
@@ -95,6 +99,7 @@ fn removed_journey(
     out.end_object()
 }
 
+/// Writes the object of a vehicle that was removed: its VehicleRef, at ItemRef.
 #[tactic(auto, using(crate::proofs::InOrder::removed_vehicle_in_order))]
 fn removed_vehicle(out: &mut Output, vehicle: &Name) -> Result<(), OutOfMemory>
     ensures { OnOk result (out.new ≡ out.old ++ tokens_of (row_object (rows_of_removal (Key.Vehicle vehicle.now)))) }
@@ -104,6 +109,7 @@ fn removed_vehicle(out: &mut Output, vehicle: &Name) -> Result<(), OutOfMemory>
     out.end_object()
 }
 
+/// Writes the object of a situation that was removed: SituationNumber, ParticipantRef where there is one.
 #[tactic(auto, using(crate::proofs::InOrder::removed_situation_in_order))]
 fn removed_situation(
     out: &mut Output,
@@ -119,7 +125,7 @@ fn removed_situation(
 }
 
 /// What was removed, by the table of its service.
-pub struct RemovalWriting;
+pub(crate) struct RemovalWriting;
 
 impl Written for RemovalWriting {
     type Of = Key;

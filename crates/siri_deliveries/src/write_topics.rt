@@ -14,6 +14,7 @@ use siri_tables::rules::{MomentRule, NameRule, NumberRule, SpanRule};
 use siri_tables::writing::{Written, list_inside, optional, required};
 use siri_topic::{LineDirection, SituationTopic, StopTopic, TimetableTopic, Topic, VehicleTopic};
 
+/// Writes the topic of a StopMonitoringRequest, of which only MonitoringRef is always there.
 #[tactic(auto, using(crate::proofs::InOrder::stop_topic_in_order))]
 fn write_stop_topic(out: &mut Output, topic: &StopTopic) -> Result<(), OutOfMemory>
     ensures { OnOk result (out.new ≡ out.old ++ tokens_of (written_stop_topic topic.now)) }
@@ -30,6 +31,7 @@ fn write_stop_topic(out: &mut Output, topic: &StopTopic) -> Result<(), OutOfMemo
     out.end_object()
 }
 
+/// A LineDirection: LineRef, and DirectionRef where only one direction is asked for.
 struct LineDirectionWriting;
 
 impl Written for LineDirectionWriting {
@@ -46,6 +48,7 @@ impl Written for LineDirectionWriting {
     }
 }
 
+/// Writes the row Lines, each as a LineDirection; it is left out where every line is asked for.
 #[tactic(auto, unfolding(crate::specs::Topics::written_lines))]
 fn lines_row(out: &mut Output, lines: &List<LineDirection>) -> Result<(), OutOfMemory>
     ensures { OnOk result (out.new ≡ out.old ++ row_tokens LINES.now (written_lines lines.now)) }
@@ -53,6 +56,7 @@ fn lines_row(out: &mut Output, lines: &List<LineDirection>) -> Result<(), OutOfM
     list_inside::<LineDirectionWriting>(out, names::LINES, names::LINE_DIRECTION, lines)
 }
 
+/// Writes the topic of an EstimatedTimetableRequest, `{}` where it asks for every journey.
 #[tactic(auto, using(crate::proofs::InOrder::timetable_topic_in_order))]
 fn write_timetable_topic(out: &mut Output, topic: &TimetableTopic) -> Result<(), OutOfMemory>
     ensures { OnOk result (out.new ≡ out.old ++ tokens_of (written_timetable_topic topic.now)) }
@@ -64,6 +68,7 @@ fn write_timetable_topic(out: &mut Output, topic: &TimetableTopic) -> Result<(),
     out.end_object()
 }
 
+/// Writes the topic of a VehicleMonitoringRequest, `{}` where it asks for every vehicle.
 #[tactic(auto, using(crate::proofs::InOrder::vehicle_topic_in_order))]
 fn write_vehicle_topic(out: &mut Output, topic: &VehicleTopic) -> Result<(), OutOfMemory>
     ensures { OnOk result (out.new ≡ out.old ++ tokens_of (written_vehicle_topic topic.now)) }
@@ -75,6 +80,7 @@ fn write_vehicle_topic(out: &mut Output, topic: &VehicleTopic) -> Result<(), Out
     out.end_object()
 }
 
+/// Writes the topic of a SituationExchangeRequest, each of its rows where it is there.
 #[tactic(auto, using(crate::proofs::InOrder::situation_topic_in_order))]
 fn write_situation_topic(out: &mut Output, topic: &SituationTopic) -> Result<(), OutOfMemory>
     ensures { OnOk result (out.new ≡ out.old ++ tokens_of (written_situation_topic topic.now)) }
@@ -88,6 +94,7 @@ fn write_situation_topic(out: &mut Output, topic: &SituationTopic) -> Result<(),
     out.end_object()
 }
 
+/// Writes the rows of a topic's own service, in whatever service's list it stands.
 #[tactic(auto, unfolding(crate::specs::Topics::written_topic))]
 fn write_topic(out: &mut Output, topic: &Topic) -> Result<(), OutOfMemory>
     ensures { OnOk result (out.new ≡ out.old ++ tokens_of (written_topic topic.now)) }

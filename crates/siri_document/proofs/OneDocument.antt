@@ -1,5 +1,6 @@
 -- A run over one document.
-use Rattle.std.proofs.Common.{◌≡◌, ◌⊎◌, ◌+◌, ◌≤◌, ◌<◌, ℕ, List, [], ◌++◌, None, Some, Bool, true, false, Err, length, take, drop, refl, sym, ap, ◌∙◌, subst, append-nil, arith, length-append, inl, inr}
+use Rattle.std.proofs.Common.{◌≡◌, ◌⊎◌, ◌+◌, ◌≤◌, ◌<◌, ℕ, List, [], ◌++◌, None, Some, Bool, true, false, Err, length, take, drop, refl, sym}
+use Rattle.std.proofs.Common.{ap, ◌∙◌, subst, append-nil, arith, length-append, inl, inr}
 use Rattle.std.specs.Prelude.{MatchBool}
 use Rattle.std.specs.Io.KnownBytes.{Consumes, IsAtEnd}
 use Rattle.std.proofs.KnownBytes.{Consumes-trans}
@@ -22,13 +23,17 @@ pub lent_whole : (n : ℕ) (lent items : List ℕ) → length lent ≡ length it
 lent_whole n lent items e h = ap (λ k. take k (lent ++ drop (length lent) items)) (h ∙ sym e) ∙ take-append_seam lent (drop (length lent) items)
 
 -- more bytes were read behind those that came
-pub taken_more : (a b c : Bytes) (before room lent after : List ℕ) (f n : ℕ) → Consumes a b (take f before) → take f room ≡ take f before → lent ≡ room → take f after ≡ take f lent → Consumes b c (take n (drop f after)) → Consumes a c (take (f + n) after)
+pub taken_more : (a b c : Bytes) (before room lent after : List ℕ) (f n : ℕ) → Consumes a b (take f before)
+    → take f room ≡ take f before → lent ≡ room → take f after ≡ take f lent → Consumes b c (take n (drop f after))
+    → Consumes a c (take (f + n) after)
 taken_more a b c before room lent after f n p e v k q =
     let kept : take f after ≡ take f before = k ∙ ap (take f) v ∙ e in
-    subst (Consumes a c) (sym (take-add f n after ∙ ap (λ l. l ++ take n (drop f after)) kept)) (Consumes-trans a b c (take f before) (take n (drop f after)) p q)
+    subst (Consumes a c) (sym (take-add f n after ∙ ap (λ l. l ++ take n (drop f after)) kept))
+    (Consumes-trans a b c (take f before) (take n (drop f after)) p q)
 
 -- the message of what was read is that of the whole input
-message_same : (input later document : List ℕ) → input ≡ document ++ later → length document ≤ 8388609 → (length document < 8388609 → later ≡ []) → message_of document ≡ message_of input
+message_same : (input later document : List ℕ) → input ≡ document ++ later → length document ≤ 8388609
+    → (length document < 8388609 → later ≡ []) → message_of document ≡ message_of input
 message_same input later document e bound whole = choose (eq-or-lt_of_le bound)
   where
     choose : (length document ≡ 8388609) ⊎ (length document < 8388609) → message_of document ≡ message_of input
@@ -38,7 +43,8 @@ message_same input later document e bound whole = choose (eq-or-lt_of_le bound)
     choose (inr n) = ap message_of (sym (append-nil document) ∙ ap (λ l. document ++ l) (sym (whole n)) ∙ sym e)
 
 -- what the input has left where it is read to its end, but no further than so many bytes
-input_read : (most : ℕ) (input later document : List ℕ) → input ≡ document ++ later → length document ≤ most → (length document < most → later ≡ []) → later ≡ drop most input
+input_read : (most : ℕ) (input later document : List ℕ) → input ≡ document ++ later → length document ≤ most
+    → (length document < most → later ≡ []) → later ≡ drop most input
 input_read most input later document e bound whole = choose (eq-or-lt_of_le bound)
   where
     choose : (length document ≡ most) ⊎ (length document < most) → later ≡ drop most input
@@ -52,26 +58,35 @@ told_is : (text : Message → List ℕ) (document : List ℕ) → told_by text d
 unfolding told_by
 told_is text document = refl
 
-pub told_answers : (text : Message → List ℕ) (input left old new : Bytes) (document : List ℕ) (told : RunResult) (end : Status) → IsDocument input left document → told ≡ told_by text document → Tells old told new end → Answers (told_by text) input left old new end
+pub told_answers : (text : Message → List ℕ) (input left old new : Bytes) (document : List ℕ) (told : RunResult)
+    (end : Status) → IsDocument input left document → told ≡ told_by text document → Tells old told new end
+    → Answers (told_by text) input left old new end
 told_answers text None left old new document told end d e w = tt
 told_answers text (Some input) None old new document told end d e w = absurd d.taken
 told_answers text (Some input) (Some later) old new document told end d e w =
-    let same : told ≡ told_by text input = e ∙ told_is text document ∙ ap (told_of text) (message_same input later document d.taken d.bound d.whole) ∙ sym (told_is text input) in
+    let same : told ≡ told_by text input = e ∙ told_is text document
+    ∙ ap (told_of text) (message_same input later document d.taken d.bound d.whole) ∙ sym (told_is text input) in
     let read : Some later ≡ Some (drop 8388609 input) = ap Some (input_read 8388609 input later document d.taken d.bound d.whole) in
-    let choose : (cut : Bool) → MatchBool cut (AppendsFront old new (told_by text input).text) (Ends old (told_by text input) new end) → MatchBool cut (AppendsFront old new (told_by text input).text) (Answered (told_by text input) input (Some later) old new end) =
-    λ cut. elim cut as (λ cut. MatchBool cut (AppendsFront old new (told_by text input).text) (Ends old (told_by text input) new end) → MatchBool cut (AppendsFront old new (told_by text input).text) (Answered (told_by text input) input (Some later) old new end)) [
+    let choose : (cut : Bool) → MatchBool cut (AppendsFront old new (told_by text input).text)
+    (Ends old (told_by text input) new end) → MatchBool cut (AppendsFront old new (told_by text input).text)
+    (Answered (told_by text input) input (Some later) old new end) =
+    λ cut. elim cut as (λ cut. MatchBool cut (AppendsFront old new (told_by text input).text)
+    (Ends old (told_by text input) new end) → MatchBool cut (AppendsFront old new (told_by text input).text)
+    (Answered (told_by text input) input (Some later) old new end)) [
       | true ↦ λ front. front
       | false ↦ λ ends. record { ends = ends; read = read }
     ] in
     choose (is_cut end) (subst (λ t. Tells old t new end) same w)
 
 -- a document of which its message is told was read to its end
-at_end : (text : Message → List ℕ) (input left old new : Bytes) (document : List ℕ) (told : RunResult) → IsDocument input left document → told ≡ told_by text document → Tells old told new status.Done → IsAtEnd left
+at_end : (text : Message → List ℕ) (input left old new : Bytes) (document : List ℕ) (told : RunResult)
+    → IsDocument input left document → told ≡ told_by text document → Tells old told new status.Done → IsAtEnd left
 at_end text input left old new document told d e w = choose (eq-or-lt_of_le d.bound)
   where
     choose : (length document ≡ 8388609) ⊎ (length document < 8388609) → IsAtEnd left
     choose (inl n) =
-        let refused : told ≡ told_of text (Err (record { path = []; reason = reason.TooLong })) = e ∙ told_is text document ∙ ap (told_of text) (document_too_long document (omega (arith, n))) in
+        let refused : told ≡ told_of text (Err (record { path = []; reason = reason.TooLong })) = e
+        ∙ told_is text document ∙ ap (told_of text) (document_too_long document (omega (arith, n))) in
         absurd (cc (w.status_is, ap (λ (t : RunResult). t.status) refused))
     choose (inr n) = d.whole n
 
@@ -89,5 +104,8 @@ reads_all (Some left) status.WriteFault h = tt
 reads_all (Some left) status.ClockFault h = tt
 reads_all (Some left) status.KeeperFault h = tt
 
-pub told_all : (text : Message → List ℕ) (input left old new : Bytes) (document : List ℕ) (told : RunResult) (end : Status) → IsDocument input left document → told ≡ told_by text document → Tells old told new end → ReadsAll left end
-told_all text input left old new document told end d e w = reads_all left end (λ h. at_end text input left old new document told d e (subst (Tells old told new) h w))
+pub told_all : (text : Message → List ℕ) (input left old new : Bytes) (document : List ℕ) (told : RunResult)
+    (end : Status) → IsDocument input left document → told ≡ told_by text document → Tells old told new end
+    → ReadsAll left end
+told_all text input left old new document told end d e w =
+    reads_all left end (λ h. at_end text input left old new document told d e (subst (Tells old told new) h w))

@@ -2,20 +2,14 @@
 use Rattle.std.specs.Prelude.{◌≡◌, ℕ, List, ◌++◌, drop, codes, None, Some, Result, Ok, Err, MatchBool}
 use Rattle.siri_base.specs.declared.status.Status.{Status}
 use Rattle.siri_base.specs.declared.status.Status.TheVariants as status
-use Rattle.siri_base.specs.Words.{reason_name}
-use Rattle.siri_json.specs.Paths.{path_text}
 use Rattle.siri_tables.specs.Refusals.{Refusal}
 use Rattle.siri_messages.specs.declared.message.Message.{Message}
 use Rattle.siri_messages.specs.Kinds.{kind_of}
-use Rattle.siri_wire.specs.Documents.{message_of}
+use Rattle.siri_wire.specs.Documents.{message_of, refusal_text}
 use Rattle.siri_wire.specs.Canonical.{canonical}
 use Rattle.siri_script.specs.Spaced.{line_feed}
 use Rattle.siri_lines.specs.Ends.{Bytes, Ends, AppendsFront, is_cut}
 use Rattle.siri_lines.specs.RunResult.{RunResult}
-
--- `PATH: REASON`
-abbrev pub refusal_text : Refusal → List ℕ
-refusal_text refusal = path_text refusal.path ++ (codes ": " ++ reason_name refusal.reason)
 
 -- the refusal is told, and the run ends with status 1
 abbrev pub refused_told : Refusal → RunResult

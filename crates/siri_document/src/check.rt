@@ -1,4 +1,5 @@
-// The command `check`.
+//! The command `check`.
+
 ghost use Rattle.std.specs.Prelude.{◌≡◌, ◌++◌, IfOk};
 ghost use Rattle.siri_script.specs.Spaced.{line_feed};
 ghost use Rattle.siri_document.specs.OneDocument.{ok_text};

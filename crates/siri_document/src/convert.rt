@@ -1,4 +1,5 @@
-// The command `convert`.
+//! The command `convert`.
+
 ghost use Rattle.std.specs.Prelude.{◌≡◌, ◌++◌, IfOk};
 ghost use Rattle.siri_wire.specs.Canonical.{canonical};
 ghost use Rattle.siri_script.specs.Spaced.{line_feed};

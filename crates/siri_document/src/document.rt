@@ -1,4 +1,5 @@
-// Reads the one document of a command, and tells what is made of it.
+//! Reads the one document of a command, and tells what is made of it.
+
 ghost use Rattle.std.specs.Prelude.{◌≡◌, ◌≤◌, ◌<◌, ◌+◌, ℕ, List, ◌++◌, length, take, drop, IfOk, OnOk, false};
 ghost use Rattle.std.specs.Io.KnownBytes.{Consumes, IsAtEnd};
 ghost use Rattle.siri_base.specs.Causes.{Rose, HasOutsideCause};
@@ -11,7 +12,7 @@ ghost use Rattle.siri_document.specs.OneDocument.{Answers, EndsDocument, refused
 ghost use Rattle.siri_script.specs.Spaced.{line_feed};
 
 use siri_base::{OutOfMemory, OutsideError, Sink, Source, Status, append};
-use siri_json::MAX_DOCUMENT;
+use siri_json::LONGEST_DOCUMENT;
 use siri_lines::write_text;
 use siri_messages::Message;
 use siri_wire::{DecodeError, Refusal, decode};
@@ -22,7 +23,7 @@ use std::marker::Model;
 const PIECE: usize = 65_536;
 
 /// How many bytes are read at most: one more than a document may have.
-const MOST: usize = MAX_DOCUMENT + 1;
+const MOST_READ: usize = LONGEST_DOCUMENT + 1;
 
 /// What a command tells of the message of a document.
 pub trait Telling {
@@ -65,9 +66,7 @@ impl Answer {
     fn refused(refusal: &Refusal) -> Result<Answer, OutOfMemory>
         ensures { IfOk result (λ answer. answer ≡ refused_told (record { path = refusal.now.path; reason = refusal.now.reason })) }
     {
-        let mut text = refusal.path.text()?.into_vec();
-        append(&mut text, b": ")?;
-        append(&mut text, refusal.reason.name().as_bytes())?;
+        let mut text = refusal.text()?;
         append(&mut text, b"\n")?;
         Ok(Answer {
             text,
@@ -92,8 +91,8 @@ impl Answer {
     }
 }
 
-/// Reads one document, and writes what the command tells of its message, or the refusal. A source or a sink that fails ends the run
-/// there.
+/// Reads one document, and writes what the command tells of its message, or the refusal. A source or a sink that fails
+/// ends the run there.
 #[tactic(auto, using(siri_lines::proofs::Meeting::sink_none))]
 pub fn answer_document<T: Telling, S: Source, K: Sink>(
     alloc: Global,
@@ -140,7 +139,7 @@ fn read_document<S: Source>(alloc: Global, source: &mut S) -> Result<Vec<u8>, Ou
 {
     let mut document = Vec::new(alloc);
     let mut filled = 0;
-    while filled < MOST {
+    while filled < MOST_READ {
         make_room(&mut document, filled)?;
         match read_at(source, &mut document, filled)? {
             0 => {
@@ -155,15 +154,15 @@ fn read_document<S: Source>(alloc: Global, source: &mut S) -> Result<Vec<u8>, Ou
 
 /// Makes room behind the bytes that came, where there is none.
 fn make_room(document: &mut Vec<u8>, filled: usize) -> Result<(), OutOfMemory>
-    requires below { filled < MOST }
+    requires below { filled < MOST_READ }
     requires within { filled ≤ length document.old.items }
-    requires bound { length document.old.items ≤ MOST }
+    requires bound { length document.old.items ≤ MOST_READ }
     ensures kept { OnOk result (take filled document.new.items ≡ take filled document.old.items) }
     ensures room { OnOk result (filled < length document.new.items) }
-    ensures bound { OnOk result (length document.new.items ≤ MOST) }
+    ensures bound { OnOk result (length document.new.items ≤ MOST_READ) }
 {
     if filled == document.len() {
-        document.resize((filled + PIECE).min(MOST), 0)?;
+        document.resize((filled + PIECE).min(MOST_READ), 0)?;
     }
     Ok(())
 }

@@ -5,8 +5,9 @@
 //! (document.rt)         (siri_wire)           (check.rt, convert.rt)
 //! ```
 //!
-//! Stands on `siri_wire` for what a document spells and how a message is written, on `siri_lines` for what a run leaves in its
-//! sink, and on `siri_script` for the end of a line. It knows no word of a command line.
+//! Stands on `siri_wire`, `siri_messages` and `siri_json` for what a document spells and how a message is written, and
+//! on `siri_base` and `siri_lines` for what a run reads and leaves in its sink; its definitions cite the end of a line
+//! of `siri_script`. It knows no word of a command line.
 #![tactic(auto)]
 
 mod check;

@@ -4,12 +4,12 @@ use Rattle.siri_base.specs.OutsideCalls.{WhereTold}
 use Rattle.siri_base.specs.Wires.{WireState, hung_up}
 use Rattle.siri_http.specs.Connections.{OnConnection}
 use Rattle.siri_http.specs.Texts.{response_text}
-use Rattle.siri_exchange.specs.Causes.{HasAskedCause, HasResponseCause}
-use Rattle.siri_exchange.specs.Requests.{Asks}
-use Rattle.siri_exchange.specs.Responses.{Responds}
-use Rattle.siri_exchange.specs.Tallies.{with_served, with_refused, with_dropped}
-use Rattle.siri_exchange.specs.declared.asked.Asked.{Asked}
-use Rattle.siri_exchange.specs.declared.tally.Tally.{Tally}
+use Rattle.siri_http.specs.ExchangeCauses.{HasAskedCause, HasResponseCause}
+use Rattle.siri_http.specs.Requests.{Asks}
+use Rattle.siri_http.specs.Responses.{Responds}
+use Rattle.siri_http.specs.Tallies.{with_served, with_refused, with_dropped}
+use Rattle.siri_http.specs.declared.asked.Asked.{Asked}
+use Rattle.siri_http.specs.declared.tally.Tally.{Tally}
 use Rattle.siri_ends.specs.declared.response.Response.{Response}
 use Rattle.siri_ends.specs.At.{Surroundings}
 

@@ -4,7 +4,7 @@ use Rattle.siri_base.specs.Wires.{WireState}
 use Rattle.siri_model.specs.History.{History}
 use Rattle.siri_producer.specs.Known.{Known, StandsFor}
 use Rattle.siri_view.specs.Consuming.{Consuming}
-use Rattle.siri_exchange.specs.declared.tally.Tally.{Tally}
+use Rattle.siri_http.specs.declared.tally.Tally.{Tally}
 
 -- a producer's end: its history, what was counted, what the wire tells, where it does, and how often it failed
 pub record At : Type 0 where
@@ -41,7 +41,8 @@ at_of end history = record { history = history; tally = end.tally; wire = end.wi
 -- A call does this: whatever history the producer stood for before it, it stands for the one that the call leaves. Its name stays.
 pub record Goes (Does : (name : List ℕ) → At → At → Type 0) (old new : End) : Type 0 where
   pub name : new.producer.responder.name ≡ old.producer.responder.name
-  pub goes : (h : History) → StandsFor old.producer h → (after : History) × StandsFor new.producer after × Does old.producer.responder.name (at_of old h) (at_of new after)
+  pub goes : (h : History) → StandsFor old.producer h → (after : History) × StandsFor new.producer after
+      × Does old.producer.responder.name (at_of old h) (at_of new after)
 
 -- a consumer's end: the consumer, what was counted, what the wire tells, where it does, and how often it failed
 pub record ConsumerAt : Type 0 where

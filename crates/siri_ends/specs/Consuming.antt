@@ -3,7 +3,7 @@ use Rattle.std.specs.Prelude.{◌≡◌, ◌⊎◌, ℕ, List, [], ◌∷◌, Op
 use Rattle.siri_base.specs.Wires.{WireState}
 use Rattle.siri_messages.specs.declared.message.Message.{Message}
 use Rattle.siri_view.specs.Consuming.{Consuming, seen_of}
-use Rattle.siri_exchange.specs.declared.asked.Asked.{Asked}
+use Rattle.siri_http.specs.declared.asked.Asked.{Asked}
 use Rattle.siri_ends.specs.declared.response.Response.{Response}
 use Rattle.siri_ends.specs.Responses.{message_asked, responding}
 use Rattle.siri_ends.specs.At.{ConsumerAt, Surroundings, around_consumer}

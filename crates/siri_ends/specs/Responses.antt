@@ -1,25 +1,19 @@
 -- What an accepted connection is answered (EN 15531-2 for the messages, RFC 9110 for the statuses).
-use Rattle.std.specs.Prelude.{ℕ, true, false, List, [], ◌∷◌, ◌++◌, codes, Option, None, Some, Result, Ok, Err}
-use Rattle.siri_base.specs.Words.{reason_name}
-use Rattle.siri_json.specs.Paths.{path_text}
+use Rattle.std.specs.Prelude.{ℕ, true, false, List, [], ◌∷◌, ◌++◌, Option, None, Some, Result, Ok, Err}
 use Rattle.siri_tables.specs.Refusals.{Refusal}
 use Rattle.siri_messages.specs.declared.message.Message.{Message}
 use Rattle.siri_model.specs.History.{History, Take, Settle}
 use Rattle.siri_producer.specs.Answers.{answer_to}
 use Rattle.siri_wire.specs.Canonical.{canonical}
-use Rattle.siri_wire.specs.Documents.{message_of}
-use Rattle.siri_exchange.specs.Requests.{status_of, name_of}
-use Rattle.siri_exchange.specs.declared.asked.Asked.{Asked}
-use Rattle.siri_exchange.specs.declared.asked.Asked.TheVariants as asked
+use Rattle.siri_wire.specs.Documents.{message_of, refusal_text}
+use Rattle.siri_http.specs.Requests.{status_of, name_of}
+use Rattle.siri_http.specs.declared.asked.Asked.{Asked}
+use Rattle.siri_http.specs.declared.asked.Asked.TheVariants as asked
 use Rattle.siri_ends.specs.declared.response.Response.{Response}
 
 -- a refusal is told as a line of plain text
 abbrev pub refusing : ℕ → List ℕ → Response
 refusing status reason = record { status = status; plain = true; body = reason ++ 10 ∷ [] }
-
--- `PATH: REASON`
-abbrev pub refusal_text : Refusal → List ℕ
-refusal_text refusal = path_text refusal.path ++ (codes ": " ++ reason_name refusal.reason)
 
 -- a reply is its canonical document; without a reply the body is empty
 abbrev pub reply_body : Option Message → List ℕ

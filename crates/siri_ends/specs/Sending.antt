@@ -8,15 +8,15 @@ use Rattle.siri_messages.specs.declared.message.Message.TheVariants as message
 use Rattle.siri_model.specs.History.{History, Take}
 use Rattle.siri_producer.specs.Known.{Known, StandsFor}
 use Rattle.siri_producer.specs.Sends.{sends}
-use Rattle.siri_settle.specs.declared.outs.Out.{Out}
+use Rattle.siri_subscriptions.specs.declared.outs.Out.{Out}
 use Rattle.siri_wire.specs.Canonical.{canonical}
 use Rattle.siri_wire.specs.Documents.{message_of}
-use Rattle.siri_exchange.specs.Causes.{HasSentCause}
-use Rattle.siri_exchange.specs.Posts.{Posts}
-use Rattle.siri_exchange.specs.Tallies.{with_unsent}
-use Rattle.siri_exchange.specs.declared.posting.Sent.{Sent}
-use Rattle.siri_exchange.specs.declared.posting.Sent.TheVariants as sent
-use Rattle.siri_exchange.specs.declared.tally.Tally.{Tally}
+use Rattle.siri_http.specs.ExchangeCauses.{HasSentCause}
+use Rattle.siri_http.specs.Posts.{Posts}
+use Rattle.siri_http.specs.Tallies.{with_unsent}
+use Rattle.siri_http.specs.declared.posting.Sent.{Sent}
+use Rattle.siri_http.specs.declared.posting.Sent.TheVariants as sent
+use Rattle.siri_http.specs.declared.tally.Tally.{Tally}
 use Rattle.siri_ends.specs.Responses.{message_in, turn_steps}
 use Rattle.siri_ends.specs.At.{At}
 use Rattle.siri_ends.specs.InTurn.{FirstInTurn, InTurn}
@@ -74,9 +74,13 @@ LeavesUnsent outs at end = end ≡ record at { tally = with_unsent (length outs)
 abbrev pub SendsOut : (name : List ℕ) → ℕ → List Out → At → At → Type 0
 SendsOut name limit outs at end = InTurn SendsOne (λ outcome at. settled_by name outcome at.history) LeavesUnsent limit outs at end
 
--- the messages of one turn: at most 100,000 are sent
+-- the most messages that one turn sends
+abbrev pub most_sends : ℕ
+most_sends = 100000
+
+-- the messages of one turn
 abbrev pub SendsAll : List Out → (name : List ℕ) → At → At → Type 0
-SendsAll outs name at end = SendsOut name 100000 outs at end
+SendsAll outs name at end = SendsOut name most_sends outs at end
 
 -- a message's exchange with its address, or the first steps of it, which `Posts` tells
 abbrev pub PostsOut : Out → Option Sent → (before after : Option WireState) → Type 0
@@ -93,4 +97,4 @@ FirstSends name limit outs h before after =
 
 -- the first sends of one turn, whatever history the producer stood for before them
 abbrev pub SendsSome : List Out → Known → (before after : Option WireState) → Type 0
-SendsSome outs producer before after = (h : History) → StandsFor producer h → FirstSends producer.responder.name 100000 outs h before after
+SendsSome outs producer before after = (h : History) → StandsFor producer h → FirstSends producer.responder.name most_sends outs h before after

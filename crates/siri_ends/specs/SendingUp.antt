@@ -8,15 +8,15 @@ use Rattle.siri_messages.specs.declared.message.Message.{Message}
 use Rattle.siri_view.specs.Consuming.{Consuming, after_message, seen_of}
 use Rattle.siri_wire.specs.Canonical.{canonical}
 use Rattle.siri_wire.specs.Documents.{message_of}
-use Rattle.siri_exchange.specs.Causes.{HasSentCause}
-use Rattle.siri_exchange.specs.Posts.{PostsTo}
-use Rattle.siri_exchange.specs.Tallies.{with_unsent}
-use Rattle.siri_exchange.specs.declared.posting.Sent.{Sent}
-use Rattle.siri_exchange.specs.declared.posting.Sent.TheVariants as sent
+use Rattle.siri_http.specs.ExchangeCauses.{HasSentCause}
+use Rattle.siri_http.specs.Posts.{PostsTo}
+use Rattle.siri_http.specs.Tallies.{with_unsent}
+use Rattle.siri_http.specs.declared.posting.Sent.{Sent}
+use Rattle.siri_http.specs.declared.posting.Sent.TheVariants as sent
 use Rattle.siri_ends.specs.Responses.{message_in}
 use Rattle.siri_ends.specs.At.{ConsumerAt}
 use Rattle.siri_ends.specs.InTurn.{FirstInTurn, InTurn}
-use Rattle.siri_ends.specs.Sending.{tally_after}
+use Rattle.siri_ends.specs.Sending.{tally_after, most_sends}
 
 -- the consumer takes a message, where there is one
 abbrev pub after_taking : Consuming → Option Message → Consuming
@@ -59,9 +59,9 @@ LeavesUnsentUp list at end = end ≡ record at { tally = with_unsent (length lis
 
 -- Messages are sent up in their order, and all replies to a response join the end. Of more than 100,000 the rest are unsent.
 abbrev pub SendsUp : (host path : List ℕ) → List Message → (at end : ConsumerAt) → Type 0
-SendsUp host path list at end = InTurn (SendsOneUp host path) (λ outcome at. replies_after outcome at.consumer) LeavesUnsentUp 100000 list at end
+SendsUp host path list at end = InTurn (SendsOneUp host path) (λ outcome at. replies_after outcome at.consumer) LeavesUnsentUp most_sends list at end
 
 -- Where memory was wanting, the first of these sends were made, and of the next one the first steps.
 abbrev pub FirstSendsUp : (host path : List ℕ) → List Message → Consuming → (before after : Option WireState) → Type 0
 FirstSendsUp host path list consumer before after =
-    FirstInTurn (PostsUp host path) replies_after consumer_after 100000 list consumer before after
+    FirstInTurn (PostsUp host path) replies_after consumer_after most_sends list consumer before after

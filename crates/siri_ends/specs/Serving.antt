@@ -4,12 +4,12 @@ use Rattle.siri_base.specs.Wires.{WireState}
 use Rattle.siri_model.specs.History.{History}
 use Rattle.siri_producer.specs.Known.{StandsFor}
 use Rattle.siri_producer.specs.Sends.{sends}
-use Rattle.siri_settle.specs.declared.outs.Out.{Out}
-use Rattle.siri_exchange.specs.declared.asked.Asked.{Asked}
+use Rattle.siri_subscriptions.specs.declared.outs.Out.{Out}
+use Rattle.siri_http.specs.declared.asked.Asked.{Asked}
 use Rattle.siri_ends.specs.Responses.{message_asked, response_to, taking, turn_steps}
 use Rattle.siri_ends.specs.At.{At, End, Surroundings, around, at_of}
 use Rattle.siri_ends.specs.Answering.{AnswersWith, Reads, StopsAnswering}
-use Rattle.siri_ends.specs.Sending.{FirstSends, SendsAll}
+use Rattle.siri_ends.specs.Sending.{FirstSends, SendsAll, most_sends}
 
 -- The connection that is there is answered: its request is read, its message is taken, where it brings one, and settled, and the
 -- answer is written. These messages are to be sent.
@@ -37,4 +37,4 @@ abbrev pub ServesSome : End → (after : Option WireState) → Type 0
 ServesSome old after = (h : History) → StandsFor old.producer h
     → FirstAnswer old.producer.responder.name h old.wire after
     ⊎ ((outs : List Out) × (mid : At) × Answers outs old.producer.responder.name (at_of old h) mid
-    × FirstSends old.producer.responder.name 100000 outs mid.history mid.wire after)
+    × FirstSends old.producer.responder.name most_sends outs mid.history mid.wire after)

@@ -6,11 +6,11 @@ use Rattle.siri_tables.specs.Refusals.{Refusal}
 use Rattle.siri_messages.specs.declared.message.Message.{Message}
 use Rattle.siri_model.specs.History.{History}
 use Rattle.siri_producer.specs.Known.{Known, StandsFor}
-use Rattle.siri_settle.specs.declared.outs.Out.{Out}
-use Rattle.siri_exchange.specs.Causes.{HasSentCause}
-use Rattle.siri_exchange.specs.Posts.{Posts}
-use Rattle.siri_exchange.specs.declared.asked.Asked.{Asked}
-use Rattle.siri_exchange.specs.declared.posting.Sent.{Sent}
+use Rattle.siri_subscriptions.specs.declared.outs.Out.{Out}
+use Rattle.siri_http.specs.ExchangeCauses.{HasSentCause}
+use Rattle.siri_http.specs.Posts.{Posts}
+use Rattle.siri_http.specs.declared.asked.Asked.{Asked}
+use Rattle.siri_http.specs.declared.posting.Sent.{Sent}
 use Rattle.siri_ends.specs.declared.answering.Brought.{Brought}
 use Rattle.siri_ends.specs.declared.answering.Brought.TheVariants as brought
 use Rattle.siri_ends.specs.declared.response.Response.{Response}

@@ -1,4 +1,5 @@
-// Answers an accepted connection, whichever end does it.
+//! Answers an accepted connection, whichever end does it.
+
 ghost use Rattle.std.specs.Prelude.{◌≡◌, true, IfOk, OnOk, OnErr, Some};
 ghost use Rattle.siri_http.specs.Texts.{is_written};
 ghost use Rattle.siri_wire.specs.Documents.{message_of};
@@ -9,14 +10,14 @@ ghost use Rattle.siri_ends.specs.Turns.{AreWritten, BringsDocument};
 
 use crate::response::{Response, refuse_document, refuse_request};
 use siri_base::{OutOfMemory, Wire};
-use siri_exchange::{Asked, Tally, respond};
+use siri_http::{Asked, Tally, respond};
 use siri_messages::Message;
 use siri_wire::{DecodeError, decode};
 use std::alloc::Global;
 
 /// What a connection brings.
 #[derive(Drop)]
-pub enum Brought {
+pub(crate) enum Brought {
     /// A POST whose body is a document.
     Message(Message),
     /// A request that is refused, for its head, its method or its body: its answer.
@@ -38,7 +39,7 @@ fn brought_in(alloc: Global, document: &[u8]) -> Result<Brought, OutOfMemory>
 
 /// What a connection brings that asks this.
 #[tactic(auto, unfolding(crate::specs::Responses::responding, crate::specs::Responses::message_asked))]
-pub fn brought_by(alloc: Global, asked: &Asked) -> Result<Brought, OutOfMemory>
+pub(crate) fn brought_by(alloc: Global, asked: &Asked) -> Result<Brought, OutOfMemory>
     ensures { IfOk result (λ brought. turn.Brings asked.now brought) }
 {
     match asked {
@@ -86,7 +87,7 @@ fn drop_connection<W: Wire>(wire: &mut W, tally: &mut Tally)
 }
 
 /// Writes the response, where there is one, and hangs up.
-pub fn finish<W: Wire>(
+pub(crate) fn finish<W: Wire>(
     alloc: Global,
     wire: &mut W,
     response: &Option<Response>,

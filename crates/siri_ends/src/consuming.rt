@@ -1,4 +1,5 @@
-// Answers a connection as a consumer.
+//! Answers a connection as a consumer.
+
 ghost use Rattle.std.specs.Prelude.{◌≡◌, IfOk, OnOk, OnErr, Some};
 ghost use Rattle.siri_ends.specs.Responses.{message_asked, replying};
 ghost use Rattle.siri_ends.specs.At.{consumer_at};
@@ -12,8 +13,7 @@ use crate::answering::{Brought, brought_by, finish};
 use crate::response::{Response, replying};
 use crate::sending_up::{send_up, take_message};
 use siri_base::{List, OutOfMemory, Wire};
-use siri_exchange::{Asked, read_asked};
-use siri_http::Address;
+use siri_http::{Address, Asked, read_asked};
 use siri_messages::Message;
 use siri_view::Consumer;
 use std::alloc::Global;
@@ -94,13 +94,14 @@ fn answer_one<W: Wire>(
     }
 }
 
-/// Answers the connection that was accepted. Its request is read; where it is a POST whose body is a document, the consumer
-/// takes the message; the answer is written, and the connection hung up. The further replies are then sent up to the producer's
-/// address, as [`send_up`] says.
+/// Answers the connection that was accepted. Its request is read; where it is a POST whose body is a document, the
+/// consumer takes the message; the answer is written, and the connection hung up. The further replies are then sent up
+/// to the producer's address, as [`send_up`] says.
 ///
-/// The answer has status 200 and the document of the first reply, or an empty body where there is no reply. A refused head,
-/// method or body is answered with its own status and a line of text, and counted as refused. A request that didn't come whole
-/// is answered nothing, and the connection is counted as dropped, as is one whose answer wasn't written whole.
+/// The answer has status 200 and the document of the first reply, or an empty body where there is no reply. A refused
+/// head, method or body is answered with its own status and a line of text, and counted as refused. A request that
+/// didn't come whole is answered nothing, and the connection is counted as dropped, as is one whose answer wasn't
+/// written whole.
 pub fn consume_one<W: Wire>(
     alloc: Global,
     wire: &mut W,

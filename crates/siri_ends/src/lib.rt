@@ -1,4 +1,5 @@
-//! The ends of the exchange over HTTP: what a producer or a consumer answers to whoever connects to it, and what it sends.
+//! The ends of the exchange over HTTP: what a producer or a consumer answers to whoever connects to it, and what it
+//! sends.
 //!
 //! ```text
 //!   a connection -> serve_one:   the producer takes the message of its request, settles, answers and hangs up, and sends out
@@ -12,13 +13,13 @@
 //!                                replies to it join the messages
 //! ```
 //!
-//! A call is a function of what the wire brings and of the producer's history, or of the consumer: its contract says which bytes
-//! go to which connection, which addresses are dialled, and what is counted. It ends well, or for want of memory; what a peer
-//! does ends neither.
+//! A call is a function of what the wire brings and of the producer's history, or of the consumer: its contract says
+//! which bytes go to which connection, which addresses are dialled, and what is counted. It ends well, or for want of
+//! memory; what a peer does ends neither.
 //!
-//! Stands on `siri_exchange` for one exchange over one connection, on `siri_wire` for documents, on `siri_producer` and on
-//! `siri_view`, whose consumer's contracts see it as a record. It accepts no connection, knows no clock, and waits no bounded
-//! time.
+//! Stands on `siri_http` for one exchange over one connection, on `siri_wire` for documents, on `siri_producer` and on
+//! `siri_view`, whose consumer's contracts see it as a record, and on `siri_base` and `siri_messages` for what passes
+//! between them. It accepts no connection, knows no clock, and waits no bounded time.
 #![tactic(auto)]
 
 mod answering;
@@ -33,4 +34,4 @@ pub use consuming::consume_one;
 pub use sending::send_out;
 pub use sending_up::send_up;
 pub use serving::serve_one;
-pub use siri_exchange::Tally;
+pub use siri_http::Tally;

@@ -1,11 +1,13 @@
-// A response that is to be written.
+//! A response that is to be written.
+
 ghost use Rattle.std.specs.Prelude.{◌≡◌, IfOk, true, option_map};
 ghost use Rattle.siri_http.specs.Texts.{is_written};
-ghost use Rattle.siri_exchange.specs.Requests.{status_of, name_of};
-ghost use Rattle.siri_ends.specs.Responses.{refusal_text, refusing, reply_body, replying};
+ghost use Rattle.siri_http.specs.Requests.{status_of, name_of};
+ghost use Rattle.siri_wire.specs.Documents.{refusal_text};
+ghost use Rattle.siri_ends.specs.Responses.{refusing, reply_body, replying};
 
 use siri_base::{List, OutOfMemory, append};
-use siri_exchange::BadRequest;
+use siri_http::BadRequest;
 use siri_messages::Message;
 use siri_wire::{Refusal, encode};
 use std::alloc::Global;
@@ -35,7 +37,7 @@ fn refusing(status: u16, mut reason: Vec<u8>) -> Result<Response, OutOfMemory>
 }
 
 /// The answer to a request that is refused for its head or its method.
-pub fn refuse_request(alloc: Global, bad: BadRequest) -> Result<Response, OutOfMemory>
+pub(crate) fn refuse_request(alloc: Global, bad: BadRequest) -> Result<Response, OutOfMemory>
     ensures response { IfOk result (λ response. response ≡ refusing (status_of bad) (name_of bad)) }
     ensures written { IfOk result (λ response. is_written response.status ≡ true) }
 {
@@ -45,14 +47,11 @@ pub fn refuse_request(alloc: Global, bad: BadRequest) -> Result<Response, OutOfM
 }
 
 /// The answer to a document that is refused.
-pub fn refuse_document(refusal: &Refusal) -> Result<Response, OutOfMemory>
+pub(crate) fn refuse_document(refusal: &Refusal) -> Result<Response, OutOfMemory>
     ensures response { IfOk result (λ response. response ≡ refusing 400 (refusal_text (record { path = refusal.now.path; reason = refusal.now.reason }))) }
     ensures written { IfOk result (λ response. is_written response.status ≡ true) }
 {
-    let mut reason = refusal.path.text()?.into_vec();
-    append(&mut reason, b": ")?;
-    append(&mut reason, refusal.reason.name().as_bytes())?;
-    refusing(400, reason)
+    refusing(400, refusal.text()?)
 }
 
 /// The body of a reply.
@@ -66,7 +65,7 @@ fn reply_body(alloc: Global, reply: Option<&Message>) -> Result<List<u8>, OutOfM
 }
 
 /// The answer to a message with this reply.
-pub fn replying(alloc: Global, reply: Option<&Message>) -> Result<Response, OutOfMemory>
+pub(crate) fn replying(alloc: Global, reply: Option<&Message>) -> Result<Response, OutOfMemory>
     ensures response { IfOk result (λ response. response ≡ replying (option_map (λ message. message.now) reply.entry)) }
     ensures written { IfOk result (λ response. is_written response.status ≡ true) }
 {

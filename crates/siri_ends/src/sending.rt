@@ -1,16 +1,17 @@
-// Sends messages to where they are for.
+//! Sends messages to where they are for.
+
 ghost use Rattle.std.specs.Prelude.{IfOk, OnOk, OnErr, Some};
 ghost use Rattle.siri_wire.specs.Documents.{message_of};
-ghost use Rattle.siri_exchange.specs.Causes.{HasSentCause, outcome};
+ghost use Rattle.siri_http.specs.ExchangeCauses.{HasSentCause, outcome};
 ghost use Rattle.siri_ends.specs.Responses.{message_in};
 ghost use Rattle.siri_ends.specs.At.{Goes, end_of};
 ghost use Rattle.siri_ends.specs.Sending.{PostsOut, SendsAll, SendsSome, acknowledging, acknowledging_in};
 ghost use Rattle.siri_ends.specs.Turns.{Hears, SendsNext, StopsAt};
 
 use crate::Tally;
-use crate::in_turn::{SEND_LIMIT, append_all};
+use crate::in_turn::{MOST_SENDS, append_all};
 use siri_base::{List, OutOfMemory, Wire};
-use siri_exchange::{Sent, post};
+use siri_http::{Sent, post};
 use siri_messages::Message;
 use siri_producer::{Out, Producer};
 use siri_wire::{DecodeError, decode, encode};
@@ -115,9 +116,9 @@ fn send_next<W: Wire>(
 }
 
 /// Sends messages in their order: each is dialled, written, its response read, and the connection hung up. A
-/// DataReceivedAcknowledgement in a response of status 200 is taken and settled, and what that sends joins the end. After
-/// 100,000 sends the rest are counted as unsent, as is each message that has no address, or one that is none, that the wire
-/// failed, or whose response was refused or of another status than 200.
+/// DataReceivedAcknowledgement in a response of status 200 is taken and settled, and what that sends joins the end.
+/// After 100,000 sends the rest are counted as unsent, as is each message that has no address, or one that is none,
+/// that the wire failed, or whose response was refused or of another status than 200.
 pub fn send_out<W: Wire>(
     alloc: Global,
     wire: &mut W,
@@ -129,7 +130,7 @@ pub fn send_out<W: Wire>(
     ensures err { OnErr result (SendsSome outs producer.old (W.tells wire.old) (W.tells wire.new)) }
 {
     let mut queue = VecDeque::from(outs.into_vec());
-    let mut left = SEND_LIMIT;
+    let mut left = MOST_SENDS;
     while left > 0 {
         let Some(out) = queue.pop_front() else {
             return Ok(());

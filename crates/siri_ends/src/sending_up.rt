@@ -1,18 +1,18 @@
-// Sends messages up to the producer.
+//! Sends messages up to the producer.
+
 ghost use Rattle.std.specs.Prelude.{◌≡◌, IfOk, OnOk, OnErr, Some};
 ghost use Rattle.siri_view.specs.Consuming.{after_message, seen_of};
 ghost use Rattle.siri_wire.specs.Documents.{message_of};
-ghost use Rattle.siri_exchange.specs.Causes.{HasSentCause, outcome};
+ghost use Rattle.siri_http.specs.ExchangeCauses.{HasSentCause, outcome};
 ghost use Rattle.siri_ends.specs.Responses.{message_in};
 ghost use Rattle.siri_ends.specs.At.{consumer_at};
 ghost use Rattle.siri_ends.specs.SendingUp.{FirstSendsUp, PostsUp, SendsUp, after_taking, replies_to};
 ghost use Rattle.siri_ends.specs.Turns.{SendsNextUp, StopsAt};
 
 use crate::Tally;
-use crate::in_turn::{SEND_LIMIT, append_all};
+use crate::in_turn::{MOST_SENDS, append_all};
 use siri_base::{List, OutOfMemory, Wire};
-use siri_exchange::{Sent, post_to};
-use siri_http::Address;
+use siri_http::{Address, Sent, post_to};
 use siri_messages::Message;
 use siri_view::Consumer;
 use siri_wire::{DecodeError, decode, encode};
@@ -20,7 +20,10 @@ use std::alloc::Global;
 use std::collections::VecDeque;
 
 /// Takes a message, and gives the replies to it.
-pub fn take_message(consumer: &mut Consumer, message: Message) -> Result<List<Message>, OutOfMemory>
+pub(crate) fn take_message(
+    consumer: &mut Consumer,
+    message: Message,
+) -> Result<List<Message>, OutOfMemory>
     ensures consumer { OnOk result (consumer.new ≡ after_message consumer.old message) }
     ensures replies { IfOk result (λ replies. replies ≡ (seen_of consumer.old message).replies) }
 {
@@ -101,10 +104,10 @@ fn send_next<W: Wire>(
     more
 }
 
-/// Sends messages up to the producer's address in their order: each is dialled, written, its response read, and the connection
-/// hung up. The message of a response of status 200, where its body is a document, is taken, and all the replies to it join the
-/// end. After 100,000 sends the rest are counted as unsent, as is each message that the wire failed, or whose response was
-/// refused or of another status than 200.
+/// Sends messages up to the producer's address in their order: each is dialled, written, its response read, and the
+/// connection hung up. The message of a response of status 200, where its body is a document, is taken, and all the
+/// replies to it join the end. After 100,000 sends the rest are counted as unsent, as is each message that the wire
+/// failed, or whose response was refused or of another status than 200.
 pub fn send_up<W: Wire>(
     alloc: Global,
     wire: &mut W,
@@ -117,7 +120,7 @@ pub fn send_up<W: Wire>(
     ensures err { OnErr result (FirstSendsUp producer.now.host producer.now.path list consumer.old (W.tells wire.old) (W.tells wire.new)) }
 {
     let mut queue = VecDeque::from(list.into_vec());
-    let mut left = SEND_LIMIT;
+    let mut left = MOST_SENDS;
     while left > 0 {
         let Some(message) = queue.pop_front() else {
             return Ok(());

@@ -1,4 +1,5 @@
-// Serves a connection.
+//! Serves a connection.
+
 ghost use Rattle.std.specs.Prelude.{◌≡◌, IfOk, OnOk, OnErr, Some, true};
 ghost use Rattle.siri_http.specs.Texts.{is_written};
 ghost use Rattle.siri_model.specs.History.{History};
@@ -12,7 +13,7 @@ use crate::answering::{Brought, brought_by, finish};
 use crate::response::{Response, replying};
 use crate::sending::send_out;
 use siri_base::{List, OutOfMemory, Wire};
-use siri_exchange::{Asked, Tally, read_asked};
+use siri_http::{Asked, Tally, read_asked};
 use siri_messages::Message;
 use siri_producer::{Out, Producer};
 use std::alloc::Global;
@@ -72,13 +73,13 @@ fn answer_one<W: Wire>(
     Ok(outs)
 }
 
-/// Serves the connection that was accepted. Its request is read; where it is a POST whose body is a document, the message is
-/// taken; the producer settles; the answer is written, and the connection hung up. What was settled is then sent out, as
-/// [`send_out`] says.
+/// Serves the connection that was accepted. Its request is read; where it is a POST whose body is a document, the
+/// message is taken; the producer settles; the answer is written, and the connection hung up. What was settled is then
+/// sent out, as [`send_out`] says.
 ///
-/// The answer has status 200 and the reply's document, or an empty body where there is no reply. A refused head, method or
-/// body is answered with its own status and a line of text, and counted as refused. A request that didn't come whole is
-/// answered nothing, and the connection is counted as dropped, as is one whose answer wasn't written whole.
+/// The answer has status 200 and the reply's document, or an empty body where there is no reply. A refused head, method
+/// or body is answered with its own status and a line of text, and counted as refused. A request that didn't come whole
+/// is answered nothing, and the connection is counted as dropped, as is one whose answer wasn't written whole.
 pub fn serve_one<W: Wire>(
     alloc: Global,
     wire: &mut W,

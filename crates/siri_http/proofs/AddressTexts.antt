@@ -6,9 +6,10 @@ use Rattle.std.specs.Int.{is_in_range}
 use Rattle.std.specs.Char.{is_ascii_alphanumeric, is_ascii_graphic}
 use Rattle.std.proofs.lemmas.Bool.{and_parts, or_cases, eqb-true, false≢true, leb-true}
 use Rattle.std.proofs.lemmas.Str.{IsUtf8-from_ascii}
-use Rattle.siri_http.specs.Bodies.{number_of}
+use Rattle.siri_base.specs.Numbers.{number_of}
 use Rattle.siri_http.proofs.Numbers.{IsLow, ascii_from, range_low, digits_ascii}
-use Rattle.siri_http.specs.Addresses.{is_host_byte, is_host, is_port, is_below, are_parts, parts_of, port_or, with_port, with_path, scheme, after_scheme, address_of}
+use Rattle.siri_http.specs.Addresses.{is_host_byte, is_host, is_port, is_below, are_parts, parts_of, port_or, with_port, with_path, scheme}
+use Rattle.siri_http.specs.Addresses.{after_scheme, address_of}
 
 ascii_append : (xs ys : List ℕ) → IsAscii xs → IsAscii ys → IsAscii (xs ++ ys)
 ascii_append [] ys p q i = q i

@@ -1,5 +1,7 @@
 -- Steps over the connection that is there, one after the other.
-use Rattle.std.proofs.Common.{zero, suc, ◌≡◌, ◌≤◌, ◌<◌, ◌+◌, ◌-◌, ℕ, List, [], ◌∷◌, ◌++◌, None, Some, Option, Bool, true, false, Result, Ok, Err, length, take, drop, refl, sym, ap, ◌∙◌, subst, append-nil, append_assoc, arith, length-append, cond, inl, inr, ◌⊎◌}
+use Rattle.std.proofs.Common.{zero, suc, ◌≡◌, ◌≤◌, ◌<◌, ◌+◌, ◌-◌, ℕ, List, [], ◌∷◌, ◌++◌, None, Some, Option, Bool, true, false, Result, Ok}
+use Rattle.std.proofs.Common.{Err, length, take, drop, refl, sym, ap, ◌∙◌, subst, append-nil, append_assoc, arith, length-append, cond, inl}
+use Rattle.std.proofs.Common.{inr, ◌⊎◌}
 use Rattle.std.proofs.lemmas.Bool.{le-leb, lt-leb, leb-true, leb-false, cases_lt}
 use Rattle.std.specs.Prelude.{nat_le}
 use Rattle.std.proofs.lemmas.List.{length-take-le, take_all}
@@ -23,7 +25,8 @@ told_map P Q None y f p = tt
 told_map P Q (Some a) None f p = absurd p
 told_map P Q (Some a) (Some b) f p = f a b p
 
-told_then : (P Q R : Present → Present → Type 0) (x y z : Option Present) → ((a b c : Present) → P a b → Q b c → R a c) → WhereTold x y P → WhereTold y z Q → WhereTold x z R
+told_then : (P Q R : Present → Present → Type 0) (x y z : Option Present) → ((a b c : Present) → P a b → Q b c → R a c)
+    → WhereTold x y P → WhereTold y z Q → WhereTold x z R
 told_then P Q R None y z f p q = tt
 told_then P Q R (Some a) None z f p q = absurd p
 told_then P Q R (Some a) (Some b) None f p q = absurd q
@@ -36,7 +39,8 @@ on_map P Q (Some a) None f p = absurd p
 on_map P Q (Some a) (Some b) f p = record { present = told_map P Q a.present b.present f p.present; rest = p.rest }
 
 -- a step after a step
-pub on_then : (P Q R : Present → Present → Type 0) (x y z : Option WireState) → ((a b c : Present) → P a b → Q b c → R a c) → OnConnection P x y → OnConnection Q y z → OnConnection R x z
+pub on_then : (P Q R : Present → Present → Type 0) (x y z : Option WireState)
+    → ((a b c : Present) → P a b → Q b c → R a c) → OnConnection P x y → OnConnection Q y z → OnConnection R x z
 on_then P Q R None y z f p q = tt
 on_then P Q R (Some a) None z f p q = absurd p
 on_then P Q R (Some a) (Some b) None f p q = absurd q
@@ -77,7 +81,9 @@ le_shift b n m h = choose (nat_le (b - n) m) refl
 cut_more : (f g bytes rest : List ℕ) → Passes f g (length bytes) → cut_by f (length (bytes ++ rest)) ≡ cut_by g (length rest)
 cut_more [] g bytes rest p = rw p refl
 cut_more (b ∷ l) g bytes rest p =
-    ap (λ t. cond t http.ReadFault http.Short) (ap (nat_le b) (length-append bytes rest) ∙ le_shift b (length bytes) (length rest) p.0) ∙ ap (λ g. cut_by g (length rest)) (sym p.1)
+    ap (λ t. cond t http.ReadFault http.Short)
+    (ap (nat_le b) (length-append bytes rest) ∙ le_shift b (length bytes) (length rest) p.0)
+    ∙ ap (λ g. cut_by g (length rest)) (sym p.1)
 
 -- ---- bytes that were taken
 
@@ -102,7 +108,8 @@ takes_cut bytes a b p = ap (λ l. cut_by a.left.read_fails (length l)) p.input �
 pub stops_more : (bytes more : List ℕ) (cut : HttpError) (a b c : Present) → Takes bytes a b → Stops more cut b c → Stops (bytes ++ more) cut a c
 stops_more bytes more cut a b c p q = record {
   input = p.input ∙ ap (λ l. bytes ++ l) q.input ∙ sym (append_assoc bytes more c.left.input);
-  fails = subst (Meets (is_read_fault cut) a.left.read_fails c.left.read_fails) (sym (length-append bytes more)) (meets_more (is_read_fault cut) _ _ _ _ _ p.fails q.fails);
+  fails = subst (Meets (is_read_fault cut) a.left.read_fails c.left.read_fails) (sym (length-append bytes more))
+      (meets_more (is_read_fault cut) _ _ _ _ _ p.fails q.fails);
   readable_is = takes_readable bytes a b p ∙ ap (λ l. bytes ++ l) q.readable_is;
   cut_is = takes_cut bytes a b p ∙ q.cut_is;
   known = q.known;
@@ -112,7 +119,9 @@ stops_more bytes more cut a b c p q = record {
 
 -- ---- one read
 
-reads_as : {E : Type 0} (Q : Present → Present → Type 0) (x y : Option WireState) (r : Result ℕ E) (lent : List ℕ) → WhereTold x y (λ old new. Reads old new r lent) → ((a b : Present) → TakesBytes a b r lent → Q a b) → OnConnection Q x y
+reads_as : {E : Type 0} (Q : Present → Present → Type 0) (x y : Option WireState) (r : Result ℕ E) (lent : List ℕ)
+    → WhereTold x y (λ old new. Reads old new r lent) → ((a b : Present) → TakesBytes a b r lent → Q a b)
+    → OnConnection Q x y
 reads_as Q None y r lent p f = tt
 reads_as Q (Some a) None r lent p f = absurd p
 reads_as Q (Some a) (Some b) r lent p f = record { present = told_map _ Q a.present b.present f p.present; rest = p.rest }
@@ -126,7 +135,8 @@ some_taken n lent a b h p = record {
 }
 
 -- a read gave bytes
-pub read_takes : (x y : Option WireState) (n : ℕ) (lent : List ℕ) → n ≤ length lent → WhereTold x y (λ old new. Reads {E = Failed} old new (Ok n) lent) → OnConnection (Takes (take n lent)) x y
+pub read_takes : (x y : Option WireState) (n : ℕ) (lent : List ℕ) → n ≤ length lent
+    → WhereTold x y (λ old new. Reads {E = Failed} old new (Ok n) lent) → OnConnection (Takes (take n lent)) x y
 read_takes x y n lent h p = reads_as _ x y (Ok n) lent p (λ a b. some_taken n lent a b h)
 
 passing_nil : (f : List ℕ) → passing f [] ≡ []
@@ -156,7 +166,8 @@ end_reached lent a b some p =
     }
 
 -- a read met the end
-pub read_ends : (x y : Option WireState) (lent : List ℕ) → 0 < length lent → WhereTold x y (λ old new. Reads {E = Failed} old new (Ok 0) lent) → OnConnection (Stops [] http.Short) x y
+pub read_ends : (x y : Option WireState) (lent : List ℕ) → 0 < length lent
+    → WhereTold x y (λ old new. Reads {E = Failed} old new (Ok 0) lent) → OnConnection (Stops [] http.Short) x y
 read_ends x y lent some p = reads_as _ x y (Ok 0) lent p (λ a b. end_reached lent a b some)
 
 fault_came : {E : Type 0} (e : E) (lent : List ℕ) (a b : Present) → TakesBytes a b (Err e) lent → Stops [] http.ReadFault a b
@@ -171,7 +182,8 @@ fault_came e lent a b p = record {
 }
 
 -- a read failed
-pub read_fails : {E : Type 0} (x y : Option WireState) (e : E) (lent : List ℕ) → WhereTold x y (λ old new. Reads old new (Err e) lent) → OnConnection (Stops [] http.ReadFault) x y
+pub read_fails : {E : Type 0} (x y : Option WireState) (e : E) (lent : List ℕ)
+    → WhereTold x y (λ old new. Reads old new (Err e) lent) → OnConnection (Stops [] http.ReadFault) x y
 read_fails x y e lent p = reads_as _ x y (Err e) lent p (λ a b. fault_came e lent a b)
 
 -- ---- a buffer that is filled
@@ -185,16 +197,21 @@ pub took_none : (buffer : List ℕ) (x : Option WireState) → OnConnection (Tak
 took_none buffer x = on_same (Takes []) x takes_none
 
 -- a read after those before it
-pub took_more : (x y z : Option WireState) (f n : ℕ) (old new : List ℕ) → take f new ≡ take f old → OnConnection (Takes (take f old)) x y → OnConnection (Takes (take n (drop f new))) y z → OnConnection (Takes (take (f + n) new)) x z
+pub took_more : (x y z : Option WireState) (f n : ℕ) (old new : List ℕ) → take f new ≡ take f old
+    → OnConnection (Takes (take f old)) x y → OnConnection (Takes (take n (drop f new))) y z
+    → OnConnection (Takes (take (f + n) new)) x z
 took_more x y z f n old new e p q =
     subst (λ l. OnConnection (Takes l) x z) (sym (taken_on f n old new e))
-    (on_then (Takes (take f old)) (Takes (take n (drop f new))) (Takes (take f old ++ take n (drop f new))) x y z (takes_more (take f old) (take n (drop f new))) p q)
+    (on_then (Takes (take f old)) (Takes (take n (drop f new))) (Takes (take f old ++ take n (drop f new))) x y z
+    (takes_more (take f old) (take n (drop f new))) p q)
 
 -- a read that met the end or failed, after those before it
-pub took_stops : (x y z : Option WireState) (bytes : List ℕ) (e : HttpError) → OnConnection (Takes bytes) x y → OnConnection (Stops [] e) y z → OnConnection (Stops bytes e) x z
+pub took_stops : (x y z : Option WireState) (bytes : List ℕ) (e : HttpError) → OnConnection (Takes bytes) x y
+    → OnConnection (Stops [] e) y z → OnConnection (Stops bytes e) x z
 took_stops x y z bytes e p q =
     on_then (Takes bytes) (Stops [] e) (Stops bytes e) x y z (λ a b c r s. subst (λ l. Stops l e a c) (append-nil bytes) (stops_more bytes [] e a b c r s)) p q
 
 -- the whole buffer came
-pub took_all : (x y : Option WireState) (f : ℕ) (buffer : List ℕ) → length buffer ≤ f → OnConnection (Takes (take f buffer)) x y → OnConnection (Takes buffer) x y
+pub took_all : (x y : Option WireState) (f : ℕ) (buffer : List ℕ) → length buffer ≤ f
+    → OnConnection (Takes (take f buffer)) x y → OnConnection (Takes buffer) x y
 took_all x y f buffer h p = subst (λ l. OnConnection (Takes l) x y) (take_all f buffer h) p

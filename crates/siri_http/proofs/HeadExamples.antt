@@ -15,7 +15,9 @@ pub cut_in_lines : lines (by_both (codes "a") ++ (by_feed [] ++ codes "b")) ≡ 
 cut_in_lines = refl
 
 -- an empty line at the start belongs to the head text and doesn't end it; what comes after the empty line that does is left
-pub empty_line_first : head_text (by_both [] ++ (by_both (codes "a") ++ (by_feed [] ++ (by_both (codes "b") ++ by_both [])))) ≡ Some (by_both [] ++ (by_both (codes "a") ++ by_feed []))
+pub empty_line_first : head_text (by_both []
+    ++ (by_both (codes "a") ++ (by_feed [] ++ (by_both (codes "b") ++ by_both [])))) ≡ Some
+    (by_both [] ++ (by_both (codes "a") ++ by_feed []))
 unfolding head_text full_lines
 empty_line_first = refl
 

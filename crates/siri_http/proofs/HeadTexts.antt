@@ -1,5 +1,7 @@
 -- The scan finds the head text: a state of it stands for the lines that came.
-use Rattle.std.proofs.Common.{◌≡◌, ◌≤◌, ◌+◌, ◌-◌, ℕ, List, [], ◌∷◌, ◌++◌, None, Some, Option, Bool, true, false, length, take, drop, map, refl, sym, ap, ap₂, ◌∙◌, subst, append-nil, append_assoc, arith, length-append, length-take-le, take-append-drop}
+use Rattle.std.proofs.Common.{◌≡◌, ◌≤◌, ◌+◌, ◌-◌, ℕ, List, [], ◌∷◌, ◌++◌, None, Some, Option, Bool, true, false, length, take, drop, map}
+use Rattle.std.proofs.Common.{refl, sym, ap, ap₂, ◌∙◌, subst, append-nil, append_assoc, arith, length-append, length-take-le}
+use Rattle.std.proofs.Common.{take-append-drop}
 use Rattle.std.specs.Prelude.{◌==◌, ◌&&◌, ◌||◌, not, nat_lt, cond, is_some, unwrap_or, option_map, bytes_eq}
 use Rattle.std.specs.List.{filter, find, onto_first}
 use Rattle.std.proofs.lemmas.Bool.{and_left, and_parts, eqb-true, false≢true}
@@ -110,7 +112,9 @@ record Takes (s : Scan) (came : List ℕ) (b : ℕ) : Type 0 where
   full : scan.ends_head s b ≡ true → s.full ≡ full_lines (came ++ b ∷ [])
   next : StandsFor (scan.after_byte s b) (came ++ b ∷ [])
 
-after_parts : (came begun more : List ℕ) (ended : List (List ℕ)) → ((rest : List ℕ) → lines (came ++ rest) ≡ ended ++ lines (begun ++ rest)) → (rest : List ℕ) → lines ((came ++ more) ++ rest) ≡ ended ++ lines (begun ++ (more ++ rest))
+after_parts : (came begun more : List ℕ) (ended : List (List ℕ))
+    → ((rest : List ℕ) → lines (came ++ rest) ≡ ended ++ lines (begun ++ rest)) → (rest : List ℕ)
+    → lines ((came ++ more) ++ rest) ≡ ended ++ lines (begun ++ (more ++ rest))
 after_parts came begun more ended parts rest = ap lines (append_assoc came more rest) ∙ parts (more ++ rest)
 
 inner_test : (s : Scan) (b : ℕ) → (b == 10) ≡ false → scan.ends_head s b ≡ false
@@ -129,8 +133,10 @@ module _ (s : Scan) (came : List ℕ) (h : StandsFor s came) where
 
     inner_ends : ends_head (came ++ b ∷ []) ≡ false
     inner_ends =
-        let parts : lines (came ++ b ∷ []) ≡ h.ended ++ (h.begun ++ b ∷ []) ∷ [] = h.parts (b ∷ []) ∙ ap (λ l. h.ended ++ l) (line_longer h.begun b longer_plain) in
-        and_left (ends_empty (lines (came ++ b ∷ []))) _ (ap ends_empty parts ∙ ends_last h.ended (h.begun ++ b ∷ []) ∙ begun_full (h.begun ++ b ∷ []) longer_plain)
+        let parts : lines (came ++ b ∷ []) ≡ h.ended ++ (h.begun ++ b ∷ []) ∷ [] = h.parts (b ∷ [])
+        ∙ ap (λ l. h.ended ++ l) (line_longer h.begun b longer_plain) in
+        and_left (ends_empty (lines (came ++ b ∷ []))) _
+        (ap ends_empty parts ∙ ends_last h.ended (h.begun ++ b ∷ []) ∙ begun_full (h.begun ++ b ∷ []) longer_plain)
 
     inner_stands : StandsFor (record { len = s.len + 1; full = s.full; line = scan.line_after s.line b }) (came ++ b ∷ [])
     inner_stands = record {
@@ -173,13 +179,16 @@ same_full t n e = ap (λ t. cond t n (n + 1)) e
 feed_takes : (s : Scan) (came : List ℕ) → StandsFor s came → Takes s came 10
 unfolding scan.ends_head scan.after_byte
 feed_takes s came h = record {
-  test = ap₂ (λ t n. t && nat_lt 0 n) (ap ends_empty (feed_parts s came h) ∙ ends_last h.ended (h.begun ++ 10 ∷ []) ∙ feed_empty s came h) (feed_lines s came h) ∙ same_test (scan.is_empty s.line) s.full;
+  test = ap₂ (λ t n. t && nat_lt 0 n) (ap ends_empty (feed_parts s came h) ∙ ends_last h.ended (h.begun ++ 10 ∷ [])
+      ∙ feed_empty s came h) (feed_lines s came h) ∙ same_test (scan.is_empty s.line) s.full;
   full = λ e. sym (feed_lines s came h ∙ same_full (scan.is_empty s.line) s.full (and_parts (scan.is_empty s.line) _ e).0);
   next = record {
     ended = h.ended ++ (h.begun ++ 10 ∷ []) ∷ [];
     begun = [];
     plain = tt;
-    parts = λ rest. after_parts came h.begun (10 ∷ []) h.ended h.parts rest ∙ ap (λ l. h.ended ++ l) (line_ended h.begun rest h.plain) ∙ sym (append_assoc h.ended ((h.begun ++ 10 ∷ []) ∷ []) (lines rest));
+    parts = λ rest. after_parts came h.begun (10 ∷ []) h.ended h.parts rest
+        ∙ ap (λ l. h.ended ++ l) (line_ended h.begun rest h.plain)
+        ∙ sym (append_assoc h.ended ((h.begun ++ 10 ∷ []) ∷ []) (lines rest));
     len = ap (λ n. n + 1) h.len ∙ sym (length-append came (10 ∷ []));
     full = sym (feed_full s came h);
     line = refl;
@@ -195,12 +204,15 @@ takes s came b h = choose (b == 10) refl
 
 -- ---- the first front that ends a head
 
-longer_fronts : (came : List ℕ) (b : ℕ) (more : List (List ℕ)) → find ends_head (map (λ front. came ++ front) (map (λ front. b ∷ front) more)) ≡ find ends_head (map (λ front. (came ++ b ∷ []) ++ front) more)
+longer_fronts : (came : List ℕ) (b : ℕ) (more : List (List ℕ))
+    → find ends_head (map (λ front. came ++ front) (map (λ front. b ∷ front) more)) ≡ find ends_head
+    (map (λ front. (came ++ b ∷ []) ++ front) more)
 longer_fronts came b [] = refl
 longer_fronts came b (front ∷ more) =
     ap₂ (λ l o. cond (ends_head l) (Some l) o) (sym (append_assoc came (b ∷ []) front)) (longer_fronts came b more)
 
-picked : {A B : Type 0} (t : Bool) (f : A → B) (a : A) (b : B) (x : Option B) (y : Option A) → b ≡ f a → x ≡ option_map f y → cond t (Some b) x ≡ option_map f (cond t (Some a) y)
+picked : {A B : Type 0} (t : Bool) (f : A → B) (a : A) (b : B) (x : Option B) (y : Option A) → b ≡ f a
+    → x ≡ option_map f y → cond t (Some b) x ≡ option_map f (cond t (Some a) y)
 picked true f a b x y e m = ap Some e
 picked false f a b x y e m = m
 
@@ -225,20 +237,26 @@ finds s came (b ∷ bytes) h = next (takes s came b h) (λ stands. finds (scan.a
     next : Takes s came b → (StandsFor (scan.after_byte s b) (came ++ b ∷ []) → Finds (scan.after_byte s b) (came ++ b ∷ []) bytes) → Finds s came (b ∷ bytes)
     next step later = record {
       text = ap (λ t. cond t (Some (came ++ b ∷ [])) (find ends_head (map (λ front. came ++ front) (map (λ front. b ∷ front) (fronts bytes))))) step.test
-          ∙ picked (scan.ends_head s b) (λ (head : HeadText). take head.len (came ++ b ∷ bytes)) found (came ++ b ∷ []) _ (scan.head_from (scan.after_byte s b) bytes) cut
-          (longer_fronts came b (fronts bytes) ∙ more.text ∙ ap (λ l. option_map (λ (head : HeadText). take head.len l) (scan.head_from (scan.after_byte s b) bytes)) same);
+          ∙ picked (scan.ends_head s b) (λ (head : HeadText). take head.len (came ++ b ∷ bytes)) found
+          (came ++ b ∷ []) _ (scan.head_from (scan.after_byte s b) bytes) cut
+          (longer_fronts came b (fronts bytes) ∙ more.text ∙ ap
+          (λ l. option_map (λ (head : HeadText). take head.len l) (scan.head_from (scan.after_byte s b) bytes))
+          same);
       full = λ head e. choose (scan.ends_head s b) refl head e;
     }
       where
         more : Finds (scan.after_byte s b) (came ++ b ∷ []) bytes
         more = later step.next
 
-        choose : (t : Bool) → scan.ends_head s b ≡ t → (head : HeadText) → scan.head_from s (b ∷ bytes) ≡ Some head → head.full ≡ full_lines (take head.len (came ++ b ∷ bytes))
+        choose : (t : Bool) → scan.ends_head s b ≡ t → (head : HeadText) → scan.head_from s (b ∷ bytes) ≡ Some head
+            → head.full ≡ full_lines (take head.len (came ++ b ∷ bytes))
         choose true t head e =
             let is : Some found ≡ Some head = sym (ap (λ t. cond t (Some found) (scan.head_from (scan.after_byte s b) bytes)) t) ∙ e in
-            subst (λ (head : HeadText). head.full ≡ full_lines (take head.len (came ++ b ∷ bytes))) (ap (λ o. unwrap_or o found) is) (step.full t ∙ ap full_lines cut)
+            subst (λ (head : HeadText). head.full ≡ full_lines (take head.len (came ++ b ∷ bytes)))
+            (ap (λ o. unwrap_or o found) is) (step.full t ∙ ap full_lines cut)
         choose false t head e =
-            let is : scan.head_from (scan.after_byte s b) bytes ≡ Some head = sym (ap (λ t. cond t (Some found) (scan.head_from (scan.after_byte s b) bytes)) t) ∙ e in
+            let is : scan.head_from (scan.after_byte s b) bytes ≡ Some head =
+            sym (ap (λ t. cond t (Some found) (scan.head_from (scan.after_byte s b) bytes)) t) ∙ e in
             more.full head is ∙ ap (λ l. full_lines (take head.len l)) same
 
 same_fronts : (more : List (List ℕ)) → find ends_head (map (λ front. [] ++ front) more) ≡ find ends_head more
@@ -246,7 +264,8 @@ same_fronts [] = refl
 same_fronts (front ∷ more) = ap (λ o. cond (ends_head front) (Some front) o) (same_fronts more)
 
 -- The head text of an input is what the scan finds in its first bytes.
-pub head_text_is : (input : List ℕ) → head_text input ≡ option_map (λ (head : HeadText). take head.len (take 16384 input)) (scan.head_from scan.fresh (take 16384 input))
+pub head_text_is : (input : List ℕ) → head_text input ≡ option_map
+    (λ (head : HeadText). take head.len (take 16384 input)) (scan.head_from scan.fresh (take 16384 input))
 unfolding head_text
 head_text_is input = sym (same_fronts (fronts (take 16384 input))) ∙ (finds scan.fresh [] (take 16384 input) nothing_came).text
 
@@ -264,7 +283,10 @@ pub head_at : (bytes rest : List ℕ) (text : HeadText) → HasHead bytes text �
 head_at bytes rest text h =
     let e : 16384 ≡ length bytes + (16384 - length bytes) = omega (arith, h.bound) in
     let more = take (16384 - length bytes) rest in
-    head_text_is (bytes ++ rest) ∙ ap (λ k. text_in (take k (bytes ++ rest))) e ∙ ap text_in (take-append-add bytes rest (16384 - length bytes)) ∙ ap (option_map (λ (text : HeadText). take text.len (bytes ++ more))) (h.found more) ∙ ap Some (take-append-le text.len bytes more h.within)
+    head_text_is (bytes ++ rest) ∙ ap (λ k. text_in (take k (bytes ++ rest))) e
+    ∙ ap text_in (take-append-add bytes rest (16384 - length bytes))
+    ∙ ap (option_map (λ (text : HeadText). take text.len (bytes ++ more))) (h.found more)
+    ∙ ap Some (take-append-le text.len bytes more h.within)
 
 -- how many of its lines aren't empty, and how long it is
 pub head_full : (bytes : List ℕ) (text : HeadText) → HasHead bytes text → full_lines (take text.len bytes) ≡ text.full
@@ -277,7 +299,8 @@ pub no_head_short : (bytes : List ℕ) → length bytes ≤ 16384 → scan.head_
 no_head_short bytes h e = head_text_is bytes ∙ ap text_in (take_all 16384 bytes h) ∙ ap (option_map (λ (text : HeadText). take text.len bytes)) e
 
 pub no_head_long : (bytes rest : List ℕ) → length bytes ≡ 16384 → scan.head_from scan.fresh bytes ≡ None → head_text (bytes ++ rest) ≡ None
-no_head_long bytes rest h e = head_text_is (bytes ++ rest) ∙ ap text_in (take_at bytes rest 16384 h) ∙ ap (option_map (λ (text : HeadText). take text.len bytes)) e
+no_head_long bytes rest h e = head_text_is (bytes ++ rest) ∙ ap text_in (take_at bytes rest 16384 h)
+    ∙ ap (option_map (λ (text : HeadText). take text.len bytes)) e
 
 -- ---- what decides a head text
 
@@ -289,7 +312,9 @@ kept false found x y r f e = f e
 stays : (s : Scan) (bytes rest : List ℕ) (head : HeadText) → scan.head_from s bytes ≡ Some head → scan.head_from s (bytes ++ rest) ≡ Some head
 stays s [] rest head e = absurd (false≢true (ap is_some e))
 stays s (b ∷ bytes) rest head e =
-    kept (scan.ends_head s b) (Some (record { len = s.len + 1; full = s.full })) (scan.head_from (scan.after_byte s b) bytes) (scan.head_from (scan.after_byte s b) (bytes ++ rest)) (Some head) (stays (scan.after_byte s b) bytes rest head) e
+    kept (scan.ends_head s b) (Some (record { len = s.len + 1; full = s.full }))
+    (scan.head_from (scan.after_byte s b) bytes) (scan.head_from (scan.after_byte s b) (bytes ++ rest)) (Some head)
+    (stays (scan.after_byte s b) bytes rest head) e
 
 -- a head text is a front of the input, and the scan finds it there whatever follows
 record IsFound (input text : List ℕ) : Type 0 where
@@ -322,16 +347,21 @@ is_found input text e = choose (scan.head_from scan.fresh (take 16384 input)) re
         }
 
     choose : (o : Option HeadText) → scan.head_from scan.fresh (take 16384 input) ≡ o → IsFound input text
-    choose None s = absurd (false≢true (ap is_some (sym (ap (option_map (λ (head : HeadText). take head.len (take 16384 input))) s) ∙ sym (head_text_is input) ∙ e)))
+    choose None s = absurd (false≢true (ap is_some
+        (sym (ap (option_map (λ (head : HeadText). take head.len (take 16384 input))) s) ∙ sym (head_text_is input)
+        ∙ e)))
     choose (Some head) s =
-        let is : Some (take head.len (take 16384 input)) ≡ Some text = sym (ap (option_map (λ (head : HeadText). take head.len (take 16384 input))) s) ∙ sym (head_text_is input) ∙ e in
+        let is : Some (take head.len (take 16384 input)) ≡ Some text =
+        sym (ap (option_map (λ (head : HeadText). take head.len (take 16384 input))) s) ∙ sym (head_text_is input)
+        ∙ e in
         found head s (sym (ap (λ o. unwrap_or o (take head.len (take 16384 input))) is))
 
 -- an input that begins with the same bytes has the same head text
 pub head_again : (input other text : List ℕ) → head_text input ≡ Some text → take (length text) other ≡ take (length text) input → head_text other ≡ Some text
 head_again input other text e same =
     let it = is_found input text e in
-    let parts : other ≡ text ++ drop (length text) other = sym (take-append-drop (length text) other) ∙ ap (λ l. l ++ drop (length text) other) (same ∙ sym it.front) in
+    let parts : other ≡ text ++ drop (length text) other = sym (take-append-drop (length text) other)
+    ∙ ap (λ l. l ++ drop (length text) other) (same ∙ sym it.front) in
     ap head_text parts ∙ head_at text (drop (length text) other) it.head it.has ∙ ap Some it.whole
 
 pub no_head_again : (input other : List ℕ) → head_text input ≡ None → take 16384 other ≡ take 16384 input → head_text other ≡ None

@@ -11,3 +11,4 @@ pub mod Numbers
 pub mod ReadOn
 pub mod Saying
 pub mod Scans
+mod Examples

@@ -1,10 +1,13 @@
 -- The lines of a head by the grammar: one for its first line, and one for each field.
-use Rattle.std.proofs.Common.{◌≡◌, ◌≤◌, ◌<◌, ◌+◌, ℕ, List, [], ◌∷◌, ◌++◌, None, Some, Option, Bool, true, false, length, length-take-le, suc, take, refl, sym, ap, ◌∙◌, subst, append_assoc, arith, length-append}
+use Rattle.std.proofs.Common.{◌≡◌, ◌≤◌, ◌<◌, ◌+◌, ℕ, List, [], ◌∷◌, ◌++◌, None, Some, Option, Bool, true, false, length, length-take-le}
+use Rattle.std.proofs.Common.{suc, take, refl, sym, ap, ◌∙◌, subst, append_assoc, arith, length-append}
 use Rattle.std.specs.Prelude.{⊤, All, ◌==◌, nat_lt, cond, is_some}
 use Rattle.std.specs.List.{flat_map}
 use Rattle.std.specs.Char.{is_ascii_digit}
 use Rattle.std.proofs.lemmas.Bool.{ne_eqb, false≢true, lt-ltb}
-use Rattle.httparse.specs.Grammar.{LineEnd, crlf, lf, print_end, print_blank, print_version, print_reason, reason_phrase, Field, IsField, print_field, print_section, RequestHead, ReadsRequest, ResponseHead, ReadsResponse, AllPass, is_token_byte, is_uri_byte, is_value_byte}
+use Rattle.httparse.specs.Grammar.{LineEnd, crlf, lf, print_end, print_blank, print_version, print_reason, reason_phrase, Field, IsField}
+use Rattle.httparse.specs.Grammar.{print_field, print_section, RequestHead, ReadsRequest, ResponseHead, ReadsResponse, AllPass}
+use Rattle.httparse.specs.Grammar.{is_token_byte, is_uri_byte, is_value_byte}
 use Rattle.httparse.proofs.GrammarLemmas.{print_request-append, print_response-append, cons-append}
 use Rattle.siri_http.specs.declared.scan.Line.{Line}
 use Rattle.siri_http.specs.declared.scan.Line.TheVariants as line
@@ -38,7 +41,8 @@ token_no = refl
 abbrev scan : ℕ → ℕ → Line → Scan
 scan n k l = record { len = n; full = k; line = l }
 
-inner_byte : (n k : ℕ) (l : Line) (b : ℕ) (bytes : List ℕ) → (b == 10) ≡ false → head_from (scan n k l) (b ∷ bytes) ≡ head_from (scan (n + 1) k (line_after l b)) bytes
+inner_byte : (n k : ℕ) (l : Line) (b : ℕ) (bytes : List ℕ) → (b == 10) ≡ false
+    → head_from (scan n k l) (b ∷ bytes) ≡ head_from (scan (n + 1) k (line_after l b)) bytes
 unfolding ends_head after_byte
 inner_byte n k l b bytes p = rw p refl
 
@@ -88,12 +92,15 @@ second_byte true b = refl
 second_byte false b = refl
 
 -- a line of two bytes and more
-line_goes : (n k : ℕ) (bytes : List ℕ) (e : LineEnd) (rest : List ℕ) → Plain bytes → 2 ≤ length bytes → Goes n k line.Nothing (bytes ++ (print_end e ++ rest)) (k + 1) line.Nothing rest
+line_goes : (n k : ℕ) (bytes : List ℕ) (e : LineEnd) (rest : List ℕ) → Plain bytes → 2 ≤ length bytes
+    → Goes n k line.Nothing (bytes ++ (print_end e ++ rest)) (k + 1) line.Nothing rest
 line_goes n k [] e rest p h = absurd (omega (arith, h))
 line_goes n k (a ∷ []) e rest p h = absurd (omega (arith, h))
 line_goes n k (a ∷ b ∷ bytes) e rest p h =
     let tail = bytes ++ (print_end e ++ rest) in
-    let begun = inner_byte n k line.Nothing a (b ∷ tail) p.0 ∙ inner_byte (n + 1) k (line_after line.Nothing a) b tail p.1.0 ∙ ap (λ l. head_from (scan (n + 1 + 1) k l) tail) (second_byte (a == 13) b) in
+    let begun = inner_byte n k line.Nothing a (b ∷ tail) p.0
+    ∙ inner_byte (n + 1) k (line_after line.Nothing a) b tail p.1.0
+    ∙ ap (λ l. head_from (scan (n + 1 + 1) k l) tail) (second_byte (a == 13) b) in
     let more = text_bytes (n + 1 + 1) k bytes (print_end e ++ rest) p.1.1 in
     let end = text_end more.0 k e rest in
     (end.0, begun ∙ more.1 ∙ end.1)
@@ -120,10 +127,12 @@ last_ends n k crlf rest h = (n + 1 + 1, inner_byte n k line.Nothing 13 (10 ∷ r
 field_plain : (f : Field) → IsField f → Plain (f.name ++ 58 ∷ f.raw)
 field_plain f i = plain_append f.name (58 ∷ f.raw) (plain_from is_token_byte token_no f.name i.name.1) (refl, plain_from is_value_byte refl f.raw i.raw)
 
-field_parts : (name raw end more last rest : List ℕ) → ((((name ++ 58 ∷ raw ++ end) ++ more) ++ last) ++ rest) ≡ (name ++ 58 ∷ raw) ++ (end ++ ((more ++ last) ++ rest))
+field_parts : (name raw end more last rest : List ℕ)
+    → ((((name ++ 58 ∷ raw ++ end) ++ more) ++ last) ++ rest) ≡ (name ++ 58 ∷ raw) ++ (end ++ ((more ++ last) ++ rest))
 field_parts name raw end more last rest = simp (append_assoc, cons-append)
 
-section_ends : (n k : ℕ) (fields : List Field) (last : LineEnd) (rest : List ℕ) → 0 < k → All IsField fields → Ends n k (print_section fields last ++ rest) (k + length fields)
+section_ends : (n k : ℕ) (fields : List Field) (last : LineEnd) (rest : List ℕ) → 0 < k → All IsField fields
+    → Ends n k (print_section fields last ++ rest) (k + length fields)
 section_ends n k [] last rest h all =
     let ends = last_ends n k last rest h in
     let same : k ≡ k + 0 = omega arith in
@@ -134,12 +143,19 @@ section_ends n k (f ∷ fields) last rest h all =
     let later = print_section fields last ++ rest in
     let goes = line_goes n k (f.name ++ 58 ∷ f.raw) f.end later (field_plain f is) long in
     let more = section_ends goes.0 (k + 1) fields last rest (omega arith) (λ i d l. all (suc i) d (omega (arith, l))) in
-    let full : (k + 1) + length fields ≡ k + suc (length fields) = omega arith in
-    (more.0, ap (head_from (scan n k line.Nothing)) (field_parts f.name f.raw (print_end f.end) (flat_map print_field fields) (print_end last) rest) ∙ goes.1 ∙ more.1 ∙ ap (λ k. Some (record { len = more.0; full = k })) full)
+    let full : (k + 1) + length fields ≡ k + suc (length fields) = omega arith in (
+      more.0,
+      ap (head_from (scan n k line.Nothing))
+          (field_parts f.name f.raw (print_end f.end) (flat_map print_field fields) (print_end last) rest) ∙ goes.1
+          ∙ more.1 ∙ ap (λ k. Some (record { len = more.0; full = k })) full,
+    )
 
 -- ---- heads
 
-head_goes : (blank : List LineEnd) (bytes : List ℕ) (e : LineEnd) (fields : List Field) (last : LineEnd) (rest : List ℕ) → Plain bytes → 2 ≤ length bytes → All IsField fields → Ends 0 0 (print_blank blank ++ (bytes ++ (print_end e ++ (print_section fields last ++ rest)))) (1 + length fields)
+head_goes : (blank : List LineEnd) (bytes : List ℕ) (e : LineEnd) (fields : List Field) (last : LineEnd) (rest : List ℕ)
+    → Plain bytes → 2 ≤ length bytes → All IsField fields
+    → Ends 0 0 (print_blank blank ++ (bytes ++ (print_end e ++ (print_section fields last ++ rest))))
+    (1 + length fields)
 head_goes blank bytes e fields last rest plain long all =
     let first = blank_goes 0 blank (bytes ++ (print_end e ++ (print_section fields last ++ rest))) in
     let second = line_goes first.0 0 bytes e (print_section fields last ++ rest) plain long in
@@ -160,35 +176,70 @@ full_same text head full e s = ap full_of (sym e ∙ s.1)
 version_plain : (minor : ℕ) → minor ≤ 1 → Plain (print_version minor)
 version_plain minor h = (refl, (refl, (refl, (refl, (refl, (refl, (refl, (ne_eqb (48 + minor) 10 (λ e. absurd (omega (arith, e))), tt))))))))
 
-request_parts : (method target version end section : List ℕ) → method ++ 32 ∷ (target ++ 32 ∷ (version ++ (end ++ section))) ≡ (method ++ 32 ∷ (target ++ 32 ∷ version)) ++ (end ++ section)
+request_parts : (method target version end section : List ℕ)
+    → method ++ 32 ∷ (target ++ 32 ∷ (version ++ (end ++ section))) ≡ (method ++ 32 ∷ (target ++ 32 ∷ version))
+    ++ (end ++ section)
 request_parts method target version end section = simp (append_assoc, cons-append)
 
 -- a head text that is the head of a request has a line for each field, and one more
-pub request_lines : (text : List ℕ) (head : HeadText) (h : RequestHead) → head_from fresh text ≡ Some head → ReadsRequest text h [] → head.full ≡ 1 + length h.fields
+pub request_lines : (text : List ℕ) (head : HeadText) (h : RequestHead) → head_from fresh text ≡ Some head
+    → ReadsRequest text h [] → head.full ≡ 1 + length h.fields
 request_lines text head h e r =
     let first = h.method ++ 32 ∷ (h.target ++ 32 ∷ print_version h.minor) in
-    let plain : Plain first = plain_append h.method (32 ∷ (h.target ++ 32 ∷ print_version h.minor)) (plain_from is_token_byte token_no h.method r.0.method.1) (refl, plain_append h.target (32 ∷ print_version h.minor) (plain_from is_uri_byte refl h.target r.0.target.1) (refl, version_plain h.minor r.0.minor)) in
-    let long : 2 ≤ length first = omega (arith, r.0.method.0, length-append h.method (32 ∷ (h.target ++ 32 ∷ print_version h.minor)), length-append h.target (32 ∷ print_version h.minor)) in
+    let plain : Plain first = plain_append h.method (32 ∷ (h.target ++ 32 ∷ print_version h.minor))
+    (plain_from is_token_byte token_no h.method r.0.method.1) (
+      refl,
+      plain_append h.target (32 ∷ print_version h.minor) (plain_from is_uri_byte refl h.target r.0.target.1)
+          (refl, version_plain h.minor r.0.minor),
+    ) in
+    let long : 2 ≤ length first = omega (
+      arith,
+      r.0.method.0,
+      length-append h.method (32 ∷ (h.target ++ 32 ∷ print_version h.minor)),
+      length-append h.target (32 ∷ print_version h.minor),
+    ) in
     let parts : text ≡ print_blank h.blank ++ (first ++ (print_end h.line_end ++ (print_section h.fields h.last ++ []))) =
-    r.1 ∙ print_request-append h [] ∙ ap (λ l. print_blank h.blank ++ l) (request_parts h.method h.target (print_version h.minor) (print_end h.line_end) (print_section h.fields h.last ++ [])) in
-    full_same text head (1 + length h.fields) e (subst (λ l. Ends 0 0 l (1 + length h.fields)) (sym parts) (head_goes h.blank first h.line_end h.fields h.last [] plain long r.0.fields))
+    r.1 ∙ print_request-append h [] ∙ ap (λ l. print_blank h.blank ++ l)
+    (request_parts h.method h.target (print_version h.minor) (print_end h.line_end)
+    (print_section h.fields h.last ++ [])) in
+    full_same text head (1 + length h.fields) e
+    (subst (λ l. Ends 0 0 l (1 + length h.fields)) (sym parts)
+    (head_goes h.blank first h.line_end h.fields h.last [] plain long r.0.fields))
 
 reason_plain : (reason : Option (List ℕ)) → AllPass is_value_byte (reason_phrase reason) → Plain (print_reason reason)
 reason_plain None h = tt
 reason_plain (Some phrase) h = (refl, plain_from is_value_byte refl phrase h)
 
-response_parts : (version digits reason end section : List ℕ) → version ++ 32 ∷ (digits ++ (reason ++ (end ++ section))) ≡ (version ++ 32 ∷ (digits ++ reason)) ++ (end ++ section)
+response_parts : (version digits reason end section : List ℕ)
+    → version ++ 32 ∷ (digits ++ (reason ++ (end ++ section))) ≡ (version ++ 32 ∷ (digits ++ reason))
+    ++ (end ++ section)
 response_parts version digits reason end section = simp append_assoc
 
 -- the same of a response
-pub response_lines : (text : List ℕ) (head : HeadText) (h : ResponseHead) → head_from fresh text ≡ Some head → ReadsResponse text h [] → head.full ≡ 1 + length h.fields
+pub response_lines : (text : List ℕ) (head : HeadText) (h : ResponseHead) → head_from fresh text ≡ Some head
+    → ReadsResponse text h [] → head.full ≡ 1 + length h.fields
 response_lines text head h e r =
     let first = print_version h.minor ++ 32 ∷ (h.digits ++ print_reason h.reason) in
-    let plain : Plain first = plain_append (print_version h.minor) (32 ∷ (h.digits ++ print_reason h.reason)) (version_plain h.minor r.0.minor) (refl, plain_append h.digits (print_reason h.reason) (plain_from is_ascii_digit refl h.digits r.0.digits.1) (reason_plain h.reason r.0.reason)) in
-    let long : 2 ≤ length first = omega (arith, length-append (print_version h.minor) (32 ∷ (h.digits ++ print_reason h.reason)), length-append h.digits (print_reason h.reason), r.0.digits.0) in
+    let plain : Plain first = plain_append (print_version h.minor) (32 ∷ (h.digits ++ print_reason h.reason))
+    (version_plain h.minor r.0.minor) (
+      refl,
+      plain_append h.digits (print_reason h.reason)
+          (plain_from is_ascii_digit refl h.digits r.0.digits.1) (reason_plain h.reason r.0.reason),
+    ) in
+    let long : 2 ≤ length first = omega (
+      arith,
+      length-append (print_version h.minor)
+          (32 ∷ (h.digits ++ print_reason h.reason)),
+      length-append h.digits (print_reason h.reason),
+      r.0.digits.0,
+    ) in
     let parts : text ≡ print_blank h.blank ++ (first ++ (print_end h.line_end ++ (print_section h.fields h.last ++ []))) =
-    r.1 ∙ print_response-append h [] ∙ ap (λ l. print_blank h.blank ++ l) (response_parts (print_version h.minor) h.digits (print_reason h.reason) (print_end h.line_end) (print_section h.fields h.last ++ [])) in
-    full_same text head (1 + length h.fields) e (subst (λ l. Ends 0 0 l (1 + length h.fields)) (sym parts) (head_goes h.blank first h.line_end h.fields h.last [] plain long r.0.fields))
+    r.1 ∙ print_response-append h [] ∙ ap (λ l. print_blank h.blank ++ l)
+    (response_parts (print_version h.minor) h.digits (print_reason h.reason) (print_end h.line_end)
+    (print_section h.fields h.last ++ [])) in
+    full_same text head (1 + length h.fields) e
+    (subst (λ l. Ends 0 0 l (1 + length h.fields)) (sym parts)
+    (head_goes h.blank first h.line_end h.fields h.last [] plain long r.0.fields))
 
 -- ---- a head text that is cut out of the bytes that came
 
@@ -201,14 +252,19 @@ unfolding after_byte
 after_len s b = cond_len (b == 10) _ _ (s.len + 1) refl refl
 
 -- a head text is found in a front of the bytes that came
-pub text_cut : (s : Scan) (bytes : List ℕ) (head : HeadText) → head_from s bytes ≡ Some head → (count : ℕ) × (head.len ≡ s.len + count) × (count ≤ length bytes) × (head_from s (take count bytes) ≡ Some head)
+pub text_cut : (s : Scan) (bytes : List ℕ) (head : HeadText) → head_from s bytes ≡ Some head
+    → (count : ℕ) × (head.len ≡ s.len + count) × (count ≤ length bytes) × (head_from s (take count bytes) ≡ Some head)
 text_cut s [] head e = absurd (false≢true (ap is_some e))
 text_cut s (b ∷ bytes) head e = choose (ends_head s b) refl (λ next. text_cut (after_byte s b) bytes head next)
   where
     found : HeadText
     found = record { len = s.len + 1; full = s.full }
 
-    choose : (t : Bool) → ends_head s b ≡ t → (head_from (after_byte s b) bytes ≡ Some head → ((count : ℕ) × (head.len ≡ (after_byte s b).len + count) × (count ≤ length bytes) × (head_from (after_byte s b) (take count bytes) ≡ Some head))) → (count : ℕ) × (head.len ≡ s.len + count) × (count ≤ suc (length bytes)) × (head_from s (take count (b ∷ bytes)) ≡ Some head)
+    choose : (t : Bool) → ends_head s b ≡ t → (head_from (after_byte s b) bytes ≡ Some head
+        → ((count : ℕ) × (head.len ≡ (after_byte s b).len + count) × (count ≤ length bytes)
+        × (head_from (after_byte s b) (take count bytes) ≡ Some head)))
+        → (count : ℕ) × (head.len ≡ s.len + count) × (count ≤ suc (length bytes))
+        × (head_from s (take count (b ∷ bytes)) ≡ Some head)
     choose true t later =
         let same : Some found ≡ Some head = sym (ap (λ t. cond t (Some found) (head_from (after_byte s b) bytes)) t) ∙ e in
         let len : s.len + 1 ≡ head.len = ap len_of same in
@@ -220,7 +276,8 @@ text_cut s (b ∷ bytes) head e = choose (ends_head s b) refl (λ next. text_cut
         (suc more.0, len, omega (arith, more.2), ap (λ t. cond t (Some found) (head_from (after_byte s b) (take more.0 bytes))) t ∙ more.3)
 
 -- a head text that stands at the front of some bytes is cut out of them
-pub cut_text : (bytes : List ℕ) (head : HeadText) → head_from fresh bytes ≡ Some head → head_from fresh (take head.len bytes) ≡ Some (record { len = length (take head.len bytes); full = head.full })
+pub cut_text : (bytes : List ℕ) (head : HeadText) → head_from fresh bytes ≡ Some head
+    → head_from fresh (take head.len bytes) ≡ Some (record { len = length (take head.len bytes); full = head.full })
 cut_text bytes head e =
     let cut = text_cut fresh bytes head e in
     let same : head.len ≡ cut.0 = omega (arith, cut.1) in

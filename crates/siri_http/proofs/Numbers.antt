@@ -7,7 +7,7 @@ use Rattle.std.specs.Char.{is_ascii_digit}
 use Rattle.std.specs.Str.Parse.{digits_value}
 use Rattle.std.proofs.lemmas.Bool.{and_parts, leb-true, false≢true}
 use Rattle.std.proofs.lemmas.Str.{IsUtf8-from_ascii}
-use Rattle.siri_http.specs.Bodies.{number_of}
+use Rattle.siri_base.specs.Numbers.{number_of}
 
 abbrev pub IsLow : (ℕ → Bool) → Type 0
 IsLow test = (b : ℕ) → test b ≡ true → b < 128
@@ -30,7 +30,9 @@ pub digits_ascii : (digits : List ℕ) (number : ℕ) → number_of digits ≡ S
 unfolding number_of
 digits_ascii digits number e = choose (nat_le 1 (length digits) && (nat_le (length digits) 18 && list_all is_ascii_digit digits)) refl e
   where
-    choose : (t : Bool) → (nat_le 1 (length digits) && (nat_le (length digits) 18 && list_all is_ascii_digit digits)) ≡ t → cond t (Some (digits_value 10 digits)) None ≡ Some number → IsAscii digits
+    choose : (t : Bool) → (nat_le 1 (length digits)
+        && (nat_le (length digits) 18 && list_all is_ascii_digit digits)) ≡ t
+        → cond t (Some (digits_value 10 digits)) None ≡ Some number → IsAscii digits
     choose true t e = ascii_from is_ascii_digit digit_low digits (and_parts _ _ (and_parts _ _ t).1).1
     choose false t e = absurd (false≢true (ap is_some e))
 

@@ -17,5 +17,7 @@ met (b ∷ l) g h n m p q r =
     no_longer (b - m) l (rest ∙ r.1)
 
 -- bytes came and then a read failed: that is no way to answer a message
-pub no_read_behind : {T E : Type 0} (Says : List ℕ → Option (Head T) → Type 0) (message : T × List ℕ) (bytes lent : List ℕ) (e : E) (a b c : Present) → Takes bytes a b → TakesBytes b c (Err e) lent → ¬ (ReadsMessage Says (Ok message) a c)
+pub no_read_behind : {T E : Type 0} (Says : List ℕ → Option (Head T) → Type 0) (message : T × List ℕ)
+    (bytes lent : List ℕ) (e : E) (a b c : Present) → Takes bytes a b → TakesBytes b c (Err e) lent
+    → ¬ (ReadsMessage Says (Ok message) a c)
 no_read_behind Says message bytes lent e a b c t r m = met _ _ _ _ _ t.fails r.fails.0 m.fails

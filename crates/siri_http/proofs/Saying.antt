@@ -1,12 +1,14 @@
 -- What the parser answers to a head text is what the head text says.
-use Rattle.std.proofs.Common.{◌≡◌, ◌≤◌, ◌<◌, ◌+◌, ℕ, List, [], ◌∷◌, ◌++◌, None, Some, Option, true, false, Result, Ok, Err, length, drop, map, refl, sym, ap, ap₂, ◌∙◌, subst, append-nil, arith, length-append, length-drop}
+use Rattle.std.proofs.Common.{◌≡◌, ◌≤◌, ◌<◌, ◌+◌, ℕ, List, [], ◌∷◌, ◌++◌, None, Some, Option, true, false, Result, Ok, Err, length, drop}
+use Rattle.std.proofs.Common.{map, refl, sym, ap, ap₂, ◌∙◌, subst, append-nil, arith, length-append, length-drop}
 use Rattle.std.specs.Prelude.{⊤, MatchBool, nat_lt, cond, option_copied}
 use Rattle.std.specs.Borrow.{Bor}
 use Rattle.std.proofs.lemmas.Bool.{lt-ltb, le-ltb}
 use Rattle.std.proofs.lemmas.List.{drop_all}
 use Rattle.httparse.specs.declared.borrowed.Request.{Request}
 use Rattle.httparse.specs.declared.borrowed.Response.{Response}
-use Rattle.httparse.specs.Grammar.{print_version, print_end, print_section, print_blank, RequestHead, ReadsRequest, HasNoRequest, ResponseHead, ReadsResponse, HasNoResponse, status_code}
+use Rattle.httparse.specs.Grammar.{print_version, print_end, print_section, print_blank, RequestHead, ReadsRequest, HasNoRequest}
+use Rattle.httparse.specs.Grammar.{ResponseHead, ReadsResponse, HasNoResponse, status_code}
 use Rattle.httparse.specs.Spans.{RequestOverflows, ResponseOverflows}
 use Rattle.httparse.specs.Borrowed.{HoldsRequest, HoldsResponse, HoldsSomeRequest, HoldsSomeResponse, header_parts}
 use Rattle.httparse.proofs.GrammarLemmas.{print_request-append, request_unique, response_unique}
@@ -14,7 +16,8 @@ use Rattle.siri_http.specs.declared.errors.HttpError.{HttpError}
 use Rattle.siri_http.specs.declared.errors.HttpError.TheVariants as http
 use Rattle.siri_http.specs.inner.Scanning.{head_from, fresh}
 use Rattle.siri_http.specs.Bodies.{body_length}
-use Rattle.siri_http.specs.Messages.{Head, RequestLine, head_of_request, head_of_response, IsRequest, IsResponse, is_post, told_with, head_says, UnlessMemory, is_memory}
+use Rattle.siri_http.specs.Messages.{Head, RequestLine, head_of_request, head_of_response, IsRequest, IsResponse, is_post, told_with}
+use Rattle.siri_http.specs.Messages.{head_says, UnlessMemory, is_memory}
 use Rattle.siri_http.specs.declared.request.Asked.{Asked}
 use Rattle.siri_http.specs.inner.Asked.{asked_parts}
 use Rattle.siri_http.specs.inner.Reading.{SaysSo}
@@ -36,7 +39,8 @@ lines_over {T = T} Says text full h =
     }
 
 -- a text that is no head
-pub no_head_text : {T : Type 0} (Says : List ℕ → Option (Head T) → Type 0) (text : List ℕ) (full : ℕ) → full ≤ 65 → Says text None → SaysSo Says text full (Err http.BadHead)
+pub no_head_text : {T : Type 0} (Says : List ℕ → Option (Head T) → Type 0) (text : List ℕ) (full : ℕ) → full ≤ 65
+    → Says text None → SaysSo Says text full (Err http.BadHead)
 no_head_text {T = T} Says text full h none =
     let within : nat_lt 65 full ≡ false = le-ltb 65 full h in
     record {
@@ -46,7 +50,9 @@ no_head_text {T = T} Says text full h none =
     }
 
 -- a text that is this head
-pub head_text_says : {T : Type 0} (Says : List ℕ → Option (Head T) → Type 0) (text : List ℕ) (full : ℕ) (head : Head T) (result : Result (T × ℕ) HttpError) → full ≤ 65 → Says text (Some head) → UnlessMemory result (result ≡ head_says (Some head)) → SaysSo Says text full result
+pub head_text_says : {T : Type 0} (Says : List ℕ → Option (Head T) → Type 0) (text : List ℕ) (full : ℕ) (head : Head T)
+    (result : Result (T × ℕ) HttpError) → full ≤ 65 → Says text (Some head)
+    → UnlessMemory result (result ≡ head_says (Some head)) → SaysSo Says text full result
 head_text_says {T = T} Says text full head result h says is =
     let within : nat_lt 65 full ≡ false = le-ltb 65 full h in
     record {
@@ -80,7 +86,8 @@ request_none text full room few t o all k x =
     absurd (omega (arith, few, over, lines, all))
 
 -- the parser knows no head, and room is for more fields than there are lines
-pub request_overflows : (text : List ℕ) (full room : ℕ) → full ≤ 65 → IsText text full → RequestOverflows room text → room ≡ 64 → SaysSo IsRequest text full (Err http.BadHead)
+pub request_overflows : (text : List ℕ) (full room : ℕ) → full ≤ 65 → IsText text full → RequestOverflows room text
+    → room ≡ 64 → SaysSo IsRequest text full (Err http.BadHead)
 request_overflows text full room few t o all = no_head_text IsRequest text full few (request_none text full room few t o all)
 
 shorter : (text : List ℕ) (len : ℕ) → len < length text → drop len text ≡ [] → ⊥
@@ -93,26 +100,40 @@ request_shorter text len r h holds short k x = shorter text len short (request_u
 reads_whole : (text : List ℕ) (len : ℕ) (h : RequestHead) → length text ≤ len → ReadsRequest text h (drop len text) → ReadsRequest text h []
 reads_whole text len h l x = subst (ReadsRequest text h) (drop_all len text l) x
 
-pub request_short : (text : List ℕ) (full len : ℕ) (r : Request) → full ≤ 65 → HoldsSomeRequest text r len → len < length text → SaysSo IsRequest text full (Err http.BadHead)
+pub request_short : (text : List ℕ) (full len : ℕ) (r : Request) → full ≤ 65 → HoldsSomeRequest text r len
+    → len < length text → SaysSo IsRequest text full (Err http.BadHead)
 request_short text full len r few h short = no_head_text IsRequest text full few (request_shorter text len r h.0 h.1 short)
 
 -- the parser knows the whole head
-request_says : (text : List ℕ) (full len : ℕ) (r : Request) (h : RequestHead) (method target : Bor (List ℕ)) (result : Result (RequestLine × ℕ) HttpError) → HoldsRequest text len r h → length text ≤ len → full ≤ 65 → r.method ≡ Some method → r.path ≡ Some target → UnlessMemory result (result ≡ told_with (method.now, target.now) (body_length (is_post method.now) (map header_parts r.headers.now))) → SaysSo IsRequest text full result
+request_says : (text : List ℕ) (full len : ℕ) (r : Request) (h : RequestHead) (method target : Bor (List ℕ))
+    (result : Result (RequestLine × ℕ) HttpError) → HoldsRequest text len r h → length text ≤ len → full ≤ 65
+    → r.method ≡ Some method → r.path ≡ Some target → UnlessMemory result
+    (result ≡ told_with (method.now, target.now) (body_length (is_post method.now) (map header_parts r.headers.now)))
+    → SaysSo IsRequest text full result
 request_says text full len r h method target result holds whole few m t is =
     let same_method : method.now ≡ h.method = ap text_in (sym (ap option_copied m) ∙ holds.method) in
     let same_target : target.now ≡ h.target = ap text_in (sym (ap option_copied t) ∙ holds.path) in
     let same : told_with (method.now, target.now) (body_length (is_post method.now) (map header_parts r.headers.now)) ≡ head_says (Some (head_of_request h)) =
-    ap₂ (λ a b. told_with (a, b) (body_length (is_post a) (map header_parts r.headers.now))) same_method same_target ∙ ap (λ f. told_with (h.method, h.target) (body_length (is_post h.method) f)) holds.fields in
-    head_text_says IsRequest text full (head_of_request h) result few (h, reads_whole text len h whole holds.reads, refl) (subst (λ x. UnlessMemory result (result ≡ x)) same is)
+    ap₂ (λ a b. told_with (a, b) (body_length (is_post a) (map header_parts r.headers.now))) same_method same_target
+    ∙ ap (λ f. told_with (h.method, h.target) (body_length (is_post h.method) f)) holds.fields in
+    head_text_says IsRequest text full (head_of_request h) result few
+    (h, reads_whole text len h whole holds.reads, refl) (subst (λ x. UnlessMemory result (result ≡ x)) same is)
 
 unless_asked : (result : Result Asked HttpError) (P : Type 0) → UnlessMemory result P → UnlessMemory (asked_parts result) P
 unless_asked (Ok x) P p = p
 unless_asked (Err e) P p = p
 
-pub request_said : (text : List ℕ) (full len : ℕ) (r : Request) (method target : Bor (List ℕ)) (result : Result Asked HttpError) → HoldsSomeRequest text r len → length text ≤ len → full ≤ 65 → r.method ≡ Some method → r.path ≡ Some target → UnlessMemory result (asked_parts result ≡ told_with (method.now, target.now) (body_length (is_post method.now) (map header_parts r.headers.now))) → SaysSo IsRequest text full (asked_parts result)
-request_said text full len r method target result h whole few m t is = request_says text full len r h.0 method target (asked_parts result) h.1 whole few m t (unless_asked result _ is)
+pub request_said : (text : List ℕ) (full len : ℕ) (r : Request) (method target : Bor (List ℕ))
+    (result : Result Asked HttpError) → HoldsSomeRequest text r len → length text ≤ len → full ≤ 65
+    → r.method ≡ Some method → r.path ≡ Some target → UnlessMemory result
+    (asked_parts result ≡ told_with (method.now, target.now)
+    (body_length (is_post method.now) (map header_parts r.headers.now)))
+    → SaysSo IsRequest text full (asked_parts result)
+request_said text full len r method target result h whole few m t is =
+    request_says text full len r h.0 method target (asked_parts result) h.1 whole few m t (unless_asked result _ is)
 
-parts_fit : (text : List ℕ) (h : RequestHead) (rest : List ℕ) → ReadsRequest text h rest → length text ≤ 16384 → (length h.method ≤ 16384) × (length h.target ≤ 16384)
+parts_fit : (text : List ℕ) (h : RequestHead) (rest : List ℕ) → ReadsRequest text h rest → length text ≤ 16384
+    → (length h.method ≤ 16384) × (length h.target ≤ 16384)
 parts_fit text h rest x most =
     let tail = print_version h.minor ++ (print_end h.line_end ++ (print_section h.fields h.last ++ rest)) in
     let after = h.target ++ 32 ∷ tail in
@@ -122,13 +143,15 @@ parts_fit text h rest x most =
     let three = length-append h.target (32 ∷ tail) in
     (omega (arith, most, all, one, two), omega (arith, most, all, one, two, three))
 
-pub method_fits : (text : List ℕ) (len : ℕ) (r : Request) (method : Bor (List ℕ)) → HoldsSomeRequest text r len → r.method ≡ Some method → length text ≤ 16384 → length method.now ≤ 16384
+pub method_fits : (text : List ℕ) (len : ℕ) (r : Request) (method : Bor (List ℕ)) → HoldsSomeRequest text r len
+    → r.method ≡ Some method → length text ≤ 16384 → length method.now ≤ 16384
 method_fits text len r method h m most =
     let same : method.now ≡ h.0.method = ap text_in (sym (ap option_copied m) ∙ h.1.method) in
     let fits : length h.0.method ≤ 16384 = (parts_fit text h.0 (drop len text) h.1.reads most).0 in
     omega (arith, fits, ap length same)
 
-pub target_fits : (text : List ℕ) (len : ℕ) (r : Request) (target : Bor (List ℕ)) → HoldsSomeRequest text r len → r.path ≡ Some target → length text ≤ 16384 → length target.now ≤ 16384
+pub target_fits : (text : List ℕ) (len : ℕ) (r : Request) (target : Bor (List ℕ)) → HoldsSomeRequest text r len
+    → r.path ≡ Some target → length text ≤ 16384 → length target.now ≤ 16384
 target_fits text len r target h t most =
     let same : target.now ≡ h.0.target = ap text_in (sym (ap option_copied t) ∙ h.1.path) in
     let fits : length h.0.target ≤ 16384 = (parts_fit text h.0 (drop len text) h.1.reads most).1 in
@@ -146,7 +169,8 @@ response_none text full room few t o all k x =
     absurd (omega (arith, few, over, lines, all))
 
 -- the parser knows no head, and room is for more fields than there are lines
-pub response_overflows : (text : List ℕ) (full room : ℕ) → full ≤ 65 → IsText text full → ResponseOverflows room text → room ≡ 64 → SaysSo IsResponse text full (Err http.BadHead)
+pub response_overflows : (text : List ℕ) (full room : ℕ) → full ≤ 65 → IsText text full → ResponseOverflows room text
+    → room ≡ 64 → SaysSo IsResponse text full (Err http.BadHead)
 response_overflows text full room few t o all = no_head_text IsResponse text full few (response_none text full room few t o all)
 
 pub response_shorter : (text : List ℕ) (len : ℕ) (r : Response) (h : ResponseHead) → HoldsResponse text len r h → len < length text → IsResponse text None
@@ -155,18 +179,29 @@ response_shorter text len r h holds short k x = shorter text len short (response
 response_whole : (text : List ℕ) (len : ℕ) (h : ResponseHead) → length text ≤ len → ReadsResponse text h (drop len text) → ReadsResponse text h []
 response_whole text len h l x = subst (ReadsResponse text h) (drop_all len text l) x
 
-response_says : (text : List ℕ) (full len : ℕ) (r : Response) (h : ResponseHead) (status : ℕ) (result : Result (ℕ × ℕ) HttpError) → HoldsResponse text len r h → length text ≤ len → full ≤ 65 → r.code ≡ Some status → UnlessMemory result (result ≡ told_with status (body_length true (map header_parts r.headers.now))) → SaysSo IsResponse text full result
+response_says : (text : List ℕ) (full len : ℕ) (r : Response) (h : ResponseHead) (status : ℕ)
+    (result : Result (ℕ × ℕ) HttpError) → HoldsResponse text len r h → length text ≤ len → full ≤ 65
+    → r.code ≡ Some status → UnlessMemory result
+    (result ≡ told_with status (body_length true (map header_parts r.headers.now))) → SaysSo IsResponse text full result
 response_says text full len r h status result holds whole few m is =
     let same_status : status ≡ status_code h = ap number_in (sym m ∙ holds.code) in
     let same : told_with status (body_length true (map header_parts r.headers.now)) ≡ head_says (Some (head_of_response h)) =
     ap₂ (λ a f. told_with a (body_length true f)) same_status holds.fields in
-    head_text_says IsResponse text full (head_of_response h) result few (h, response_whole text len h whole holds.reads, refl) (subst (λ x. UnlessMemory result (result ≡ x)) same is)
+    head_text_says IsResponse text full (head_of_response h) result few
+    (h, response_whole text len h whole holds.reads, refl) (subst (λ x. UnlessMemory result (result ≡ x)) same is)
 
-pub response_short : (text : List ℕ) (full len : ℕ) (r : Response) → full ≤ 65 → HoldsSomeResponse text r len → len < length text → SaysSo IsResponse text full (Err http.BadHead)
+pub response_short : (text : List ℕ) (full len : ℕ) (r : Response) → full ≤ 65 → HoldsSomeResponse text r len
+    → len < length text → SaysSo IsResponse text full (Err http.BadHead)
 response_short text full len r few h short = no_head_text IsResponse text full few (response_shorter text len r h.0 h.1 short)
 
-pub response_failed : (text : List ℕ) (full len : ℕ) (r : Response) (status : ℕ) (e : HttpError) → HoldsSomeResponse text r len → length text ≤ len → full ≤ 65 → r.code ≡ Some status → Err e ≡ body_length true (map header_parts r.headers.now) → SaysSo IsResponse text full (Err e)
-response_failed text full len r status e h whole few m is = response_says text full len r h.0 status (Err e) h.1 whole few m (unless (is_memory e) _ (ap (told_with status) is))
+pub response_failed : (text : List ℕ) (full len : ℕ) (r : Response) (status : ℕ) (e : HttpError)
+    → HoldsSomeResponse text r len → length text ≤ len → full ≤ 65 → r.code ≡ Some status
+    → Err e ≡ body_length true (map header_parts r.headers.now) → SaysSo IsResponse text full (Err e)
+response_failed text full len r status e h whole few m is =
+    response_says text full len r h.0 status (Err e) h.1 whole few m (unless (is_memory e) _ (ap (told_with status) is))
 
-pub response_said : (text : List ℕ) (full len : ℕ) (r : Response) (status count : ℕ) → HoldsSomeResponse text r len → length text ≤ len → full ≤ 65 → r.code ≡ Some status → Ok count ≡ body_length true (map header_parts r.headers.now) → SaysSo IsResponse text full (Ok (status, count))
-response_said text full len r status count h whole few m is = response_says text full len r h.0 status (Ok (status, count)) h.1 whole few m (ap (told_with status) is)
+pub response_said : (text : List ℕ) (full len : ℕ) (r : Response) (status count : ℕ) → HoldsSomeResponse text r len
+    → length text ≤ len → full ≤ 65 → r.code ≡ Some status
+    → Ok count ≡ body_length true (map header_parts r.headers.now) → SaysSo IsResponse text full (Ok (status, count))
+response_said text full len r status count h whole few m is =
+    response_says text full len r h.0 status (Ok (status, count)) h.1 whole few m (ap (told_with status) is)

@@ -15,10 +15,14 @@ some_picked true a b y e = e
 some_picked false a b y e = absurd (false≢true (ap is_some e))
 
 -- the byte doesn't end the head text
-pub scan_more : (s t : Scan) (byte : ℕ) (result : Option HeadText) (bytes : List ℕ) → result ≡ cond (ends_head s byte) (Some (record { len = s.len + 1; full = s.full })) None → result ≡ None → t ≡ after_byte s byte → head_from s (byte ∷ bytes) ≡ head_from t bytes
+pub scan_more : (s t : Scan) (byte : ℕ) (result : Option HeadText) (bytes : List ℕ)
+    → result ≡ cond (ends_head s byte) (Some (record { len = s.len + 1; full = s.full })) None → result ≡ None
+    → t ≡ after_byte s byte → head_from s (byte ∷ bytes) ≡ head_from t bytes
 scan_more s t byte result bytes e none next =
     none_picked (ends_head s byte) (record { len = s.len + 1; full = s.full }) _ _ (sym e ∙ none) ∙ ap (λ s. head_from s bytes) (sym next)
 
 -- the byte ends it
-pub scan_found : (s : Scan) (byte : ℕ) (result : Option HeadText) (head : HeadText) (bytes : List ℕ) → result ≡ cond (ends_head s byte) (Some (record { len = s.len + 1; full = s.full })) None → result ≡ Some head → head_from s (byte ∷ bytes) ≡ Some head
+pub scan_found : (s : Scan) (byte : ℕ) (result : Option HeadText) (head : HeadText) (bytes : List ℕ)
+    → result ≡ cond (ends_head s byte) (Some (record { len = s.len + 1; full = s.full })) None → result ≡ Some head
+    → head_from s (byte ∷ bytes) ≡ Some head
 scan_found s byte result head bytes e some = some_picked (ends_head s byte) _ head _ (sym e ∙ some)

@@ -1,5 +1,6 @@
 -- What was written of a text.
-use Rattle.std.proofs.Common.{◌≡◌, ◌≤◌, ◌<◌, ◌+◌, ◌-◌, ℕ, List, [], ◌∷◌, ◌++◌, Bool, None, Some, Option, Result, Ok, Err, length, take, drop, refl, sym, ap, ◌∙◌, subst, append-nil, append_assoc, take-append-drop, arith, length-append}
+use Rattle.std.proofs.Common.{◌≡◌, ◌≤◌, ◌<◌, ◌+◌, ◌-◌, ℕ, List, [], ◌∷◌, ◌++◌, Bool, None, Some, Option, Result, Ok, Err, length, take}
+use Rattle.std.proofs.Common.{drop, refl, sym, ap, ◌∙◌, subst, append-nil, append_assoc, take-append-drop, arith, length-append}
 use Rattle.std.specs.Prelude.{codes}
 use Rattle.std.specs.Fmt.{decimal}
 use Rattle.std.proofs.lemmas.List.{length-take-le, take_at}
@@ -25,9 +26,19 @@ pub record Wrote (text rest : List ℕ) (before after : Present) : Type 0 where
   pub read_fails : after.left.read_fails ≡ before.left.read_fails
 
 pub wrote_none : (text : List ℕ) (x : Option WireState) → OnConnection (Wrote text text) x x
-wrote_none text x = on_same (Wrote text text) x (λ a. record { front = []; parts = refl; fails = passes_none a.left.write_fails; written = sym (append-nil a.written); unread = refl; read_fails = refl })
+wrote_none text x = on_same (Wrote text text) x
+    (λ a. record {
+      front = [];
+      parts = refl;
+      fails = passes_none a.left.write_fails;
+      written = sym (append-nil a.written);
+      unread = refl;
+      read_fails = refl;
+    })
 
-writes_as : (Q : Present → Present → Type 0) (x y : Option WireState) (r : Result ℕ OutsideError) (piece : List ℕ) → WhereTold x y (λ old new. Writes old new r piece) → ((a b : Present) → PutsBytes a b r piece → Q a b) → OnConnection Q x y
+writes_as : (Q : Present → Present → Type 0) (x y : Option WireState) (r : Result ℕ OutsideError) (piece : List ℕ)
+    → WhereTold x y (λ old new. Writes old new r piece) → ((a b : Present) → PutsBytes a b r piece → Q a b)
+    → OnConnection Q x y
 writes_as Q None y r piece p f = tt
 writes_as Q (Some a) None r piece p f = absurd p
 writes_as Q (Some a) (Some b) r piece p f = record { present = told_map _ Q a.present b.present f p.present; rest = p.rest }
@@ -36,16 +47,21 @@ more_wrote : (text rest : List ℕ) (n : ℕ) (a b c : Present) → n ≤ length
 more_wrote text rest n a b c h w p = record {
   front = w.front ++ take n rest;
   parts = w.parts ∙ ap (λ l. w.front ++ l) (sym (take-append-drop n rest)) ∙ sym (append_assoc w.front (take n rest) (drop n rest));
-  fails = subst (Passes a.left.write_fails c.left.write_fails) (sym (length-append w.front (take n rest) ∙ ap (λ k. length w.front + k) (length-take-le n rest h))) (passes_more _ _ _ _ _ w.fails p.fails.0);
+  fails = subst (Passes a.left.write_fails c.left.write_fails)
+      (sym (length-append w.front (take n rest) ∙ ap (λ k. length w.front + k) (length-take-le n rest h)))
+      (passes_more _ _ _ _ _ w.fails p.fails.0);
   written = p.bytes ∙ ap (λ l. l ++ take n rest) w.written ∙ append_assoc a.written w.front (take n rest);
   unread = p.unread ∙ w.unread;
   read_fails = p.read_fails ∙ w.read_fails;
 }
 
 -- a front of the rest was written
-pub wrote_more : (text rest : List ℕ) (n : ℕ) (x y z : Option WireState) → n ≤ length rest → OnConnection (Wrote text rest) x y → WhereTold y z (λ old new. Writes old new (Ok n) rest) → OnConnection (Wrote text (drop n rest)) x z
+pub wrote_more : (text rest : List ℕ) (n : ℕ) (x y z : Option WireState) → n ≤ length rest
+    → OnConnection (Wrote text rest) x y → WhereTold y z (λ old new. Writes old new (Ok n) rest)
+    → OnConnection (Wrote text (drop n rest)) x z
 wrote_more text rest n x y z h p q =
-    on_then (Wrote text rest) (λ b c. PutsBytes b c (Ok n) rest) (Wrote text (drop n rest)) x y z (λ a b c w s. more_wrote text rest n a b c h w s) p (writes_as _ y z (Ok n) rest q (λ a b s. s))
+    on_then (Wrote text rest) (λ b c. PutsBytes b c (Ok n) rest) (Wrote text (drop n rest)) x y z
+    (λ a b c w s. more_wrote text rest n a b c h w s) p (writes_as _ y z (Ok n) rest q (λ a b s. s))
 
 all_wrote : (text rest : List ℕ) (a b : Present) → rest ≡ [] → Wrote text rest a b → PutsText text (Ok tt) a b
 all_wrote text rest a b none w =
@@ -68,26 +84,36 @@ abbrev later_of : List ℕ → List ℕ
 later_of [] = []
 later_of (n ∷ more) = more
 
-cut_here : (text front rest old new later before after : List ℕ) → text ≡ front ++ rest → 0 < length rest → Passes old new (length front) → new ≡ 0 ∷ later → after ≡ before ++ front → IsCut text old later before after
+cut_here : (text front rest old new later before after : List ℕ) → text ≡ front ++ rest → 0 < length rest
+    → Passes old new (length front) → new ≡ 0 ∷ later → after ≡ before ++ front → IsCut text old later before after
 cut_here text front rest [] new later before after parts some p due w = absurd (omega (arith, ap length (sym p ∙ due)))
 cut_here text front rest (b ∷ l) new later before after parts some p due w =
     let same : (b - length front) ∷ l ≡ 0 ∷ later = sym p.1 ∙ due in
     let none : b - length front ≡ 0 = ap first_of same in
     let here : b ≡ length front = omega (arith, p.0, none) in
-    let rest_same : later ≡ l = sym (ap later_of same) in
-    (omega (arith, here, some, ap length parts, length-append front rest), rest_same, w ∙ ap (λ k. before ++ k) (sym (ap (take b) parts ∙ take_at front rest b (sym here))))
+    let rest_same : later ≡ l = sym (ap later_of same) in (
+      omega (arith, here, some, ap length parts, length-append front rest),
+      rest_same,
+      w
+          ∙ ap (λ k. before ++ k) (sym (ap (take b) parts ∙ take_at front rest b (sym here))),
+    )
 
 -- the connection failed within the text
-pub wrote_fault : (text rest : List ℕ) (x y z : Option WireState) → 0 < length rest → OnConnection (Wrote text rest) x y → WhereTold y z (λ old new. Writes old new (Err outside.Failed) rest) → OnConnection (PutsText text (Err http.WriteFault)) x z
+pub wrote_fault : (text rest : List ℕ) (x y z : Option WireState) → 0 < length rest → OnConnection (Wrote text rest) x y
+    → WhereTold y z (λ old new. Writes old new (Err outside.Failed) rest)
+    → OnConnection (PutsText text (Err http.WriteFault)) x z
 wrote_fault text rest x y z some p q =
     on_then (Wrote text rest) (λ b c. PutsBytes b c (Err outside.Failed) rest) (PutsText text (Err http.WriteFault)) x y z (λ a b c w s. record {
-      puts = cut_here text w.front rest a.left.write_fails b.left.write_fails c.left.write_fails a.written c.written w.parts some w.fails s.fails.0 (s.bytes ∙ w.written);
+      puts = cut_here text w.front rest a.left.write_fails b.left.write_fails c.left.write_fails a.written c.written
+          w.parts some w.fails s.fails.0 (s.bytes ∙ w.written);
       unread = s.unread ∙ w.unread;
       read_fails = s.read_fails ∙ w.read_fails;
     }) p (writes_as _ y z (Err outside.Failed) rest q (λ a b s. s))
 
 -- there was no memory for a further piece
-pub wrote_front : (text rest : List ℕ) (x y z : Option WireState) → OnConnection (Wrote text rest) x y → WhereTold y z (λ old new. Writes old new (Err outside.OutOfMemory) rest) → OnConnection (PutsText text (Err http.OutOfMemory)) x z
+pub wrote_front : (text rest : List ℕ) (x y z : Option WireState) → OnConnection (Wrote text rest) x y
+    → WhereTold y z (λ old new. Writes old new (Err outside.OutOfMemory) rest)
+    → OnConnection (PutsText text (Err http.OutOfMemory)) x z
 wrote_front text rest x y z p q =
     on_then (Wrote text rest) (λ b c. PutsBytes b c (Err outside.OutOfMemory) rest) (PutsText text (Err http.OutOfMemory)) x y z (λ a b c w s. record {
       puts = record {
@@ -114,22 +140,34 @@ wrote_nothing text x = on_same (PutsText text (Err http.OutOfMemory)) x (λ a. r
 abbrev line_end : List ℕ
 line_end = 13 ∷ 10 ∷ []
 
-pub body_end : (old body : List ℕ) (count : ℕ) → (((old ++ codes "Content-Length: ") ++ decimal count) ++ (line_end ++ ((codes "Connection: close" ++ line_end) ++ line_end))) ++ body ≡ old ++ (head_end count ++ body)
+pub body_end : (old body : List ℕ) (count : ℕ)
+    → (((old ++ codes "Content-Length: ") ++ decimal count)
+    ++ (line_end ++ ((codes "Connection: close" ++ line_end) ++ line_end))) ++ body ≡ old ++ (head_end count ++ body)
 body_end old body count = regroup old (codes "Content-Length: ") (decimal count) line_end (codes "Connection: close") body
   where
     regroup : (old a d e c body : List ℕ) → (((old ++ a) ++ d) ++ (e ++ ((c ++ e) ++ e))) ++ body ≡ old ++ ((((a ++ d) ++ e) ++ ((c ++ e) ++ e)) ++ body)
     regroup old a d e c body = simp append_assoc
 
-pub request_is : (host path body : List ℕ) → (((((codes "POST ") ++ path) ++ (codes " HTTP/1.1" ++ (line_end ++ codes "Host: "))) ++ host) ++ (line_end ++ (codes "Content-Type: application/json" ++ line_end))) ++ (head_end (length body) ++ body) ≡ request_text host path body
+pub request_is : (host path body : List ℕ)
+    → (((((codes "POST ") ++ path) ++ (codes " HTTP/1.1" ++ (line_end ++ codes "Host: "))) ++ host)
+    ++ (line_end ++ (codes "Content-Type: application/json" ++ line_end)))
+    ++ (head_end (length body) ++ body) ≡ request_text host path body
 unfolding request_text
-request_is host path body = regroup (codes "POST ") path (codes " HTTP/1.1") line_end (codes "Host: ") host (codes "Content-Type: application/json") (head_end (length body) ++ body)
+request_is host path body = regroup (codes "POST ") path (codes " HTTP/1.1") line_end (codes "Host: ") host
+    (codes "Content-Type: application/json") (head_end (length body) ++ body)
   where
-    regroup : (a p v e h host c rest : List ℕ) → ((((a ++ p) ++ (v ++ (e ++ h))) ++ host) ++ (e ++ (c ++ e))) ++ rest ≡ ((a ++ (p ++ v)) ++ e) ++ (((h ++ host) ++ e) ++ ((c ++ e) ++ rest))
+    regroup : (a p v e h host c rest : List ℕ) → ((((a ++ p) ++ (v ++ (e ++ h))) ++ host) ++ (e ++ (c ++ e)))
+        ++ rest ≡ ((a ++ (p ++ v)) ++ e) ++ (((h ++ host) ++ e) ++ ((c ++ e) ++ rest))
     regroup a p v e h host c rest = simp append_assoc
 
-pub response_is : (status : ℕ) (plain : Bool) (body : List ℕ) → ((((((codes "HTTP/1.1 " ++ code_digits status) ++ codes " ") ++ phrase_of status) ++ (line_end ++ codes "Content-Type: ")) ++ type_of plain) ++ line_end) ++ (head_end (length body) ++ body) ≡ response_text status plain body
+pub response_is : (status : ℕ) (plain : Bool) (body : List ℕ)
+    → ((((((codes "HTTP/1.1 " ++ code_digits status) ++ codes " ") ++ phrase_of status)
+    ++ (line_end ++ codes "Content-Type: ")) ++ type_of plain) ++ line_end)
+    ++ (head_end (length body) ++ body) ≡ response_text status plain body
 unfolding response_text
-response_is status plain body = regroup (codes "HTTP/1.1 ") (code_digits status) (codes " ") (phrase_of status) line_end (codes "Content-Type: ") (type_of plain) (head_end (length body) ++ body)
+response_is status plain body = regroup (codes "HTTP/1.1 ") (code_digits status) (codes " ") (phrase_of status) line_end
+    (codes "Content-Type: ") (type_of plain) (head_end (length body) ++ body)
   where
-    regroup : (v d s p e c t rest : List ℕ) → ((((((v ++ d) ++ s) ++ p) ++ (e ++ c)) ++ t) ++ e) ++ rest ≡ ((v ++ (d ++ (s ++ p))) ++ e) ++ (((c ++ t) ++ e) ++ rest)
+    regroup : (v d s p e c t rest : List ℕ) → ((((((v ++ d) ++ s) ++ p) ++ (e ++ c)) ++ t) ++ e)
+        ++ rest ≡ ((v ++ (d ++ (s ++ p))) ++ e) ++ (((c ++ t) ++ e) ++ rest)
     regroup v d s p e c t rest = simp append_assoc

@@ -1,8 +1,9 @@
 -- The addresses that messages are sent to (RFC 9110, section 4.2.1, as far as this profile takes it).
-use Rattle.std.specs.Prelude.{ℕ, Bool, true, false, ◌&&◌, ◌||◌, not, ◌==◌, nat_le, List, [], ◌∷◌, ◌++◌, length, take, drop, codes, nat_eq, Option, None, Some, if◌then◌else◌}
+use Rattle.std.specs.Prelude.{ℕ, Bool, true, false, ◌&&◌, ◌||◌, not, ◌==◌, nat_le, List, [], ◌∷◌, ◌++◌, length, take, drop, codes, nat_eq}
+use Rattle.std.specs.Prelude.{Option, None, Some, if◌then◌else◌}
 use Rattle.std.specs.List.{list_all, prefix_len, starts_with}
 use Rattle.std.specs.Char.{is_ascii_alphanumeric, is_ascii_graphic}
-use Rattle.siri_http.specs.Bodies.{number_of}
+use Rattle.siri_base.specs.Numbers.{number_of}
 
 -- how many bytes stand before the first of this value, or how many there are
 abbrev pub before : ℕ → List ℕ → ℕ

@@ -1,9 +1,7 @@
 -- How long a body is (RFC 9112, section 6; RFC 9110, section 8.6).
-use Rattle.std.specs.Prelude.{ℕ, Bool, true, false, ◌&&◌, nat_le, nat_lt, List, [], ◌∷◌, length, map, filter, codes, Option, None, Some, Result, Ok, Err, if◌then◌else◌}
-use Rattle.std.specs.List.{list_all}
-use Rattle.std.specs.Char.{is_ascii_digit}
+use Rattle.std.specs.Prelude.{ℕ, Bool, true, false, nat_lt, List, [], ◌∷◌, map, filter, codes, Option, None, Some, Result, Ok, Err, if◌then◌else◌}
 use Rattle.std.specs.Str.{str_eq_ignore_ascii_case}
-use Rattle.std.specs.Str.Parse.{digits_value}
+use Rattle.siri_base.specs.Numbers.{number_of}
 use Rattle.siri_http.specs.declared.errors.HttpError.{HttpError}
 use Rattle.siri_http.specs.declared.errors.HttpError.TheVariants as http
 
@@ -15,20 +13,19 @@ Named = List ℕ × List ℕ
 unfoldable pub values : List ℕ → List Named → List (List ℕ)
 values name fields = map (λ field. field.1) (filter (λ field. str_eq_ignore_ascii_case field.0 name) fields)
 
--- a number as a text: 1 to 18 digits
-unfoldable pub number_of : List ℕ → Option ℕ
-number_of text =
-    if nat_le 1 (length text) && (nat_le (length text) 18 && list_all is_ascii_digit text) then Some (digits_value 10 text) else None
-
 -- a list has an entry
 abbrev pub has_some : List (List ℕ) → Bool
 has_some [] = false
 has_some (value ∷ more) = true
 
+-- the most bytes that a body has
+abbrev pub longest_body : ℕ
+longest_body = 8388608
+
 -- the length of a body that a Content-Length gives, where no other coding is in the way
 abbrev pub allowed : Bool → ℕ → Result ℕ HttpError
 allowed coded count =
-    if coded then Err http.TransferCoding else (if nat_lt 8388608 count then Err http.BodyTooLong else Ok count)
+    if coded then Err http.TransferCoding else (if nat_lt longest_body count then Err http.BodyTooLong else Ok count)
 
 -- the length of a body without a Content-Length: there is none where the message may leave it out
 abbrev pub without_length : Bool → Bool → Result ℕ HttpError

@@ -1,6 +1,7 @@
 -- In order of reading: the head text of an input; how long a body is; what a connection brings, and the messages that it
--- brings; the texts that are written; addresses; when a call may answer that the wire failed. The words in `inner` are cited by
--- private functions alone.
+-- brings; the texts that are written; addresses; when a call may answer that the wire failed. Then one exchange: what is
+-- counted; what an accepted connection asks; what is written to it; a request that is sent, and what is answered; when such a
+-- call may answer that the wire failed. The words in `inner` are cited by private functions alone.
 pub mod Heads
 pub mod Bodies
 pub mod Connections
@@ -9,4 +10,9 @@ pub mod Parts
 pub mod Texts
 pub mod Addresses
 pub mod HttpCauses
+pub mod Tallies
+pub mod Requests
+pub mod Responses
+pub mod Posts
+pub mod ExchangeCauses
 pub mod inner

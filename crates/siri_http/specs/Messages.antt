@@ -1,5 +1,6 @@
 -- Requests and responses, as a connection brings them (RFC 9112).
-use Rattle.std.specs.Prelude.{◌≡◌, ⊤, ℕ, ◌+◌, ◌≤◌, max, Bool, true, false, MatchBool, nat_le, nat_lt, List, [], ◌++◌, length, take, drop, map, bytes_eq, codes, Option, None, Some, Result, Ok, Err, if◌then◌else◌}
+use Rattle.std.specs.Prelude.{◌≡◌, ⊤, ℕ, ◌+◌, ◌≤◌, max, Bool, true, false, MatchBool, nat_le, nat_lt, List, [], ◌++◌, length, take, drop}
+use Rattle.std.specs.Prelude.{map, bytes_eq, codes, Option, None, Some, Result, Ok, Err, if◌then◌else◌}
 use Rattle.httparse.specs.Grammar.{RequestHead, ReadsRequest, ResponseHead, ReadsResponse, status_code}
 use Rattle.httparse.specs.Spans.{name_and_value}
 use Rattle.siri_base.specs.MetFailures.{Meets}
@@ -132,7 +133,8 @@ abbrev pub message_end : {T : Type 0} → Result (T × List ℕ) HttpError → L
 message_end result input = end_by (head_text input) result
 
 -- the first bytes of a connection are taken and decide the answer, whatever comes after them and wherever that is cut off
-pub record Decides {T : Type 0} (Says : List ℕ → Option (Head T) → Type 0) (connection : Connection) (result : Result (T × List ℕ) HttpError) (count taken : ℕ) : Type 0 where
+pub record Decides {T : Type 0} (Says : List ℕ → Option (Head T) → Type 0) (connection : Connection)
+    (result : Result (T × List ℕ) HttpError) (count taken : ℕ) : Type 0 where
   pub needed : count ≤ taken
   pub alone : (other : Connection) → take count (readable other) ≡ take count (readable connection) → Brings Says other result
 

@@ -1,4 +1,5 @@
-// Reads bytes of the connection that is there.
+//! Reads bytes of the connection that is there.
+
 ghost use Rattle.std.specs.Prelude.{◌≡◌, ◌≤◌, ◌<◌, ◌+◌, ℕ, List, length, take, drop, [], IfOk, IfErr};
 ghost use Rattle.siri_http.specs.Connections.{OnConnection};
 ghost use Rattle.siri_http.specs.HttpCauses.{HasReadCause};
@@ -9,11 +10,11 @@ use crate::scan::{HeadText, Scan};
 use siri_base::Wire;
 
 /// The most bytes that a head may have.
-pub const HEAD_LIMIT: usize = 16_384;
+pub(crate) const LONGEST_HEAD: usize = 16_384;
 
 /// The bytes that came, up to a whole head text and beyond it.
 #[derive(Clone, Copy)]
-pub struct Found {
+pub(crate) struct Found {
     /// How many bytes came.
     pub count: usize,
     /// The head text at their front.
@@ -41,7 +42,7 @@ fn read_some<W: Wire>(wire: &mut W, buffer: &mut [u8], filled: usize) -> Result<
 }
 
 /// Reads until the buffer is full.
-pub fn fill<W: Wire>(wire: &mut W, buffer: &mut [u8]) -> Result<(), HttpError>
+pub(crate) fn fill<W: Wire>(wire: &mut W, buffer: &mut [u8]) -> Result<(), HttpError>
     requires there { W.is_open wire.old }
     ensures open { W.is_open wire.new }
     ensures length { length buffer.new ≡ length buffer.old }
@@ -57,7 +58,7 @@ pub fn fill<W: Wire>(wire: &mut W, buffer: &mut [u8]) -> Result<(), HttpError>
 }
 
 /// Reads until a whole head text came.
-pub fn find_head<W: Wire>(wire: &mut W, buffer: &mut [u8]) -> Result<Found, HttpError>
+pub(crate) fn find_head<W: Wire>(wire: &mut W, buffer: &mut [u8]) -> Result<Found, HttpError>
     requires there { W.is_open wire.old }
     requires room { length buffer.old ≡ 16384 }
     ensures open { W.is_open wire.new }
@@ -69,7 +70,7 @@ pub fn find_head<W: Wire>(wire: &mut W, buffer: &mut [u8]) -> Result<Found, Http
     ensures cause { HasReadCause (W.faults wire.old) (W.faults wire.new) result }
 {
     let mut scan = Scan::new();
-    while scan.len < HEAD_LIMIT {
+    while scan.len < LONGEST_HEAD {
         let filled = scan.len;
         let count = filled + read_some(wire, buffer, filled)?;
         if let Some(head) = scan.advance(&buffer[filled..count]) {

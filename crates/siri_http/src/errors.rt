@@ -1,4 +1,5 @@
-// Why no message is read or written.
+//! Why no message is read or written.
+
 ghost use Rattle.siri_http.specs.declared.errors.HttpError.TheVariants.{OutOfMemory};
 ghost use Rattle.std.specs.Prelude.{◌≡◌};
 

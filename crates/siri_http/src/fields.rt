@@ -1,21 +1,22 @@
-// What the fields of a head say of its body.
+//! What the fields of a head say of its body.
+
 ghost use Rattle.std.specs.Prelude.{◌≡◌, map, false, IfErr};
-ghost use Rattle.std.specs.List.{list_all};
-ghost use Rattle.std.specs.Char.{is_ascii_digit};
 ghost use Rattle.std.specs.Str.{str_eq_ignore_ascii_case};
 ghost use Rattle.httparse.specs.Borrowed.{header_parts};
-ghost use Rattle.siri_http.specs.Bodies as Spec;
+ghost use Rattle.siri_base.specs.Numbers.{number_of};
+ghost use Rattle.siri_http.specs.Bodies.{body_length, values};
 ghost use Rattle.siri_http.specs.inner.Faults.{is_fault};
 ghost use Rattle.siri_http.specs.inner.Found.{values_of, count_of, one_more};
 
 use crate::HttpError;
 use httparse::Header;
+use siri_base::number_of;
 
 /// The most fields that a head may have.
-pub const FIELD_LIMIT: usize = 64;
+pub(crate) const MOST_FIELDS: usize = 64;
 
 /// The most bytes that a body may have.
-pub const BODY_LIMIT: u64 = 8_388_608;
+pub(crate) const LONGEST_BODY: u64 = 8_388_608;
 
 /// The fields of a name.
 #[derive(Clone, Copy, Debug)]
@@ -48,7 +49,7 @@ fn same_name(name: &str, other: &str) -> bool
 /// The fields of that name.
 #[tactic(auto, using(crate::proofs::FieldValues::none_named))]
 fn named<'a>(headers: &[Header<'a>], name: &str) -> Values<'a>
-    ensures { values_of result ≡ count_of (Spec.values name.now (map header_parts headers.now)) }
+    ensures { values_of result ≡ count_of (values name.now (map header_parts headers.now)) }
 {
     let mut found = Values::Nowhere;
     for header in headers {
@@ -59,52 +60,34 @@ fn named<'a>(headers: &[Header<'a>], name: &str) -> Values<'a>
     found
 }
 
-fn is_all_digits(text: &[u8]) -> bool
-    ensures { result ≡ list_all is_ascii_digit text.now }
-{
-    text.iter().all(|byte| byte.is_ascii_digit())
-}
-
-/// The number of 1 to 18 digits; `None` exactly where the text isn't of this form.
-#[tactic(auto, unfolding(crate::specs::Bodies::number_of))]
-fn number_in(text: &str) -> Option<u64>
-    ensures { result ≡ Spec.number_of text.now }
-{
-    if text.len() >= 1 && text.len() <= 18 && is_all_digits(text.as_bytes()) {
-        text.parse().ok()
-    } else {
-        None
-    }
-}
-
 /// The number of 1 to 18 digits; `None` exactly where the bytes aren't of this form.
 #[tactic(auto, using(crate::proofs::Numbers::no_text_no_number))]
-pub fn number_of(text: &[u8]) -> Option<u64>
-    ensures { result ≡ Spec.number_of text.now }
+pub(crate) fn number_in(text: &[u8]) -> Option<u64>
+    ensures { result ≡ number_of text.now }
 {
     match std::str::from_utf8(text) {
-        Ok(text) => number_in(text),
+        Ok(text) => number_of(text),
         Err(_) => None,
     }
 }
 
 /// The length of the body after a head with these fields. `wanted` says whether the message must give it.
 #[tactic(auto, unfolding(crate::specs::Bodies::body_length))]
-pub fn body_length(wanted: bool, headers: &[Header<'_>]) -> Result<usize, HttpError>
-    ensures length { result ≡ Spec.body_length wanted (map header_parts headers.now) }
+pub(crate) fn body_length(wanted: bool, headers: &[Header<'_>]) -> Result<usize, HttpError>
+    ensures length { result ≡ body_length wanted (map header_parts headers.now) }
     ensures known { IfErr result (λ e. is_fault e ≡ false) }
 {
     let coded = !matches!(named(headers, "Transfer-Encoding"), Values::Nowhere);
     let length = match named(headers, "Content-Length") {
         Values::Nowhere => None,
-        Values::Once(value) => Some(number_of(value).ok_or(HttpError::BadHead)?),
+        Values::Once(value) => Some(number_in(value).ok_or(HttpError::BadHead)?),
         Values::Twice => return Err(HttpError::BadHead),
     };
     match length {
         _ if coded => Err(HttpError::TransferCoding),
         None if wanted => Err(HttpError::NoLength),
         None => Ok(0),
-        Some(length) if length > BODY_LIMIT => Err(HttpError::BodyTooLong),
+        Some(length) if length > LONGEST_BODY => Err(HttpError::BodyTooLong),
         Some(length) => Ok(length as usize),
     }
 }

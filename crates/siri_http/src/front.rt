@@ -1,25 +1,26 @@
-// Reads a head text and a body of the connection that is there.
+//! Reads a head text and a body of the connection that is there.
+
 ghost use Rattle.std.specs.Prelude.{◌≡◌, ◌≤◌, ◌<◌, ◌+◌, ◌-◌, ℕ, List, length, take, drop, IfOk, IfErr};
 ghost use Rattle.siri_http.specs.Connections.{OnConnection};
 ghost use Rattle.siri_http.specs.HttpCauses.{HasReadCause};
 ghost use Rattle.siri_http.specs.inner.Reading.{Takes, Stops, HasHead, HasNoHead, HasBody, LacksBody};
 
 use crate::HttpError;
-use crate::connection::{HEAD_LIMIT, fill, find_head};
+use crate::connection::{LONGEST_HEAD, fill, find_head};
 use crate::scan::HeadText;
 use siri_base::{OutOfMemory, Wire, append};
 use std::alloc::Global;
 
 /// The bytes that came, with the head text at their front.
 #[derive(Drop)]
-pub struct Front {
+pub(crate) struct Front {
     pub bytes: Vec<u8>,
     pub head: HeadText,
 }
 
 /// Reads until a whole head text came.
 #[tactic(auto, using(crate::proofs::Fronts::head_not_begun))]
-pub fn read_head<W: Wire>(alloc: Global, wire: &mut W) -> Result<Front, HttpError>
+pub(crate) fn read_head<W: Wire>(alloc: Global, wire: &mut W) -> Result<Front, HttpError>
     requires there { W.is_open wire.old }
     ensures open { W.is_open wire.new }
     ensures bytes { IfOk result (λ front. OnConnection (Takes front.bytes.items) (W.tells wire.old) (W.tells wire.new)) }
@@ -28,7 +29,7 @@ pub fn read_head<W: Wire>(alloc: Global, wire: &mut W) -> Result<Front, HttpErro
     ensures cause { HasReadCause (W.faults wire.old) (W.faults wire.new) result }
 {
     let mut bytes = Vec::new(alloc);
-    bytes.resize(HEAD_LIMIT, 0)?;
+    bytes.resize(LONGEST_HEAD, 0)?;
     let found = find_head(wire, &mut bytes)?;
     bytes.truncate(found.count);
     Ok(Front {
@@ -65,7 +66,7 @@ fn body_room(alloc: Global, came: &[u8], count: usize) -> Result<Vec<u8>, OutOfM
 
 /// Reads a body of so many bytes, of which a front came with the head.
 #[tactic(auto, using(crate::proofs::Fronts::body_no_memory, crate::proofs::Fronts::body_stops, crate::proofs::Fronts::body_came))]
-pub fn read_body<W: Wire>(
+pub(crate) fn read_body<W: Wire>(
     alloc: Global,
     wire: &mut W,
     came: &[u8],

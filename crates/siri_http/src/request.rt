@@ -1,4 +1,5 @@
-// Requests, as a server reads them.
+//! Requests, as a server reads them.
+
 ghost use Rattle.std.specs.Prelude.{◌≡◌, ◌≤◌, length, map, false, Some, IfOk, IfErr};
 ghost use Rattle.httparse.specs.Borrowed.{header_parts};
 ghost use Rattle.siri_http.specs.Bodies.{body_length};
@@ -12,7 +13,7 @@ ghost use Rattle.siri_http.specs.inner.Reading.{SaysSo};
 ghost use Rattle.siri_http.specs.inner.Scanning.{head_from, fresh};
 
 use crate::HttpError;
-use crate::fields::{FIELD_LIMIT, body_length};
+use crate::fields::{MOST_FIELDS, body_length};
 use crate::front::{read_body, read_head};
 use httparse::{EMPTY_HEADER, Header, Request, Status};
 use siri_base::{List, OutOfMemory, Text, TextError, Wire};
@@ -80,10 +81,10 @@ fn read_asked(alloc: Global, text: &[u8], full: usize) -> Result<Asked, HttpErro
     ensures says { SaysSo IsRequest text.now full (asked_parts result) }
     ensures known { IfErr result (λ e. is_fault e ≡ false) }
 {
-    if full > FIELD_LIMIT + 1 {
+    if full > MOST_FIELDS + 1 {
         return Err(HttpError::HeadTooLong);
     }
-    let mut room = [EMPTY_HEADER; FIELD_LIMIT];
+    let mut room = [EMPTY_HEADER; MOST_FIELDS];
     let mut head = Request::new(&mut room);
     let len = match head.parse(text) {
         Ok(Status::Complete(len)) => len,
@@ -99,10 +100,10 @@ fn read_asked(alloc: Global, text: &[u8], full: usize) -> Result<Asked, HttpErro
     }
 }
 
-/// Reads a request of the connection that is there. Bytes after the body are no part of it, and none of them is needed: what
-/// came whole is answered, whatever follows, and no read begins behind it. What of a body didn't come with its head is read by
-/// its exact length, so bytes after the body are taken, and let go, only where they are among the first 16,384, in which the
-/// head is looked for.
+/// Reads a request of the connection that is there. Bytes after the body are no part of it, and none of them is needed:
+/// what came whole is answered, whatever follows, and no read begins behind it. What of a body didn't come with its
+/// head is read by its exact length, so bytes after the body are taken, and let go, only where they are among the first
+/// 16,384, in which the head is looked for.
 ///
 /// It is refused in the order that [`HttpError`] says. `Short`, `ReadFault` and `OutOfMemory` come when they happen.
 pub fn read_request<W: Wire>(alloc: Global, wire: &mut W) -> Result<HttpRequest, HttpError>

@@ -1,4 +1,5 @@
-// Responses, as a client reads them.
+//! Responses, as a client reads them.
+
 ghost use Rattle.std.specs.Prelude.{◌≡◌, ◌≤◌, length, false, Some, IfErr};
 ghost use Rattle.siri_http.specs.Connections.{OnConnection};
 ghost use Rattle.siri_http.specs.HttpCauses.{HasReadCause};
@@ -10,7 +11,7 @@ ghost use Rattle.siri_http.specs.inner.Reading.{SaysSo};
 ghost use Rattle.siri_http.specs.inner.Scanning.{head_from, fresh};
 
 use crate::HttpError;
-use crate::fields::{FIELD_LIMIT, body_length};
+use crate::fields::{MOST_FIELDS, body_length};
 use crate::front::{read_body, read_head};
 use httparse::{EMPTY_HEADER, Response, Status};
 use siri_base::{List, Wire};
@@ -40,10 +41,10 @@ fn read_answered(text: &[u8], full: usize) -> Result<Answered, HttpError>
     ensures says { SaysSo IsResponse text.now full (answered_parts result) }
     ensures known { IfErr result (λ e. is_fault e ≡ false) }
 {
-    if full > FIELD_LIMIT + 1 {
+    if full > MOST_FIELDS + 1 {
         return Err(HttpError::HeadTooLong);
     }
-    let mut room = [EMPTY_HEADER; FIELD_LIMIT];
+    let mut room = [EMPTY_HEADER; MOST_FIELDS];
     let mut head = Response::new(&mut room);
     let len = match head.parse(text) {
         Ok(Status::Complete(len)) => len,
@@ -62,10 +63,10 @@ fn read_answered(text: &[u8], full: usize) -> Result<Answered, HttpError>
     }
 }
 
-/// Reads a response of the connection that is there. Bytes after the body are no part of it, and none of them is needed: what
-/// came whole is answered, whatever follows, and no read begins behind it. What of a body didn't come with its head is read by
-/// its exact length, so bytes after the body are taken, and let go, only where they are among the first 16,384, in which the
-/// head is looked for.
+/// Reads a response of the connection that is there. Bytes after the body are no part of it, and none of them is
+/// needed: what came whole is answered, whatever follows, and no read begins behind it. What of a body didn't come with
+/// its head is read by its exact length, so bytes after the body are taken, and let go, only where they are among the
+/// first 16,384, in which the head is looked for.
 ///
 /// It is refused in the order that [`HttpError`] says. `Short`, `ReadFault` and `OutOfMemory` come when they happen.
 pub fn read_response<W: Wire>(alloc: Global, wire: &mut W) -> Result<HttpResponse, HttpError>

@@ -1,10 +1,11 @@
-// Where a head text ends.
+//! Where a head text ends.
+
 ghost use Rattle.std.specs.Prelude.{◌≡◌, ◌≤◌, ◌+◌, ◌++◌, ℕ, List, length, IfSome, IfNone, IsNone, Some, None, if◌then◌else◌};
 ghost use Rattle.siri_http.specs.inner.Scanning.{is_empty, line_after, ends_head, after_byte, head_from, fresh};
 
 /// What came of the line that has begun.
 #[derive(Clone, Copy, Debug)]
-pub enum Line {
+pub(crate) enum Line {
     /// Nothing yet.
     Nothing,
     /// A CR alone.
@@ -34,7 +35,7 @@ impl Line {
 
 /// A head text, as it stands at the front of an input.
 #[derive(Clone, Copy, Debug)]
-pub struct HeadText {
+pub(crate) struct HeadText {
     /// How many bytes it has.
     pub len: usize,
     /// How many of its lines aren't empty.
@@ -43,7 +44,7 @@ pub struct HeadText {
 
 /// How far an input was read that has no whole head text yet.
 #[derive(Clone, Copy, Debug)]
-pub struct Scan {
+pub(crate) struct Scan {
     /// How many bytes came.
     pub len: usize,
     /// How many lines that aren't empty have ended.
@@ -54,7 +55,7 @@ pub struct Scan {
 
 impl Scan {
     /// Nothing came yet.
-    pub fn new() -> Scan
+    pub(crate) fn new() -> Scan
         ensures { result ≡ fresh }
     {
         Scan {
@@ -93,7 +94,7 @@ impl Scan {
     }
 
     /// Takes the next bytes, and gives the head text where it ends among them.
-    pub fn advance(&mut self, mut piece: &[u8]) -> Option<HeadText>
+    pub(crate) fn advance(&mut self, mut piece: &[u8]) -> Option<HeadText>
         requires some { self.old.full ≤ self.old.len }
         requires bound { self.old.len + length piece.now ≤ 16384 }
         ensures found { IfSome result (λ head. (rest : List ℕ) → head_from self.old (piece.entry.now ++ rest) ≡ Some head) }

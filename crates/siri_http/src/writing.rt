@@ -1,4 +1,5 @@
-// Writes requests and responses.
+//! Writes requests and responses.
+
 ghost use Rattle.std.specs.Prelude.{◌≡◌, ◌++◌, length, IfErr, IfOk, OnOk, true};
 ghost use Rattle.siri_http.specs.Connections.{OnConnection};
 ghost use Rattle.siri_http.specs.HttpCauses.{EndsWrite, HasWriteCause};

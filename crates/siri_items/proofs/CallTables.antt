@@ -6,7 +6,10 @@ use Rattle.siri_records.specs.declared.call.StopCall.{StopCall}
 use Rattle.siri_records.specs.declared.visit.VehicleLocation.{VehicleLocation}
 use Rattle.siri_items.specs.declared.names.TheConstants.{MONITORED_CALL}
 use Rattle.siri_tables.specs.Rules.{table, row, required_row}
-use Rattle.siri_items.specs.Calls.{stop_call, call_is_blank, location, location_is_blank, times_table, arrival_table, departure_table, make_times, arrival, departure, arrival_of, departure_of, call_table, location_table, make_call, make_location, a_call, an_optional_call, a_location, written_call, call_writing, written_calls, written_location}
+use Rattle.siri_items.specs.Calls.{stop_call, call_is_blank, location, location_is_blank, times_table, arrival_table, departure_table}
+use Rattle.siri_items.specs.Calls.{make_times, arrival, departure, arrival_of, departure_of, call_table, location_table, make_call}
+use Rattle.siri_items.specs.Calls.{make_location, a_call, an_optional_call, a_location, written_call, call_writing, written_calls}
+use Rattle.siri_items.specs.Calls.{written_location}
 use Rattle.siri_items.specs.declared.read_call.CallTimes.{CallTimes}
 use Rattle.siri_items.specs.Visits.{timed_call, with_moment, mandatory_timed_call}
 use Rattle.siri_items.specs.Journeys.{calls_inside}
@@ -15,12 +18,19 @@ use Rattle.siri_tables.proofs.CanonicalParts.{are_ascii}
 use Rattle.siri_tables.specs.Spelling.{Spells}
 use Rattle.siri_tables.proofs.ProperParts.{row_is}
 use Rattle.siri_records.specs.Ends.{call_moment}
-use Rattle.siri_tables.proofs.TableLaws.{KindLaws, EntryLaws, RowLaws, at_depth, optional_laws, entries_inside_laws, AllLaws, TableLaws, are_distinct, together_laws, table_kind, table_entries, shown_table_kind, left_out_table_kind, at_key}
+use Rattle.siri_tables.proofs.TableLaws.{KindLaws, EntryLaws, RowLaws, at_depth, optional_laws, entries_inside_laws, AllLaws, TableLaws}
+use Rattle.siri_tables.proofs.TableLaws.{are_distinct, together_laws, table_kind, table_entries, shown_table_kind, left_out_table_kind}
+use Rattle.siri_tables.proofs.TableLaws.{at_key}
 use Rattle.siri_tables.proofs.ValueLaws.{name_laws, text_laws, moment_laws, number_laws, decimal_laws, flag_laws}
 use Rattle.siri_tables.specs.Tables.{AllProper, read_all, all_written, together}
 
 pub location_laws : TableLaws 0 location_table make_location
-location_laws = record { rows = (optional_laws decimal_laws refl refl, (optional_laws decimal_laws refl refl, tt)); whole = λ l. refl; holds = λ a b. (refl, (refl, tt)); distinct = λ l. refl }
+location_laws = record {
+  rows = (optional_laws decimal_laws refl refl, (optional_laws decimal_laws refl refl, tt));
+  whole = λ l. refl;
+  holds = λ a b. (refl, (refl, tt));
+  distinct = λ l. refl;
+}
 
 no_location : VehicleLocation
 no_location = record { longitude = None; latitude = None }
@@ -37,7 +47,9 @@ pub location_kind : KindLaws 1 a_location
 unfolding location written_location
 location_kind = left_out_table_kind location_laws location_is_blank no_location location_of_none no_location_is_blank
 
-times_laws : {aimed expected actual status platform_name : List ℕ} → AllLaws 0 (times_table aimed expected actual status platform_name) → ((t : CallTimes) → are_distinct (all_written (times_table aimed expected actual status platform_name) t) ≡ true)
+times_laws : {aimed expected actual status platform_name : List ℕ}
+    → AllLaws 0 (times_table aimed expected actual status platform_name)
+    → ((t : CallTimes) → are_distinct (all_written (times_table aimed expected actual status platform_name) t) ≡ true)
     → TableLaws 0 (times_table aimed expected actual status platform_name) make_times
 times_laws rows distinct = record { rows = rows; whole = λ t. refl; holds = λ a b c d e. search; distinct = distinct }
 
@@ -102,6 +114,7 @@ mandatory_timed_call_laws {most = most} le = record {
   proper = λ d c u s_. (row_is (table stop_call) (AllProper call_table) call_kind.yields MONITORED_CALL.now d (Some c) u s_.0, s_.1);
 }
 
-pub calls_inside_laws : {S : Type 0} {most : ℕ} {outer : List ℕ} {of : S → List StopCall} (key : List ℕ) → are_ascii outer ≡ true → are_ascii key ≡ true → nat_le 3 most ≡ true → RowLaws most (calls_inside outer key of)
+pub calls_inside_laws : {S : Type 0} {most : ℕ} {outer : List ℕ} {of : S → List StopCall} (key : List ℕ)
+    → are_ascii outer ≡ true → are_ascii key ≡ true → nat_le 3 most ≡ true → RowLaws most (calls_inside outer key of)
 unfolding written_calls
 calls_inside_laws key outer_ascii ascii le = entries_inside_laws {kind = a_call} {bound = 1000} key call_entries outer_ascii ascii le

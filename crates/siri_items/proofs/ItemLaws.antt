@@ -24,7 +24,7 @@ use Rattle.serde_json.specs.Written.{compact_text}
 use Rattle.siri_json.specs.Tree.{tree_of}
 use Rattle.siri_json.proofs.Read.{tree_of-compact_text}
 use Rattle.siri_tables.proofs.CanonicalParts.{IsCanonicalWithin, deeper, ◌then◌}
-use Rattle.siri_base.specs.declared.reason.Reason.TheVariants.{NoMoment}
+use Rattle.siri_base.specs.declared.reason.Reason.{Reason}
 use Rattle.siri_records.specs.declared.item.Service.{Service}
 use Rattle.siri_records.specs.declared.item.Service.TheVariants as service
 use Rattle.siri_tables.specs.Spelling.{IfFound}
@@ -39,15 +39,16 @@ use Rattle.siri_items.proofs.ItemTables.{visit_laws, visit_kind, vehicle_laws, v
 
 -- ---- what is read is spelled
 
-with_time_is : (j x : Journey) (b : Bool) → b ≡ has_time j.recorded_calls || has_time j.estimated_calls → (if b then done j else refused NoMoment) ≡ Ok x → (b ≡ true) × (j ≡ x)
-with_time_is j x true is e = (refl, ok_is j x e)
-with_time_is j x false is e = absurd cc
+with_time_is : (why : Reason) (j x : Journey) (b : Bool) → b ≡ has_time j.recorded_calls || has_time j.estimated_calls
+    → (if b then done j else refused why) ≡ Ok x → (b ≡ true) × (j ≡ x)
+with_time_is why j x true is e = (refl, ok_is j x e)
+with_time_is why j x false is e = absurd cc
 
 pub journey_spelled : (d : Data) (j : Journey) → journey d ≡ Ok j → SpellsJourney d j
 unfolding journey read_journey_rows
 journey_spelled d j e =
     let r = bind_ok (read_journey_rows d) _ j e in
-    let t = with_time_is r.0 j (has_time r.0.recorded_calls || has_time r.0.estimated_calls) refl r.2 in
+    let t = with_time_is _ r.0 j (has_time r.0.recorded_calls || has_time r.0.estimated_calls) refl r.2 in
     subst (λ (x : Journey). SpellsJourney d x) t.1 (read_spelled journey_laws d r.0 r.1, t.0)
 
 visit_item : (d : Data) (v : Visit) → required_value (table visit) d ≡ Ok v → IfFound (object_in d) (λ o. SpellsVisit o v)
@@ -93,7 +94,8 @@ unfolding visit vehicle situation
 item_reads service.Stop d (item.Visit v) is = rw (table_ok visit d v (found_map (object_in d) _ _ (λ o s_. spelled_read visit_laws o v s_) is)) refl
 item_reads service.Timetable d (item.Journey j) is = rw (table_ok journey d j (found_map (object_in d) _ _ (λ o s_. journey_reads o j s_) is)) refl
 item_reads service.Vehicle d (item.Vehicle v) is = rw (table_ok vehicle d v (found_map (object_in d) _ _ (λ o s_. spelled_read vehicle_laws o v s_) is)) refl
-item_reads service.Situation d (item.Situation t) is = rw (table_ok situation d t (found_map (object_in d) _ _ (λ o s_. spelled_read situation_laws o t s_) is)) refl
+item_reads service.Situation d (item.Situation t) is =
+    rw (table_ok situation d t (found_map (object_in d) _ _ (λ o s_. spelled_read situation_laws o t s_) is)) refl
 item_reads service.Stop d (item.Journey j) is = elim is [ ]
 item_reads service.Stop d (item.Vehicle v) is = elim is [ ]
 item_reads service.Stop d (item.Situation t) is = elim is [ ]
@@ -116,10 +118,14 @@ pub journey_yields : Yields (table journey) IsProperJourney
 journey_yields = table_yields journey IsProperJourney (λ d u. reads_to IsProperJourney (journey d) (λ j e. journey_proper d j u e))
 
 item_on : (s_ : Service) (d : Data) → TextsAreUtf8 d → OnRead (item_of s_ d) IsProper
-item_on service.Stop d u = on_bind (AllProper visit_table) IsProper (required_value (table visit) d) _ (required_value_on (table visit) (AllProper visit_table) visit_kind.yields d u) (λ v is. is)
-item_on service.Timetable d u = on_bind IsProperJourney IsProper (required_value (table journey) d) _ (required_value_on (table journey) IsProperJourney journey_yields d u) (λ j is. is)
-item_on service.Vehicle d u = on_bind (AllProper vehicle_table) IsProper (required_value (table vehicle) d) _ (required_value_on (table vehicle) (AllProper vehicle_table) vehicle_kind.yields d u) (λ v is. is)
-item_on service.Situation d u = on_bind (AllProper situation_table) IsProper (required_value (table situation) d) _ (required_value_on (table situation) (AllProper situation_table) situation_kind.yields d u) (λ s is. is)
+item_on service.Stop d u = on_bind (AllProper visit_table) IsProper (required_value (table visit) d) _
+    (required_value_on (table visit) (AllProper visit_table) visit_kind.yields d u) (λ v is. is)
+item_on service.Timetable d u = on_bind IsProperJourney IsProper (required_value (table journey) d) _
+    (required_value_on (table journey) IsProperJourney journey_yields d u) (λ j is. is)
+item_on service.Vehicle d u = on_bind (AllProper vehicle_table) IsProper (required_value (table vehicle) d) _
+    (required_value_on (table vehicle) (AllProper vehicle_table) vehicle_kind.yields d u) (λ v is. is)
+item_on service.Situation d u = on_bind (AllProper situation_table) IsProper (required_value (table situation) d) _
+    (required_value_on (table situation) (AllProper situation_table) situation_kind.yields d u) (λ s is. is)
 
 pub read_proper : (s_ : Service) (d : Data) (i : Item) → TextsAreUtf8 d → item_of s_ d ≡ Ok i → IsProper i
 read_proper s_ d i u e = on_ok IsProper (item_of s_ d) i (item_on s_ d u) e
@@ -140,7 +146,8 @@ given : {A : Type 0} (rule : Data → Result (Option A) Refusal) (d : Data) (x :
 unfolding required_value
 given rule d x is = rw is refl
 
-table_given : {A : Type 0} (rows : Data → Result A Refusal) (ms : Members) (x : A) → GivesBack (table rows) (Some (object ms)) (Some x) → required_value (table rows) (as_texts (object ms)) ≡ Ok x
+table_given : {A : Type 0} (rows : Data → Result A Refusal) (ms : Members) (x : A)
+    → GivesBack (table rows) (Some (object ms)) (Some x) → required_value (table rows) (as_texts (object ms)) ≡ Ok x
 table_given rows ms x back = given (table rows) (as_texts (object ms)) x back
 
 pub item_back : (i : Item) → IsProper i → item_of (service_of i) (as_texts (written_item i)) ≡ Ok (as_written i)

@@ -3,11 +3,15 @@ use Rattle.std.proofs.Common.{◌≡◌, ℕ, true, nat_le, refl}
 use Rattle.siri_items.specs.declared.read_parts.ServiceInfo.{ServiceInfo}
 use Rattle.siri_items.specs.declared.read_parts.JourneyProgress.{JourneyProgress}
 use Rattle.siri_items.specs.Parts.{service_info, service_info_table, make_service_info, progress, progress_table, make_progress}
-use Rattle.siri_items.specs.Visits.{visit, visit_journey, visit_journey_table, make_visit_journey, a_visit_journey, visit_table, make_visit, written_visit_journey, written_visit, a_visit}
-use Rattle.siri_items.specs.Vehicles.{vehicle, vehicle_journey, vehicle_journey_table, make_vehicle_journey, a_vehicle_journey, vehicle_table, make_vehicle, written_vehicle_journey, written_vehicle, a_vehicle}
+use Rattle.siri_items.specs.Visits.{visit, visit_journey, visit_journey_table, make_visit_journey, a_visit_journey, visit_table, make_visit}
+use Rattle.siri_items.specs.Visits.{written_visit_journey, written_visit, a_visit}
+use Rattle.siri_items.specs.Vehicles.{vehicle, vehicle_journey, vehicle_journey_table, make_vehicle_journey, a_vehicle_journey}
+use Rattle.siri_items.specs.Vehicles.{vehicle_table, make_vehicle, written_vehicle_journey, written_vehicle, a_vehicle}
 use Rattle.siri_items.specs.Journeys.{journey_table, make_journey}
-use Rattle.siri_items.specs.Situations.{situation, period, period_table, make_period, a_period, situation_table, make_situation, written_period, written_situation, a_situation}
-use Rattle.siri_tables.proofs.TableLaws.{KindLaws, EntryLaws, RowLaws, optional_laws, mandatory_laws, some_entries_laws, AllLaws, TableLaws, together_laws, table_kind, table_entries}
+use Rattle.siri_items.specs.Situations.{situation, period, period_table, make_period, a_period, situation_table, make_situation}
+use Rattle.siri_items.specs.Situations.{written_period, written_situation, a_situation}
+use Rattle.siri_tables.proofs.TableLaws.{KindLaws, EntryLaws, RowLaws, optional_laws, mandatory_laws, some_entries_laws, AllLaws, TableLaws}
+use Rattle.siri_tables.proofs.TableLaws.{together_laws, table_kind, table_entries}
 use Rattle.siri_tables.specs.Tables.{together}
 use Rattle.siri_tables.proofs.ValueLaws.{name_laws, text_laws, moment_laws, span_laws, flag_laws}
 use Rattle.siri_items.proofs.References.{optional_ref_laws, mandatory_ref_laws}

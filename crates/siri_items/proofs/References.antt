@@ -7,7 +7,9 @@ use Rattle.siri_json.specs.Values.{object_in, member_of}
 use Rattle.siri_items.specs.declared.names.TheConstants.{DATA_FRAME_REF, DATED_VEHICLE_JOURNEY_REF, FRAMED_VEHICLE_JOURNEY_REF}
 use Rattle.siri_tables.specs.Refusals.{◌>>=◌}
 use Rattle.siri_tables.specs.Rules.{name, row, required_row, required}
-use Rattle.siri_items.specs.Calls.{framed_ref, read_framed_ref_rows, journey_ref, plain_journey_ref, required_journey_ref, plain_required_journey_ref, framed_ref_of, optional_ref, mandatory_ref, rows_of_framed_ref, written_framed_ref, written_dated}
+use Rattle.siri_items.specs.Calls.{framed_ref, read_framed_ref_rows, journey_ref, plain_journey_ref, required_journey_ref}
+use Rattle.siri_items.specs.Calls.{plain_required_journey_ref, framed_ref_of, optional_ref, mandatory_ref, rows_of_framed_ref}
+use Rattle.siri_items.specs.Calls.{written_framed_ref, written_dated}
 use Rattle.siri_tables.specs.Writing.{row_object, written_text}
 use Rattle.siri_tables.specs.Proper.{IsName}
 use Rattle.siri_tables.proofs.Back.{found_again, GivesBack, row_again}
@@ -23,13 +25,15 @@ use Rattle.siri_tables.proofs.TableLaws.{RowLaws, at_depth}
 use Rattle.siri_items.specs.Spelling.{SpellsFramedRef}
 
 framed_ref_back : (frame dated : List ℕ) → IsName frame → IsName dated
-    → GivesBack framed_ref (written_framed_ref (Some frame) (written_text dated)) (Some (record { data_frame_ref = Some frame; dated_vehicle_journey_ref = dated }))
+    → GivesBack framed_ref (written_framed_ref (Some frame) (written_text dated))
+    (Some (record { data_frame_ref = Some frame; dated_vehicle_journey_ref = dated }))
 unfolding written_framed_ref framed_ref read_framed_ref_rows object_in
 framed_ref_back frame dated frame_is dated_is =
     let rs = rows_of_framed_ref frame (written_text dated) in
     let d = as_texts (row_object rs) in
     let first = row_ok name DATA_FRAME_REF.now d (Some frame) (row_again name DATA_FRAME_REF.now rs _ (Some frame) refl (name_back frame frame_is)) in
-    let second = row_ok name DATED_VEHICLE_JOURNEY_REF.now d (Some dated) (row_again name DATED_VEHICLE_JOURNEY_REF.now rs _ (Some dated) refl (name_back dated dated_is)) in
+    let second = row_ok name DATED_VEHICLE_JOURNEY_REF.now d (Some dated)
+    (row_again name DATED_VEHICLE_JOURNEY_REF.now rs _ (Some dated) refl (name_back dated dated_is)) in
     rw (first, second) refl
 
 journey_ref_back : (d : Data) (frame dated : Option (List ℕ)) → IfSome frame IsName → IfSome dated IsName → (IsSome frame → IsSome dated)
@@ -39,7 +43,8 @@ journey_ref_back : (d : Data) (frame dated : Option (List ℕ)) → IfSome frame
 unfolding journey_ref plain_journey_ref row written_dated written_framed_ref
 journey_ref_back d None dated frame_is dated_is framed_ref_is at_framed_ref at_dated = rw (at_framed_ref, at_dated, some_name_back dated dated_is) refl
 journey_ref_back d (Some frame) None frame_is dated_is framed_ref_is at_framed_ref at_dated = absurd (cc (framed_ref_is refl))
-journey_ref_back d (Some frame) (Some dated) frame_is dated_is framed_ref_is at_framed_ref at_dated = rw (at_framed_ref, framed_ref_back frame dated frame_is dated_is) refl
+journey_ref_back d (Some frame) (Some dated) frame_is dated_is framed_ref_is at_framed_ref at_dated =
+    rw (at_framed_ref, framed_ref_back frame dated frame_is dated_is) refl
 
 required_journey_ref_back : (d : Data) (frame : Option (List ℕ)) (dated : List ℕ) → IfSome frame IsName → IsName dated
     → member_of FRAMED_VEHICLE_JOURNEY_REF.now d ≡ found_again (written_framed_ref frame (written_text dated))
@@ -51,9 +56,12 @@ required_journey_ref_back d (Some frame) dated frame_is dated_is at_framed_ref a
 
 frame_within : (frame : List ℕ) (dated : Option Data) → IsName frame → MayBeWithin 0 dated → IsCanonicalWithin 1 (row_object (rows_of_framed_ref frame dated))
 frame_within frame dated frame_is dated_is =
-    object_within 0 (rows_of_framed_ref frame dated) (row_within 0 DATA_FRAME_REF.now _ refl (text_within 0 frame frame_is.utf8) then row_within 0 DATED_VEHICLE_JOURNEY_REF.now _ refl dated_is then tt)
+    object_within 0 (rows_of_framed_ref frame dated)
+    (row_within 0 DATA_FRAME_REF.now _ refl (text_within 0 frame frame_is.utf8)
+    then row_within 0 DATED_VEHICLE_JOURNEY_REF.now _ refl dated_is then tt)
 
-framed_ref_within : (frame dated : Option (List ℕ)) → IfSome frame IsName → IfSome dated IsName → MayBeWithin 1 (written_framed_ref frame (option_and_then written_text dated))
+framed_ref_within : (frame dated : Option (List ℕ)) → IfSome frame IsName → IfSome dated IsName
+    → MayBeWithin 1 (written_framed_ref frame (option_and_then written_text dated))
 unfolding written_framed_ref
 framed_ref_within None dated frame_is dated_is = tt
 framed_ref_within (Some frame) dated frame_is dated_is = frame_within frame (option_and_then written_text dated) frame_is (some_text_within 0 _ dated dated_is)
@@ -72,7 +80,8 @@ IsProperRef r = IfSome r.data_frame_ref IsName × IfSome r.dated_vehicle_journey
 name_row : (key : List ℕ) (d : Data) → TextsAreUtf8 d → OnRead (row name key d) (λ o. IfSome o IsName)
 name_row key d u = row_on name IsName name_yields key d u
 
-framed_ref_of_on : (frame dated : Option (List ℕ)) → IfSome frame IsName → IfSome dated IsName → OnRead (framed_ref_of frame dated) (λ o. IfSome o IsProperRequiredRef)
+framed_ref_of_on : (frame dated : Option (List ℕ)) → IfSome frame IsName → IfSome dated IsName
+    → OnRead (framed_ref_of frame dated) (λ o. IfSome o IsProperRequiredRef)
 framed_ref_of_on None None f h = tt
 framed_ref_of_on (Some frame) None f h = tt
 framed_ref_of_on None (Some dated) f h = (f, h)
@@ -82,7 +91,9 @@ read_framed_ref_rows_on : (d : Data) → TextsAreUtf8 d → OnRead (read_framed_
 unfolding read_framed_ref_rows
 read_framed_ref_rows_on d u =
     on_bind (λ o. IfSome o IsName) (λ o. IfSome o IsProperRequiredRef) (row name DATA_FRAME_REF.now d) _ (name_row DATA_FRAME_REF.now d u)
-    (λ frame f. on_bind (λ o. IfSome o IsName) (λ o. IfSome o IsProperRequiredRef) (row name DATED_VEHICLE_JOURNEY_REF.now d) _ (name_row DATED_VEHICLE_JOURNEY_REF.now d u) (λ dated h. framed_ref_of_on frame dated f h))
+    (λ frame f. on_bind (λ o. IfSome o IsName) (λ o. IfSome o IsProperRequiredRef)
+    (row name DATED_VEHICLE_JOURNEY_REF.now d) _ (name_row DATED_VEHICLE_JOURNEY_REF.now d u)
+    (λ dated h. framed_ref_of_on frame dated f h))
 
 framed_ref_yields : Yields framed_ref IsProperRequiredRef
 unfolding framed_ref
@@ -94,26 +105,35 @@ framed_ref_row d u = row_on framed_ref IsProperRequiredRef framed_ref_yields FRA
 plain_on : (d : Data) → TextsAreUtf8 d → (o : Option RequiredJourneyRef) → IfSome o IsProperRequiredRef → OnRead (plain_journey_ref d o) IsProperRef
 unfolding plain_journey_ref
 plain_on d u None is =
-    on_bind (λ o. IfSome o IsName) IsProperRef (row name DATED_VEHICLE_JOURNEY_REF.now d) _ (name_row DATED_VEHICLE_JOURNEY_REF.now d u) (λ dated h. (tt, h, λ never. absurd (cc never)))
+    on_bind (λ o. IfSome o IsName) IsProperRef (row name DATED_VEHICLE_JOURNEY_REF.now d) _
+    (name_row DATED_VEHICLE_JOURNEY_REF.now d u) (λ dated h. (tt, h, λ never. absurd (cc never)))
 plain_on d u (Some r) is = (is.0, is.1, λ required. refl)
 
 journey_ref_on : (d : Data) → TextsAreUtf8 d → OnRead (journey_ref d) IsProperRef
 unfolding journey_ref
-journey_ref_on d u = on_bind (λ o. IfSome o IsProperRequiredRef) IsProperRef (row framed_ref FRAMED_VEHICLE_JOURNEY_REF.now d) (plain_journey_ref d) (framed_ref_row d u) (λ o is. plain_on d u o is)
+journey_ref_on d u = on_bind (λ o. IfSome o IsProperRequiredRef) IsProperRef
+    (row framed_ref FRAMED_VEHICLE_JOURNEY_REF.now d) (plain_journey_ref d) (framed_ref_row d u)
+    (λ o is. plain_on d u o is)
 
-plain_required_journey_ref_on : (d : Data) → TextsAreUtf8 d → (o : Option RequiredJourneyRef) → IfSome o IsProperRequiredRef → OnRead (plain_required_journey_ref d o) IsProperRequiredRef
+plain_required_journey_ref_on : (d : Data) → TextsAreUtf8 d → (o : Option RequiredJourneyRef)
+    → IfSome o IsProperRequiredRef → OnRead (plain_required_journey_ref d o) IsProperRequiredRef
 unfolding plain_required_journey_ref required_row
 plain_required_journey_ref_on d u None is =
     on_bind IsName IsProperRequiredRef (row name DATED_VEHICLE_JOURNEY_REF.now d >>= required (Member DATED_VEHICLE_JOURNEY_REF.now ∷ [])) _
-    (on_bind (λ o. IfSome o IsName) IsName (row name DATED_VEHICLE_JOURNEY_REF.now d) (required (Member DATED_VEHICLE_JOURNEY_REF.now ∷ [])) (name_row DATED_VEHICLE_JOURNEY_REF.now d u) (λ o h. required_on IsName (Member DATED_VEHICLE_JOURNEY_REF.now ∷ []) o h))
+    (on_bind (λ o. IfSome o IsName) IsName (row name DATED_VEHICLE_JOURNEY_REF.now d)
+    (required (Member DATED_VEHICLE_JOURNEY_REF.now ∷ [])) (name_row DATED_VEHICLE_JOURNEY_REF.now d u)
+    (λ o h. required_on IsName (Member DATED_VEHICLE_JOURNEY_REF.now ∷ []) o h))
     (λ dated h. (tt, h))
 plain_required_journey_ref_on d u (Some r) is = is
 
 required_journey_ref_on : (d : Data) → TextsAreUtf8 d → OnRead (required_journey_ref d) IsProperRequiredRef
 unfolding required_journey_ref
-required_journey_ref_on d u = on_bind (λ o. IfSome o IsProperRequiredRef) IsProperRequiredRef (row framed_ref FRAMED_VEHICLE_JOURNEY_REF.now d) (plain_required_journey_ref d) (framed_ref_row d u) (λ o is. plain_required_journey_ref_on d u o is)
+required_journey_ref_on d u = on_bind (λ o. IfSome o IsProperRequiredRef) IsProperRequiredRef
+    (row framed_ref FRAMED_VEHICLE_JOURNEY_REF.now d) (plain_required_journey_ref d) (framed_ref_row d u)
+    (λ o is. plain_required_journey_ref_on d u o is)
 
-framed_ref_is : (frame dated : Option (List ℕ)) (r : RequiredJourneyRef) → framed_ref_of frame dated ≡ Ok (Some r) → (frame ≡ r.data_frame_ref) × (dated ≡ Some r.dated_vehicle_journey_ref)
+framed_ref_is : (frame dated : Option (List ℕ)) (r : RequiredJourneyRef) → framed_ref_of frame dated ≡ Ok (Some r)
+    → (frame ≡ r.data_frame_ref) × (dated ≡ Some r.dated_vehicle_journey_ref)
 framed_ref_is None None r e = absurd cc
 framed_ref_is (Some frame) None r e = absurd cc
 framed_ref_is None (Some dated) r e =
@@ -134,7 +154,9 @@ framed_ref_spelled d r e =
       dated_vehicle_journey_ref = row_spelled name DATED_VEHICLE_JOURNEY_REF.now d (Some r.dated_vehicle_journey_ref) (r2.1 ∙ ap Ok is.1);
     }
 
-framed_ref_by : (frame : Option (List ℕ)) (dated : List ℕ) → framed_ref_of frame (Some dated) ≡ Ok (Some (record { data_frame_ref = frame; dated_vehicle_journey_ref = dated }))
+framed_ref_by : (frame : Option (List ℕ)) (dated : List ℕ)
+    → framed_ref_of frame (Some dated) ≡ Ok (Some
+    (record { data_frame_ref = frame; dated_vehicle_journey_ref = dated }))
 framed_ref_by None dated = refl
 framed_ref_by (Some frame) dated = refl
 

@@ -6,7 +6,11 @@ use Rattle.siri_json.specs.declared.path.Step.TheVariants.{Member}
 use Rattle.siri_json.specs.Values.{object_in}
 use Rattle.siri_records.specs.declared.call.StopCall.{StopCall}
 use Rattle.siri_records.specs.declared.visit.VehicleLocation.{VehicleLocation}
-use Rattle.siri_items.specs.declared.names.TheConstants.{STOP_POINT_REF, ORDER, STOP_POINT_NAME, VEHICLE_AT_STOP, AIMED_ARRIVAL_TIME, EXPECTED_ARRIVAL_TIME, ACTUAL_ARRIVAL_TIME, ARRIVAL_STATUS, ARRIVAL_PLATFORM_NAME, AIMED_DEPARTURE_TIME, EXPECTED_DEPARTURE_TIME, ACTUAL_DEPARTURE_TIME, DEPARTURE_STATUS, DEPARTURE_PLATFORM_NAME, FRAMED_VEHICLE_JOURNEY_REF, DATA_FRAME_REF, DATED_VEHICLE_JOURNEY_REF, LONGITUDE, LATITUDE}
+use Rattle.siri_items.specs.declared.names.TheConstants.{STOP_POINT_REF, ORDER, STOP_POINT_NAME, VEHICLE_AT_STOP, AIMED_ARRIVAL_TIME}
+use Rattle.siri_items.specs.declared.names.TheConstants.{EXPECTED_ARRIVAL_TIME, ACTUAL_ARRIVAL_TIME, ARRIVAL_STATUS, ARRIVAL_PLATFORM_NAME}
+use Rattle.siri_items.specs.declared.names.TheConstants.{AIMED_DEPARTURE_TIME, EXPECTED_DEPARTURE_TIME, ACTUAL_DEPARTURE_TIME}
+use Rattle.siri_items.specs.declared.names.TheConstants.{DEPARTURE_STATUS, DEPARTURE_PLATFORM_NAME, FRAMED_VEHICLE_JOURNEY_REF}
+use Rattle.siri_items.specs.declared.names.TheConstants.{DATA_FRAME_REF, DATED_VEHICLE_JOURNEY_REF, LONGITUDE, LATITUDE}
 use Rattle.siri_items.specs.declared.read_call.CallTimes.{CallTimes}
 use Rattle.siri_items.specs.declared.read_call.JourneyRef.{JourneyRef}
 use Rattle.siri_items.specs.declared.read_call.RequiredJourneyRef.{RequiredJourneyRef}
@@ -14,7 +18,8 @@ use Rattle.siri_tables.specs.Refusals.{Refusal, ◌>>=◌}
 use Rattle.siri_tables.specs.Rules.{name, table, unless_wrong, table_unless_blank, maybe, row, required_row}
 use Rattle.siri_tables.specs.Proper.{IsName}
 use Rattle.siri_tables.specs.Writing.{Row as Written, row_object, with_rows, object_unless_empty, written_list, written_text}
-use Rattle.siri_tables.specs.Tables.{Kind, Row, optional, a_name, a_text, a_moment, a_number, a_decimal, a_flag, Table, Maker, read_all, AllProper, all_written, all_blank, together}
+use Rattle.siri_tables.specs.Tables.{Kind, Row, optional, a_name, a_text, a_moment, a_number, a_decimal, a_flag, Table, Maker, read_all}
+use Rattle.siri_tables.specs.Tables.{AllProper, all_written, all_blank, together}
 
 -- the groups of a call's arrival and of its departure: when, and what is shown of it (EN 15531-3)
 abbrev pub times_table : List ℕ → List ℕ → List ℕ → List ℕ → List ℕ → Table CallTimes
@@ -188,7 +193,10 @@ written_dated None dated = dated
 written_dated (Some frame) dated = None
 
 abbrev pub written_journey_ref : Option (List ℕ) → Option Data → List Written
-written_journey_ref frame dated = (FRAMED_VEHICLE_JOURNEY_REF.now, written_framed_ref frame dated) ∷ (DATED_VEHICLE_JOURNEY_REF.now, written_dated frame dated) ∷ []
+written_journey_ref frame dated = (
+  FRAMED_VEHICLE_JOURNEY_REF.now,
+  written_framed_ref frame dated,
+) ∷ (DATED_VEHICLE_JOURNEY_REF.now, written_dated frame dated) ∷ []
 
 -- the row of a reference that need not be there; a data frame isn't there without its dated journey
 abbrev pub optional_ref : {S : Type 0} → (S → JourneyRef) → Row S

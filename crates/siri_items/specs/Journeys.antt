@@ -6,7 +6,8 @@ use Rattle.siri_base.specs.declared.reason.Reason.TheVariants.{NoMoment}
 use Rattle.siri_records.specs.declared.call.StopCall.{StopCall}
 use Rattle.siri_records.specs.declared.journey.Journey.{Journey}
 use Rattle.siri_records.specs.Ends.{call_moment}
-use Rattle.siri_items.specs.declared.names.TheConstants.{RECORDED_AT_TIME, LINE_REF, DIRECTION_REF, CANCELLATION, VEHICLE_REF, RECORDED_CALLS, RECORDED_CALL, ESTIMATED_CALLS, ESTIMATED_CALL}
+use Rattle.siri_items.specs.declared.names.TheConstants.{RECORDED_AT_TIME, LINE_REF, DIRECTION_REF, CANCELLATION, VEHICLE_REF}
+use Rattle.siri_items.specs.declared.names.TheConstants.{RECORDED_CALLS, RECORDED_CALL, ESTIMATED_CALLS, ESTIMATED_CALL}
 use Rattle.siri_tables.specs.Refusals.{Refusal, ◌>>=◌, refused}
 use Rattle.siri_tables.specs.Rules.{table, list, list_inside}
 use Rattle.siri_tables.specs.Proper.{IsListWithin}

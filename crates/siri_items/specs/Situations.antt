@@ -8,7 +8,10 @@ use Rattle.siri_records.specs.declared.situation.Situation.{Situation}
 use Rattle.siri_records.specs.declared.situation.Period.{Period}
 use Rattle.siri_items.specs.declared.read_situation.Affected.{Affected}
 use Rattle.siri_items.specs.declared.read_situation.Network.{Network}
-use Rattle.siri_items.specs.declared.names.TheConstants.{CREATION_TIME, PARTICIPANT_REF, SITUATION_NUMBER, VERSION, VERSIONED_AT_TIME, PROGRESS, SEVERITY, SUMMARY, DESCRIPTION, VALIDITY_PERIOD, START_TIME, END_TIME, AFFECTS, OPERATORS, AFFECTED_OPERATOR, OPERATOR_REF, NETWORKS, AFFECTED_NETWORK, AFFECTED_LINE, LINE_REF, STOP_POINTS, AFFECTED_STOP_POINT, STOP_POINT_REF}
+use Rattle.siri_items.specs.declared.names.TheConstants.{CREATION_TIME, PARTICIPANT_REF, SITUATION_NUMBER, VERSION, VERSIONED_AT_TIME}
+use Rattle.siri_items.specs.declared.names.TheConstants.{PROGRESS, SEVERITY, SUMMARY, DESCRIPTION, VALIDITY_PERIOD, START_TIME, END_TIME}
+use Rattle.siri_items.specs.declared.names.TheConstants.{AFFECTS, OPERATORS, AFFECTED_OPERATOR, OPERATOR_REF, NETWORKS, AFFECTED_NETWORK}
+use Rattle.siri_items.specs.declared.names.TheConstants.{AFFECTED_LINE, LINE_REF, STOP_POINTS, AFFECTED_STOP_POINT, STOP_POINT_REF}
 use Rattle.siri_tables.specs.Refusals.{Refusal, ◌>>=◌, refused, below}
 use Rattle.siri_tables.specs.Rules.{table, row, names, names_of, list_of, list_inside, entry_count, or_empty}
 use Rattle.siri_tables.specs.Spelling.{Spells}

@@ -3,7 +3,8 @@ use Rattle.std.specs.Prelude.{[], ◌∷◌, Some, Result}
 use Rattle.serde_json.specs.Data.{Data}
 use Rattle.siri_records.specs.declared.vehicle.Vehicle.{Vehicle}
 use Rattle.siri_records.specs.declared.vehicle.VehicleJourney.{VehicleJourney}
-use Rattle.siri_items.specs.declared.names.TheConstants.{LINE_REF, DIRECTION_REF, VEHICLE_REF, VEHICLE_LOCATION, MONITORED_CALL, RECORDED_AT_TIME, ITEM_IDENTIFIER, VALID_UNTIL_TIME, MONITORED_VEHICLE_JOURNEY}
+use Rattle.siri_items.specs.declared.names.TheConstants.{LINE_REF, DIRECTION_REF, VEHICLE_REF, VEHICLE_LOCATION, MONITORED_CALL}
+use Rattle.siri_items.specs.declared.names.TheConstants.{RECORDED_AT_TIME, ITEM_IDENTIFIER, VALID_UNTIL_TIME, MONITORED_VEHICLE_JOURNEY}
 use Rattle.siri_tables.specs.Refusals.{Refusal}
 use Rattle.siri_tables.specs.Rules.{table}
 use Rattle.siri_tables.specs.Writing.{row_object}

@@ -7,7 +7,8 @@ use Rattle.siri_records.specs.declared.call.StopCall.{StopCall}
 use Rattle.siri_records.specs.declared.visit.Visit.{Visit}
 use Rattle.siri_records.specs.declared.visit.VisitJourney.{VisitJourney}
 use Rattle.siri_records.specs.Ends.{call_moment}
-use Rattle.siri_items.specs.declared.names.TheConstants.{LINE_REF, DIRECTION_REF, VEHICLE_REF, VEHICLE_LOCATION, MONITORED_CALL, RECORDED_AT_TIME, ITEM_IDENTIFIER, MONITORING_REF, MONITORED_VEHICLE_JOURNEY}
+use Rattle.siri_items.specs.declared.names.TheConstants.{LINE_REF, DIRECTION_REF, VEHICLE_REF, VEHICLE_LOCATION, MONITORED_CALL}
+use Rattle.siri_items.specs.declared.names.TheConstants.{RECORDED_AT_TIME, ITEM_IDENTIFIER, MONITORING_REF, MONITORED_VEHICLE_JOURNEY}
 use Rattle.siri_tables.specs.Refusals.{Refusal, ◌>>=◌}
 use Rattle.siri_tables.specs.Rules.{table, required_row}
 use Rattle.siri_tables.specs.Spelling.{Spells}

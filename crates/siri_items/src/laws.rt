@@ -36,8 +36,8 @@ pub fn read_is_spelled()
     ensures { (service : Service) (d : Data) (i : Item) → (item_of service d ≡ Ok i) ↔ SpellsItem service d i }
 {}
 
-/// The tables inside items are read from an object exactly where the object spells them: calls, locations, the frame of a
-/// journey's reference, the journeys of visits and vehicles, periods, and what a situation affects.
+/// The tables inside items are read from an object exactly where the object spells them: calls, locations, the frame of
+/// a journey's reference, the journeys of visits and vehicles, periods, and what a situation affects.
 pub fn tables_are_spelled()
     ensures of_call { (d : Data) (c : StopCall) → (stop_call d ≡ Ok c) ↔ SpellsCall d c }
     ensures of_location { (d : Data) (l : VehicleLocation) → (location d ≡ Ok l) ↔ SpellsLocation d l }
@@ -64,8 +64,8 @@ pub fn written_text_is_read()
     ensures { (i : Item) → IsProper i → option_map (item_of (service_of i)) (tree_of (compact_text (written_item i))) ≡ Some (Ok (as_written i)) }
 {}
 
-/// An item that is read of a tree whose texts are UTF-8, as it is of the tree of each document, is proper: so the laws of
-/// written items speak of each item that can be read.
+/// An item that is read of a tree whose texts are UTF-8, as it is of the tree of each document, is proper: so the laws
+/// of written items speak of each item that can be read.
 pub fn read_is_proper()
     ensures of_document { (service : Service) (document : List ℕ) (d : Data) (i : Item) → tree_of document ≡ Some d → item_of service d ≡ Ok i → IsProper i }
     ensures of_tree { (service : Service) (d : Data) (i : Item) → TextsAreUtf8 d → item_of service d ≡ Ok i → IsProper i }

@@ -16,9 +16,9 @@
 //! `specs/` under the table's name, row beside row. That reading and spelling are one, and that what is written is read
 //! again, are laws, functions that do nothing.
 //!
-//! Stands on `siri_tables`, which has the rules of values and rows and the refusals, on `siri_records` for the items, and
-//! on `siri_base`, `siri_time` and `siri_json`. It reads no bytes and knows no message: where an item stands in a document,
-//! and what is said around it, is of `siri_wire`.
+//! Stands on `siri_tables`, which has the rules of values and rows and the refusals, on `siri_records` for the items,
+//! and on `siri_base`, `siri_time` and `siri_json`. It reads no bytes and knows no message: where an item stands in a
+//! document, and what is said around it, is of `siri_wire`.
 #![tactic(auto)]
 
 mod laws;
@@ -34,6 +34,8 @@ mod write;
 mod write_call;
 mod write_journey;
 mod write_situation;
+mod write_vehicle;
+mod write_visit;
 
 pub use laws::{
     members_are_spelled, read_is_proper, read_is_spelled, tables_are_spelled, written_is_canonical,

@@ -14,8 +14,8 @@ use siri_tables::refusal::{TableError, from_path};
 use siri_tables::rows::required_value;
 use std::alloc::Global;
 
-/// The item of a service that a tree is read as, or the first refusal in the order of the tables, depth first, with `at`
-/// before its path. A journey's RecordedAtTime is its own.
+/// The item of a service that a tree is read as, or the first refusal in the order of the tables, depth first, with
+/// `at` before its path. A journey's RecordedAtTime is its own.
 pub fn read_item(
     alloc: Global,
     tree: &Tree<'_>,
@@ -27,6 +27,7 @@ pub fn read_item(
     from_path(at, item(alloc, tree, service))
 }
 
+/// The item that an object spells by the table of its service, `Missing` where it counts as absent.
 fn item(alloc: Global, tree: &Tree<'_>, service: Service) -> Result<Item, TableError>
     ensures { Gives result (item_of service (shown tree.now)) }
 {

@@ -17,9 +17,10 @@ use siri_tables::rules::{
 };
 use std::alloc::Global;
 
-/// A call at a stop (EN 15531-3, MonitoredCall; EN 15531-3, RecordedCall and EstimatedCall). No row is required: `{}` is a
-/// call. Its names are refused as `BadName`, its times as `BadTime` or `NoOffset`, Order as `BadNumber`, VehicleAtStop as
-/// `WrongKind`, each at its member; statuses, platforms and the stop's name are texts of at most 16,384 bytes.
+/// A call at a stop (EN 15531-3, MonitoredCall; EN 15531-3, RecordedCall and EstimatedCall). No row is required: `{}`
+/// is a call. Its names are refused as `BadName`, its times as `BadTime` or `NoOffset`, Order as `BadNumber`,
+/// VehicleAtStop as `WrongKind`, each at its member; statuses, platforms and the stop's name are texts of at most
+/// 16,384 bytes.
 pub struct StopCallTable;
 
 impl Table for StopCallTable {
@@ -57,7 +58,7 @@ impl Table for StopCallTable {
 /// When a vehicle arrives at a stop or departs from it, and what is shown of that (EN 15531-3, the groups of a call's
 /// arrival and departure).
 #[derive(Drop)]
-pub struct CallTimes {
+pub(crate) struct CallTimes {
     pub aimed: Option<Moment>,
     pub expected: Option<Moment>,
     pub actual: Option<Moment>,
@@ -65,6 +66,7 @@ pub struct CallTimes {
     pub platform_name: Option<Text>,
 }
 
+/// The times, the status and the platform of a call's arrival, each absent or refused at its own member.
 #[tactic(auto, unfolding(crate::specs::Calls::arrival))]
 fn arrival(alloc: Global, tree: &Tree<'_>) -> Result<CallTimes, TableError>
     ensures { Gives result (arrival (shown tree.now)) }
@@ -78,6 +80,7 @@ fn arrival(alloc: Global, tree: &Tree<'_>) -> Result<CallTimes, TableError>
     })
 }
 
+/// The times, the status and the platform of a call's departure, each absent or refused at its own member.
 #[tactic(auto, unfolding(crate::specs::Calls::departure))]
 fn departure(alloc: Global, tree: &Tree<'_>) -> Result<CallTimes, TableError>
     ensures { Gives result (departure (shown tree.now)) }
@@ -108,6 +111,7 @@ impl Rule for OptionalCallRule {
     }
 }
 
+/// Whether none of a call's 14 rows is there: such a MonitoredCall of a vehicle counts as absent.
 #[tactic(auto, unfolding(crate::specs::Calls::call_is_blank))]
 fn call_is_blank(call: &StopCall) -> bool
     ensures { result ≡ call_is_blank call.now }
@@ -128,10 +132,11 @@ fn call_is_blank(call: &StopCall) -> bool
         && call.departure_platform_name.is_none()
 }
 
-/// Where a vehicle is (EN 15531-3, VehicleLocation): Longitude and Latitude, each in 10^-7 degrees and at most 180 degrees,
-/// otherwise `BadDecimal` at it. It counts as absent where both rows are.
+/// Where a vehicle is (EN 15531-3, VehicleLocation): Longitude and Latitude, each in 10^-7 degrees and at most 180
+/// degrees, otherwise `BadDecimal` at it. It counts as absent where both rows are.
 pub struct LocationRule;
 
+/// The rows of a VehicleLocation, Longitude and Latitude in 10^-7 degrees; both may be absent.
 struct LocationTable;
 
 impl Table for LocationTable {
@@ -169,20 +174,22 @@ impl Rule for LocationRule {
 
 /// How a journey is named: with its data frame, by itself, or not at all.
 #[derive(Drop)]
-pub struct JourneyRef {
+pub(crate) struct JourneyRef {
     pub data_frame_ref: Option<Name>,
     pub dated_vehicle_journey_ref: Option<Name>,
 }
 
 /// How a journey is named that has to be named: with its data frame, or by itself.
 #[derive(Drop)]
-pub struct RequiredJourneyRef {
+pub(crate) struct RequiredJourneyRef {
     pub data_frame_ref: Option<Name>,
     pub dated_vehicle_journey_ref: Name,
 }
 
+/// A FramedVehicleJourneyRef: it counts as absent where DataFrameRef and DatedVehicleJourneyRef both are.
 struct FramedVehicleJourneyRefRule;
 
+/// No name where both parts are absent; `Missing` at DatedVehicleJourneyRef where only the frame is there.
 #[tactic(auto, unfolding(crate::specs::Calls::framed_ref_of))]
 fn framed_ref_of(
     alloc: Global,
@@ -201,6 +208,7 @@ fn framed_ref_of(
     }
 }
 
+/// DataFrameRef and DatedVehicleJourneyRef of a FramedVehicleJourneyRef, each refused at its member.
 #[tactic(auto, unfolding(crate::specs::Calls::read_framed_ref_rows))]
 fn read_framed_ref_rows(
     alloc: Global,
@@ -229,9 +237,10 @@ impl Rule for FramedVehicleJourneyRefRule {
 }
 
 /// How the object names its journey: by FramedVehicleJourneyRef where a row of it is there, otherwise by
-/// DatedVehicleJourneyRef, where that is. `Missing` at the frame's DatedVehicleJourneyRef where only DataFrameRef is there.
+/// DatedVehicleJourneyRef, where that is. `Missing` at the frame's DatedVehicleJourneyRef where only DataFrameRef is
+/// there.
 #[tactic(auto, unfolding(crate::specs::Calls::journey_ref, crate::specs::Calls::plain_journey_ref))]
-pub fn journey_ref(alloc: Global, tree: &Tree<'_>) -> Result<JourneyRef, TableError>
+pub(crate) fn journey_ref(alloc: Global, tree: &Tree<'_>) -> Result<JourneyRef, TableError>
     ensures { Gives result (journey_ref (shown tree.now)) }
 {
     match row::<FramedVehicleJourneyRefRule>(alloc, tree, names::FRAMED_VEHICLE_JOURNEY_REF)? {
@@ -252,7 +261,7 @@ pub fn journey_ref(alloc: Global, tree: &Tree<'_>) -> Result<JourneyRef, TableEr
 
 /// How the object names its journey, which it has to: otherwise `Missing` at DatedVehicleJourneyRef.
 #[tactic(auto, unfolding(crate::specs::Calls::required_journey_ref, crate::specs::Calls::plain_required_journey_ref))]
-pub fn required_journey_ref(
+pub(crate) fn required_journey_ref(
     alloc: Global,
     tree: &Tree<'_>,
 ) -> Result<RequiredJourneyRef, TableError>

@@ -18,8 +18,10 @@ use siri_tables::rows::{list_inside, required_row, row};
 use siri_tables::rules::{FlagRule, MomentRule, NameRule, Table};
 use std::alloc::Global;
 
+/// The most entries of RecordedCall and of EstimatedCall in a journey; with more it is `TooMany`.
 const MOST_CALLS: usize = 1000;
 
+/// The calls at `key` of the object at `outer`, none where that is absent; `TooMany` at `key` above 1,000.
 fn calls_inside(
     alloc: Global,
     tree: &Tree<'_>,
@@ -33,6 +35,7 @@ fn calls_inside(
     list_inside::<StopCallTable>(alloc, tree, outer, key, MOST_CALLS)
 }
 
+/// An EstimatedVehicleJourney by its rows alone: LineRef and its name are required, a time of a call isn't.
 #[tactic(auto, unfolding(crate::specs::Journeys::read_journey_rows))]
 fn read_journey_rows(alloc: Global, tree: &Tree<'_>) -> Result<Journey, TableError>
     ensures { Gives result (read_journey_rows (shown tree.now)) }
@@ -65,6 +68,7 @@ fn read_journey_rows(alloc: Global, tree: &Tree<'_>) -> Result<Journey, TableErr
     })
 }
 
+/// Whether a call has an actual, expected or aimed time, of its departure or its arrival.
 fn has_time(calls: &[StopCall]) -> bool
     ensures { result ≡ has_time calls.now }
 {

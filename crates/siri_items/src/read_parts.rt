@@ -14,7 +14,7 @@ use std::alloc::Global;
 
 /// What passengers are told of the line, who runs it, and where it goes.
 #[derive(Drop)]
-pub struct ServiceInfo {
+pub(crate) struct ServiceInfo {
     pub published_line_name: Option<Text>,
     pub operator_ref: Option<Name>,
     pub destination_ref: Option<Name>,
@@ -23,7 +23,7 @@ pub struct ServiceInfo {
 
 /// Whether a journey is monitored, how full the vehicle is, and by how much it is late.
 #[derive(Drop)]
-pub struct JourneyProgress {
+pub(crate) struct JourneyProgress {
     pub monitored: Option<bool>,
     pub occupancy: Option<Text>,
     pub delay: Option<Span>,
@@ -31,7 +31,7 @@ pub struct JourneyProgress {
 
 /// PublishedLineName, OperatorRef, DestinationRef and DestinationName of an object, each refused at its member.
 #[tactic(auto, unfolding(crate::specs::Parts::service_info))]
-pub fn service_info(alloc: Global, tree: &Tree<'_>) -> Result<ServiceInfo, TableError>
+pub(crate) fn service_info(alloc: Global, tree: &Tree<'_>) -> Result<ServiceInfo, TableError>
     ensures { Gives result (service_info (shown tree.now)) }
 {
     Ok(ServiceInfo {
@@ -44,7 +44,7 @@ pub fn service_info(alloc: Global, tree: &Tree<'_>) -> Result<ServiceInfo, Table
 
 /// Monitored, Occupancy and Delay of an object, each refused at its member.
 #[tactic(auto, unfolding(crate::specs::Parts::progress))]
-pub fn progress(alloc: Global, tree: &Tree<'_>) -> Result<JourneyProgress, TableError>
+pub(crate) fn progress(alloc: Global, tree: &Tree<'_>) -> Result<JourneyProgress, TableError>
     ensures { Gives result (progress (shown tree.now)) }
 {
     Ok(JourneyProgress {

@@ -18,10 +18,13 @@ use siri_tables::rows::{
 use siri_tables::rules::{MomentRule, NameRule, Table, TextRule};
 use std::alloc::Global;
 
+/// The most entries of a situation's ValidityPeriod; with more it is `TooMany`.
 const MOST_PERIODS: usize = 100;
 
+/// The most entries of AffectedOperator, of AffectedStopPoint, and of all AffectedLine of a situation.
 const MOST_NAMES: usize = 2000;
 
+/// A period of a ValidityPeriod: StartTime is required; without EndTime it is open.
 struct PeriodTable;
 
 impl Table for PeriodTable {
@@ -40,7 +43,7 @@ impl Table for PeriodTable {
 
 /// The operators, lines and stop points that a situation affects (CEN/TS 15531-5, Affects), at most 2,000 of each.
 #[derive(Drop)]
-pub struct Affected {
+pub(crate) struct Affected {
     pub operators: List<Name>,
     pub lines: List<Name>,
     pub stop_points: List<Name>,
@@ -48,13 +51,15 @@ pub struct Affected {
 
 /// The lines of a network, and how many entries its list has that aren't null.
 #[derive(Drop)]
-pub struct Network {
+pub(crate) struct Network {
     pub lines: List<Name>,
     pub entries: usize,
 }
 
+/// An AffectedNetwork (CEN/TS 15531-5, Affects): its AffectedLine, no lines where that is absent.
 struct NetworkTable;
 
+/// The LineRefs of an AffectedLine, and how many of its entries aren't null, be they without a LineRef.
 fn lines_at(alloc: Global, value: &Tree<'_>) -> Result<Network, TableError>
     ensures { Gives result (lines_at (Some (shown value.now))) }
 {
@@ -82,6 +87,7 @@ impl Table for NetworkTable {
     }
 }
 
+/// Whether the AffectedLine of these networks have at most 2,000 entries that aren't null, in all.
 fn is_few(networks: &[Network]) -> bool
     ensures { result ≡ nat_le (sum_by (λ n. n.entries) networks.now) 2000 }
 {
@@ -95,6 +101,7 @@ fn is_few(networks: &[Network]) -> bool
     true
 }
 
+/// The lines of all networks in one list, network by network; a line of two networks stands in it twice.
 fn joined(alloc: Global, networks: List<Network>) -> Result<List<Name>, OutOfMemory>
     ensures { IfOk result (λ lines. lines ≡ flat_map (λ n. n.lines) networks) }
 {
@@ -105,6 +112,7 @@ fn joined(alloc: Global, networks: List<Network>) -> Result<List<Name>, OutOfMem
     Ok(List::of(lines))
 }
 
+/// The lines of an AffectedNetwork's entries; `TooMany` above 2,000 in all, after what the entries are refused for.
 #[tactic(auto, unfolding(crate::specs::Situations::lines_of))]
 fn lines_of(alloc: Global, value: &Tree<'_>) -> Result<List<Name>, TableError>
     ensures { Gives result (lines_of (shown value.now)) }
@@ -116,6 +124,7 @@ fn lines_of(alloc: Global, value: &Tree<'_>) -> Result<List<Name>, TableError>
     Ok(joined(alloc, networks)?)
 }
 
+/// The lines at AffectedNetwork of a Networks, none where it is absent.
 #[tactic(auto, unfolding(crate::specs::Situations::network_lines))]
 fn network_lines(alloc: Global, tree: &Tree<'_>) -> Result<List<Name>, TableError>
     ensures { Gives result (network_lines (shown tree.now)) }
@@ -126,6 +135,7 @@ fn network_lines(alloc: Global, tree: &Tree<'_>) -> Result<List<Name>, TableErro
     }
 }
 
+/// The lines at Networks of an Affects, none where it counts as absent, `WrongKind` at it where it is no object.
 #[tactic(auto, unfolding(siri_tables::specs::Rules::list_inside))]
 fn all_lines(alloc: Global, tree: &Tree<'_>) -> Result<List<Name>, TableError>
     ensures { Gives result (list_inside NETWORKS.now network_lines (shown tree.now)) }
@@ -140,6 +150,7 @@ fn all_lines(alloc: Global, tree: &Tree<'_>) -> Result<List<Name>, TableError>
     }
 }
 
+/// An Affects (CEN/TS 15531-5): Operators, Networks and StopPoints, each of which may be absent.
 struct AffectedTable;
 
 impl Table for AffectedTable {
@@ -171,6 +182,7 @@ impl Table for AffectedTable {
     }
 }
 
+/// What is affected: no operator, no line and no stop point where Affects is absent.
 fn or_nothing(alloc: Global, affects: Option<Affected>) -> Affected
     ensures { result ≡ or_nothing affects }
 {

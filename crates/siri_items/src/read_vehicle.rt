@@ -12,6 +12,7 @@ use siri_tables::rows::{required_row, row};
 use siri_tables::rules::{MomentRule, NameRule, Table};
 use std::alloc::Global;
 
+/// The MonitoredVehicleJourney of a vehicle activity: only its VehicleRef is required.
 struct VehicleJourneyTable;
 
 impl Table for VehicleJourneyTable {

@@ -27,6 +27,7 @@ fn timed_call(alloc: Global, tree: &Tree<'_>) -> Result<StopCall, TableError>
     }
 }
 
+/// The MonitoredVehicleJourney of a visit: its MonitoredCall is required, and has to have a time.
 struct VisitJourneyTable;
 
 impl Table for VisitJourneyTable {

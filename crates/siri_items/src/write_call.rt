@@ -16,6 +16,7 @@ use siri_records::{StopCall, VehicleLocation};
 use siri_tables::rules::{DecimalRule, FlagRule, MomentRule, NameRule, NumberRule, TextRule};
 use siri_tables::writing::{Written, list_inside, optional, required};
 
+/// Writes the object of a call, `{}` where none of its rows is there.
 #[tactic(auto, using(crate::proofs::InOrder::call_in_order))]
 fn write_call(out: &mut Output, call: &StopCall) -> Result<(), OutOfMemory>
     ensures { OnOk result (out.new ≡ out.old ++ tokens_of (written_call call.now)) }
@@ -68,12 +69,14 @@ impl Written for StopCallTable {
     }
 }
 
+/// Whether there is a Longitude or a Latitude: a location with neither isn't written.
 fn has_rows(location: &VehicleLocation) -> bool
     ensures { result ≡ any_written (rows_of_location location.now) }
 {
     location.longitude.is_some() || location.latitude.is_some()
 }
 
+/// Writes the object of a location: Latitude and Longitude in degrees, as strings, each where it is there.
 #[tactic(auto, using(crate::proofs::InOrder::location_in_order))]
 fn write_location(out: &mut Output, location: &VehicleLocation) -> Result<(), OutOfMemory>
     ensures { OnOk result (out.new ≡ out.old ++ tokens_of (row_object (rows_of_location location.now))) }
@@ -86,7 +89,10 @@ fn write_location(out: &mut Output, location: &VehicleLocation) -> Result<(), Ou
 
 /// Writes the row of a location, which is left out where it has no rows.
 #[tactic(auto, using(crate::proofs::InOrder::location_left_out, crate::proofs::InOrder::location_written))]
-pub fn location_row(out: &mut Output, location: &Option<VehicleLocation>) -> Result<(), OutOfMemory>
+pub(crate) fn location_row(
+    out: &mut Output,
+    location: &Option<VehicleLocation>,
+) -> Result<(), OutOfMemory>
     ensures { OnOk result (out.new ≡ out.old ++ row_tokens VEHICLE_LOCATION.now (option_and_then written_location location.now)) }
 {
     let Some(location) = location else {
@@ -101,7 +107,11 @@ pub fn location_row(out: &mut Output, location: &Option<VehicleLocation>) -> Res
 
 /// Writes the row of how a journey is named where there is a data frame.
 #[tactic(auto, using(crate::proofs::InOrder::framed_in_order), unfolding(crate::specs::Written::written_framed_ref))]
-pub fn framed_row(out: &mut Output, frame: &Option<Name>, dated: &Name) -> Result<(), OutOfMemory>
+pub(crate) fn framed_row(
+    out: &mut Output,
+    frame: &Option<Name>,
+    dated: &Name,
+) -> Result<(), OutOfMemory>
     ensures { OnOk result (out.new ≡ out.old ++ row_tokens FRAMED_VEHICLE_JOURNEY_REF.now (written_framed_ref frame.now (written_text dated.now))) }
 {
     let Some(frame) = frame else {
@@ -116,7 +126,11 @@ pub fn framed_row(out: &mut Output, frame: &Option<Name>, dated: &Name) -> Resul
 
 /// Writes the row of how a journey is named where there is no data frame.
 #[tactic(auto, unfolding(crate::specs::Written::written_dated))]
-pub fn dated_row(out: &mut Output, frame: &Option<Name>, dated: &Name) -> Result<(), OutOfMemory>
+pub(crate) fn dated_row(
+    out: &mut Output,
+    frame: &Option<Name>,
+    dated: &Name,
+) -> Result<(), OutOfMemory>
     ensures { OnOk result (out.new ≡ out.old ++ row_tokens DATED_VEHICLE_JOURNEY_REF.now (written_dated frame.now (written_text dated.now))) }
 {
     match frame {
@@ -127,7 +141,7 @@ pub fn dated_row(out: &mut Output, frame: &Option<Name>, dated: &Name) -> Result
 
 /// As [`framed_row`], of a journey that may have no name of its own.
 #[tactic(auto, using(crate::proofs::InOrder::framed_in_order), unfolding(crate::specs::Written::written_framed_ref))]
-pub fn optional_framed_row(
+pub(crate) fn optional_framed_row(
     out: &mut Output,
     frame: &Option<Name>,
     dated: &Option<Name>,
@@ -147,7 +161,7 @@ pub fn optional_framed_row(
 
 /// As [`dated_row`], of a journey that may have no name of its own.
 #[tactic(auto, unfolding(crate::specs::Written::written_dated))]
-pub fn optional_dated_row(
+pub(crate) fn optional_dated_row(
     out: &mut Output,
     frame: &Option<Name>,
     dated: &Option<Name>,
@@ -163,7 +177,7 @@ pub fn optional_dated_row(
 
 /// Writes the row of calls inside an object of their own, which is left out where there are none.
 #[tactic(auto, unfolding(crate::specs::Written::written_calls))]
-pub fn calls_row(
+pub(crate) fn calls_row(
     out: &mut Output,
     outer: &str,
     name: &str,

@@ -17,6 +17,7 @@ use siri_tables::writing::{
     Written, list, list_inside, name_inside, object_of_list, optional, required,
 };
 
+/// A period of a ValidityPeriod, in an object of its own.
 struct PeriodRule;
 
 impl Written for PeriodRule {
@@ -30,6 +31,7 @@ impl Written for PeriodRule {
     }
 }
 
+/// Writes the object of a period: EndTime where there is one, and StartTime.
 #[tactic(auto, using(crate::proofs::InOrder::period_in_order))]
 fn write_period(out: &mut Output, period: &Period) -> Result<(), OutOfMemory>
     ensures { OnOk result (out.new ≡ out.old ++ tokens_of (row_object (rows_of_period period.now))) }
@@ -79,6 +81,7 @@ impl Written for AffectedStopPoint {
     }
 }
 
+/// Writes the row Networks of the lines that are affected: one AffectedNetwork has them all.
 #[tactic(auto, using(crate::proofs::InOrder::network_written), unfolding(crate::specs::Written::written_networks, crate::specs::Written::written_names))]
 fn filled_networks_row(out: &mut Output, first: &Name, rest: &[Name]) -> Result<(), OutOfMemory>
     ensures { OnOk result (out.new ≡ out.old ++ row_tokens NETWORKS.now (written_networks (first.now ∷ rest.now))) }
@@ -92,6 +95,7 @@ fn filled_networks_row(out: &mut Output, first: &Name, rest: &[Name]) -> Result<
     out.end_object()
 }
 
+/// Writes the row Networks of an Affects, which is left out where no line is affected.
 #[tactic(auto, using(crate::proofs::InOrder::no_networks))]
 fn networks_row(out: &mut Output, lines: &List<Name>) -> Result<(), OutOfMemory>
     ensures { OnOk result (out.new ≡ out.old ++ row_tokens NETWORKS.now (written_networks lines.now)) }
@@ -102,6 +106,7 @@ fn networks_row(out: &mut Output, lines: &List<Name>) -> Result<(), OutOfMemory>
     }
 }
 
+/// Writes the row Operators of an Affects, which is left out where no operator is affected.
 #[tactic(auto, unfolding(crate::specs::Written::written_names))]
 fn operators_row(out: &mut Output, operators: &List<Name>) -> Result<(), OutOfMemory>
     ensures { OnOk result (out.new ≡ out.old
@@ -110,6 +115,7 @@ fn operators_row(out: &mut Output, operators: &List<Name>) -> Result<(), OutOfMe
     list_inside::<AffectedOperator>(out, names::OPERATORS, names::AFFECTED_OPERATOR, operators)
 }
 
+/// Writes the row StopPoints of an Affects, which is left out where no stop point is affected.
 #[tactic(auto, unfolding(crate::specs::Written::written_names))]
 fn stop_points_row(out: &mut Output, stop_points: &List<Name>) -> Result<(), OutOfMemory>
     ensures { OnOk result (out.new ≡ out.old
@@ -123,6 +129,7 @@ fn stop_points_row(out: &mut Output, stop_points: &List<Name>) -> Result<(), Out
     )
 }
 
+/// Whether a situation affects an operator, a line or a stop point.
 #[tactic(auto, using(crate::proofs::InOrder::names_there, crate::proofs::InOrder::networks_there))]
 fn affects_any(situation: &Situation) -> bool
     ensures { result ≡ any_written (rows_of_affects situation.now.affected_operators situation.now.affected_lines situation.now.affected_stop_points) }
@@ -132,6 +139,7 @@ fn affects_any(situation: &Situation) -> bool
         || situation.affected_stop_points.len() > 0
 }
 
+/// Writes the object of an Affects: Networks, Operators and StopPoints, each where it has entries.
 #[tactic(auto, using(crate::proofs::InOrder::affects_in_order))]
 fn write_affects(out: &mut Output, situation: &Situation) -> Result<(), OutOfMemory>
     ensures { OnOk result (out.new ≡ out.old
@@ -144,6 +152,7 @@ fn write_affects(out: &mut Output, situation: &Situation) -> Result<(), OutOfMem
     out.end_object()
 }
 
+/// Writes the row Affects, which is left out where the situation affects nothing.
 #[tactic(auto, using(crate::proofs::InOrder::affects_left_out, crate::proofs::InOrder::affects_written))]
 fn affects_row(out: &mut Output, situation: &Situation) -> Result<(), OutOfMemory>
     ensures { OnOk result (out.new ≡ out.old ++ row_tokens AFFECTS.now
@@ -158,7 +167,7 @@ fn affects_row(out: &mut Output, situation: &Situation) -> Result<(), OutOfMemor
 
 /// Writes a situation.
 #[tactic(auto, using(crate::proofs::InOrder::situation_in_order))]
-pub fn write_situation(out: &mut Output, situation: &Situation) -> Result<(), OutOfMemory>
+pub(crate) fn write_situation(out: &mut Output, situation: &Situation) -> Result<(), OutOfMemory>
     ensures { OnOk result (out.new ≡ out.old ++ tokens_of (written_situation situation.now)) }
 {
     out.begin_object()?;

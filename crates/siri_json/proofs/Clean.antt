@@ -1,5 +1,6 @@
 -- What a lexer makes of a quoted text: a number stands only before a colon, or after a fault.
-use Rattle.std.proofs.Common.{◌≡◌, ℕ, suc, ◌-◌, Bool, true, false, cond, not, ◌&&◌, ◌||◌, ◌==◌, nat_eq, List, [], ◌∷◌, ◌++◌, length, take, drop, Option, Some, None, inl, inr, ◌⊎◌, refl, sym, ap, ◌∙◌, subst, append_assoc, append-nil}
+use Rattle.std.proofs.Common.{◌≡◌, ℕ, suc, ◌-◌, Bool, true, false, cond, not, ◌&&◌, ◌||◌, ◌==◌, nat_eq, List, [], ◌∷◌, ◌++◌, length, take}
+use Rattle.std.proofs.Common.{drop, Option, Some, None, inl, inr, ◌⊎◌, refl, sym, ap, ◌∙◌, subst, append_assoc, append-nil}
 use Rattle.std.proofs.lemmas.Bool.{true≢false, false≢true, eqb-true, ne_eqb, and_parts, or_cases}
 use Rattle.std.specs.Prelude.{⊤}
 use Rattle.std.specs.List.{starts_with}
@@ -7,7 +8,8 @@ use Rattle.json.specs.Token.{Token, begin_object, end_object, begin_array, end_a
 use Rattle.json.specs.Ascii as ascii
 use Rattle.json.specs.Text.{content, plain}
 use Rattle.json.specs.Word.{is_operator, is_space, ends_word, after_number, number_before, literal, word}
-use Rattle.json.specs.Lex.{Lexeme, token, comma, colon, Class, quote, backslash, operator, space, other, class, operator_lexeme, string_token, Mode, between, in_word, in_string, in_escape, lex_byte, lex, begins_colon}
+use Rattle.json.specs.Lex.{Lexeme, token, comma, colon, Class, quote, backslash, operator, space, other, class, operator_lexeme}
+use Rattle.json.specs.Lex.{string_token, Mode, between, in_word, in_string, in_escape, lex_byte, lex, begins_colon}
 use Rattle.json.proofs.Printed.Numbers.{in_word-ended}
 use Rattle.siri_json.specs.Quoted.{is_run_byte, is_number, is_before_colon, run_text, outside, inside, after_outside, quoted_from, quoted}
 use Rattle.siri_json.specs.Pieces.{run_length}
@@ -45,7 +47,9 @@ unfolding Clean
 clean_string None ls h = tt
 clean_string (Some s) ls h = h
 
-operator_at : (a b c d e : Bool) (ls : List Lexeme) → Clean ls → Clean (cond a (token begin_object) (cond b (token end_object) (cond c (token begin_array) (cond d (token end_array) (cond e comma colon)))) ∷ ls)
+operator_at : (a b c d e : Bool) (ls : List Lexeme) → Clean ls
+    → Clean (cond a (token begin_object) (cond b (token end_object)
+    (cond c (token begin_array) (cond d (token end_array) (cond e comma colon)))) ∷ ls)
 unfolding Clean
 operator_at true b c d e ls h = h
 operator_at false true c d e ls h = h
@@ -55,9 +59,11 @@ operator_at false false false false true ls h = h
 operator_at false false false false false ls h = h
 
 clean_operator : (x : ℕ) (ls : List Lexeme) → Clean ls → Clean (operator_lexeme x ∷ ls)
-clean_operator x ls h = operator_at (x == ascii.open_brace) (x == ascii.close_brace) (x == ascii.open_bracket) (x == ascii.close_bracket) (x == ascii.comma) ls h
+clean_operator x ls h = operator_at (x == ascii.open_brace) (x == ascii.close_brace) (x == ascii.open_bracket)
+    (x == ascii.close_bracket) (x == ascii.comma) ls h
 
-number_at : (t : List ℕ) (o : Option (List ℕ)) (ls : List Lexeme) → ((q : List ℕ) → o ≡ Some q → ends_word q ≡ true → begins_colon ls ≡ true) → Clean (token (number_before t o) ∷ ls)
+number_at : (t : List ℕ) (o : Option (List ℕ)) (ls : List Lexeme)
+    → ((q : List ℕ) → o ≡ Some q → ends_word q ≡ true → begins_colon ls ≡ true) → Clean (token (number_before t o) ∷ ls)
 unfolding Clean
 number_at t None ls h = tt
 number_at t (Some q) ls h = go (ends_word q) refl
@@ -135,10 +141,16 @@ good_null ls h = h
 -- the word at x: a number as the run says, or a name after whose end the rest is clean
 word_at : (x : ℕ) (ys : List ℕ) (ls : List Lexeme) (t f n : Bool) → (unbroken ys ≡ true → Clean ls)
     → ((q : List ℕ) → after_number (x ∷ ys) ≡ Some q → ends_word q ≡ true → begins_colon ls ≡ true)
-    → Clean (token (cond t (literal ascii.true_text (boolean true) (x ∷ ys)) (cond f (literal ascii.false_text (boolean false) (x ∷ ys)) (cond n (literal ascii.null_text null (x ∷ ys)) (number_before (x ∷ ys) (after_number (x ∷ ys)))))) ∷ ls)
-word_at x ys ls true f n h k = literal_at _ (boolean true) ls (good_boolean true ls) (λ e. h (unbroken_name (114 ∷ 117 ∷ 101 ∷ []) ys letters_true (tail_of x 116 (114 ∷ 117 ∷ 101 ∷ []) ys e)))
-word_at x ys ls false true n h k = literal_at _ (boolean false) ls (good_boolean false ls) (λ e. h (unbroken_name (97 ∷ 108 ∷ 115 ∷ 101 ∷ []) ys letters_false (tail_of x 102 (97 ∷ 108 ∷ 115 ∷ 101 ∷ []) ys e)))
-word_at x ys ls false false true h k = literal_at _ null ls (good_null ls) (λ e. h (unbroken_name (117 ∷ 108 ∷ 108 ∷ []) ys letters_null (tail_of x 110 (117 ∷ 108 ∷ 108 ∷ []) ys e)))
+    → Clean (token (cond t (literal ascii.true_text (boolean true) (x ∷ ys))
+    (cond f (literal ascii.false_text (boolean false) (x ∷ ys))
+    (cond n (literal ascii.null_text null (x ∷ ys)) (number_before (x ∷ ys) (after_number (x ∷ ys)))))) ∷ ls)
+word_at x ys ls true f n h k = literal_at _ (boolean true) ls (good_boolean true ls)
+    (λ e. h (unbroken_name (114 ∷ 117 ∷ 101 ∷ []) ys letters_true (tail_of x 116 (114 ∷ 117 ∷ 101 ∷ []) ys e)))
+word_at x ys ls false true n h k = literal_at _ (boolean false) ls (good_boolean false ls)
+    (λ e. h (unbroken_name (97 ∷ 108 ∷ 115 ∷ 101 ∷ []) ys letters_false
+    (tail_of x 102 (97 ∷ 108 ∷ 115 ∷ 101 ∷ []) ys e)))
+word_at x ys ls false false true h k = literal_at _ null ls (good_null ls)
+    (λ e. h (unbroken_name (117 ∷ 108 ∷ 108 ∷ []) ys letters_null (tail_of x 110 (117 ∷ 108 ∷ 108 ∷ []) ys e)))
 word_at x ys ls false false false h k = number_at (x ∷ ys) (after_number (x ∷ ys)) ls k
 
 clean_word : (x : ℕ) (ys : List ℕ) (ls : List Lexeme) → (unbroken ys ≡ true → Clean ls)
@@ -230,12 +242,15 @@ unfolding lex
 in_quotes run rest h clean =
     clean_string (content plain (run ++ 34 ∷ rest)) _ (subst Clean (sym (in_string_run run (34 ∷ rest) h)) clean)
 
-run_at : (b : Bool) (run rest : List ℕ) → AllRun run → after_run rest ≡ rest → (b ≡ false → is_number run ≡ true → ends_word rest ≡ true → begins_colon (lex between rest) ≡ true)
+run_at : (b : Bool) (run rest : List ℕ) → AllRun run → after_run rest ≡ rest
+    → (b ≡ false → is_number run ≡ true → ends_word rest ≡ true → begins_colon (lex between rest) ≡ true)
     → Clean (lex between rest) → Clean (lex between (cond b (34 ∷ (run ++ 34 ∷ [])) run ++ rest))
-run_at true run rest h stops colons clean = subst (λ (t : List ℕ). Clean (lex between (34 ∷ t))) (sym (append_assoc run (34 ∷ []) rest)) (in_quotes run rest h clean)
+run_at true run rest h stops colons clean = subst (λ (t : List ℕ). Clean (lex between (34 ∷ t)))
+    (sym (append_assoc run (34 ∷ []) rest)) (in_quotes run rest h clean)
 run_at false run rest h stops colons clean = bare run rest h stops (colons refl) clean
 
-word_run_at : (b : Bool) (run rest : List ℕ) → AllRun run → (unbroken rest ≡ true → Clean (lex in_word rest)) → unbroken (cond b (34 ∷ (run ++ 34 ∷ [])) run ++ rest) ≡ true
+word_run_at : (b : Bool) (run rest : List ℕ) → AllRun run → (unbroken rest ≡ true → Clean (lex in_word rest))
+    → unbroken (cond b (34 ∷ (run ++ 34 ∷ [])) run ++ rest) ≡ true
     → Clean (lex in_word (cond b (34 ∷ (run ++ 34 ∷ [])) run ++ rest))
 unfolding unbroken
 word_run_at true run rest h clean u = absurd (false≢true u)
@@ -253,7 +268,9 @@ at_end run = append-nil (run_text run [])
 goes_nil : Goes []
 unfolding quoted_from lex
 goes_nil = record {
-  out = λ run h. subst (λ (t : List ℕ). Clean (lex between t)) (at_end run) (run_at (is_number run && not false) run [] h refl (λ e n ends. absurd (true≢false (sym (not_before (is_number run) false e n)))) clean_nil);
+  out = λ run h. subst (λ (t : List ℕ). Clean (lex between t)) (at_end run)
+      (run_at (is_number run && not false) run [] h refl
+      (λ e n ends. absurd (true≢false (sym (not_before (is_number run) false e n)))) clean_nil);
   plainly = clean_nil;
   escaping = clean_nil;
   word = λ run h u. subst (λ (t : List ℕ). Clean (lex in_word t)) (at_end run)
@@ -273,25 +290,30 @@ stops_at x ys false e = refl
 unfoldable pub class_of : Bool → Bool → Bool → Bool → Class
 class_of q b o s = cond q quote (cond b backslash (cond o operator (cond s space other)))
 
-no_number : (x : ℕ) (ys : List ℕ) (ls : List Lexeme) → is_run_byte x ≡ false → (q : List ℕ) → after_number (x ∷ ys) ≡ Some q → ends_word q ≡ true → begins_colon ls ≡ true
+no_number : (x : ℕ) (ys : List ℕ) (ls : List Lexeme) → is_run_byte x ≡ false → (q : List ℕ)
+    → after_number (x ∷ ys) ≡ Some q → ends_word q ≡ true → begins_colon ls ≡ true
 unfolding after_number
 no_number x ys ls e q is ends = absurd (false≢true (number_run [] (x ∷ ys) q AllRun-nil (stops_at x ys (is_run_byte x) e) is ends).0)
 
 tail_at : (x : ℕ) (xs : List ℕ) (q b o s : Bool) → Goes xs → is_run_byte x ≡ false
-    → Clean (lex_byte between (class_of q b o s) x (quoted_from (cond q (inside false) (outside [])) xs) (λ (m : Mode). lex m (quoted_from (cond q (inside false) (outside [])) xs)))
+    → Clean (lex_byte between (class_of q b o s) x (quoted_from (cond q (inside false) (outside [])) xs)
+    (λ (m : Mode). lex m (quoted_from (cond q (inside false) (outside [])) xs)))
 unfolding class_of
 tail_at x xs true b o s ih e = clean_string (content plain (quoted_from (inside false) xs)) _ ih.plainly
 tail_at x xs false true o s ih e = clean_bad _
 tail_at x xs false false true s ih e = clean_operator x _ (ih.out [] AllRun-nil)
 tail_at x xs false false false true ih e = ih.out [] AllRun-nil
-tail_at x xs false false false false ih e = clean_word x (quoted xs) (lex in_word (quoted xs)) (ih.word [] AllRun-nil) (no_number x (quoted xs) (lex in_word (quoted xs)) e)
+tail_at x xs false false false false ih e = clean_word x (quoted xs) (lex in_word (quoted xs)) (ih.word [] AllRun-nil)
+    (no_number x (quoted xs) (lex in_word (quoted xs)) e)
 
 tail_between : (x : ℕ) (xs : List ℕ) → Goes xs → is_run_byte x ≡ false → Clean (lex between (x ∷ quoted_from (after_outside x) xs))
 unfolding class_of lex
 tail_between x xs ih e = tail_at x xs (x == 34) (x == 92) (is_operator x) (is_space x) ih e
 
-tail_word_at : (x : ℕ) (xs : List ℕ) (q b o s : Bool) → Goes xs → (b ≡ true → (o || s) ≡ false) → cond q false (cond (o || s) true (unbroken (quoted_from (cond q (inside false) (outside [])) xs))) ≡ true
-    → Clean (lex_byte in_word (class_of q b o s) x (quoted_from (cond q (inside false) (outside [])) xs) (λ (m : Mode). lex m (quoted_from (cond q (inside false) (outside [])) xs)))
+tail_word_at : (x : ℕ) (xs : List ℕ) (q b o s : Bool) → Goes xs → (b ≡ true → (o || s) ≡ false)
+    → cond q false (cond (o || s) true (unbroken (quoted_from (cond q (inside false) (outside [])) xs))) ≡ true
+    → Clean (lex_byte in_word (class_of q b o s) x (quoted_from (cond q (inside false) (outside [])) xs)
+    (λ (m : Mode). lex m (quoted_from (cond q (inside false) (outside [])) xs)))
 unfolding class_of
 tail_word_at x xs true b o s ih k u = absurd (false≢true u)
 tail_word_at x xs false true true s ih k u = absurd (true≢false (k refl))
@@ -301,14 +323,18 @@ tail_word_at x xs false false true s ih k u = clean_operator x _ (ih.out [] AllR
 tail_word_at x xs false false false true ih k u = ih.out [] AllRun-nil
 tail_word_at x xs false false false false ih k u = ih.word [] AllRun-nil u
 
-tail_word : (x : ℕ) (xs : List ℕ) → Goes xs → unbroken (x ∷ quoted_from (after_outside x) xs) ≡ true → Clean (lex in_word (x ∷ quoted_from (after_outside x) xs))
+tail_word : (x : ℕ) (xs : List ℕ) → Goes xs → unbroken (x ∷ quoted_from (after_outside x) xs) ≡ true
+    → Clean (lex in_word (x ∷ quoted_from (after_outside x) xs))
 unfolding class_of lex unbroken
-tail_word x xs ih u = tail_word_at x xs (x == 34) (x == 92) (is_operator x) (is_space x) ih (λ e. ap (λ (c : ℕ). is_operator c || is_space c) (eqb-true x 92 e)) u
+tail_word x xs ih u = tail_word_at x xs (x == 34) (x == 92) (is_operator x) (is_space x) ih
+    (λ e. ap (λ (c : ℕ). is_operator c || is_space c) (eqb-true x 92 e)) u
 
 -- ---- strings
 
 plain_at : (x : ℕ) (xs : List ℕ) (q b o s : Bool) → Goes xs
-    → Clean (lex_byte in_string (class_of q b o s) x (quoted_from (cond (q && not false) (outside []) (inside (b && not false))) xs) (λ (m : Mode). lex m (quoted_from (cond (q && not false) (outside []) (inside (b && not false))) xs)))
+    → Clean (lex_byte in_string (class_of q b o s) x
+    (quoted_from (cond (q && not false) (outside []) (inside (b && not false))) xs)
+    (λ (m : Mode). lex m (quoted_from (cond (q && not false) (outside []) (inside (b && not false))) xs)))
 unfolding class_of
 plain_at x xs true b o s ih = ih.out [] AllRun-nil
 plain_at x xs false true o s ih = ih.escaping
@@ -317,7 +343,9 @@ plain_at x xs false false false true ih = ih.plainly
 plain_at x xs false false false false ih = ih.plainly
 
 escape_at : (x : ℕ) (xs : List ℕ) (q b o s : Bool) → Goes xs
-    → Clean (lex_byte in_escape (class_of q b o s) x (quoted_from (cond (q && not true) (outside []) (inside (b && not true))) xs) (λ (m : Mode). lex m (quoted_from (cond (q && not true) (outside []) (inside (b && not true))) xs)))
+    → Clean (lex_byte in_escape (class_of q b o s) x
+    (quoted_from (cond (q && not true) (outside []) (inside (b && not true))) xs)
+    (λ (m : Mode). lex m (quoted_from (cond (q && not true) (outside []) (inside (b && not true))) xs)))
 unfolding class_of
 escape_at x xs true true o s ih = ih.plainly
 escape_at x xs true false o s ih = ih.plainly
@@ -330,13 +358,15 @@ escape_at x xs false false false false ih = ih.plainly
 
 colons_at : (x : ℕ) (xs run : List ℕ) → is_run_byte x ≡ false → (is_number run && not (is_before_colon (x ∷ xs))) ≡ false → is_number run ≡ true
     → begins_colon (lex between (x ∷ quoted_from (after_outside x) xs)) ≡ true
-colons_at x xs run e k n = ap (λ (t : List ℕ). begins_colon (lex between t)) (sym (quoted-other x xs e)) ∙ colon_follows (x ∷ xs) (not_before (is_number run) (is_before_colon (x ∷ xs)) k n)
+colons_at x xs run e k n = ap (λ (t : List ℕ). begins_colon (lex between t)) (sym (quoted-other x xs e))
+    ∙ colon_follows (x ∷ xs) (not_before (is_number run) (is_before_colon (x ∷ xs)) k n)
 
 out_at : (x : ℕ) (xs run : List ℕ) (b : Bool) → is_run_byte x ≡ b → Goes xs → AllRun run
     → Clean (lex between (cond b (quoted_from (outside (run ++ x ∷ [])) xs) (run_text run (x ∷ xs) ++ x ∷ quoted_from (after_outside x) xs)))
 out_at x xs run true e ih h = ih.out (run ++ x ∷ []) (AllRun-push run x h e)
 out_at x xs run false e ih h =
-    run_at (is_number run && not (is_before_colon (x ∷ xs))) run (x ∷ quoted_from (after_outside x) xs) h (stops_at x (quoted_from (after_outside x) xs) (is_run_byte x) e)
+    run_at (is_number run && not (is_before_colon (x ∷ xs))) run (x ∷ quoted_from (after_outside x) xs) h
+    (stops_at x (quoted_from (after_outside x) xs) (is_run_byte x) e)
     (λ k n ends. colons_at x xs run e k n) (tail_between x xs ih e)
 
 word_out_at : (x : ℕ) (xs run : List ℕ) (b : Bool) → is_run_byte x ≡ b → Goes xs → AllRun run

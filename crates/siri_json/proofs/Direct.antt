@@ -16,7 +16,8 @@ use Rattle.siri_json.proofs.Punctuated.{punctuated}
 use Rattle.siri_json.proofs.Trees.{same_data}
 use Rattle.siri_json.proofs.Utf8.{is_utf8-quoted}
 
-free_at : (b : Bool) (o : Option json.Json) → ((j : json.Json) → o ≡ Some j → IsFree j) → cond b (option_and_then of_json o) None ≡ cond b (option_map data_of o) None
+free_at : (b : Bool) (o : Option json.Json) → ((j : json.Json) → o ≡ Some j → IsFree j)
+    → cond b (option_and_then of_json o) None ≡ cond b (option_map data_of o) None
 free_at true None h = refl
 free_at true (Some j) h = of_json-free j (h j refl)
 free_at false o h = refl
@@ -31,7 +32,8 @@ unfolding json_of said
 tree_of_is document =
     let own = whole (json.value max_depth (tokens document)) in
     let after = whole (json.value max_depth (tokens (quoted document))) in
-    let same = same_data max_depth (tokens document) (tokens (quoted document)) (punctuated (lex between document) (lex between (quoted document)) (lexed_alike document) fresh) in
+    let same = same_data max_depth (tokens document) (tokens (quoted document))
+    (punctuated (lex between document) (lex between (quoted document)) (lexed_alike document) fresh) in
     free_at (is_utf8 (quoted document)) after (value_is_free document)
     ∙ ap₂ (λ (b : Bool) (o : Option Data). cond b o None) (sym (is_utf8-quoted document)) (sym same)
     ∙ pushed (is_utf8 document) own

@@ -1,5 +1,6 @@
 -- Looking up in a borrowed value, and in its data.
-use Rattle.std.proofs.Common.{◌≡◌, ℕ, List, [], ◌∷◌, map, Bool, true, false, cond, bytes_eq, Option, Some, None, option_map, Vec, Global, Bor, refl, sym, ap, ◌∙◌, subst, true≢false}
+use Rattle.std.proofs.Common.{◌≡◌, ℕ, List, [], ◌∷◌, map, Bool, true, false, cond, bytes_eq, Option, Some, None, option_map, Vec, Global}
+use Rattle.std.proofs.Common.{Bor, refl, sym, ap, ◌∙◌, subst, true≢false}
 use Rattle.std.proofs.lemmas.Slice.Eq.{bytes_eq-Decides}
 use Rattle.json.specs.Json as json
 use Rattle.json.specs.Find as find
@@ -16,7 +17,8 @@ either : {A : Type 0} → Option A → Option A → Option A
 either None other = other
 either (Some a) other = Some a
 
-put_at : (name k : List ℕ) (d : Data) (found : Members) (b : Bool) → bytes_eq k name ≡ b → get_member name (put k d found) ≡ cond b (Some d) (get_member name found)
+put_at : (name k : List ℕ) (d : Data) (found : Members) (b : Bool) → bytes_eq k name ≡ b
+    → get_member name (put k d found) ≡ cond b (Some d) (get_member name found)
 put_at name k d found true is = subst (λ (n : List ℕ). get_member n (put k d found) ≡ Some d) ((bytes_eq-Decides k name).0 is) (get_member-put k d found)
 put_at name k d found false is = get_member-put_other name k d found (λ same. true≢false (sym ((bytes_eq-Decides k name).1 (sym same)) ∙ is))
 
@@ -28,11 +30,14 @@ step None false j old new e = e
 step (Some x) b j old new e = refl
 
 -- the last member of a name is the one that stays
-later : (name : List ℕ) (ms : json.Members) (found : Members) → get_member name (members_data ms found) ≡ either (option_map data_of (find.get_member name ms)) (get_member name found)
+later : (name : List ℕ) (ms : json.Members) (found : Members)
+    → get_member name (members_data ms found) ≡ either (option_map data_of (find.get_member name ms))
+    (get_member name found)
 unfolding either
 later name json.no_members found = refl
 later name (json.member k j ms) found =
-    later name ms (put k (data_of j) found) ∙ step (find.get_member name ms) (bytes_eq k name) j (get_member name found) _ (put_at name k (data_of j) found _ refl)
+    later name ms (put k (data_of j) found) ∙ step (find.get_member name ms) (bytes_eq k name) j
+    (get_member name found) _ (put_at name k (data_of j) found _ refl)
 
 alone : (o : Option Data) → either o None ≡ o
 unfolding either

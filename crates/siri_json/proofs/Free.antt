@@ -1,9 +1,11 @@
 -- In the value of a quoted text no number stands.
-use Rattle.std.proofs.Common.{◌≡◌, ℕ, zero, suc, Bool, true, false, List, [], ◌∷◌, length, Option, Some, None, option_and_then, inl, inr, ◌⊎◌, refl, sym, ap, ◌∙◌, subst}
+use Rattle.std.proofs.Common.{◌≡◌, ℕ, zero, suc, Bool, true, false, List, [], ◌∷◌, length, Option, Some, None, option_and_then, inl, inr}
+use Rattle.std.proofs.Common.{◌⊎◌, refl, sym, ap, ◌∙◌, subst}
 use Rattle.std.proofs.lemmas.Bool.{false≢true}
 use Rattle.std.specs.Prelude.{⊤}
 use Rattle.json.specs.Token.{Token, begin_object, end_object, begin_array, end_array, key, string, number, boolean, null, bad}
-use Rattle.json.specs.Lex.{Lexeme, token, comma, colon, between, lex, begins_colon, Place, fresh, after_value, after_comma, after_key, may_begin, may_close, if_allowed, punctuate, tokens}
+use Rattle.json.specs.Lex.{Lexeme, token, comma, colon, between, lex, begins_colon, Place, fresh, after_value, after_comma, after_key}
+use Rattle.json.specs.Lex.{may_begin, may_close, if_allowed, punctuate, tokens}
 use Rattle.json.specs.Json as json
 use Rattle.json.specs.Json.{Json, Items, Members, Parse, parse_map, after_end_array, read_key, items_step, members_step, items, members, value_with, value}
 use Rattle.siri_json.specs.Quoted.{quoted}
@@ -49,7 +51,8 @@ after_colon p (token t ∷ ls) h = absurd (false≢true h)
 after_colon p (comma ∷ ls) h = absurd (false≢true h)
 after_colon p (colon ∷ ls) h = tt
 
-allowed : (b : Bool) (t : Token) (k : Place → List Token) (next : Place) → (Numberless (k next) → Numberless (t ∷ k next)) → Numberless (k next) → Numberless (if_allowed b t k next)
+allowed : (b : Bool) (t : Token) (k : Place → List Token) (next : Place)
+    → (Numberless (k next) → Numberless (t ∷ k next)) → Numberless (k next) → Numberless (if_allowed b t k next)
 allowed true t k next f h = f h
 allowed false t k next f h = tt
 
@@ -57,7 +60,8 @@ allowed_number : (b : Bool) (s : List ℕ) (k : Place → List Token) → Fails 
 allowed_number true s k h = h
 allowed_number false s k h = tt
 
-text_at : (p : Place) (c : Bool) (s : List ℕ) (k : Place → List Token) → ((q : Place) → Numberless (k q)) → Numberless (Rattle.json.specs.Lex.place_token p (string s) c k)
+text_at : (p : Place) (c : Bool) (s : List ℕ) (k : Place → List Token) → ((q : Place) → Numberless (k q))
+    → Numberless (Rattle.json.specs.Lex.place_token p (string s) c k)
 text_at p true s k h = allowed (may_begin p) (key s) k after_key (λ x. x) (h after_key)
 text_at p false s k h = allowed (may_begin p) (string s) k after_value (λ x. x) (h after_value)
 
@@ -100,7 +104,8 @@ Keeps Q p = (ts : List Token) → Numberless ts → Gives Q (p ts)
 abbrev Refuses : {A : Type 0} → Parse A → Type 0
 Refuses p = (ts : List Token) → Fails ts → p ts ≡ None
 
-mapped : {A B : Type 0} (P : A → Type 0) (Q : B → Type 0) (f : A → B) → ((a : A) → P a → Q (f a)) → (o : Option (A × List Token)) → Gives P o → Gives Q (parse_map f o)
+mapped : {A B : Type 0} (P : A → Type 0) (Q : B → Type 0) (f : A → B) → ((a : A) → P a → Q (f a))
+    → (o : Option (A × List Token)) → Gives P o → Gives Q (parse_map f o)
 mapped P Q f g None h = tt
 mapped P Q f g (Some p) (inl h) = inl (g p.0 h.0, h.1)
 mapped P Q f g (Some p) (inr h) = inr h
@@ -192,9 +197,11 @@ module _ (p : Parse Json) (keeps : Keeps IsFree p) (refuses : Refuses p) where
   unfolding items
   Refuses-items zero ts h = refl
   Refuses-items (suc n) ts h =
-      ap (items_step p (items p n) ts) (no_end ts h) ∙ ap (option_and_then (λ (q : Json × List Token). parse_map (json.item q.0) (items p n q.1))) (refuses ts h)
+      ap (items_step p (items p n) ts) (no_end ts h) ∙ ap
+      (option_and_then (λ (q : Json × List Token). parse_map (json.item q.0) (items p n q.1))) (refuses ts h)
 
-  item_turn : (more : Parse Items) → Keeps ItemsAreFree more → Refuses more → (ts : List Token) → Numberless ts → (o : Option (List Token)) → Rest o → Gives ItemsAreFree (items_step p more ts o)
+  item_turn : (more : Parse Items) → Keeps ItemsAreFree more → Refuses more → (ts : List Token) → Numberless ts
+      → (o : Option (List Token)) → Rest o → Gives ItemsAreFree (items_step p more ts o)
   item_turn more again never ts h (Some r) q = inl (tt, q)
   item_turn more again never ts h None q = and_more ItemsAreFree json.item (λ j b x y. (x, y)) more again never (p ts) (keeps ts h)
 
@@ -242,7 +249,8 @@ unfolding value
 Keeps-value zero = Keeps-value_with (λ ts. None) (λ ts. None) (λ ts h. tt) (λ ts h. tt)
 Keeps-value (suc d) =
     Keeps-value_with (λ ts. items (value d) (length ts) ts) (λ ts. members (value d) (length ts) ts)
-    (λ ts. Keeps-items (value d) (Keeps-value d) (Refuses-value d) (length ts) ts) (λ ts. Keeps-members (value d) (Keeps-value d) (Refuses-value d) (length ts) ts)
+    (λ ts. Keeps-items (value d) (Keeps-value d) (Refuses-value d) (length ts) ts)
+    (λ ts. Keeps-members (value d) (Keeps-value d) (Refuses-value d) (length ts) ts)
 
 abbrev IfFound : Option Json → Type 0
 IfFound None = ⊤

@@ -1,5 +1,6 @@
 -- What stands at the front of a text and of its quoted text.
-use Rattle.std.proofs.Common.{◌≡◌, ℕ, suc, ◌-◌, Bool, true, false, cond, not, ◌&&◌, ◌||◌, ◌==◌, nat_lt, List, [], ◌∷◌, ◌++◌, length, take, drop, Option, Some, None, refl, sym, ap, ap₂, ◌∙◌, arith}
+use Rattle.std.proofs.Common.{◌≡◌, ℕ, suc, ◌-◌, Bool, true, false, cond, not, ◌&&◌, ◌||◌, ◌==◌, nat_lt, List, [], ◌∷◌, ◌++◌, length, take}
+use Rattle.std.proofs.Common.{drop, Option, Some, None, refl, sym, ap, ap₂, ◌∙◌, arith}
 use Rattle.std.proofs.lemmas.Bool.{true≢false, false≢true}
 use Rattle.json.specs.Token.{Token, begin_object, end_object, begin_array, end_array, number, boolean, null, bad}
 use Rattle.json.specs.Ascii as ascii
@@ -16,7 +17,9 @@ use Rattle.siri_json.proofs.Alike.{Clashes, Clashing}
 -- ---- no colon
 
 op_at : (a b c d e f : Bool) (ls : List Lexeme) → (a || b || c || d || f || e) ≡ true → f ≡ false
-    → begins_colon (cond a (token begin_object) (cond b (token end_object) (cond c (token begin_array) (cond d (token end_array) (cond e comma colon)))) ∷ ls) ≡ false
+    → begins_colon (cond a (token begin_object)
+    (cond b (token end_object) (cond c (token begin_array)
+    (cond d (token end_array) (cond e comma colon)))) ∷ ls) ≡ false
 op_at true b c d e f ls h k = refl
 op_at false true c d e f ls h k = refl
 op_at false false true d e f ls h k = refl
@@ -50,7 +53,8 @@ unfolding lex
 no_colon [] h = refl
 no_colon (x ∷ xs) h = no_colon_at x xs (is_space x) refl h (no_colon xs)
 
-run_front_at : (b : Bool) (x : ℕ) (run rest : List ℕ) → is_run_byte x ≡ true → begins_colon (lex between (cond b (34 ∷ ((x ∷ run) ++ 34 ∷ [])) (x ∷ run) ++ rest)) ≡ false
+run_front_at : (b : Bool) (x : ℕ) (run rest : List ℕ) → is_run_byte x ≡ true
+    → begins_colon (lex between (cond b (34 ∷ ((x ∷ run) ++ 34 ∷ [])) (x ∷ run) ++ rest)) ≡ false
 unfolding lex
 run_front_at true x run rest r = refl
 run_front_at false x run rest r = ap (λ (c : Class). begins_colon (lex_byte between c x (run ++ rest) (λ (m : Mode). lex m (run ++ rest)))) (run_is_other x r)
@@ -64,18 +68,23 @@ drop_at_1 x xs true e = refl
 drop_at_1 x xs false e = absurd (false≢true e)
 
 -- the quoted text of a text that begins with a run
-pub quoted-run : (x : ℕ) (xs : List ℕ) → is_run_byte x ≡ true → quoted (x ∷ xs) ≡ run_text (x ∷ take (run_length xs) xs) (drop (run_length xs) xs) ++ quoted (drop (run_length xs) xs)
+pub quoted-run : (x : ℕ) (xs : List ℕ) → is_run_byte x ≡ true
+    → quoted (x ∷ xs) ≡ run_text (x ∷ take (run_length xs) xs) (drop (run_length xs) xs)
+    ++ quoted (drop (run_length xs) xs)
 quoted-run x xs r =
     from_run (x ∷ xs) [] ∙ ap₂ (λ (t u : List ℕ). run_text t u ++ quoted u) (take_at_1 x xs (is_run_byte x) r) (drop_at_1 x xs (is_run_byte x) r)
 
 quoted_no_colon_at : (x : ℕ) (xs : List ℕ) (b r : Bool) → is_space x ≡ b → is_run_byte x ≡ r → cond b (is_before_colon xs) (x == ascii.colon) ≡ false
     → (is_before_colon xs ≡ false → begins_colon (lex between (quoted xs)) ≡ false) → begins_colon (lex between (quoted (x ∷ xs))) ≡ false
 unfolding quoted_from lex after_number
-quoted_no_colon_at x xs true r e er h later = at_space (λ (y : ℕ). begins_colon (lex between (quoted (y ∷ xs))) ≡ false) x (later h) (later h) (later h) (later h) e
+quoted_no_colon_at x xs true r e er h later = at_space
+    (λ (y : ℕ). begins_colon (lex between (quoted (y ∷ xs))) ≡ false) x (later h) (later h) (later h) (later h) e
 quoted_no_colon_at x xs false true e er h later =
     ap (λ (t : List ℕ). begins_colon (lex between t)) (quoted-run x xs er)
-    ∙ run_front_at (is_number (x ∷ take (run_length xs) xs) && not (is_before_colon (drop (run_length xs) xs))) x (take (run_length xs) xs) (quoted (drop (run_length xs) xs)) er
-quoted_no_colon_at x xs false false e er h later = ap (λ (t : List ℕ). begins_colon (lex between t)) (quoted-other x xs er) ∙ front x (quoted_from (after_outside x) xs) e h
+    ∙ run_front_at (is_number (x ∷ take (run_length xs) xs) && not (is_before_colon (drop (run_length xs) xs))) x
+    (take (run_length xs) xs) (quoted (drop (run_length xs) xs)) er
+quoted_no_colon_at x xs false false e er h later = ap (λ (t : List ℕ). begins_colon (lex between t))
+    (quoted-other x xs er) ∙ front x (quoted_from (after_outside x) xs) e h
 
 pub quoted_no_colon : (xs : List ℕ) → is_before_colon xs ≡ false → begins_colon (lex between (quoted xs)) ≡ false
 unfolding quoted_from lex after_number
@@ -107,7 +116,8 @@ no_number_at t (Some q) h = go (ends_word q) refl
     go false e = refl
 
 -- a run that is no number, or after which the word goes on, is a fault
-pub word-bad : (x : ℕ) (run rest : List ℕ) → AllRun (x ∷ run) → after_run rest ≡ rest → (is_number (x ∷ run) && ends_word rest) ≡ false → word (x ∷ (run ++ rest)) ≡ bad
+pub word-bad : (x : ℕ) (run rest : List ℕ) → AllRun (x ∷ run) → after_run rest ≡ rest
+    → (is_number (x ∷ run) && ends_word rest) ≡ false → word (x ∷ (run ++ rest)) ≡ bad
 unfolding word
 word-bad x run rest h stops never =
     let both = AllRun-first x run h in
@@ -126,7 +136,9 @@ clash_number t None = tt
 clash_number t (Some q) = clash_literal (ends_word q) (number (take (length t - length q) t)) tt
 
 clash_word_at : (t : List ℕ) (a b c : Bool)
-    → Clashes (cond a (literal ascii.true_text (boolean true) t) (cond b (literal ascii.false_text (boolean false) t) (cond c (literal ascii.null_text null t) (number_before t (after_number t)))))
+    → Clashes (cond a (literal ascii.true_text (boolean true) t)
+    (cond b (literal ascii.false_text (boolean false) t)
+    (cond c (literal ascii.null_text null t) (number_before t (after_number t)))))
 unfolding Clashes
 clash_word_at t true b c = clash_literal _ (boolean true) tt
 clash_word_at t false true c = clash_literal _ (boolean false) tt

@@ -1,5 +1,6 @@
 -- A text and its quoted text, lexed side by side.
-use Rattle.std.proofs.Common.{◌≡◌, ℕ, suc, Bool, true, false, cond, not, ◌&&◌, ◌||◌, ◌==◌, nat_eq, List, [], ◌∷◌, ◌++◌, length, take, drop, Option, Some, None, refl, sym, ap, ap₂, ◌∙◌, subst, append_assoc}
+use Rattle.std.proofs.Common.{◌≡◌, ℕ, suc, Bool, true, false, cond, not, ◌&&◌, ◌||◌, ◌==◌, nat_eq, List, [], ◌∷◌, ◌++◌, length, take, drop}
+use Rattle.std.proofs.Common.{Option, Some, None, refl, sym, ap, ap₂, ◌∙◌, subst, append_assoc}
 use Rattle.std.proofs.lemmas.Bool.{true≢false, false≢true, eqb-true, ne_eqb}
 use Rattle.std.specs.List.{starts_with}
 use Rattle.json.specs.Token.{Token, string, number, boolean, null, bad}
@@ -13,7 +14,8 @@ use Rattle.siri_json.specs.Pieces.{run_length}
 use Rattle.siri_json.proofs.Pieces.{quoted-other}
 use Rattle.siri_json.specs.Quoted.{is_run_byte, is_number, is_whole, is_before_colon, run_text, outside, inside, after_outside, quoted_from, quoted}
 use Rattle.siri_json.proofs.Words.{AllRun, AllRun-nil, AllRun-push, AllRun-first, run_no_stop, run_is_other, after_run, number_run}
-use Rattle.siri_json.proofs.Clean.{class_of, at_space, unbroken, unbroken_name, letters_true, letters_false, letters_null, tail_of, in_word_run, in_string_run, unbroken_run, stops_at, at_end}
+use Rattle.siri_json.proofs.Clean.{class_of, at_space, unbroken, unbroken_name, letters_true, letters_false, letters_null, tail_of}
+use Rattle.siri_json.proofs.Clean.{in_word_run, in_string_run, unbroken_run, stops_at, at_end}
 use Rattle.siri_json.proofs.Contents.{content-quoted}
 use Rattle.siri_json.proofs.Alike.{Alike, alike_nil, alike_one, alike_bad, alike_replaced, alike_stuck, Clashing}
 use Rattle.siri_json.proofs.Fronts.{no_colon, quoted_no_colon, quoted-run, content-run, word-bad, no_number_at, clashing}
@@ -33,7 +35,8 @@ miss n z name zs e = rw e
 apart : (n y : ℕ) → is_run_byte n ≡ false → is_run_byte y ≡ true → (n == y) ≡ false
 apart n y hn hy = ne_eqb n y (λ e. true≢false (sym hy ∙ ap is_run_byte (sym e) ∙ hn))
 
-miss_run : (b : Bool) (n y : ℕ) (name run rest : List ℕ) → (n == 34) ≡ false → (n == y) ≡ false → test (n ∷ name) (cond b (34 ∷ ((y ∷ run) ++ 34 ∷ [])) (y ∷ run) ++ rest) ≡ false
+miss_run : (b : Bool) (n y : ℕ) (name run rest : List ℕ) → (n == 34) ≡ false → (n == y) ≡ false
+    → test (n ∷ name) (cond b (34 ∷ ((y ∷ run) ++ 34 ∷ [])) (y ∷ run) ++ rest) ≡ false
 miss_run true n y name run rest q e = miss n 34 name _ q
 miss_run false n y name run rest q e = miss n y name _ e
 
@@ -42,16 +45,20 @@ step_at : (n y : ℕ) (name ys : List ℕ) (r q : Bool) → is_run_byte y ≡ r 
 unfolding quoted_from
 step_at n y name ys true q er eq hn hq later =
     ap (test (n ∷ name)) (quoted-run y ys er)
-    ∙ miss_run (is_number (y ∷ take (run_length ys) ys) && not (is_before_colon (drop (run_length ys) ys))) n y name (take (run_length ys) ys) (quoted (drop (run_length ys) ys)) hq (apart n y hn er)
+    ∙ miss_run (is_number (y ∷ take (run_length ys) ys) && not (is_before_colon (drop (run_length ys) ys))) n y name
+    (take (run_length ys) ys) (quoted (drop (run_length ys) ys)) hq (apart n y hn er)
     ∙ sym (miss n y name ys (apart n y hn er))
 step_at n y name ys false true er eq hn hq later =
     let e : (n == y) ≡ false = ap (λ (c : ℕ). n == c) (eqb-true y 34 eq) ∙ hq in
     ap (test (n ∷ name)) (quoted-other y ys er) ∙ miss n y name (quoted_from (after_outside y) ys) e ∙ sym (miss n y name ys e)
 step_at n y name ys false false er eq hn hq later =
     ap (test (n ∷ name)) (quoted-other y ys er ∙ ap (λ (b : Bool). y ∷ quoted_from (cond b (inside false) (outside [])) ys) eq)
-    ∙ and_3 (n == y) (starts_with nat_eq ys name) (ends_word (drop (length name) ys)) (starts_with nat_eq (quoted ys) name) (ends_word (drop (length name) (quoted ys))) (later ys)
+    ∙ and_3 (n == y) (starts_with nat_eq ys name) (ends_word (drop (length name) ys))
+    (starts_with nat_eq (quoted ys) name) (ends_word (drop (length name) (quoted ys))) (later ys)
 
-step : (n : ℕ) (name : List ℕ) → is_run_byte n ≡ false → (n == 34) ≡ false → ((zs : List ℕ) → test name (quoted zs) ≡ test name zs) → (xs : List ℕ) → test (n ∷ name) (quoted xs) ≡ test (n ∷ name) xs
+step : (n : ℕ) (name : List ℕ) → is_run_byte n ≡ false → (n == 34) ≡ false
+    → ((zs : List ℕ) → test name (quoted zs) ≡ test name zs) → (xs : List ℕ)
+    → test (n ∷ name) (quoted xs) ≡ test (n ∷ name) xs
 unfolding quoted_from after_number
 step n name hn hq later [] = refl
 step n name hn hq later (y ∷ ys) = step_at n y name ys (is_run_byte y) (y == 34) refl refl hn hq later
@@ -66,7 +73,8 @@ end_run false y run rest r = run_no_stop y r
 end_at : (y : ℕ) (ys : List ℕ) (r : Bool) → is_run_byte y ≡ r → ends_word (quoted (y ∷ ys)) ≡ ends_word (y ∷ ys)
 end_at y ys true er =
     ap ends_word (quoted-run y ys er)
-    ∙ end_run (is_number (y ∷ take (run_length ys) ys) && not (is_before_colon (drop (run_length ys) ys))) y (take (run_length ys) ys) (quoted (drop (run_length ys) ys)) er ∙ sym (run_no_stop y er)
+    ∙ end_run (is_number (y ∷ take (run_length ys) ys) && not (is_before_colon (drop (run_length ys) ys))) y
+    (take (run_length ys) ys) (quoted (drop (run_length ys) ys)) er ∙ sym (run_no_stop y er)
 end_at y ys false er = ap ends_word (quoted-other y ys er)
 
 ends : (xs : List ℕ) → ends_word (quoted xs) ≡ ends_word xs
@@ -92,7 +100,8 @@ last_at y ys true r ec er =
     (ap (test (101 ∷ [])) (quoted-run 101 ys refl) ∙ inner ys)
 last_at y ys false true ec er =
     ap (test (101 ∷ [])) (quoted-run y ys er)
-    ∙ miss_run (is_number (y ∷ take (run_length ys) ys) && not (is_before_colon (drop (run_length ys) ys))) 101 y [] (take (run_length ys) ys) (quoted (drop (run_length ys) ys)) refl ec ∙ sym (miss 101 y [] ys ec)
+    ∙ miss_run (is_number (y ∷ take (run_length ys) ys) && not (is_before_colon (drop (run_length ys) ys))) 101 y []
+    (take (run_length ys) ys) (quoted (drop (run_length ys) ys)) refl ec ∙ sym (miss 101 y [] ys ec)
 last_at y ys false false ec er = ap (test (101 ∷ [])) (quoted-other y ys er) ∙ miss 101 y [] (quoted_from (after_outside y) ys) ec ∙ sym (miss 101 y [] ys ec)
 
 last : (xs : List ℕ) → test (101 ∷ []) (quoted xs) ≡ test (101 ∷ []) xs
@@ -111,7 +120,8 @@ null_same = step 117 (108 ∷ 108 ∷ []) refl refl (step 108 (108 ∷ []) refl 
 
 -- ---- words
 
-named : (b c : Bool) (t : Token) (ls ms : List Lexeme) → c ≡ b → (b ≡ true → c ≡ true → Alike ls ms) → Alike (token (cond b t bad) ∷ ls) (token (cond c t bad) ∷ ms)
+named : (b c : Bool) (t : Token) (ls ms : List Lexeme) → c ≡ b → (b ≡ true → c ≡ true → Alike ls ms)
+    → Alike (token (cond b t bad) ∷ ls) (token (cond c t bad) ∷ ms)
 named true true t ls ms e h = alike_one (token t) ls ms (h refl refl)
 named false false t ls ms e h = alike_bad ls ms
 named true false t ls ms e h = absurd (false≢true e)
@@ -119,26 +129,34 @@ named false true t ls ms e h = absurd (true≢false e)
 
 no_run : (x : ℕ) (ys : List ℕ) → is_run_byte x ≡ false → number_before (x ∷ ys) (after_number (x ∷ ys)) ≡ bad
 unfolding after_number
-no_run x ys e = no_number_at (x ∷ ys) (after_number (x ∷ ys)) (λ q is ended. false≢true (number_run [] (x ∷ ys) q AllRun-nil (stops_at x ys (is_run_byte x) e) is ended).0)
+no_run x ys e = no_number_at (x ∷ ys) (after_number (x ∷ ys))
+    (λ q is ended. false≢true (number_run [] (x ∷ ys) q AllRun-nil (stops_at x ys (is_run_byte x) e) is ended).0)
 
 words_at : (x : ℕ) (xs ys : List ℕ) (ls ms : List Lexeme) (t f n : Bool) → is_run_byte x ≡ false → ys ≡ quoted xs
     → (unbroken xs ≡ true → unbroken ys ≡ true → Alike ls ms)
-    → Alike (token (cond t (literal ascii.true_text (boolean true) (x ∷ xs)) (cond f (literal ascii.false_text (boolean false) (x ∷ xs)) (cond n (literal ascii.null_text null (x ∷ xs)) (number_before (x ∷ xs) (after_number (x ∷ xs)))))) ∷ ls)
-    (token (cond t (literal ascii.true_text (boolean true) (x ∷ ys)) (cond f (literal ascii.false_text (boolean false) (x ∷ ys)) (cond n (literal ascii.null_text null (x ∷ ys)) (number_before (x ∷ ys) (after_number (x ∷ ys)))))) ∷ ms)
+    → Alike (token (cond t (literal ascii.true_text (boolean true) (x ∷ xs))
+    (cond f (literal ascii.false_text (boolean false) (x ∷ xs))
+    (cond n (literal ascii.null_text null (x ∷ xs)) (number_before (x ∷ xs) (after_number (x ∷ xs)))))) ∷ ls)
+    (token (cond t (literal ascii.true_text (boolean true) (x ∷ ys))
+    (cond f (literal ascii.false_text (boolean false) (x ∷ ys))
+    (cond n (literal ascii.null_text null (x ∷ ys)) (number_before (x ∷ ys) (after_number (x ∷ ys)))))) ∷ ms)
 words_at x xs ys ls ms true f n e is h =
     let name = 114 ∷ 117 ∷ 101 ∷ [] in
     named (test (116 ∷ name) (x ∷ xs)) (test (116 ∷ name) (x ∷ ys)) (boolean true) ls ms
-    (and_3 (116 == x) (starts_with nat_eq xs name) (ends_word (drop 3 xs)) (starts_with nat_eq ys name) (ends_word (drop 3 ys)) (ap (test name) is ∙ true_same xs))
+    (and_3 (116 == x) (starts_with nat_eq xs name) (ends_word (drop 3 xs)) (starts_with nat_eq ys name)
+    (ends_word (drop 3 ys)) (ap (test name) is ∙ true_same xs))
     (λ a b. h (unbroken_name name xs letters_true (tail_of x 116 name xs a)) (unbroken_name name ys letters_true (tail_of x 116 name ys b)))
 words_at x xs ys ls ms false true n e is h =
     let name = 97 ∷ 108 ∷ 115 ∷ 101 ∷ [] in
     named (test (102 ∷ name) (x ∷ xs)) (test (102 ∷ name) (x ∷ ys)) (boolean false) ls ms
-    (and_3 (102 == x) (starts_with nat_eq xs name) (ends_word (drop 4 xs)) (starts_with nat_eq ys name) (ends_word (drop 4 ys)) (ap (test name) is ∙ false_same xs))
+    (and_3 (102 == x) (starts_with nat_eq xs name) (ends_word (drop 4 xs)) (starts_with nat_eq ys name)
+    (ends_word (drop 4 ys)) (ap (test name) is ∙ false_same xs))
     (λ a b. h (unbroken_name name xs letters_false (tail_of x 102 name xs a)) (unbroken_name name ys letters_false (tail_of x 102 name ys b)))
 words_at x xs ys ls ms false false true e is h =
     let name = 117 ∷ 108 ∷ 108 ∷ [] in
     named (test (110 ∷ name) (x ∷ xs)) (test (110 ∷ name) (x ∷ ys)) null ls ms
-    (and_3 (110 == x) (starts_with nat_eq xs name) (ends_word (drop 3 xs)) (starts_with nat_eq ys name) (ends_word (drop 3 ys)) (ap (test name) is ∙ null_same xs))
+    (and_3 (110 == x) (starts_with nat_eq xs name) (ends_word (drop 3 xs)) (starts_with nat_eq ys name)
+    (ends_word (drop 3 ys)) (ap (test name) is ∙ null_same xs))
     (λ a b. h (unbroken_name name xs letters_null (tail_of x 110 name xs a)) (unbroken_name name ys letters_null (tail_of x 110 name ys b)))
 words_at x xs ys ls ms false false false e is h =
     subst (λ (t : Token). Alike (token t ∷ ls) (token (number_before (x ∷ ys) (after_number (x ∷ ys))) ∷ ms)) (sym (no_run x xs e))
@@ -165,9 +183,12 @@ lex_close ys = refl
 
 lex_quoted : (run rest : List ℕ) → AllRun run → lex between (34 ∷ (run ++ 34 ∷ rest)) ≡ token (string run) ∷ lex between rest
 lex_quoted run rest h =
-    lex_quote (run ++ 34 ∷ rest) ∙ ap₂ (λ (o : Option (List ℕ)) (ls : List Lexeme). token (string_token o) ∷ ls) (content-run run rest h) (in_string_run run (34 ∷ rest) h ∙ lex_close rest)
+    lex_quote (run ++ 34 ∷ rest) ∙ ap₂ (λ (o : Option (List ℕ)) (ls : List Lexeme). token (string_token o) ∷ ls)
+    (content-run run rest h) (in_string_run run (34 ∷ rest) h ∙ lex_close rest)
 
-lex_bad : (x : ℕ) (run rest : List ℕ) → AllRun (x ∷ run) → after_run rest ≡ rest → (is_number (x ∷ run) && ends_word rest) ≡ false → lex between (x ∷ (run ++ rest)) ≡ token bad ∷ lex in_word (run ++ rest)
+lex_bad : (x : ℕ) (run rest : List ℕ) → AllRun (x ∷ run) → after_run rest ≡ rest
+    → (is_number (x ∷ run) && ends_word rest) ≡ false → lex between (x ∷ (run ++ rest)) ≡ token bad ∷ lex in_word
+    (run ++ rest)
 lex_bad x run rest h stops never =
     lex_word x (run ++ rest) (AllRun-first x run h).0 ∙ ap (λ (t : Token). token t ∷ lex in_word (run ++ rest)) (word-bad x run rest h stops never)
 
@@ -190,11 +211,13 @@ record Rests (rest tail : List ℕ) : Type 0 where
 both_alike : {a b : List Lexeme} (c d : List Lexeme) → a ≡ c → b ≡ d → Alike c d → Alike a b
 both_alike {a} {b} c d p q h = subst (λ (x : List Lexeme). Alike x b) (sym p) (subst (λ (y : List Lexeme). Alike c y) (sym q) h)
 
-run_at : (x : ℕ) (run rest tail : List ℕ) (n c e : Bool) → is_number (x ∷ run) ≡ n → is_before_colon rest ≡ c → ends_word rest ≡ e → AllRun (x ∷ run) → Rests rest tail
+run_at : (x : ℕ) (run rest tail : List ℕ) (n c e : Bool) → is_number (x ∷ run) ≡ n → is_before_colon rest ≡ c
+    → ends_word rest ≡ e → AllRun (x ∷ run) → Rests rest tail
     → Alike (lex between (x ∷ (run ++ rest))) (lex between (cond (n && not c) (34 ∷ ((x ∷ run) ++ 34 ∷ [])) (x ∷ run) ++ tail))
 run_at x run rest tail false c e en ec ee h r =
     both_alike (token bad ∷ lex in_word (run ++ rest)) (token bad ∷ lex in_word (run ++ tail))
-    (lex_bad x run rest h r.stops (ap (λ (b : Bool). b && ends_word rest) en)) (lex_bad x run tail h r.tail_stops (ap (λ (b : Bool). b && ends_word tail) en)) (alike_bad _ _)
+    (lex_bad x run rest h r.stops (ap (λ (b : Bool). b && ends_word rest) en))
+    (lex_bad x run tail h r.tail_stops (ap (λ (b : Bool). b && ends_word tail) en)) (alike_bad _ _)
 run_at x run rest tail true true e en ec ee h r =
     let number_is : IsNumber (x ∷ run) = is_number-true (after_number (x ∷ run)) en in
     both_alike (token (number (x ∷ run)) ∷ lex between rest) (token (number (x ∷ run)) ∷ lex between tail)
@@ -217,11 +240,13 @@ runs_alike [] rest tail h r = r.alike
 runs_alike (x ∷ run) rest tail h r = run_at x run rest tail (is_number (x ∷ run)) (is_before_colon rest) (ends_word rest) refl refl refl h r
 
 word_run_at : (b : Bool) (run rest tail : List ℕ) → AllRun run → (unbroken rest ≡ true → unbroken tail ≡ true → Alike (lex in_word rest) (lex in_word tail))
-    → unbroken (run ++ rest) ≡ true → unbroken (cond b (34 ∷ (run ++ 34 ∷ [])) run ++ tail) ≡ true → Alike (lex in_word (run ++ rest)) (lex in_word (cond b (34 ∷ (run ++ 34 ∷ [])) run ++ tail))
+    → unbroken (run ++ rest) ≡ true → unbroken (cond b (34 ∷ (run ++ 34 ∷ [])) run ++ tail) ≡ true
+    → Alike (lex in_word (run ++ rest)) (lex in_word (cond b (34 ∷ (run ++ 34 ∷ [])) run ++ tail))
 unfolding unbroken
 word_run_at true run rest tail h k u v = absurd (false≢true v)
 word_run_at false run rest tail h k u v =
-    both_alike (lex in_word rest) (lex in_word tail) (in_word_run run rest h) (in_word_run run tail h) (k (unbroken_run run rest h u) (unbroken_run run tail h v))
+    both_alike (lex in_word rest) (lex in_word tail) (in_word_run run rest h) (in_word_run run tail h)
+    (k (unbroken_run run rest h u) (unbroken_run run tail h v))
 
 -- ---- the whole text
 
@@ -229,7 +254,8 @@ record Runs (xs : List ℕ) : Type 0 where
   out : (run : List ℕ) → AllRun run → Alike (lex between (run ++ xs)) (lex between (quoted_from (outside run) xs))
   plainly : Alike (lex in_string xs) (lex in_string (quoted_from (inside false) xs))
   escaping : Alike (lex in_escape xs) (lex in_escape (quoted_from (inside true) xs))
-  word : (run : List ℕ) → AllRun run → unbroken (run ++ xs) ≡ true → unbroken (quoted_from (outside run) xs) ≡ true → Alike (lex in_word (run ++ xs)) (lex in_word (quoted_from (outside run) xs))
+  word : (run : List ℕ) → AllRun run → unbroken (run ++ xs) ≡ true → unbroken (quoted_from (outside run) xs) ≡ true
+      → Alike (lex in_word (run ++ xs)) (lex in_word (quoted_from (outside run) xs))
 
 rests_nil : Rests [] []
 unfolding lex
@@ -261,10 +287,12 @@ runs_nil = record {
 -- a byte that is of no run
 tail_at : (x : ℕ) (xs : List ℕ) (q b o s : Bool) → Runs xs → is_run_byte x ≡ false
     → Alike (lex_byte between (class_of q b o s) x xs (λ (m : Mode). lex m xs))
-    (lex_byte between (class_of q b o s) x (quoted_from (cond q (inside false) (outside [])) xs) (λ (m : Mode). lex m (quoted_from (cond q (inside false) (outside [])) xs)))
+    (lex_byte between (class_of q b o s) x (quoted_from (cond q (inside false) (outside [])) xs)
+    (λ (m : Mode). lex m (quoted_from (cond q (inside false) (outside [])) xs)))
 unfolding class_of
 tail_at x xs true b o s ih e =
-    subst (λ (c : Option (List ℕ)). Alike (token (string_token (content plain xs)) ∷ lex in_string xs) (token (string_token c) ∷ lex in_string (quoted_from (inside false) xs))) (sym (content-quoted xs))
+    subst (λ (c : Option (List ℕ)). Alike (token (string_token (content plain xs)) ∷ lex in_string xs)
+    (token (string_token c) ∷ lex in_string (quoted_from (inside false) xs))) (sym (content-quoted xs))
     (alike_one _ _ _ ih.plainly)
 tail_at x xs false true o s ih e = alike_bad _ _
 tail_at x xs false false true s ih e = alike_one (operator_lexeme x) _ _ (ih.out [] AllRun-nil)
@@ -278,7 +306,8 @@ tail_between x xs ih e = tail_at x xs (x == 34) (x == 92) (is_operator x) (is_sp
 tail_word_at : (x : ℕ) (xs : List ℕ) (q b o s : Bool) → Runs xs → (b ≡ true → (o || s) ≡ false) → cond q false (cond (o || s) true (unbroken xs)) ≡ true
     → cond q false (cond (o || s) true (unbroken (quoted_from (cond q (inside false) (outside [])) xs))) ≡ true
     → Alike (lex_byte in_word (class_of q b o s) x xs (λ (m : Mode). lex m xs))
-    (lex_byte in_word (class_of q b o s) x (quoted_from (cond q (inside false) (outside [])) xs) (λ (m : Mode). lex m (quoted_from (cond q (inside false) (outside [])) xs)))
+    (lex_byte in_word (class_of q b o s) x (quoted_from (cond q (inside false) (outside [])) xs)
+    (λ (m : Mode). lex m (quoted_from (cond q (inside false) (outside [])) xs)))
 unfolding class_of
 tail_word_at x xs true b o s ih k u v = absurd (false≢true u)
 tail_word_at x xs false true true s ih k u v = absurd (true≢false (k refl))
@@ -291,11 +320,14 @@ tail_word_at x xs false false false false ih k u v = ih.word [] AllRun-nil u v
 tail_word : (x : ℕ) (xs : List ℕ) → Runs xs → unbroken (x ∷ xs) ≡ true → unbroken (x ∷ quoted_from (after_outside x) xs) ≡ true
     → Alike (lex in_word (x ∷ xs)) (lex in_word (x ∷ quoted_from (after_outside x) xs))
 unfolding class_of lex unbroken
-tail_word x xs ih u v = tail_word_at x xs (x == 34) (x == 92) (is_operator x) (is_space x) ih (λ e. ap (λ (c : ℕ). is_operator c || is_space c) (eqb-true x 92 e)) u v
+tail_word x xs ih u v = tail_word_at x xs (x == 34) (x == 92) (is_operator x) (is_space x) ih
+    (λ e. ap (λ (c : ℕ). is_operator c || is_space c) (eqb-true x 92 e)) u v
 
 plain_at : (x : ℕ) (xs : List ℕ) (q b o s : Bool) → Runs xs
     → Alike (lex_byte in_string (class_of q b o s) x xs (λ (m : Mode). lex m xs))
-    (lex_byte in_string (class_of q b o s) x (quoted_from (cond (q && not false) (outside []) (inside (b && not false))) xs) (λ (m : Mode). lex m (quoted_from (cond (q && not false) (outside []) (inside (b && not false))) xs)))
+    (lex_byte in_string (class_of q b o s) x
+    (quoted_from (cond (q && not false) (outside []) (inside (b && not false))) xs)
+    (λ (m : Mode). lex m (quoted_from (cond (q && not false) (outside []) (inside (b && not false))) xs)))
 unfolding class_of
 plain_at x xs true b o s ih = ih.out [] AllRun-nil
 plain_at x xs false true o s ih = ih.escaping
@@ -305,7 +337,9 @@ plain_at x xs false false false false ih = ih.plainly
 
 escape_at : (x : ℕ) (xs : List ℕ) (q b o s : Bool) → Runs xs
     → Alike (lex_byte in_escape (class_of q b o s) x xs (λ (m : Mode). lex m xs))
-    (lex_byte in_escape (class_of q b o s) x (quoted_from (cond (q && not true) (outside []) (inside (b && not true))) xs) (λ (m : Mode). lex m (quoted_from (cond (q && not true) (outside []) (inside (b && not true))) xs)))
+    (lex_byte in_escape (class_of q b o s) x
+    (quoted_from (cond (q && not true) (outside []) (inside (b && not true))) xs)
+    (λ (m : Mode). lex m (quoted_from (cond (q && not true) (outside []) (inside (b && not true))) xs)))
 unfolding class_of
 escape_at x xs true true o s ih = ih.plainly
 escape_at x xs true false o s ih = ih.plainly
@@ -331,17 +365,23 @@ rests_cons x xs ih e = record {
 }
 
 out_at : (x : ℕ) (xs run : List ℕ) (b : Bool) → is_run_byte x ≡ b → Runs xs → AllRun run
-    → Alike (lex between (run ++ x ∷ xs)) (lex between (cond b (quoted_from (outside (run ++ x ∷ [])) xs) (run_text run (x ∷ xs) ++ x ∷ quoted_from (after_outside x) xs)))
+    → Alike (lex between (run ++ x ∷ xs)) (lex between
+    (cond b (quoted_from (outside (run ++ x ∷ [])) xs)
+    (run_text run (x ∷ xs) ++ x ∷ quoted_from (after_outside x) xs)))
 out_at x xs run true e ih h =
-    subst (λ (t : List ℕ). Alike (lex between t) (lex between (quoted_from (outside (run ++ x ∷ [])) xs))) (append_assoc run (x ∷ []) xs) (ih.out (run ++ x ∷ []) (AllRun-push run x h e))
+    subst (λ (t : List ℕ). Alike (lex between t) (lex between (quoted_from (outside (run ++ x ∷ [])) xs)))
+    (append_assoc run (x ∷ []) xs) (ih.out (run ++ x ∷ []) (AllRun-push run x h e))
 out_at x xs run false e ih h = runs_alike run (x ∷ xs) (x ∷ quoted_from (after_outside x) xs) h (rests_cons x xs ih e)
 
 word_out_at : (x : ℕ) (xs run : List ℕ) (b : Bool) → is_run_byte x ≡ b → Runs xs → AllRun run → unbroken (run ++ x ∷ xs) ≡ true
     → unbroken (cond b (quoted_from (outside (run ++ x ∷ [])) xs) (run_text run (x ∷ xs) ++ x ∷ quoted_from (after_outside x) xs)) ≡ true
-    → Alike (lex in_word (run ++ x ∷ xs)) (lex in_word (cond b (quoted_from (outside (run ++ x ∷ [])) xs) (run_text run (x ∷ xs) ++ x ∷ quoted_from (after_outside x) xs)))
+    → Alike (lex in_word (run ++ x ∷ xs)) (lex in_word
+    (cond b (quoted_from (outside (run ++ x ∷ [])) xs)
+    (run_text run (x ∷ xs) ++ x ∷ quoted_from (after_outside x) xs)))
 word_out_at x xs run true e ih h u v =
     let same = append_assoc run (x ∷ []) xs in
-    subst (λ (t : List ℕ). Alike (lex in_word t) (lex in_word (quoted_from (outside (run ++ x ∷ [])) xs))) same (ih.word (run ++ x ∷ []) (AllRun-push run x h e) (ap unbroken same ∙ u) v)
+    subst (λ (t : List ℕ). Alike (lex in_word t) (lex in_word (quoted_from (outside (run ++ x ∷ [])) xs))) same
+    (ih.word (run ++ x ∷ []) (AllRun-push run x h e) (ap unbroken same ∙ u) v)
 word_out_at x xs run false e ih h u v =
     word_run_at (is_number run && not (is_before_colon (x ∷ xs))) run (x ∷ xs) (x ∷ quoted_from (after_outside x) xs) h (tail_word x xs ih) u v
 

@@ -1,5 +1,6 @@
 -- A line feed behind the compact text of an object is passed over.
-use Rattle.std.proofs.Common.{◌≡◌, ℕ, ◌≤◌, Bool, true, false, cond, ◌&&◌, List, [], ◌∷◌, ◌++◌, Some, refl, sym, ap, ap₂, ◌∙◌, append_assoc, append-nil, option_and_then}
+use Rattle.std.proofs.Common.{◌≡◌, ℕ, ◌≤◌, Bool, true, false, cond, ◌&&◌, List, [], ◌∷◌, ◌++◌, Some, refl, sym, ap, ap₂, ◌∙◌, append_assoc}
+use Rattle.std.proofs.Common.{append-nil, option_and_then}
 use Rattle.std.specs.Prelude.{IsUtf8}
 use Rattle.std.proofs.lemmas.Str.{IsUtf8-append}
 use Rattle.json.specs.Json as json
@@ -89,7 +90,8 @@ lexemes c [] = []
 lexemes c (t ∷ ts) = cond (c && begins t) (comma ∷ []) [] ++ (lexemes_of t ++ lexemes (ends t) ts)
 
 -- what follows the printed tokens is lexed for itself
-lex_print : (c : Bool) (ts : List Token) (r : List ℕ) → ends_word r ≡ true → ArePrintable ts → lex between (print_from c ts ++ r) ≡ lexemes c ts ++ lex between r
+lex_print : (c : Bool) (ts : List Token) (r : List ℕ) → ends_word r ≡ true → ArePrintable ts
+    → lex between (print_from c ts ++ r) ≡ lexemes c ts ++ lex between r
 unfolding lex print_from ArePrintable lexemes
 lex_print c [] r e h = refl
 lex_print c (t ∷ ts) r e h =
@@ -120,11 +122,14 @@ unfolding quoted_from after_number
 quoted_feed = refl
 
 -- the compact text of an object and a line feed, read as a document, are the tree with texts for its numbers
-pub tree_of-line : (ms : Members) → IsCanonical (object ms) → depth (object ms) ≤ max_depth → tree_of (compact_text (object ms) ++ 10 ∷ []) ≡ Some (as_texts (object ms))
+pub tree_of-line : (ms : Members) → IsCanonical (object ms) → depth (object ms) ≤ max_depth
+    → tree_of (compact_text (object ms) ++ 10 ∷ []) ≡ Some (as_texts (object ms))
 unfolding feed
 tree_of-line ms h shallow =
     let new = as_texts (object ms) in
     let canonical = canonical_as_texts (object ms) h in
     let utf8 : IsUtf8 (compact_text new ++ 10 ∷ []) = IsUtf8-append _ _ (IsUtf8-compact_text new canonical) (IsUtf8-are_ascii _ refl) in
-    let is : read (compact_text new ++ 10 ∷ []) ≡ Some new = ap (λ ts. option_and_then of_json (option_and_then (λ p. json.if_last p.0 p.1) (json.value max_depth ts))) (tokens_feed new canonical) ∙ read-compact_text new canonical (rw (depth-as_texts (object ms)) shallow) in
+    let is : read (compact_text new ++ 10 ∷ []) ≡ Some new =
+    ap (λ ts. option_and_then of_json (option_and_then (λ p. json.if_last p.0 p.1) (json.value max_depth ts)))
+    (tokens_feed new canonical) ∙ read-compact_text new canonical (rw (depth-as_texts (object ms)) shallow) in
     ap json_of (quoted-object ms h (10 ∷ []) ∙ ap (λ t. compact_text new ++ t) quoted_feed) ∙ json_is (compact_text new ++ 10 ∷ []) new utf8 is

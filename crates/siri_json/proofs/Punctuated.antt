@@ -3,7 +3,8 @@ use Rattle.std.proofs.Common.{◌≡◌, ℕ, Bool, true, false, List, [], ◌�
 use Rattle.std.proofs.lemmas.Bool.{true≢false}
 use Rattle.std.specs.Prelude.{⊤}
 use Rattle.json.specs.Token.{Token, begin_object, end_object, begin_array, end_array, key, string, number, boolean, null, bad}
-use Rattle.json.specs.Lex.{Lexeme, token, comma, colon, begins_colon, Place, fresh, after_value, after_comma, after_key, may_begin, may_close, if_allowed, place_token, punctuate}
+use Rattle.json.specs.Lex.{Lexeme, token, comma, colon, begins_colon, Place, fresh, after_value, after_comma, after_key, may_begin}
+use Rattle.json.specs.Lex.{may_close, if_allowed, place_token, punctuate}
 use Rattle.siri_json.proofs.Alike.{Alike, Stuck, Clashes, Clashing, Replaces}
 
 -- a fault comes next
@@ -137,11 +138,13 @@ allowed : (b : Bool) (t : Token) (k j : Place → List Token) (next : Place) →
 allowed true t k j next h = inr (inl refl, h)
 allowed false t k j next h = inl (tt, tt)
 
-replaced : (b : Bool) (s : List ℕ) (k j : Place → List Token) → Matches (k after_value) (j after_value) → Matches (if_allowed b (number s) k after_value) (if_allowed b (string s) j after_value)
+replaced : (b : Bool) (s : List ℕ) (k j : Place → List Token) → Matches (k after_value) (j after_value)
+    → Matches (if_allowed b (number s) k after_value) (if_allowed b (string s) j after_value)
 replaced true s k j h = inr (inr (s, refl, refl), h)
 replaced false s k j h = inl (tt, tt)
 
-one_token : (p : Place) (t : Token) (b : Bool) (k j : Place → List Token) → ((n : Place) → Matches (k n) (j n)) → Matches (place_token p t b k) (place_token p t b j)
+one_token : (p : Place) (t : Token) (b : Bool) (k j : Place → List Token) → ((n : Place) → Matches (k n) (j n))
+    → Matches (place_token p t b k) (place_token p t b j)
 one_token p begin_object b k j h = allowed (may_begin p) begin_object k j fresh (h fresh)
 one_token p end_object b k j h = allowed (may_close p) end_object k j after_value (h after_value)
 one_token p begin_array b k j h = allowed (may_begin p) begin_array k j fresh (h fresh)
@@ -154,7 +157,8 @@ one_token p (boolean v) b k j h = allowed (may_begin p) (boolean v) k j after_va
 one_token p null b k j h = allowed (may_begin p) null k j after_value (h after_value)
 one_token p bad b k j h = inl (tt, tt)
 
-one_lexeme : (l : Lexeme) (ls ms : List Lexeme) (p : Place) → begins_colon ls ≡ begins_colon ms → ((n : Place) → Matches (punctuate n ls) (punctuate n ms)) → Matches (punctuate p (l ∷ ls)) (punctuate p (l ∷ ms))
+one_lexeme : (l : Lexeme) (ls ms : List Lexeme) (p : Place) → begins_colon ls ≡ begins_colon ms
+    → ((n : Place) → Matches (punctuate n ls) (punctuate n ms)) → Matches (punctuate p (l ∷ ls)) (punctuate p (l ∷ ms))
 unfolding punctuate
 one_lexeme (token t) ls ms p e h =
     subst (λ (b : Bool). Matches (place_token p t (begins_colon ls) (λ n. punctuate n ls)) (place_token p t b (λ n. punctuate n ms))) e
@@ -191,4 +195,5 @@ punctuated (l ∷ ls) (m ∷ ms) (inr (inl e, h)) p =
     subst (λ (x : Lexeme). Matches (punctuate p (l ∷ ls)) (punctuate p (x ∷ ms))) e (one_lexeme l ls ms p (same_colon ls ms h) (punctuated ls ms h))
 punctuated (l ∷ ls) (m ∷ ms) (inr (inr r, h)) p =
     subst (λ (x : Lexeme). Matches (punctuate p (x ∷ ls)) (punctuate p (m ∷ ms))) (sym r.1)
-    (subst (λ (x : Lexeme). Matches (punctuate p (token (number r.0) ∷ ls)) (punctuate p (x ∷ ms))) (sym r.2) (replaced_lexeme r.0 ls ms p r.4 (punctuated ls ms h)))
+    (subst (λ (x : Lexeme). Matches (punctuate p (token (number r.0) ∷ ls)) (punctuate p (x ∷ ms))) (sym r.2)
+    (replaced_lexeme r.0 ls ms p r.4 (punctuated ls ms h)))

@@ -1,6 +1,8 @@
 -- The tree of a document has UTF-8 texts, since the document that is read is UTF-8: a text begins and ends beside a quote, and
 -- an escape stands for a character.
-use Rattle.std.proofs.Common.{◌≡◌, ℕ, zero, suc, ◌+◌, ◌<◌, ◌≤◌, Bool, true, false, cond, ◌&&◌, ◌||◌, ◌==◌, nat_lt, nat_le, List, [], ◌∷◌, ◌++◌, length, take, drop, get_or, Option, Some, None, option_map, option_and_then, Ordering, Less, Equal, Greater, nat_cmp, inl, inr, refl, sym, ap, ◌∙◌, subst, arith, append_assoc, append-nil, length-append}
+use Rattle.std.proofs.Common.{◌≡◌, ℕ, zero, suc, ◌+◌, ◌<◌, ◌≤◌, Bool, true, false, cond, ◌&&◌, ◌||◌, ◌==◌, nat_lt, nat_le, List, [], ◌∷◌}
+use Rattle.std.proofs.Common.{◌++◌, length, take, drop, get_or, Option, Some, None, option_map, option_and_then, Ordering, Less, Equal}
+use Rattle.std.proofs.Common.{Greater, nat_cmp, inl, inr, refl, sym, ap, ◌∙◌, subst, arith, append_assoc, append-nil, length-append}
 use Rattle.std.specs.Prelude.{IfSome, IsUtf8, ⊤}
 use Rattle.std.specs.Char.{digit_value, is_digit, encode_utf8, IsScalar}
 use Rattle.std.specs.Cmp.Lexicographic.{slice_cmp}
@@ -8,12 +10,15 @@ use Rattle.std.specs.List.{AllByRecursion}
 use Rattle.std.specs.Ordering.{match_ordering}
 use Rattle.std.specs.Str.{is_utf8, IsCharBoundary}
 use Rattle.std.proofs.lemmas.Bool.{and_parts, cases_lt, ltb-true, lt-ltb, le-ltb, le-leb, leb-true, eqb-true, true≢false}
-use Rattle.std.proofs.lemmas.Str.{IsUtf8-append, IsUtf8-encode, IsUtf8-take, IsUtf8-drop, IsUtf8-past_char, IsUtf8-from_ascii, IsUtf8-from_is_utf8, IsCharBoundary-before_ascii, encode_ascii}
+use Rattle.std.proofs.lemmas.Str.{IsUtf8-append, IsUtf8-encode, IsUtf8-take, IsUtf8-drop, IsUtf8-past_char, IsUtf8-from_ascii}
+use Rattle.std.proofs.lemmas.Str.{IsUtf8-from_is_utf8, IsCharBoundary-before_ascii, encode_ascii}
 use Rattle.std.proofs.lemmas.Str.Ascii.{IsAscii-nil, IsAscii-cons}
 use Rattle.json.specs.Token.{Token}
-use Rattle.json.specs.Text.{code_unit, short_escape, is_high_surrogate, is_low_surrogate, surrogate_pair, Within, plain, after_backslash, after_u, after_high, prepend, content}
+use Rattle.json.specs.Text.{code_unit, short_escape, is_high_surrogate, is_low_surrogate, surrogate_pair, Within, plain, after_backslash}
+use Rattle.json.specs.Text.{after_u, after_high, prepend, content}
 use Rattle.json.specs.Word.{is_operator, is_space, head, ends_word, after_number, number_before, word}
-use Rattle.json.specs.Lex.{Lexeme, token, comma, colon, Class, quote, backslash, operator, space, other, class, operator_lexeme, string_token, Mode, between, in_word, in_string, in_escape, lex_byte, lex}
+use Rattle.json.specs.Lex.{Lexeme, token, comma, colon, Class, quote, backslash, operator, space, other, class, operator_lexeme}
+use Rattle.json.specs.Lex.{string_token, Mode, between, in_word, in_string, in_escape, lex_byte, lex}
 use Rattle.json.specs.Lex.{Place, fresh, after_value, after_comma, after_key, begins_colon, may_begin, may_close, if_allowed, place_token, punctuate, tokens}
 use Rattle.json.specs.Json as json
 use Rattle.json.specs.Json.{Parse, parse_map, after_end_array, read_key, items_step, members_step, items, members, value_with, value}
@@ -29,7 +34,8 @@ both : {A : Type 0} (P : A → Type 0) (b : Bool) (x y : Option A) → (b ≡ tr
 both P true x y f g = f refl
 both P false x y f g = g refl
 
-and_then_is : {A B : Type 0} (Q : A → Type 0) (P : B → Type 0) (f : A → Option B) (o : Option A) → IfSome o Q → ((a : A) → Q a → IfSome (f a) P) → IfSome (option_and_then f o) P
+and_then_is : {A B : Type 0} (Q : A → Type 0) (P : B → Type 0) (f : A → Option B) (o : Option A) → IfSome o Q
+    → ((a : A) → Q a → IfSome (f a) P) → IfSome (option_and_then f o) P
 and_then_is Q P f None is h = tt
 and_then_is Q P f (Some a) is h = h a is
 
@@ -96,7 +102,9 @@ unfolding short_escape
 short_is x =
     both (AreLow x) ((x == 34) || (x == 92) || (x == 47)) (Some x) _
     (λ e.
-    let low = either ((x == 34) || (x == 92)) (x == 47) (λ f. either (x == 34) (x == 92) (low_byte x 34 (omega arith)) (low_byte x 92 (omega arith)) f) (low_byte x 47 (omega arith)) e in
+    let low = either ((x == 34) || (x == 92)) (x == 47)
+    (λ f. either (x == 34) (x == 92) (low_byte x 34 (omega arith)) (low_byte x 92 (omega arith)) f)
+    (low_byte x 47 (omega arith)) e in
     (low, low))
     (λ e.
     picked x 98 8 _ (omega arith) (omega arith) (picked x 102 12 _ (omega arith) (omega arith) (picked x 110 10 _ (omega arith) (omega arith)
@@ -104,7 +112,14 @@ short_is x =
 
 past_letters : (x : ℕ) → 123 ≤ x → digit_value x ≡ 36
 past_letters x le =
-    rw (le-ltb x 48 (omega (arith, le)), le-ltb x 58 (omega (arith, le)), le-ltb x 65 (omega (arith, le)), le-ltb x 91 (omega (arith, le)), le-ltb x 97 (omega (arith, le)), le-ltb x 123 le) refl
+    rw (
+      le-ltb x 48 (omega (arith, le)),
+      le-ltb x 58 (omega (arith, le)),
+      le-ltb x 65 (omega (arith, le)),
+      le-ltb x 91 (omega (arith, le)),
+      le-ltb x 97 (omega (arith, le)),
+      le-ltb x 123 le,
+    ) refl
 
 hex_small : (x : ℕ) → is_digit x 16 ≡ true → digit_value x < 16
 hex_small x h = ltb-true (digit_value x) 16 h
@@ -191,12 +206,16 @@ content_is plain [] = λ p u. tt
 content_is plain (x ∷ xs) = λ p u.
     both (λ s. IsUtf8 (p ++ s)) (x == 34) (Some []) _ (λ q. subst IsUtf8 (sym (append-nil p)) (cut_before p xs x (low_byte x 34 (omega arith) q) u))
     (λ q. both (λ s. IsUtf8 (p ++ s)) (x == 92) (content after_backslash xs) _
-    (λ b. joined p (content after_backslash xs) (cut_before p xs x (low_byte x 92 (omega arith) b) u) (content_is after_backslash xs (cut_after p xs x (low_byte x 92 (omega arith) b) u)))
-    (λ b. both (λ s. IsUtf8 (p ++ s)) (nat_lt x 32) None _ (λ l. tt) (λ l. after_one p x (content plain xs) (content_is plain xs (p ++ x ∷ []) (moved_on p xs x u)))))
+    (λ b. joined p (content after_backslash xs) (cut_before p xs x (low_byte x 92 (omega arith) b) u)
+    (content_is after_backslash xs (cut_after p xs x (low_byte x 92 (omega arith) b) u)))
+    (λ b. both (λ s. IsUtf8 (p ++ s)) (nat_lt x 32) None _ (λ l. tt)
+    (λ l. after_one p x (content plain xs) (content_is plain xs (p ++ x ∷ []) (moved_on p xs x u)))))
 content_is after_backslash [] = λ u. tt
 content_is after_backslash (x ∷ xs) = λ u.
     both IsUtf8 (x == 117) (content after_u xs) _ (λ e. content_is after_u xs (past_ascii x xs (low_byte x 117 (omega arith) e) u))
-    (λ e. and_then_is (AreLow x) IsUtf8 _ (short_escape x) (short_is x) (λ c low. ahead (c ∷ []) (content plain xs) (one_byte c low.1) (content_is plain xs [] (past_ascii x xs low.0 u))))
+    (λ e. and_then_is (AreLow x) IsUtf8 _ (short_escape x) (short_is x)
+    (λ c low. ahead (c ∷ []) (content plain xs) (one_byte c low.1)
+    (content_is plain xs [] (past_ascii x xs low.0 u))))
 content_is after_u [] = λ u. tt
 content_is after_u (a ∷ []) = λ u. tt
 content_is after_u (a ∷ b ∷ []) = λ u. tt
@@ -205,7 +224,9 @@ content_is after_u (a ∷ b ∷ c ∷ d ∷ xs) = λ u.
     and_then_is (IsUnit a b c d) IsUtf8 _ (code_unit a b c d) (unit_is a b c d) (λ unit is.
     let rest = past_ascii d xs is.2.1 (past_ascii c (d ∷ xs) is.2.0 (past_ascii b (c ∷ d ∷ xs) is.1.1 (past_ascii a (b ∷ c ∷ d ∷ xs) is.1.0 u))) in
     both IsUtf8 (is_high_surrogate unit) (content (after_high unit) xs) _ (λ h. content_is (after_high unit) xs h rest)
-    (λ h. both IsUtf8 (is_low_surrogate unit) None _ (λ l. tt) (λ l. ahead (encode_utf8 unit) (content plain xs) (IsUtf8-encode unit (unit_scalar unit is.0 h l)) (content_is plain xs [] rest))))
+    (λ h. both IsUtf8 (is_low_surrogate unit) None _ (λ l. tt)
+    (λ l. ahead (encode_utf8 unit) (content plain xs) (IsUtf8-encode unit (unit_scalar unit is.0 h l))
+    (content_is plain xs [] rest))))
 content_is (after_high h) [] = λ high u. tt
 content_is (after_high h) (s ∷ []) = λ high u. tt
 content_is (after_high h) (s ∷ t ∷ []) = λ high u. tt
@@ -215,10 +236,12 @@ content_is (after_high h) (s ∷ t ∷ a ∷ b ∷ c ∷ []) = λ high u. tt
 content_is (after_high h) (s ∷ t ∷ a ∷ b ∷ c ∷ d ∷ xs) = λ high u.
     both IsUtf8 ((s == 92) && (t == 117)) _ None (λ e.
     let p = and_parts (s == 92) (t == 117) e in
-    let unit = past_ascii t (a ∷ b ∷ c ∷ d ∷ xs) (low_byte t 117 (omega arith) p.1) (past_ascii s (t ∷ a ∷ b ∷ c ∷ d ∷ xs) (low_byte s 92 (omega arith) p.0) u) in
+    let unit = past_ascii t (a ∷ b ∷ c ∷ d ∷ xs) (low_byte t 117 (omega arith) p.1)
+    (past_ascii s (t ∷ a ∷ b ∷ c ∷ d ∷ xs) (low_byte s 92 (omega arith) p.0) u) in
     and_then_is (IsUnit a b c d) IsUtf8 _ (code_unit a b c d) (unit_is a b c d) (λ l is.
     let rest = past_ascii d xs is.2.1 (past_ascii c (d ∷ xs) is.2.0 (past_ascii b (c ∷ d ∷ xs) is.1.1 (past_ascii a (b ∷ c ∷ d ∷ xs) is.1.0 unit))) in
-    both IsUtf8 (is_low_surrogate l) _ None (λ low. ahead (encode_utf8 (surrogate_pair h l)) (content plain xs) (IsUtf8-encode (surrogate_pair h l) (pair_scalar h l high low)) (content_is plain xs [] rest)) (λ low. tt)))
+    both IsUtf8 (is_low_surrogate l) _ None (λ low. ahead (encode_utf8 (surrogate_pair h l)) (content plain xs)
+    (IsUtf8-encode (surrogate_pair h l) (pair_scalar h l high low)) (content_is plain xs [] rest)) (λ low. tt)))
     (λ e. tt)
 
 -- ---- tokens
@@ -267,7 +290,8 @@ one_lexeme false l m p q = q
 
 operator_is : (x : ℕ) → LexemeIs (operator_lexeme x)
 operator_is x =
-    one_lexeme (x == 123) (token Token.begin_object) _ tt (one_lexeme (x == 125) (token Token.end_object) _ tt (one_lexeme (x == 91) (token Token.begin_array) _ tt
+    one_lexeme (x == 123) (token Token.begin_object) _ tt
+    (one_lexeme (x == 125) (token Token.end_object) _ tt (one_lexeme (x == 91) (token Token.begin_array) _ tt
     (one_lexeme (x == 93) (token Token.end_array) _ tt (one_lexeme (x == 44) comma colon tt tt))))
 
 abbrev IfQuote : Class → Type 0 → Type 0
@@ -284,7 +308,8 @@ class_is Q false false true s h = tt
 class_is Q false false false true h = tt
 class_is Q false false false false h = tt
 
-byte_is : (m : Mode) (c : Class) (x : ℕ) (xs : List ℕ) (k : Mode → List Lexeme) → IfQuote c (IfSome (content plain xs) IsUtf8) → ((next : Mode) → AllByRecursion LexemeIs (k next))
+byte_is : (m : Mode) (c : Class) (x : ℕ) (xs : List ℕ) (k : Mode → List Lexeme)
+    → IfQuote c (IfSome (content plain xs) IsUtf8) → ((next : Mode) → AllByRecursion LexemeIs (k next))
     → AllByRecursion LexemeIs (lex_byte m c x xs k)
 byte_is between quote x xs k text rest = (text_token (content plain xs) text, rest in_string)
 byte_is between backslash x xs k text rest = (tt, rest in_word)
@@ -315,7 +340,8 @@ allowed_is : (b : Bool) (t : Token) (k : Place → List Token) (next : Place) �
 allowed_is true t k next is rest = (is, rest next)
 allowed_is false t k next is rest = (tt, tt)
 
-place_is : (p : Place) (t : Token) (before_colon : Bool) (k : Place → List Token) → TokenIs t → ((q : Place) → TokensAre (k q)) → TokensAre (place_token p t before_colon k)
+place_is : (p : Place) (t : Token) (before_colon : Bool) (k : Place → List Token) → TokenIs t
+    → ((q : Place) → TokensAre (k q)) → TokensAre (place_token p t before_colon k)
 place_is p Token.begin_object b k is rest = allowed_is (may_begin p) Token.begin_object k fresh tt rest
 place_is p Token.end_object b k is rest = allowed_is (may_close p) Token.end_object k after_value tt rest
 place_is p Token.begin_array b k is rest = allowed_is (may_begin p) Token.begin_array k fresh tt rest
@@ -373,7 +399,8 @@ Parsed P p = P p.0 × TokensAre p.1
 abbrev Parses : {A : Type 0} → (A → Type 0) → Parse A → Type 0
 Parses P parse = (ts : List Token) → TokensAre ts → IfSome (parse ts) (Parsed P)
 
-parsed_map : {A B : Type 0} (P : A → Type 0) (Q : B → Type 0) (f : A → B) (r : Option (A × List Token)) → IfSome r (Parsed P) → ((a : A) → P a → Q (f a)) → IfSome (parse_map f r) (Parsed Q)
+parsed_map : {A B : Type 0} (P : A → Type 0) (Q : B → Type 0) (f : A → B) (r : Option (A × List Token))
+    → IfSome r (Parsed P) → ((a : A) → P a → Q (f a)) → IfSome (parse_map f r) (Parsed Q)
 parsed_map P Q f None is h = tt
 parsed_map P Q f (Some p) is h = (h p.0 is.0, is.1)
 
@@ -403,28 +430,33 @@ key_is (Token.boolean b ∷ ts) is = tt
 key_is (Token.null ∷ ts) is = tt
 key_is (Token.bad ∷ ts) is = tt
 
-items_step_is : (v : Parse json.Json) (more : Parse json.Items) → Parses JsonIs v → Parses JsonItemsAre more → (ts : List Token) → TokensAre ts → (o : Option (List Token)) → IfSome o TokensAre
+items_step_is : (v : Parse json.Json) (more : Parse json.Items) → Parses JsonIs v → Parses JsonItemsAre more
+    → (ts : List Token) → TokensAre ts → (o : Option (List Token)) → IfSome o TokensAre
     → IfSome (items_step v more ts o) (Parsed JsonItemsAre)
 items_step_is v more h k ts is (Some rest) after = (tt, after)
 items_step_is v more h k ts is None after =
-    and_then_is (Parsed JsonIs) (Parsed JsonItemsAre) _ (v ts) (h ts is) (λ p q. parsed_map JsonItemsAre JsonItemsAre (json.item p.0) (more p.1) (k p.1 q.1) (λ a b. (q.0, b)))
+    and_then_is (Parsed JsonIs) (Parsed JsonItemsAre) _ (v ts) (h ts is)
+    (λ p q. parsed_map JsonItemsAre JsonItemsAre (json.item p.0) (more p.1) (k p.1 q.1) (λ a b. (q.0, b)))
 
 items_are : (v : Parse json.Json) → Parses JsonIs v → (n : ℕ) → Parses JsonItemsAre (items v n)
 unfolding items
 items_are v h zero = λ ts is. tt
 items_are v h (suc n) = λ ts is. items_step_is v (items v n) h (items_are v h n) ts is (after_end_array ts) (end_is ts is)
 
-members_step_is : (v : Parse json.Json) (more : Parse json.Members) → Parses JsonIs v → Parses JsonMembersAre more → (k : Option (List ℕ)) (ts : List Token) → TokensAre ts
+members_step_is : (v : Parse json.Json) (more : Parse json.Members) → Parses JsonIs v → Parses JsonMembersAre more
+    → (k : Option (List ℕ)) (ts : List Token) → TokensAre ts
     → IfSome (members_step v more k ts) (Parsed JsonMembersAre)
 members_step_is v more h r None ts is = (tt, is)
 members_step_is v more h r (Some k) ts is =
-    and_then_is (Parsed JsonIs) (Parsed JsonMembersAre) _ (v ts) (h ts is) (λ p q. parsed_map JsonMembersAre JsonMembersAre (json.member k p.0) (more p.1) (r p.1 q.1) (λ a b. (q.0, b)))
+    and_then_is (Parsed JsonIs) (Parsed JsonMembersAre) _ (v ts) (h ts is)
+    (λ p q. parsed_map JsonMembersAre JsonMembersAre (json.member k p.0) (more p.1) (r p.1 q.1) (λ a b. (q.0, b)))
 
 members_are : (v : Parse json.Json) → Parses JsonIs v → (n : ℕ) → Parses JsonMembersAre (members v n)
 unfolding members
 members_are v h zero = λ ts is. tt
 members_are v h (suc n) = λ ts is.
-    and_then_is (λ p. TokensAre p.1) (Parsed JsonMembersAre) _ (read_key ts) (key_is ts is) (λ p q. members_step_is v (members v n) h (members_are v h n) p.0 p.1 q)
+    and_then_is (λ p. TokensAre p.1) (Parsed JsonMembersAre) _ (read_key ts) (key_is ts is)
+    (λ p q. members_step_is v (members v n) h (members_are v h n) p.0 p.1 q)
 
 value_with_is : (a : Parse json.Items) (o : Parse json.Members) → Parses JsonItemsAre a → Parses JsonMembersAre o → Parses JsonIs (value_with a o)
 value_with_is a o h k [] is = tt
@@ -443,7 +475,8 @@ value_is : (depth : ℕ) → Parses JsonIs (value depth)
 unfolding value
 value_is zero = value_with_is (λ ts. None) (λ ts. None) (λ ts is. tt) (λ ts is. tt)
 value_is (suc depth) =
-    value_with_is (λ ts. items (value depth) (length ts) ts) (λ ts. members (value depth) (length ts) ts) (λ ts is. items_are (value depth) (value_is depth) (length ts) ts is)
+    value_with_is (λ ts. items (value depth) (length ts) ts) (λ ts. members (value depth) (length ts) ts)
+    (λ ts is. items_are (value depth) (value_is depth) (length ts) ts is)
     (λ ts is. members_are (value depth) (value_is depth) (length ts) ts is)
 
 -- ---- trees
@@ -470,7 +503,9 @@ mutual
   json_items : (js : json.Items) → JsonItemsAre js → IfSome (of_items js) ItemTextsAreUtf8
   json_items json.no_items is = tt
   json_items (json.item j js) is =
-      and_then_is TextsAreUtf8 ItemTextsAreUtf8 _ (of_json j) (json_is j is.0) (λ d u. mapped ItemTextsAreUtf8 ItemTextsAreUtf8 (item d) (of_items js) (json_items js is.1) (λ ds all. (u, all)))
+      and_then_is TextsAreUtf8 ItemTextsAreUtf8 _ (of_json j) (json_is j is.0)
+      (λ d u. mapped ItemTextsAreUtf8 ItemTextsAreUtf8 (item d) (of_items js) (json_items js is.1)
+      (λ ds all. (u, all)))
 
   json_members : (ms : json.Members) (found : Members) → JsonMembersAre ms → MemberTextsAreUtf8 found → IfSome (of_members ms found) MemberTextsAreUtf8
   json_members json.no_members found is so_far = so_far
@@ -484,7 +519,9 @@ last_is j (t ∷ ts) is = tt
 read_is : (text : List ℕ) → IsUtf8 text → IfSome (read text) TextsAreUtf8
 read_is text u =
     and_then_is JsonIs TextsAreUtf8 of_json _
-    (and_then_is (Parsed JsonIs) JsonIs (λ p. json.if_last p.0 p.1) (value max_depth (tokens text)) (value_is max_depth (tokens text) (punctuated fresh (lex between text) (lex_is between [] text u))) (λ p q. last_is p.0 p.1 q.0))
+    (and_then_is (Parsed JsonIs) JsonIs (λ p. json.if_last p.0 p.1) (value max_depth (tokens text))
+    (value_is max_depth (tokens text) (punctuated fresh (lex between text) (lex_is between [] text u)))
+    (λ p q. last_is p.0 p.1 q.0))
     json_is
 
 json_by : (text : List ℕ) (b : Bool) → is_utf8 text ≡ b → IfSome (cond b (read text) None) TextsAreUtf8

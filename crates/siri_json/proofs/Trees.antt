@@ -1,5 +1,6 @@
 -- The values of tokens that match stand for the same data.
-use Rattle.std.proofs.Common.{◌≡◌, ℕ, zero, suc, ◌<◌, ◌≤◌, List, [], ◌∷◌, length, Option, Some, None, option_map, option_and_then, inl, inr, ◌⊎◌, refl, sym, ap, ap₂, ◌∙◌, subst, arith}
+use Rattle.std.proofs.Common.{◌≡◌, ℕ, zero, suc, ◌<◌, ◌≤◌, List, [], ◌∷◌, length, Option, Some, None, option_map, option_and_then, inl, inr}
+use Rattle.std.proofs.Common.{◌⊎◌, refl, sym, ap, ap₂, ◌∙◌, subst, arith}
 use Rattle.std.specs.Prelude.{⊤}
 use Rattle.json.specs.Token.{Token, begin_object, end_object, begin_array, end_array, key, string, number, boolean, null, bad}
 use Rattle.json.specs.Json as json
@@ -35,7 +36,8 @@ mapped_stops : {A B : Type 0} (f : A → B) (o : Option (A × List Token)) → S
 mapped_stops f None h = tt
 mapped_stops f (Some a) h = h
 
-mapped : {A B : Type 0} (R : A → A → Type 0) (S : B → B → Type 0) (f g : A → B) → ((a b : A) → R a b → S (f a) (g b)) → (o p : Option (A × List Token)) → Rel R o p → Rel S (parse_map f o) (parse_map g p)
+mapped : {A B : Type 0} (R : A → A → Type 0) (S : B → B → Type 0) (f g : A → B) → ((a b : A) → R a b → S (f a) (g b))
+    → (o p : Option (A × List Token)) → Rel R o p → Rel S (parse_map f o) (parse_map g p)
 mapped R S f g k o p (inl h) = inl (mapped_stops f o h.0, mapped_stops g p h.1)
 mapped R S f g k None p (inr h) = absurd h
 mapped R S f g k (Some a) None (inr h) = absurd h
@@ -48,18 +50,22 @@ Refuses p = (ts : List Token) → Fails ts → p ts ≡ None
 none_stops : {A : Type 0} (o : Option (A × List Token)) → o ≡ None → StopsO o
 none_stops o e = subst StopsO (sym e) tt
 
-then_stops : {B : Type 0} (f : Json → B → B) (more : Parse B) → Refuses more → (o : Option (Json × List Token)) → StopsO o → StopsO (option_and_then (λ q. parse_map (f q.0) (more q.1)) o)
+then_stops : {B : Type 0} (f : Json → B → B) (more : Parse B) → Refuses more → (o : Option (Json × List Token))
+    → StopsO o → StopsO (option_and_then (λ q. parse_map (f q.0) (more q.1)) o)
 then_stops f more never None h = tt
 then_stops f more never (Some q) h = none_stops _ (ap (parse_map (f q.0)) (never q.1 h))
 
 -- the parts that come after a value, where both have one
-then_rel : {B : Type 0} (S : B → B → Type 0) (f g : Json → B → B) → ((j k : Json) (a b : B) → RJ j k → S a b → S (f j a) (g k b)) → (more again : Parse B) → Refuses more → Refuses again
+then_rel : {B : Type 0} (S : B → B → Type 0) (f g : Json → B → B)
+    → ((j k : Json) (a b : B) → RJ j k → S a b → S (f j a) (g k b)) → (more again : Parse B) → Refuses more
+    → Refuses again
     → (o p : Option (Json × List Token)) → ((q r : Json × List Token) → o ≡ Some q → p ≡ Some r → Matches q.1 r.1 → Rel S (more q.1) (again r.1)) → Rel RJ o p
     → Rel S (option_and_then (λ q. parse_map (f q.0) (more q.1)) o) (option_and_then (λ q. parse_map (g q.0) (again q.1)) p)
 then_rel S f g k more again x y o p later (inl h) = inl (then_stops f more x o h.0, then_stops g again y p h.1)
 then_rel S f g k more again x y None p later (inr h) = absurd h
 then_rel S f g k more again x y (Some q) None later (inr h) = absurd h
-then_rel S f g k more again x y (Some q) (Some r) later (inr h) = mapped S S (f q.0) (g r.0) (λ a b s. k q.0 r.0 a b h.0 s) (more q.1) (again r.1) (later q r refl refl h.1)
+then_rel S f g k more again x y (Some q) (Some r) later (inr h) =
+    mapped S S (f q.0) (g r.0) (λ a b s. k q.0 r.0 a b h.0 s) (more q.1) (again r.1) (later q r refl refl h.1)
 
 -- ---- one step of each part
 
@@ -163,10 +169,13 @@ ends : (ts us : List Token) → Matches ts us → Ends (after_end_array ts) (aft
 ends [] [] h = tt
 ends [] (u ∷ us) h = absurd h
 ends (t ∷ ts) [] h = absurd h
-ends (t ∷ ts) (u ∷ us) (inl h) = subst (λ (o : Option (List Token)). Ends o (after_end_array (u ∷ us))) (sym (halted_end (t ∷ ts) h.0)) (subst (λ (o : Option (List Token)). Ends None o) (sym (halted_end (u ∷ us) h.1)) tt)
+ends (t ∷ ts) (u ∷ us) (inl h) = subst (λ (o : Option (List Token)). Ends o (after_end_array (u ∷ us)))
+    (sym (halted_end (t ∷ ts) h.0)) (subst (λ (o : Option (List Token)). Ends None o)
+    (sym (halted_end (u ∷ us) h.1)) tt)
 ends (t ∷ ts) (u ∷ us) (inr (inl e, h)) = subst (λ (x : Token). Ends (after_end_array (t ∷ ts)) (after_end_array (x ∷ us))) e (end_one t ts us h)
 ends (t ∷ ts) (u ∷ us) (inr (inr r, h)) =
-    subst (λ (x : Token). Ends (after_end_array (x ∷ ts)) (after_end_array (u ∷ us))) (sym r.1) (subst (λ (x : Token). Ends None (after_end_array (x ∷ us))) (sym r.2) tt)
+    subst (λ (x : Token). Ends (after_end_array (x ∷ ts)) (after_end_array (u ∷ us))) (sym r.1)
+    (subst (λ (x : Token). Ends None (after_end_array (x ∷ us))) (sym r.2) tt)
 
 abbrev Keys : Option (Option (List ℕ) × List Token) → Option (Option (List ℕ) × List Token) → Type 0
 Keys None None = ⊤
@@ -191,9 +200,11 @@ keys [] [] h = tt
 keys [] (u ∷ us) h = absurd h
 keys (t ∷ ts) [] h = absurd h
 keys (t ∷ ts) (u ∷ us) (inl h) =
-    subst (λ (o : Option (Option (List ℕ) × List Token)). Keys o (read_key (u ∷ us))) (sym (halted_key (t ∷ ts) h.0)) (subst (λ (o : Option (Option (List ℕ) × List Token)). Keys None o) (sym (halted_key (u ∷ us) h.1)) tt)
+    subst (λ (o : Option (Option (List ℕ) × List Token)). Keys o (read_key (u ∷ us))) (sym (halted_key (t ∷ ts) h.0))
+    (subst (λ (o : Option (Option (List ℕ) × List Token)). Keys None o) (sym (halted_key (u ∷ us) h.1)) tt)
 keys (t ∷ ts) (u ∷ us) (inr (inl e, h)) = subst (λ (x : Token). Keys (read_key (t ∷ ts)) (read_key (x ∷ us))) e (key_one t ts us h)
-keys (t ∷ ts) (u ∷ us) (inr (inr r, h)) = subst (λ (x : Token). Keys (read_key (x ∷ ts)) (read_key (u ∷ us))) (sym r.1) (subst (λ (x : Token). Keys None (read_key (x ∷ us))) (sym r.2) tt)
+keys (t ∷ ts) (u ∷ us) (inr (inr r, h)) = subst (λ (x : Token). Keys (read_key (x ∷ ts)) (read_key (u ∷ us))) (sym r.1)
+    (subst (λ (x : Token). Keys None (read_key (x ∷ us))) (sym r.2) tt)
 
 -- ---- lists and objects
 
@@ -215,7 +226,8 @@ module _ (p : Parse Json) (never : Refuses p) (shorter : Shorter p) (rel : (ts u
   refuses_members zero ts h = refl
   refuses_members (suc n) ts h = ap (option_and_then (λ (q : Option (List ℕ) × List Token). members_step p (members p n) q.0 q.1)) (no_key ts h)
 
-  item_turn : (more again : Parse Items) → Refuses more → Refuses again → (ts us : List Token) → ((q r : Json × List Token) → p ts ≡ Some q → p us ≡ Some r → Matches q.1 r.1 → Rel RI (more q.1) (again r.1))
+  item_turn : (more again : Parse Items) → Refuses more → Refuses again → (ts us : List Token)
+      → ((q r : Json × List Token) → p ts ≡ Some q → p us ≡ Some r → Matches q.1 r.1 → Rel RI (more q.1) (again r.1))
       → Rel RJ (p ts) (p us) → (o e : Option (List Token)) → Ends o e → Rel RI (items_step p more ts o) (items_step p again us e)
   item_turn more again x y ts us later h None None m = then_rel RI json.item json.item (λ j k a b r s. ap₂ data_item r s) more again x y (p ts) (p us) later h
   item_turn more again x y ts us later h None (Some s) m = absurd m
@@ -224,7 +236,8 @@ module _ (p : Parse Json) (never : Refuses p) (shorter : Shorter p) (rel : (ts u
 
   member_turn : (more again : Parse Members) → Refuses more → Refuses again
       → (o e : Option (Option (List ℕ) × List Token)) → Keys o e
-      → ((k : Option (List ℕ)) (ts us : List Token) → o ≡ named k ts → e ≡ named k us → (q r : Json × List Token) → p ts ≡ Some q → p us ≡ Some r → Matches q.1 r.1 → Rel RM (more q.1) (again r.1))
+      → ((k : Option (List ℕ)) (ts us : List Token) → o ≡ named k ts → e ≡ named k us → (q r : Json × List Token)
+      → p ts ≡ Some q → p us ≡ Some r → Matches q.1 r.1 → Rel RM (more q.1) (again r.1))
       → Rel RM (option_and_then (λ q. members_step p more q.0 q.1) o) (option_and_then (λ q. members_step p again q.0 q.1) e)
   member_turn more again x y None None m later = inl (tt, tt)
   member_turn more again x y None (Some r) m later = absurd m
@@ -232,7 +245,9 @@ module _ (p : Parse Json) (never : Refuses p) (shorter : Shorter p) (rel : (ts u
   member_turn more again x y (Some (k, ts)) (Some (l, us)) m later = go k l m.0 later
     where
       go : (k l : Option (List ℕ)) → k ≡ l
-          → ((i : Option (List ℕ)) (vs ws : List Token) → named k ts ≡ named i vs → named l us ≡ named i ws → (q r : Json × List Token) → p vs ≡ Some q → p ws ≡ Some r → Matches q.1 r.1 → Rel RM (more q.1) (again r.1))
+          → ((i : Option (List ℕ)) (vs ws : List Token) → named k ts ≡ named i vs → named l us ≡ named i ws
+          → (q r : Json × List Token) → p vs ≡ Some q → p ws ≡ Some r → Matches q.1 r.1
+          → Rel RM (more q.1) (again r.1))
           → Rel RM (members_step p more k ts) (members_step p again l us)
       go None None e next = inr (λ found. refl, m.1)
       go None (Some b) e next = absurd (cc)
@@ -240,7 +255,8 @@ module _ (p : Parse Json) (never : Refuses p) (shorter : Shorter p) (rel : (ts u
       go (Some a) (Some b) e next =
           let same : a ≡ b = cc in
           then_rel RM (json.member a) (json.member b)
-          (λ j i c d r s found. s (put a (data_of j) found) ∙ ap₂ (λ (k : List ℕ) (v : Data). members_data d (put k v found)) same r) more again x y (p ts) (p us)
+          (λ j i c d r s found. s (put a (data_of j) found)
+          ∙ ap₂ (λ (k : List ℕ) (v : Data). members_data d (put k v found)) same r) more again x y (p ts) (p us)
           (next (Some a) ts us refl (ap (λ (k : List ℕ). named (Some k) us) (sym same))) (rel ts us m.1)
 
   empty_items : (n : ℕ) → p [] ≡ None → items p n [] ≡ None
@@ -262,7 +278,8 @@ module _ (p : Parse Json) (never : Refuses p) (shorter : Shorter p) (rel : (ts u
   items_rel (suc n) zero (t ∷ ts) (u ∷ us) e x y h = absurd (omega arith)
   items_rel (suc n) (suc m) (t ∷ ts) (u ∷ us) e x y h =
       item_turn (items p n) (items p m) (refuses_items n) (refuses_items m) (t ∷ ts) (u ∷ us)
-      (λ q r is it k. let less = shorter (t ∷ ts) q is in let fewer = shorter (u ∷ us) r it in items_rel n m q.1 r.1 e (omega (arith, less)) (omega (arith, fewer)) k)
+      (λ q r is it k. let less = shorter (t ∷ ts) q is in let fewer = shorter (u ∷ us) r it in
+      items_rel n m q.1 r.1 e (omega (arith, less)) (omega (arith, fewer)) k)
       (rel (t ∷ ts) (u ∷ us) h) (after_end_array (t ∷ ts)) (after_end_array (u ∷ us)) (ends (t ∷ ts) (u ∷ us) h)
 
   members_rel : (n m : ℕ) (ts us : List Token) → length ts ≤ n → length us ≤ m → Matches ts us → Rel RM (members p n ts) (members p m us)
@@ -275,12 +292,14 @@ module _ (p : Parse Json) (never : Refuses p) (shorter : Shorter p) (rel : (ts u
   members_rel (suc n) (suc m) (t ∷ ts) (u ∷ us) x y h =
       member_turn (members p n) (members p m) (refuses_members n) (refuses_members m) (read_key (t ∷ ts)) (read_key (u ∷ us)) (keys (t ∷ ts) (u ∷ us) h)
       (λ k vs ws a b q r is it j.
-      let less = shorter vs q is in let fewer = shorter ws r it in let once = read_key-shorter (t ∷ ts) k vs a in let again = read_key-shorter (u ∷ us) k ws b in
+      let less = shorter vs q is in let fewer = shorter ws r it in let once = read_key-shorter (t ∷ ts) k vs a in
+      let again = read_key-shorter (u ∷ us) k ws b in
       members_rel n m q.1 r.1 (omega (arith, less, once)) (omega (arith, fewer, again)) j)
 
 -- ---- values
 
-module _ (a b : Parse Items) (o e : Parse Members) (lists : (ts us : List Token) → Matches ts us → Rel RI (a ts) (b us)) (objects : (ts us : List Token) → Matches ts us → Rel RM (o ts) (e us)) where
+module _ (a b : Parse Items) (o e : Parse Members) (lists : (ts us : List Token) → Matches ts us → Rel RI (a ts) (b us))
+    (objects : (ts us : List Token) → Matches ts us → Rel RM (o ts) (e us)) where
   value_one : (t : Token) (ts us : List Token) → Matches ts us → Rel RJ (value_with a o (t ∷ ts)) (value_with b e (t ∷ us))
   value_one begin_object ts us h = mapped RM RJ json.object json.object (λ j k r. ap data_object (r no_members)) (o ts) (e us) (objects ts us h)
   value_one end_object ts us h = inl (tt, tt)
@@ -321,7 +340,8 @@ values : (d : ℕ) (ts us : List Token) → Matches ts us → Rel RJ (value d ts
 unfolding value
 values zero = value_rel (λ ts. None) (λ ts. None) (λ ts. None) (λ ts. None) (λ ts us h. inl (tt, tt)) (λ ts us h. inl (tt, tt))
 values (suc d) =
-    value_rel (λ ts. items (value d) (length ts) ts) (λ ts. items (value d) (length ts) ts) (λ ts. members (value d) (length ts) ts) (λ ts. members (value d) (length ts) ts)
+    value_rel (λ ts. items (value d) (length ts) ts) (λ ts. items (value d) (length ts) ts)
+    (λ ts. members (value d) (length ts) ts) (λ ts. members (value d) (length ts) ts)
     (λ ts us h. items_rel (value d) (value_refuses d) (value_shorter d) (values d) (length ts) (length us) ts us (value_empty d) (omega arith) (omega arith) h)
     (λ ts us h. members_rel (value d) (value_refuses d) (value_shorter d) (values d) (length ts) (length us) ts us (omega arith) (omega arith) h)
 

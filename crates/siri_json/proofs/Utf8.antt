@@ -1,8 +1,10 @@
 -- A text is UTF-8 exactly where its quoted text is.
-use Rattle.std.proofs.Common.{◌≡◌, ℕ, ◌<◌, Bool, true, false, cond, not, ◌&&◌, ◌==◌, List, [], ◌∷◌, ◌++◌, length, take, drop, get_or, refl, sym, ap, subst, arith, append_assoc}
+use Rattle.std.proofs.Common.{◌≡◌, ℕ, ◌<◌, Bool, true, false, cond, not, ◌&&◌, ◌==◌, List, [], ◌∷◌, ◌++◌, length, take, drop, get_or, refl}
+use Rattle.std.proofs.Common.{sym, ap, subst, arith, append_assoc}
 use Rattle.std.specs.Prelude.{⊤, IsUtf8}
 use Rattle.std.specs.Str.{is_utf8}
-use Rattle.std.proofs.lemmas.Str.{IsUtf8-append, IsUtf8-past_char, IsUtf8-take, IsUtf8-drop, IsUtf8-from_ascii, IsCharBoundary-before_ascii, encode_ascii, is_utf8-from_IsUtf8, IsUtf8-from_is_utf8}
+use Rattle.std.proofs.lemmas.Str.{IsUtf8-append, IsUtf8-past_char, IsUtf8-take, IsUtf8-drop, IsUtf8-from_ascii, IsCharBoundary-before_ascii}
+use Rattle.std.proofs.lemmas.Str.{encode_ascii, is_utf8-from_IsUtf8, IsUtf8-from_is_utf8}
 use Rattle.std.proofs.lemmas.Str.Ascii.{IsAscii-cons, IsAscii-nil}
 use Rattle.json.specs.Word.{after_number}
 use Rattle.siri_json.specs.Quoted.{is_run_byte, is_number, is_before_colon, run_text, outside, inside, after_inside, after_outside, quoted_from, quoted}
@@ -33,8 +35,10 @@ longer (y ∷ a) r x = let more = longer a r x in omega arith
 cut : (a r : List ℕ) (x : ℕ) → x < 128 → IsUtf8 (a ++ x ∷ r) → IsUtf8 a × IsUtf8 (x ∷ r)
 cut a r x small u =
     let low : get_or (a ++ x ∷ r) (length a) 0 < 128 = rw (byte_is a r x) small in
-    let boundary = IsCharBoundary-before_ascii (a ++ x ∷ r) (length a) (longer a r x) low in
-    (subst IsUtf8 (front_is a (x ∷ r)) (IsUtf8-take (a ++ x ∷ r) (length a) u boundary), subst IsUtf8 (back_is a (x ∷ r)) (IsUtf8-drop (a ++ x ∷ r) (length a) u boundary))
+    let boundary = IsCharBoundary-before_ascii (a ++ x ∷ r) (length a) (longer a r x) low in (
+      subst IsUtf8 (front_is a (x ∷ r)) (IsUtf8-take (a ++ x ∷ r) (length a) u boundary),
+      subst IsUtf8 (back_is a (x ∷ r)) (IsUtf8-drop (a ++ x ∷ r) (length a) u boundary),
+    )
 
 past : (x : ℕ) (r : List ℕ) → x < 128 → IsUtf8 (x ∷ r) → IsUtf8 r
 past x r small u = IsUtf8-past_char (x ∷ r) r x u (ap (λ (t : List ℕ). t ++ r) (sym (encode_ascii x small)))
@@ -83,7 +87,8 @@ small_cons x s e h = (e, h)
 
 -- ---- runs
 
-in_quotes : (a run r t : List ℕ) (x : ℕ) → AllRun (x ∷ run) → Iff (IsUtf8 r) (IsUtf8 t) → Iff (IsUtf8 (a ++ ((x ∷ run) ++ r))) (IsUtf8 (a ++ ((34 ∷ ((x ∷ run) ++ 34 ∷ [])) ++ t)))
+in_quotes : (a run r t : List ℕ) (x : ℕ) → AllRun (x ∷ run) → Iff (IsUtf8 r) (IsUtf8 t)
+    → Iff (IsUtf8 (a ++ ((x ∷ run) ++ r))) (IsUtf8 (a ++ ((34 ∷ ((x ∷ run) ++ 34 ∷ [])) ++ t)))
 in_quotes a run r t x h k =
     let small = all_small (x ∷ run) h in
     let one = strip a run r x small in
@@ -99,7 +104,8 @@ run_at false a run r t x h k =
     let both = k (a ++ x ∷ run) in
     (λ u. subst IsUtf8 right (both.0 (subst IsUtf8 (sym left) u)), λ u. subst IsUtf8 left (both.1 (subst IsUtf8 (sym right) u)))
 
-run_iff : (a run r t : List ℕ) → AllRun run → ((h : List ℕ) → Iff (IsUtf8 (h ++ r)) (IsUtf8 (h ++ t))) → Iff (IsUtf8 (a ++ (run ++ r))) (IsUtf8 (a ++ (run_text run r ++ t)))
+run_iff : (a run r t : List ℕ) → AllRun run → ((h : List ℕ) → Iff (IsUtf8 (h ++ r)) (IsUtf8 (h ++ t)))
+    → Iff (IsUtf8 (a ++ (run ++ r))) (IsUtf8 (a ++ (run_text run r ++ t)))
 unfolding after_number
 run_iff a [] r t h k = k a
 run_iff a (x ∷ run) r t h k = run_at (is_number (x ∷ run) && not (is_before_colon r)) a run r t x h k
@@ -134,10 +140,14 @@ begin_at xs true s b = s.within b false
 begin_at xs false s b = s.out b [] AllRun-nil
 
 out_at : (a run xs : List ℕ) (x : ℕ) (r : Bool) → is_run_byte x ≡ r → Same xs → AllRun run
-    → Iff (IsUtf8 (a ++ (run ++ x ∷ xs))) (IsUtf8 (a ++ cond r (quoted_from (outside (run ++ x ∷ [])) xs) (run_text run (x ∷ xs) ++ x ∷ quoted_from (after_outside x) xs)))
+    → Iff (IsUtf8 (a ++ (run ++ x ∷ xs))) (IsUtf8
+    (a ++ cond r (quoted_from (outside (run ++ x ∷ [])) xs)
+    (run_text run (x ∷ xs) ++ x ∷ quoted_from (after_outside x) xs)))
 out_at a run xs x true e s h =
-    subst (λ (t : List ℕ). Iff (IsUtf8 (a ++ t)) (IsUtf8 (a ++ quoted_from (outside (run ++ x ∷ [])) xs))) (append_assoc run (x ∷ []) xs) (s.out a (run ++ x ∷ []) (AllRun-push run x h e))
-out_at a run xs x false e s h = run_iff a run (x ∷ xs) (x ∷ quoted_from (after_outside x) xs) h (λ b. stays b xs (quoted_from (after_outside x) xs) x (begin_at xs (x == 34) s))
+    subst (λ (t : List ℕ). Iff (IsUtf8 (a ++ t)) (IsUtf8 (a ++ quoted_from (outside (run ++ x ∷ [])) xs)))
+    (append_assoc run (x ∷ []) xs) (s.out a (run ++ x ∷ []) (AllRun-push run x h e))
+out_at a run xs x false e s h = run_iff a run (x ∷ xs) (x ∷ quoted_from (after_outside x) xs) h
+    (λ b. stays b xs (quoted_from (after_outside x) xs) x (begin_at xs (x == 34) s))
 
 same_cons : (x : ℕ) (xs : List ℕ) → Same xs → Same (x ∷ xs)
 unfolding quoted_from
@@ -159,4 +169,5 @@ pub is_utf8-quoted : (text : List ℕ) → is_utf8 text ≡ is_utf8 (quoted text
 is_utf8-quoted text =
     let both = (same text).out [] [] AllRun-nil in
     bool_same (is_utf8 text) (is_utf8 (quoted text))
-    (λ e. is_utf8-from_IsUtf8 (quoted text) (both.0 (IsUtf8-from_is_utf8 text e))) (λ e. is_utf8-from_IsUtf8 text (both.1 (IsUtf8-from_is_utf8 (quoted text) e)))
+    (λ e. is_utf8-from_IsUtf8 (quoted text) (both.0 (IsUtf8-from_is_utf8 text e)))
+    (λ e. is_utf8-from_IsUtf8 text (both.1 (IsUtf8-from_is_utf8 (quoted text) e)))

@@ -9,8 +9,9 @@ use siri_base::OutOfMemory;
 use std::alloc::Global;
 use std::marker::Model;
 
-/// A text of JSON that is written token by token, compact: it puts the commas, the colons and the escapes itself. Contracts see it as
-/// the list of the tokens that were written. What nests is its caller's. After want of memory it is of no more use.
+/// A text of JSON that is written token by token, compact: it puts the commas, the colons and the escapes itself.
+/// Contracts see it as the list of the tokens that were written. What nests is its caller's. After want of memory it is
+/// of no more use.
 pub struct Output {
     alloc: Global,
     writer: Writer,

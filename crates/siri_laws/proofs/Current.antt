@@ -17,7 +17,8 @@ use Rattle.siri_messages.specs.declared.deliveries.ServiceDelivery.{ServiceDeliv
 use Rattle.siri_messages.specs.declared.message.Message.{Message}
 use Rattle.siri_messages.specs.declared.message.Message.TheVariants as message
 use Rattle.siri_messages.specs.Rounds.{has_round}
-use Rattle.siri_model.specs.History.{Entry, Observed, Withdrawn, Step, Start, Clock, Feed, Take, Settle, History, State, nothing, is_refused, after_entry, after_step, entries_in, entries_of, entries_fed, now_of, current}
+use Rattle.siri_model.specs.History.{Entry, Observed, Withdrawn, Step, Start, Clock, Feed, Take, Settle, History, State, nothing}
+use Rattle.siri_model.specs.History.{is_refused, after_entry, after_step, entries_in, entries_of, entries_fed, now_of, current}
 use Rattle.siri_tables.specs.Proper.{IsMoment}
 use Rattle.siri_items.specs.Proper.{IsProper as IsProperItem}
 use Rattle.siri_wire_laws.specs.ProperDeliveries.{IsProperOf, IsProperDelivery, IsProperServiceDelivery}
@@ -30,7 +31,8 @@ AreProper items = AllByRecursion (λ e. IsProperItem e.1) items
 
 -- ---- an item goes in, a key goes out
 
-inserted_at : (o : Ordering) (k : Key) (i : Item) (e : Key × Item) (items others : List (Key × Item)) → IsProperItem i → IsProperItem e.1 → AreProper items → AreProper others
+inserted_at : (o : Ordering) (k : Key) (i : Item) (e : Key × Item) (items others : List (Key × Item)) → IsProperItem i
+    → IsProperItem e.1 → AreProper items → AreProper others
     → AreProper (match_ordering o ((k, i) ∷ e ∷ items) ((e.0, i) ∷ items) (e ∷ others))
 inserted_at Less k i e items others p q all rest = (p, (q, all))
 inserted_at Equal k i e items others p q all rest = (p, all)
@@ -40,7 +42,8 @@ inserted : (k : Key) (i : Item) (items : List (Key × Item)) → IsProperItem i 
 inserted k i [] p all = (p, tt)
 inserted k i (e ∷ items) p all = inserted_at (key_cmp k e.0) k i e items (insert_entry key_cmp items k i) p all.0 all.1 (inserted k i items p all.1)
 
-removed_at : (b : Bool) (e : Key × Item) (items others : List (Key × Item)) → IsProperItem e.1 → AreProper items → AreProper others → AreProper (if b then items else e ∷ others)
+removed_at : (b : Bool) (e : Key × Item) (items others : List (Key × Item)) → IsProperItem e.1 → AreProper items
+    → AreProper others → AreProper (if b then items else e ∷ others)
 removed_at true e items others q all rest = all
 removed_at false e items others q all rest = (q, rest)
 
@@ -50,7 +53,8 @@ removed k (e ∷ items) all = removed_at (is_at (key_cmp k) e.0) e items (remove
 
 -- ---- entries and steps
 
-observed_at : (refused : Bool) (item : Item) (items : List (Key × Item)) → IsProperItem item → AreProper items → AreProper (if refused then items else insert_entry key_cmp items (key_of item) item)
+observed_at : (refused : Bool) (item : Item) (items : List (Key × Item)) → IsProperItem item → AreProper items
+    → AreProper (if refused then items else insert_entry key_cmp items (key_of item) item)
 observed_at true item items p all = all
 observed_at false item items p all = inserted (key_of item) item items p all
 
@@ -58,7 +62,8 @@ after : (now : ℕ) (items : List (Key × Item)) (e : Entry) → IsProperEntry e
 after now items (Observed item) p all = observed_at (is_refused now items item) item items p all
 after now items (Withdrawn key) p all = removed key items all
 
-after_all : (now : ℕ) (items : List (Key × Item)) (entries : List Entry) → AllByRecursion IsProperEntry entries → AreProper items → AreProper (fold (after_entry now) items entries)
+after_all : (now : ℕ) (items : List (Key × Item)) (entries : List Entry) → AllByRecursion IsProperEntry entries
+    → AreProper items → AreProper (fold (after_entry now) items entries)
 after_all now items [] p all = all
 after_all now items (e ∷ entries) p all = after_all now (after_entry now items e) entries p.1 (after now items e p.0 all)
 
@@ -80,7 +85,11 @@ Feeds d = AllByRecursion IsProperEntry (entries_in d)
 
 each_feeds : (s : Service) (ds : List FunctionalDelivery) → AllByRecursion (IsProperDelivery s) ds → AllByRecursion Feeds ds
 each_feeds s [] p = tt
-each_feeds s (d ∷ ds) p = (both (map Observed d.items) (map Withdrawn d.removals) (observed s d.items p.0.1.1.0.each) (withdrawn d.removals), each_feeds s ds p.1)
+each_feeds s (d ∷ ds) p = (
+  both (map Observed d.items) (map Withdrawn d.removals) (observed s d.items p.0.1.1.0.each)
+      (withdrawn d.removals),
+  each_feeds s ds p.1,
+)
 
 all_feed : (ds others : List FunctionalDelivery) → AllByRecursion Feeds ds → AllByRecursion Feeds others → AllByRecursion Feeds (ds ++ others)
 all_feed [] others p q = q
@@ -99,7 +108,8 @@ entries_proper d p =
     let situation = each_feeds service.Situation d.situation_exchange_delivery lists.1.1.1.0.each in
     entries_feed (d.stop_monitoring_delivery ++ d.estimated_timetable_delivery ++ d.vehicle_monitoring_delivery ++ d.situation_exchange_delivery)
     (all_feed (d.stop_monitoring_delivery ++ d.estimated_timetable_delivery ++ d.vehicle_monitoring_delivery) d.situation_exchange_delivery
-    (all_feed (d.stop_monitoring_delivery ++ d.estimated_timetable_delivery) d.vehicle_monitoring_delivery (all_feed d.stop_monitoring_delivery d.estimated_timetable_delivery stop timetable) vehicle)
+    (all_feed (d.stop_monitoring_delivery ++ d.estimated_timetable_delivery) d.vehicle_monitoring_delivery
+    (all_feed d.stop_monitoring_delivery d.estimated_timetable_delivery stop timetable) vehicle)
     situation)
 
 unless_round : (b : Bool) (entries : List Entry) → AllByRecursion IsProperEntry entries → AllByRecursion IsProperEntry (if b then [] else entries)
@@ -108,18 +118,7 @@ unless_round false entries p = p
 
 fed_proper : (m : Message) → IsProper m → AllByRecursion IsProperEntry (entries_fed m)
 fed_proper (message.ServiceDelivery d) p = unless_round (has_round d) (entries_of d) (entries_proper d p)
-fed_proper (message.ServiceRequest m) p = tt
-fed_proper (message.SubscriptionRequest m) p = tt
-fed_proper (message.SubscriptionResponse m) p = tt
-fed_proper (message.TerminateSubscriptionRequest m) p = tt
-fed_proper (message.TerminateSubscriptionResponse m) p = tt
-fed_proper (message.DataReadyNotification m) p = tt
-fed_proper (message.DataReadyAcknowledgement m) p = tt
-fed_proper (message.DataSupplyRequest m) p = tt
-fed_proper (message.DataReceivedAcknowledgement m) p = tt
-fed_proper (message.CheckStatusRequest m) p = tt
-fed_proper (message.CheckStatusResponse m) p = tt
-fed_proper (message.HeartbeatNotification m) p = tt
+fed_proper other p = tt
 
 -- ---- histories
 

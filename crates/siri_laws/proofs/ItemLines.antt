@@ -1,5 +1,5 @@
 -- The line of an item determines it: its tree is read from the text again, and the item from the tree.
-use Rattle.std.proofs.Common.{◌≡◌, ℕ, ◌≤◌, Bool, true, false, cond, List, [], ◌∷◌, bytes_eq, drop, Option, Some, None, refl, sym, ap, ◌∙◌, subst, arith}
+use Rattle.std.proofs.Common.{◌≡◌, ℕ, true, false, List, [], ◌∷◌, bytes_eq, drop, Some, None, refl, sym, ap, ◌∙◌, subst, arith}
 use Rattle.std.proofs.lemmas.Option.{none-some, same_Some}
 use Rattle.siri_json.specs.Canonical.{as_texts}
 use Rattle.siri_json.specs.Tree.{tree_of}
@@ -14,7 +14,7 @@ use Rattle.siri_tables.proofs.BackLists.{only_member}
 use Rattle.siri_tables.proofs.CanonicalParts.{are_ascii, IsCanonicalWithin, deeper, row_within, object_within, ◌then◌}
 use Rattle.siri_tables.proofs.RowSpells.{ok_is}
 use Rattle.siri_tables.proofs.TableLaws.{TableLaws, table_within, written_read}
-use Rattle.siri_items.specs.Journeys.{journey_table, written_journey, written_timed_journey}
+use Rattle.siri_items.specs.Journeys.{journey_table, written_timed_journey}
 use Rattle.siri_items.specs.Proper.{IsProper}
 use Rattle.siri_items.specs.Situations.{situation_table, written_situation}
 use Rattle.siri_items.specs.Vehicles.{vehicle_table, written_vehicle}
@@ -63,7 +63,9 @@ ascii_name (item.Situation s) = refl
 
 object_canonical : (i : Item) → IsProper i → IsCanonicalWithin 8 (item_object i)
 object_canonical i p =
-    subst (IsCanonicalWithin 8) (sym (object_is i)) (object_within 7 (under (item_name i) (rows_of i)) (row_within 7 (item_name i) _ (ascii_name i) (rows_within i p) then tt))
+    subst (IsCanonicalWithin 8) (sym (object_is i))
+    (object_within 7 (under (item_name i) (rows_of i))
+    (row_within 7 (item_name i) _ (ascii_name i) (rows_within i p) then tt))
 
 text_read : (i : Item) → IsProper i → tree_of (item_text i) ≡ Some (as_texts (item_object i))
 unfolding item_text
@@ -71,23 +73,35 @@ text_read i p = let is = object_canonical i p in tree_of-compact_text (item_obje
 
 -- ---- and the item from the tree
 
-same_rows : {S : Type 0} {most : ℕ} {t : Table S} {make : Maker t} → TableLaws most t make → (a b : S) → AllProper t a → AllProper t b → as_texts (row_object (all_written t a)) ≡ as_texts (row_object (all_written t b)) → a ≡ b
+same_rows : {S : Type 0} {most : ℕ} {t : Table S} {make : Maker t} → TableLaws most t make → (a b : S) → AllProper t a
+    → AllProper t b → as_texts (row_object (all_written t a)) ≡ as_texts (row_object (all_written t b)) → a ≡ b
 same_rows {t = t} {make = make} laws a b p q e = ok_is a b (sym (written_read laws a p) ∙ ap (read_all t make) e ∙ written_read laws b q)
 
 -- objects that hold rows under one name
-same_under : (name : List ℕ) (rs qs : List Row) → as_texts (row_object (under name rs)) ≡ as_texts (row_object (under name qs)) → as_texts (row_object rs) ≡ as_texts (row_object qs)
+same_under : (name : List ℕ) (rs qs : List Row) → as_texts (row_object (under name rs)) ≡ as_texts
+    (row_object (under name qs)) → as_texts (row_object rs) ≡ as_texts (row_object qs)
 same_under name rs qs e = same_Some _ _ (sym (only_member name (Some (row_object rs))) ∙ ap (member_of name) e ∙ only_member name (Some (row_object qs)))
 
 -- and under two
-apart : (name other : List ℕ) (rs qs : List Row) → bytes_eq name other ≡ false → as_texts (row_object (under name rs)) ≡ as_texts (row_object (under other qs)) → ⊥
+apart : (name other : List ℕ) (rs qs : List Row) → bytes_eq name other ≡ false
+    → as_texts (row_object (under name rs)) ≡ as_texts (row_object (under other qs)) → ⊥
 apart name other rs qs differ e =
     none-some _ (sym (member_again name (under other qs) None (rw differ refl)) ∙ ap (member_of name) (sym e) ∙ only_member name (Some (row_object rs)))
 
-same_items : (a b : Item) → IsProper a → IsProper b → as_texts (row_object (under (item_name a) (rows_of a))) ≡ as_texts (row_object (under (item_name b) (rows_of b))) → a ≡ b
-same_items (item.Visit v) (item.Visit w) p q e = ap item.Visit (same_rows visit_laws v w p q (same_under (item_name (item.Visit v)) (rows_of (item.Visit v)) (rows_of (item.Visit w)) e))
-same_items (item.Journey j) (item.Journey k) p q e = ap item.Journey (same_rows journey_laws j k p.0 q.0 (same_under (item_name (item.Journey j)) (rows_of (item.Journey j)) (rows_of (item.Journey k)) e))
-same_items (item.Vehicle v) (item.Vehicle w) p q e = ap item.Vehicle (same_rows vehicle_laws v w p q (same_under (item_name (item.Vehicle v)) (rows_of (item.Vehicle v)) (rows_of (item.Vehicle w)) e))
-same_items (item.Situation s) (item.Situation t) p q e = ap item.Situation (same_rows situation_laws s t p q (same_under (item_name (item.Situation s)) (rows_of (item.Situation s)) (rows_of (item.Situation t)) e))
+same_items : (a b : Item) → IsProper a → IsProper b → as_texts (row_object (under (item_name a) (rows_of a))) ≡ as_texts
+    (row_object (under (item_name b) (rows_of b))) → a ≡ b
+same_items (item.Visit v) (item.Visit w) p q e = ap item.Visit
+    (same_rows visit_laws v w p q (same_under (item_name (item.Visit v)) (rows_of (item.Visit v))
+    (rows_of (item.Visit w)) e))
+same_items (item.Journey j) (item.Journey k) p q e = ap item.Journey
+    (same_rows journey_laws j k p.0 q.0 (same_under (item_name (item.Journey j)) (rows_of (item.Journey j))
+    (rows_of (item.Journey k)) e))
+same_items (item.Vehicle v) (item.Vehicle w) p q e = ap item.Vehicle
+    (same_rows vehicle_laws v w p q (same_under (item_name (item.Vehicle v)) (rows_of (item.Vehicle v))
+    (rows_of (item.Vehicle w)) e))
+same_items (item.Situation s) (item.Situation t) p q e =
+    ap item.Situation (same_rows situation_laws s t p q
+    (same_under (item_name (item.Situation s)) (rows_of (item.Situation s)) (rows_of (item.Situation t)) e))
 same_items (item.Visit v) b p q e = absurd (apart (item_name (item.Visit v)) (item_name b) (rows_of (item.Visit v)) (rows_of b) refl e)
 same_items (item.Journey j) b p q e = absurd (apart (item_name (item.Journey j)) (item_name b) (rows_of (item.Journey j)) (rows_of b) refl e)
 same_items (item.Vehicle v) b p q e = absurd (apart (item_name (item.Vehicle v)) (item_name b) (rows_of (item.Vehicle v)) (rows_of b) refl e)

@@ -1,5 +1,6 @@
 -- Right after a settle nothing is due.
-use Rattle.std.proofs.Common.{◌≡◌, ℕ, suc, zero, ◌+◌, ℤ, pos, negsuc, List, [], ◌∷◌, ◌++◌, map, fold, Bool, true, false, cond, Option, Some, None, refl, ap, ◌∙◌, arith}
+use Rattle.std.proofs.Common.{◌≡◌, ℕ, suc, zero, ◌+◌, ℤ, pos, negsuc, List, [], ◌∷◌, ◌++◌, map, fold, Bool, true, false, cond, Option, Some}
+use Rattle.std.proofs.Common.{None, refl, ap, ◌∙◌, arith}
 use Rattle.std.specs.Prelude.{◌&&◌, int_lt}
 use Rattle.std.proofs.lemmas.Bool.{lt-leb, lt-ltb}
 use Rattle.siri_records.specs.Keyed.{Items}
@@ -15,7 +16,7 @@ use Rattle.siri_model.specs.Lives.{table_of}
 use Rattle.siri_model.specs.Meaning.{meaning}
 use Rattle.siri_model.specs.Rows.{KeptLife, asked_of, looked, sent_if_due, is_heartbeat_due, settled_row, rows_of, rows_after}
 use Rattle.siri_model_laws.proofs.Histories.{rows_go_on}
-use Rattle.siri_settle.specs.Sends.{At, row_sends, table_sends}
+use Rattle.siri_subscriptions.specs.Sends.{At, row_sends, table_sends}
 use Rattle.siri_producer.specs.Sends.{sends}
 
 -- ---- the message of the wanted part
@@ -57,7 +58,8 @@ beat_is_not_due (pos zero) now = refl
 beat_is_not_due (pos (suc n)) now = rw (lt-ltb now (now + suc n) (omega arith)) (and-false (int_lt (pos 0) (pos (suc n))))
 beat_is_not_due (negsuc n) now = refl
 
-settled_beat : (every : ℤ) (last now : ℕ) (due : Bool) → status.is_due (record { every = every; last = last }) now ≡ due → status.is_due (record { every = every; last = cond due now last }) now ≡ false
+settled_beat : (every : ℤ) (last now : ℕ) (due : Bool) → status.is_due (record { every = every; last = last }) now ≡ due
+    → status.is_due (record { every = every; last = cond due now last }) now ≡ false
 settled_beat every last now true is = beat_is_not_due every now
 settled_beat every last now false is = is
 

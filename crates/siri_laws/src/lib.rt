@@ -1,5 +1,5 @@
-//! What holds from one end of the program to the other, over what the crates below promise: each law is the contract of a
-//! function that does nothing when it is called.
+//! What holds from one end of the program to the other, over what the crates below promise: each law is the contract of
+//! a function that does nothing when it is called.
 //!
 //! ```text
 //!   document --convert--> text --convert--> the same text

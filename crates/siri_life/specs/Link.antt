@@ -1,8 +1,11 @@
 -- One subscription between a producer, which starts anew now and then, its consumer, and a network that loses, repeats
 -- and reorders (EN 15531-2, subscriptions and deliveries).
-use Rattle.std.specs.Prelude.{◌≡◌, ℕ, zero, suc, nat_lt, ◌==◌, max, Bool, true, false, cond, ◌&&◌, ◌||◌, List, [], ◌∷◌, ◌++◌, length, Option, Some, None, slice_get}
+use Rattle.std.specs.Prelude.{◌≡◌, ℕ, zero, suc, nat_lt, ◌==◌, max, Bool, true, false, cond, ◌&&◌, ◌||◌, List, [], ◌∷◌, ◌++◌, length}
+use Rattle.std.specs.Prelude.{Option, Some, None, slice_get}
 use Rattle.siri_life.specs.Meaning.{Meaning, most_parts, apply_parts, base_view}
-use Rattle.siri_life.specs.Life.{can_accept, is_before, is_past, greatest_round, Round, Outstanding, Life, Mark, is_mark, Packet, Subscribe, Terminate, Supply, Acknowledge, Notify, Delivery, is_due, new_life, after_heartbeat, opened, with_outstanding, part_message, message, sent_at, advanced}
+use Rattle.siri_life.specs.Life.{can_accept, is_before, is_past, greatest_round, Round, Outstanding, Life, Mark, is_mark, Packet, Subscribe}
+use Rattle.siri_life.specs.Life.{Terminate, Supply, Acknowledge, Notify, Delivery, is_due, new_life, after_heartbeat, opened}
+use Rattle.siri_life.specs.Life.{with_outstanding, part_message, message, sent_at, advanced}
 
 -- the round whose target a view is; all are 0 where there is none
 pub record Origin : Type 0 where

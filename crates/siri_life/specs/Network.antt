@@ -5,7 +5,9 @@ use Rattle.siri_life.specs.Life.{Life, Mark, Packet, Subscribe, Terminate, Suppl
 use Rattle.siri_life.specs.Link.{Link, Holding, Outcome, UnknownSubscription, OldStart, Gap, Repeat, Overlong, Wanted, outcome, asked, taken, replies, asks_for}
 use Rattle.siri_life.specs.Named.{Name, Of, same_subscription, those, find, with_under, with_number, next_of}
 use Rattle.siri_life.specs.Serving
-use Rattle.siri_life.specs.Serving.{Serving, About, Carries, ToProducer, ToConsumer, Act, Clocked, Fed, Heard, Settled, letters_for, row_letters, settled_serving, expired_serving, clocked_serving, fed_serving, started_serving, opening_serving, serving_after, with_rows, supply_replies}
+use Rattle.siri_life.specs.Serving.{Serving, About, Carries, ToProducer, ToConsumer, Act, Clocked, Fed, Heard, Settled, letters_for}
+use Rattle.siri_life.specs.Serving.{row_letters, settled_serving, expired_serving, clocked_serving, fed_serving, started_serving}
+use Rattle.siri_life.specs.Serving.{opening_serving, serving_after, with_rows, supply_replies}
 
 -- the producer's side, what each consumer keeps of each subscription, and all letters
 pub record Network (V P W H : Type 0) : Type 0 where

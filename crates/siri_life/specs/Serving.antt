@@ -2,7 +2,8 @@
 -- (EN 15531-2, subscriptions and deliveries).
 use Rattle.std.specs.Prelude.{ℕ, suc, nat_le, max, Bool, true, false, not, List, [], ◌∷◌, ◌++◌, length, Option, Some, None}
 use Rattle.siri_life.specs.Meaning.{Meaning}
-use Rattle.siri_life.specs.Life.{Life, Mark, Packet, Subscribe, Terminate, Supply, Acknowledge, Notify, Delivery, new_life, can_accept, is_before, sends_heartbeat, settled, settle_sends, after_acknowledgement, after_supply, supply_sends}
+use Rattle.siri_life.specs.Life.{Life, Mark, Packet, Subscribe, Terminate, Supply, Acknowledge, Notify, Delivery, new_life, can_accept}
+use Rattle.siri_life.specs.Life.{is_before, sends_heartbeat, settled, settle_sends, after_acknowledgement, after_supply, supply_sends}
 use Rattle.siri_life.specs.Named.{Name, Of, find, put, without, keep}
 
 -- what a letter is about: a packet of one subscription; any other message to the producer (CheckStatusRequest, which it
@@ -29,8 +30,8 @@ pub data Act (P W E : Type 0) : Type 0 where
   Settled : Act P W E
 
 -- how many subscriptions a table holds
-abbrev pub table_limit : ℕ
-table_limit = 200
+abbrev pub most_subscriptions : ℕ
+most_subscriptions = 200
 
 module _ {V P W H E : Type 0} (f : Meaning V P W H E) where
   -- ---- what is sent
@@ -66,7 +67,8 @@ module _ {V P W H E : Type 0} (f : Meaning V P W H E) where
   abbrev pub row_letters : H → ℕ → List (Of (Life V P W)) → List (Of (About P W))
   row_letters known now [] = []
   row_letters known now (r ∷ rs) =
-      letters_for r.subscriber r.identifier (settle_sends f r.it (f.direct known r.it.wanted) now) ++ (heartbeat_letters r.subscriber (sends_heartbeat f r.it now) ++ row_letters known now rs)
+      letters_for r.subscriber r.identifier (settle_sends f r.it (f.direct known r.it.wanted) now)
+      ++ (heartbeat_letters r.subscriber (sends_heartbeat f r.it now) ++ row_letters known now rs)
 
   -- ---- the table
   -- the table is another one, and these lives end
@@ -91,7 +93,7 @@ module _ {V P W H E : Type 0} (f : Meaning V P W H E) where
 
   -- a SubscriptionRequest is accepted
   abbrev pub accepts : Serving V P W H → Name → Name → ℕ → W → Bool
-  accepts v c s number x = can_accept f (nat_le table_limit (length v.table)) v.now number x (find c s v.table)
+  accepts v c s number x = can_accept f (nat_le most_subscriptions (length v.table)) v.now number x (find c s v.table)
 
   -- the table after a TerminateSubscriptionRequest that ends a subscription, or doesn't
   abbrev pub ended_if : Bool → Serving V P W H → Name → Name → Serving V P W H

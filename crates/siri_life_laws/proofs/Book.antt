@@ -25,21 +25,30 @@ module _ {V P W H E : Type 0} (f : Meaning V P W H E) where
   abbrev pub Kept : Option (Life V P W) → List (Life V P W) → Option (Life V P W) → List (Life V P W) → Type 0
   Kept e ls e' ls' = (n s i : ℕ) (x : Round V P) → slice_get (rounds_of n s e ls) i ≡ Some x → slice_get (rounds_of n s e' ls') i ≡ Some x
 
-  kept_cond : (b : Bool) (rs : List (Round V P)) (xs ys : List (Round V P)) (i : ℕ) (x : Round V P) → (slice_get xs i ≡ Some x → slice_get ys i ≡ Some x) → slice_get (cond b rs xs) i ≡ Some x → slice_get (cond b rs ys) i ≡ Some x
+  kept_cond : (b : Bool) (rs : List (Round V P)) (xs ys : List (Round V P)) (i : ℕ) (x : Round V P)
+      → (slice_get xs i ≡ Some x → slice_get ys i ≡ Some x) → slice_get (cond b rs xs) i ≡ Some x
+      → slice_get (cond b rs ys) i ≡ Some x
   kept_cond true rs xs ys i x g h = h
   kept_cond false rs xs ys i x g h = g h
 
-  kept_by : (e e' : Option (Life V P W)) → ((n s i : ℕ) (x : Round V P) → slice_get (life_rounds n s e) i ≡ Some x → slice_get (life_rounds n s e') i ≡ Some x) → (ls : List (Life V P W)) → Kept e ls e' ls
+  kept_by : (e e' : Option (Life V P W)) → ((n s i : ℕ) (x : Round V P) → slice_get (life_rounds n s e) i ≡ Some x
+      → slice_get (life_rounds n s e') i ≡ Some x) → (ls : List (Life V P W)) → Kept e ls e' ls
   kept_by e e' g [] n s i x = g n s i x
   kept_by e e' g (l ∷ ls) n s i x = kept_cond (matches l n s) l.rounds (rounds_of n s e ls) (rounds_of n s e' ls) i x (kept_by e e' g ls n s i x)
 
-  kept_more : (b : Bool) (rs rs' : List (Round V P)) (i : ℕ) (x : Round V P) → (slice_get rs i ≡ Some x → slice_get rs' i ≡ Some x) → slice_get (cond b rs []) i ≡ Some x → slice_get (cond b rs' []) i ≡ Some x
+  kept_more : (b : Bool) (rs rs' : List (Round V P)) (i : ℕ) (x : Round V P)
+      → (slice_get rs i ≡ Some x → slice_get rs' i ≡ Some x) → slice_get (cond b rs []) i ≡ Some x
+      → slice_get (cond b rs' []) i ≡ Some x
   kept_more true rs rs' i x g h = g h
   kept_more false rs rs' i x g h = h
 
   -- the life in the table goes on
-  pub kept_life : (l l' : Life V P W) → l.number ≡ l'.number → l.start ≡ l'.start → ((i : ℕ) (x : Round V P) → slice_get l.rounds i ≡ Some x → slice_get l'.rounds i ≡ Some x) → (ls : List (Life V P W)) → Kept (Some l) ls (Some l') ls
-  kept_life l l' en es g ls = kept_by (Some l) (Some l') (λ n s i x h. subst (λ (q : ℕ × ℕ). slice_get (cond (q.0 == n && q.1 == s) l'.rounds []) i ≡ Some x) (λ j. (en j, es j)) (kept_more (l.number == n && l.start == s) l.rounds l'.rounds i x (g i x) h)) ls
+  pub kept_life : (l l' : Life V P W) → l.number ≡ l'.number → l.start ≡ l'.start
+      → ((i : ℕ) (x : Round V P) → slice_get l.rounds i ≡ Some x → slice_get l'.rounds i ≡ Some x)
+      → (ls : List (Life V P W)) → Kept (Some l) ls (Some l') ls
+  kept_life l l' en es g ls = kept_by (Some l) (Some l')
+      (λ n s i x h. subst (λ (q : ℕ × ℕ). slice_get (cond (q.0 == n && q.1 == s) l'.rounds []) i ≡ Some x)
+      (λ j. (en j, es j)) (kept_more (l.number == n && l.start == s) l.rounds l'.rounds i x (g i x) h)) ls
 
   pub kept_same : (e : Option (Life V P W)) (ls : List (Life V P W)) → Kept e ls e ls
   kept_same e ls n s i x h = h
@@ -86,11 +95,13 @@ module _ {V P W H E : Type 0} (f : Meaning V P W H E) where
   some_cond false c h = h
 
   -- a life with a round ended, where the one in the table has none under that number and start
-  pub some_before : (n s i : ℕ) (x : Round V P) (e : Option (Life V P W)) (ls : List (Life V P W)) → life_rounds n s e ≡ [] → slice_get (rounds_of n s e ls) i ≡ Some x → has n s ls ≡ true
+  pub some_before : (n s i : ℕ) (x : Round V P) (e : Option (Life V P W)) (ls : List (Life V P W))
+      → life_rounds n s e ≡ [] → slice_get (rounds_of n s e ls) i ≡ Some x → has n s ls ≡ true
   some_before n s i x e [] none h = absurd (cc)
   some_before n s i x e (l ∷ ls) none h = by (matches l n s) (some_before n s i x e ls none) h
     where
-      by : (b : Bool) → (slice_get (rounds_of n s e ls) i ≡ Some x → has n s ls ≡ true) → slice_get (cond b l.rounds (rounds_of n s e ls)) i ≡ Some x → (b || has n s ls) ≡ true
+      by : (b : Bool) → (slice_get (rounds_of n s e ls) i ≡ Some x → has n s ls ≡ true)
+          → slice_get (cond b l.rounds (rounds_of n s e ls)) i ≡ Some x → (b || has n s ls) ≡ true
       by true g h = refl
       by false g h = g h
 
@@ -102,7 +113,8 @@ module _ {V P W H E : Type 0} (f : Meaning V P W H E) where
       by false h = refl
 
   -- a life under this number and start is among them, so what holds of each of them holds of it
-  pub has_one : (Q : Life V P W → Type 0) (R : Type 0) (n s : ℕ) (ls : List (Life V P W)) → ((l : Life V P W) → l.number ≡ n → l.start ≡ s → Q l → R) → Each Q ls → has n s ls ≡ true → R
+  pub has_one : (Q : Life V P W → Type 0) (R : Type 0) (n s : ℕ) (ls : List (Life V P W))
+      → ((l : Life V P W) → l.number ≡ n → l.start ≡ s → Q l → R) → Each Q ls → has n s ls ≡ true → R
   has_one Q R n s [] g h e = absurd (cc)
   has_one Q R n s (l ∷ ls) g h e = by (matches l n s) refl (has_one Q R n s ls g h.1) e
     where
@@ -114,6 +126,7 @@ module _ {V P W H E : Type 0} (f : Meaning V P W H E) where
   has_retired n s [] e = refl
   has_retired n s (l ∷ ls) e = by (matches l n s) (has_retired n s ls e)
     where
-      by : (b : Bool) → has n s (ls ++ retire f e) ≡ (has n s ls || has n s (retire f e)) → (b || has n s (ls ++ retire f e)) ≡ ((b || has n s ls) || has n s (retire f e))
+      by : (b : Bool) → has n s (ls ++ retire f e) ≡ (has n s ls || has n s (retire f e))
+          → (b || has n s (ls ++ retire f e)) ≡ ((b || has n s ls) || has n s (retire f e))
       by true g = refl
       by false g = g

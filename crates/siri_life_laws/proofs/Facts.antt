@@ -2,7 +2,7 @@
 -- has of the subscription, ended the lives that ended, h what the consumer keeps.
 use Rattle.std.proofs.Common.{◌≡◌, ◌⊎◌, ℕ, suc, ◌<◌, ◌≤◌, Bool, true, List, [], ◌∷◌, length, take, Option, Some, None}
 use Rattle.std.specs.Prelude.{slice_get, nat_lt}
-use Rattle.siri_life.specs.Meaning.{Meaning}
+use Rattle.siri_life.specs.Meaning.{Meaning, most_parts}
 use Rattle.siri_life.specs.Life.{greatest_round, Round, Outstanding, Life, Mark, Packet, Subscribe, Terminate, Supply, Acknowledge, Notify, Delivery}
 use Rattle.siri_life.specs.Link.{Link, Holding, has, rounds_of, GoalAt}
 use Rattle.siri_life_laws.proofs.Lists.{Each}
@@ -27,7 +27,7 @@ module _ {V P W H E : Type 0} (f : Meaning V P W H E) where
     pub goal : GoalAt f l.rounds round l.acknowledged
     pub load : o.round.parts ≡ f.load o.round.base o.round.target l.wanted
     pub part : o.acknowledged_parts < length o.round.parts
-    pub few : length o.round.parts ≤ 400
+    pub few : length o.round.parts ≤ most_parts
     pub target_is_view : f.is_view o.round.target ≡ true
 
   -- nothing outstanding: the acknowledged view is the target of the last round, or empty
@@ -66,7 +66,7 @@ module _ {V P W H E : Type 0} (f : Meaning V P W H E) where
     pub load : r.parts ≡ f.load r.base r.target w
     pub base_is_view : f.is_view r.base ≡ true
     pub target_is_view : f.is_view r.target ≡ true
-    pub few : length r.parts ≤ 400
+    pub few : length r.parts ≤ most_parts
     pub low : m.round ≤ greatest_round
 
   -- a smaller start than the one kept, or this one and a place not past the wanted one, or a greater one and the first
@@ -109,9 +109,10 @@ module _ {V P W H E : Type 0} (f : Meaning V P W H E) where
     pub not_past : NotPast h m
     pub tells : Tells (rounds_of h.number m.start e ended) m moment
     pub low : m.round ≤ greatest_round
-    pub few : m.part ≤ 400
+    pub few : m.part ≤ most_parts
 
-  pub record Delivers (k : ℕ) (e : Option (Life V P W)) (ended : List (Life V P W)) (h : Holding V P W) (m : Mark) (moment : ℕ) (more : Bool) (x : P) : Type 0 where
+  pub record Delivers (k : ℕ) (e : Option (Life V P W)) (ended : List (Life V P W)) (h : Holding V P W) (m : Mark)
+      (moment : ℕ) (more : Bool) (x : P) : Type 0 where
     pub start : m.start ≤ k
     pub not_past : NotPast h m
     pub content : Content (rounds_of h.number m.start e ended) h.wanted m moment more x
@@ -193,7 +194,8 @@ module _ {V P W H E : Type 0} (f : Meaning V P W H E) where
     pub number : l.number < next
 
   -- all of it
-  pub record Inv (k now : ℕ) (e : Option (Life V P W)) (ended : List (Life V P W)) (next : ℕ) (packets : List (Packet P W)) (held : Option (Holding V P W)) : Type 0 where
+  pub record Inv (k now : ℕ) (e : Option (Life V P W)) (ended : List (Life V P W)) (next : ℕ)
+      (packets : List (Packet P W)) (held : Option (Holding V P W)) : Type 0 where
     pub first : 1 ≤ k
     pub life : TableFact k now next e
     pub olds : Each (Old k next) ended

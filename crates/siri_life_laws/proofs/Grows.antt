@@ -2,9 +2,11 @@
 use Rattle.std.proofs.Common.{◌≡◌, ℕ, suc, max, Bool, true, false, List, [], ◌∷◌, length, Option, Some, None, ◌&&◌}
 use Rattle.std.specs.Prelude.{slice_get}
 use Rattle.siri_life.specs.Meaning.{Meaning}
-use Rattle.siri_life.specs.Life.{can_accept, is_before, is_past, Outstanding, Life, Mark, is_mark, Packet, Subscribe, Terminate, Supply, Acknowledge, Notify, Delivery, is_due, part_message, message}
+use Rattle.siri_life.specs.Life.{can_accept, is_before, is_past, Outstanding, Life, Mark, is_mark, Packet, Subscribe, Terminate, Supply}
+use Rattle.siri_life.specs.Life.{Acknowledge, Notify, Delivery, is_due, part_message, message}
 use Rattle.siri_life.specs.Link
-use Rattle.siri_life.specs.Link.{Link, Holding, LinkEvent, Start, Clock, Feed, Ask, Stop, Spend, Deliver, Outcome, UnknownSubscription, OldStart, Gap, Repeat, Overlong, Wanted, outcome, settle, happens, link_after}
+use Rattle.siri_life.specs.Link.{Link, Holding, LinkEvent, Start, Clock, Feed, Ask, Stop, Spend, Deliver, Outcome, UnknownSubscription}
+use Rattle.siri_life.specs.Link.{OldStart, Gap, Repeat, Overlong, Wanted, outcome, settle, happens, link_after}
 use Rattle.siri_life_laws.proofs.Lists.{get_front}
 
 module _ {V P W H E : Type 0} (f : Meaning V P W H E) where
@@ -33,7 +35,8 @@ module _ {V P W H E : Type 0} (f : Meaning V P W H E) where
   heartbeat_grows w (Some l) i p a = a
 
   settle_grows : (w : Link V P W H) → Grows w (settle f w)
-  settle_grows w i p a = let v = Link.opens f w in let u = Link.send_of_life f v v.life in heartbeat_grows u u.life i p (send_grows v v.life i p (open_grows w w.life i p a))
+  settle_grows w i p a = let v = Link.opens f w in let u = Link.send_of_life f v v.life in
+      heartbeat_grows u u.life i p (send_grows v v.life i p (open_grows w w.life i p a))
 
   accept_grows : (w : Link V P W H) (n : ℕ) (x : W) (b : Bool) → Grows w (Link.accept_if f b w n x)
   accept_grows w n x true i p a = a
@@ -93,7 +96,8 @@ module _ {V P W H E : Type 0} (f : Meaning V P W H E) where
 
   comes_grows : (w : Link V P W H) (full : Bool) (q : Option (Packet P W)) → Grows w (Link.comes_if f full w q)
   comes_grows w full None i p a = a
-  comes_grows w full (Some (Subscribe n x)) i p a = let v = Link.accepts f full w n x in settle_grows v i p (accept_grows w n x (can_accept f full w.now n x w.life) i p a)
+  comes_grows w full (Some (Subscribe n x)) i p a = let v = Link.accepts f full w n x in
+      settle_grows v i p (accept_grows w n x (can_accept f full w.now n x w.life) i p a)
   comes_grows w full (Some (Terminate n)) i p a = let v = Link.ends f w n in settle_grows v i p (end_grows w (is_before f w.life n) i p a)
   comes_grows w full (Some (Supply m)) i p a = let v = Link.supplies f w m w.life in settle_grows v i p (supply_grows w m w.life i p a)
   comes_grows w full (Some (Acknowledge m)) i p a = let v = Link.acknowledges f w m w.life in settle_grows v i p (acknowledgement_grows w m w.life i p a)
@@ -106,7 +110,8 @@ module _ {V P W H E : Type 0} (f : Meaning V P W H E) where
 
   pub happens_grows : (w : Link V P W H) (e : LinkEvent W E) → Grows w (happens f w e)
   happens_grows w (Start t) i p a = a
-  happens_grows w (Clock t) i p a = let v = Link.expire f (Link.at_moment f w t) in settle_grows v i p (end_grows (Link.at_moment f w t) (is_past f w.life (max w.now t)) i p a)
+  happens_grows w (Clock t) i p a = let v = Link.expire f (Link.at_moment f w t) in
+      settle_grows v i p (end_grows (Link.at_moment f w t) (is_past f w.life (max w.now t)) i p a)
   happens_grows w (Feed es) i p a = settle_grows (Link.fed f w es) i p a
   happens_grows w (Ask x) i p a = get_front w.packets (Subscribe w.next_number x ∷ []) i p a
   happens_grows w Stop i p a = stops_grows w w.held i p a

@@ -8,7 +8,8 @@ use Rattle.siri_life.specs.Network
 use Rattle.siri_life.specs.Named.{Of, Name, find, next_of}
 use Rattle.siri_life.specs.Serving
 use Rattle.siri_life.specs.Serving.{About, Carries, ToProducer, ToConsumer, supply_letters, letters_for, row_letters}
-use Rattle.siri_life.specs.Network.{Network, Happening, Starts, Clocks, Feeds, Asks, Stops, Requests, Delivers, settles, takes, takes_letter, step, network_after}
+use Rattle.siri_life.specs.Network.{Network, Happening, Starts, Clocks, Feeds, Asks, Stops, Requests, Delivers, settles, takes}
+use Rattle.siri_life.specs.Network.{takes_letter, step, network_after}
 use Rattle.siri_life_laws.proofs.Lists.{get_front}
 
 module _ {V P W H E : Type 0} (f : Meaning V P W H E) where
@@ -45,13 +46,15 @@ module _ {V P W H E : Type 0} (f : Meaning V P W H E) where
   acknowledged_longer n c s m None i y a = get_front n.letters [] i y a
   acknowledged_longer n c s m (Some l) i y a = get_front n.letters [] i y a
 
-  delivered_longer : (n : Network V P W H) (c s : Name) (m : Mark) (more : Bool) (x : P) (h : Option (Holding V P W)) → Longer n (Network.delivered f n c s m more x h)
+  delivered_longer : (n : Network V P W H) (c s : Name) (m : Mark) (more : Bool) (x : P) (h : Option (Holding V P W))
+      → Longer n (Network.delivered f n c s m more x h)
   delivered_longer n c s m more x None i y a = a
   delivered_longer n c s m more x (Some h) i y a = get_front n.letters (letters_for f c s (replies f h m more)) i y a
 
   notified_longer : (n : Network V P W H) (c s : Name) (m : Mark) (h : Option (Holding V P W)) → Longer n (Network.notified f n c s m h)
   notified_longer n c s m None i y a = a
-  notified_longer n c s m (Some h) i y a = let v = Network.readied f n c (outcome f h m) in get_front v.letters (letters_for f c s (asks_for f h m)) i y (readied_longer n c (outcome f h m) i y a)
+  notified_longer n c s m (Some h) i y a = let v = Network.readied f n c (outcome f h m) in
+      get_front v.letters (letters_for f c s (asks_for f h m)) i y (readied_longer n c (outcome f h m) i y a)
 
   takes_longer : (n : Network V P W H) (c s : Name) (p : About P W) → Longer n (takes f n c s p)
   takes_longer n c s (ToProducer true) i y a = settles_longer (Network.tells f n c ToConsumer) i y (tells_longer n c ToConsumer i y a)
@@ -59,12 +62,15 @@ module _ {V P W H E : Type 0} (f : Meaning V P W H E) where
   takes_longer n c s ToConsumer i y a = a
   takes_longer n c s (Carries (Subscribe number x)) i y a =
       let b = Serving.accepts f n.serving c s number x in
-      let m = Network.accepted_if f b n c s number x in settles_longer (Network.tells f m c ToConsumer) i y (tells_longer m c ToConsumer i y (accepted_longer n b c s number x i y a))
+      let m = Network.accepted_if f b n c s number x in settles_longer (Network.tells f m c ToConsumer) i y
+      (tells_longer m c ToConsumer i y (accepted_longer n b c s number x i y a))
   takes_longer n c s (Carries (Terminate number)) i y a =
       let b = is_before f (find c s n.serving.table) number in
       let m = Network.ended_if f b n c s in settles_longer (Network.tells f m c ToConsumer) i y (tells_longer m c ToConsumer i y (ended_longer n b c s i y a))
-  takes_longer n c s (Carries (Supply m)) i y a = let e = find c s n.serving.table in settles_longer (Network.supplied f n c s m e) i y (supplied_longer n c s m e i y a)
-  takes_longer n c s (Carries (Acknowledge m)) i y a = let e = find c s n.serving.table in settles_longer (Network.takes_acknowledgement f n c s m e) i y (acknowledged_longer n c s m e i y a)
+  takes_longer n c s (Carries (Supply m)) i y a = let e = find c s n.serving.table in
+      settles_longer (Network.supplied f n c s m e) i y (supplied_longer n c s m e i y a)
+  takes_longer n c s (Carries (Acknowledge m)) i y a = let e = find c s n.serving.table in
+      settles_longer (Network.takes_acknowledgement f n c s m e) i y (acknowledged_longer n c s m e i y a)
   takes_longer n c s (Carries (Notify m moment)) i y a = notified_longer n c s m (n.holdings c s) i y a
   takes_longer n c s (Carries (Delivery m moment more x)) i y a = delivered_longer n c s m more x (n.holdings c s) i y a
 

@@ -1,25 +1,36 @@
 -- What the producer's moves keep.
-use Rattle.std.proofs.Common.{◌≡◌, ◌⊎◌, ℕ, zero, suc, ◌<◌, ◌≤◌, Bool, true, false, ◌||◌, List, [], ◌∷◌, ◌++◌, length, Option, Some, None, refl, sym, ap, ◌∙◌, subst, inl, inr, ⊎_elim, arith}
+use Rattle.std.proofs.Common.{◌≡◌, ◌⊎◌, ℕ, zero, suc, ◌<◌, ◌≤◌, Bool, true, false, ◌||◌, List, [], ◌∷◌, ◌++◌, length, Option, Some, None}
+use Rattle.std.proofs.Common.{refl, sym, ap, ◌∙◌, subst, inl, inr, ⊎_elim, arith}
 use Rattle.std.specs.Prelude.{slice_get, nat_lt}
 use Rattle.std.proofs.lemmas.Bool.{or_cases}
 use Rattle.siri_life.specs.Meaning.{Meaning, IsLawful}
-use Rattle.siri_life.specs.Life.{greatest_round, Round, Outstanding, Life, Mark, Packet, Subscribe, Terminate, Supply, Acknowledge, Notify, Delivery, new_life, with_round, new_round, with_outstanding, sent_at, with_heartbeat, closed, wanted_mark, part_message, message_by}
+use Rattle.siri_life.specs.Life.{greatest_round, Round, Outstanding, Life, Mark, Packet, Subscribe, Terminate, Supply, Acknowledge, Notify}
+use Rattle.siri_life.specs.Life.{Delivery, new_life, with_round, new_round, with_outstanding, sent_at, with_heartbeat, closed, wanted_mark}
+use Rattle.siri_life.specs.Life.{part_message, message_by}
 use Rattle.siri_life.specs.Link.{Holding, has, matches, rounds_of, life_rounds, GoalAt, retire}
 use Rattle.siri_life_laws.proofs.Lists.{Each, each_map, each_append, get_front, get_end, length_push}
-use Rattle.siri_life_laws.proofs.Book.{Kept, kept_life, kept_ended, kept_fresh, rounds_here, some_before, no_match_rounds, match_number, match_start, has_one, has_retired}
-use Rattle.siri_life_laws.proofs.Facts.{IsOutstanding, OutstandingFact, LifeFact, TableFact, Content, Tells, NotPast, Before, PartBehind, BehindLife, Delivers, Fact, Ahead, Level, Wanting, SharedLife, Buffer, Tied, HeldFact, Old}
+use Rattle.siri_life_laws.proofs.Book.{Kept, kept_life, kept_ended, kept_fresh, rounds_here, some_before, no_match_rounds, match_number}
+use Rattle.siri_life_laws.proofs.Book.{match_start, has_one, has_retired}
+use Rattle.siri_life_laws.proofs.Facts.{IsOutstanding, OutstandingFact, LifeFact, TableFact, Content, Tells, NotPast, Before, PartBehind}
+use Rattle.siri_life_laws.proofs.Facts.{BehindLife, Delivers, Fact, Ahead, Level, Wanting, SharedLife, Buffer, Tied, HeldFact, Old}
 
 module _ {V P W H E : Type 0} (f : Meaning V P W H E) where
   -- ---- what no move loses
-  pub goal_kept : (e : Option (Life V P W)) (ls : List (Life V P W)) (e' : Option (Life V P W)) (ls' : List (Life V P W)) → Kept f e ls e' ls' → (n s r : ℕ) (v : V) → GoalAt f (rounds_of n s e ls) r v → GoalAt f (rounds_of n s e' ls') r v
+  pub goal_kept : (e : Option (Life V P W)) (ls : List (Life V P W)) (e' : Option (Life V P W))
+      (ls' : List (Life V P W)) → Kept f e ls e' ls' → (n s r : ℕ) (v : V) → GoalAt f (rounds_of n s e ls) r v
+      → GoalAt f (rounds_of n s e' ls') r v
   goal_kept e ls e' ls' kept n s zero v g = g
   goal_kept e ls e' ls' kept n s (suc i) v g = (g.0, kept n s i g.0 g.1, g.2)
 
-  pub buffer_kept : (e : Option (Life V P W)) (ls : List (Life V P W)) (e' : Option (Life V P W)) (ls' : List (Life V P W)) → Kept f e ls e' ls' → (n s i : ℕ) (ps : List P) → Buffer f (rounds_of n s e ls) i ps → Buffer f (rounds_of n s e' ls') i ps
+  pub buffer_kept : (e : Option (Life V P W)) (ls : List (Life V P W)) (e' : Option (Life V P W))
+      (ls' : List (Life V P W)) → Kept f e ls e' ls' → (n s i : ℕ) (ps : List P) → Buffer f (rounds_of n s e ls) i ps
+      → Buffer f (rounds_of n s e' ls') i ps
   buffer_kept e ls e' ls' kept n s i [] b = tt
   buffer_kept e ls e' ls' kept n s i (p ∷ ps) b = (b.0, kept n s i b.0 b.1, b.2)
 
-  pub content_kept : (e : Option (Life V P W)) (ls : List (Life V P W)) (e' : Option (Life V P W)) (ls' : List (Life V P W)) → Kept f e ls e' ls' → (n s : ℕ) (w : W) (m : Mark) (moment : ℕ) (more : Bool) (x : P) → Content f (rounds_of n s e ls) w m moment more x → Content f (rounds_of n s e' ls') w m moment more x
+  pub content_kept : (e : Option (Life V P W)) (ls : List (Life V P W)) (e' : Option (Life V P W))
+      (ls' : List (Life V P W)) → Kept f e ls e' ls' → (n s : ℕ) (w : W) (m : Mark) (moment : ℕ) (more : Bool) (x : P)
+      → Content f (rounds_of n s e ls) w m moment more x → Content f (rounds_of n s e' ls') w m moment more x
   content_kept e ls e' ls' kept n s w m moment more x c =
       record {
         i = c.i;
@@ -39,11 +50,14 @@ module _ {V P W H E : Type 0} (f : Meaning V P W H E) where
         low = c.low;
       }
 
-  pub tells_kept : (e : Option (Life V P W)) (ls : List (Life V P W)) (e' : Option (Life V P W)) (ls' : List (Life V P W)) → Kept f e ls e' ls' → (n s : ℕ) (m : Mark) (moment : ℕ) → Tells f (rounds_of n s e ls) m moment → Tells f (rounds_of n s e' ls') m moment
+  pub tells_kept : (e : Option (Life V P W)) (ls : List (Life V P W)) (e' : Option (Life V P W))
+      (ls' : List (Life V P W)) → Kept f e ls e' ls' → (n s : ℕ) (m : Mark) (moment : ℕ)
+      → Tells f (rounds_of n s e ls) m moment → Tells f (rounds_of n s e' ls') m moment
   tells_kept e ls e' ls' kept n s m moment c = record { i = c.i; r = c.r; round = c.round; at = kept n s c.i c.r c.at; moment_is = c.moment_is }
 
   -- the producer moves, and sends nothing
-  pub tied_moves : (k now k' now' : ℕ) (e e' : Option (Life V P W)) (ended ended' : List (Life V P W)) (next : ℕ) (packets : List (Packet P W)) (h : Holding V P W)
+  pub tied_moves : (k now k' now' : ℕ) (e e' : Option (Life V P W)) (ended ended' : List (Life V P W)) (next : ℕ)
+      (packets : List (Packet P W)) (h : Holding V P W)
       → k ≤ k'
       → Kept f e ended e' ended'
       → ((m : Mark) (moment : ℕ) (more : Bool) (x : P) → Delivers f k e ended h m moment more x → BehindLife f h.number k' e' m)
@@ -68,7 +82,14 @@ module _ {V P W H E : Type 0} (f : Meaning V P W H E) where
       one (Terminate n) g = g
       one (Supply m) g = g
       one (Acknowledge m) g = g
-      one (Notify m moment) g = λ same. let s = g same in record { start = let a = s.start in omega arith; not_past = s.not_past; tells = tells_kept e ended e' ended' kept h.number m.start m moment s.tells; low = s.low; few = s.few }
+      one (Notify m moment) g = λ same. let s = g same in
+          record {
+            start = let a = s.start in omega arith;
+            not_past = s.not_past;
+            tells = tells_kept e ended e' ended' kept h.number m.start m moment s.tells;
+            low = s.low;
+            few = s.few;
+          }
       one (Delivery m moment more x) g = λ same.
           let d = g same in
           record {
@@ -79,7 +100,9 @@ module _ {V P W H E : Type 0} (f : Meaning V P W H E) where
           }
 
   -- packets are sent
-  pub tied_sends : (k now : ℕ) (e : Option (Life V P W)) (ended : List (Life V P W)) (next : ℕ) (ps qs : List (Packet P W)) (h : Holding V P W) → Each (Fact f k e ended h) qs → Tied f k now e ended next ps h → Tied f k now e ended next (ps ++ qs) h
+  pub tied_sends : (k now : ℕ) (e : Option (Life V P W)) (ended : List (Life V P W)) (next : ℕ)
+      (ps qs : List (Packet P W)) (h : Holding V P W) → Each (Fact f k e ended h) qs → Tied f k now e ended next ps h
+      → Tied f k now e ended next (ps ++ qs) h
   tied_sends k now e ended next ps qs h new t =
       record {
         number = t.number;
@@ -93,14 +116,17 @@ module _ {V P W H E : Type 0} (f : Meaning V P W H E) where
         view = t.view;
       }
 
-  pub held_map : (k now k' now' : ℕ) (e e' : Option (Life V P W)) (ended ended' : List (Life V P W)) (next next' : ℕ) (ps ps' : List (Packet P W)) (held : Option (Holding V P W))
+  pub held_map : (k now k' now' : ℕ) (e e' : Option (Life V P W)) (ended ended' : List (Life V P W)) (next next' : ℕ)
+      (ps ps' : List (Packet P W)) (held : Option (Holding V P W))
       → ((h : Holding V P W) → Tied f k now e ended next ps h → Tied f k' now' e' ended' next' ps' h)
       → HeldFact f k now e ended next ps held → HeldFact f k' now' e' ended' next' ps' held
   held_map k now k' now' e e' ended ended' next next' ps ps' None g t = tt
   held_map k now k' now' e e' ended ended' next next' ps ps' (Some h) g t = g h t
 
   -- ---- a round opens
-  pub life_opens : IsLawful f → (k now next : ℕ) (l : Life V P W) (es : H) → LifeFact f k now next l → OutstandingFact f l None → length l.rounds < greatest_round → LifeFact f k now next (with_round f l (new_round f l (f.direct es l.wanted) now))
+  pub life_opens : IsLawful f → (k now next : ℕ) (l : Life V P W) (es : H) → LifeFact f k now next l
+      → OutstandingFact f l None → length l.rounds < greatest_round
+      → LifeFact f k now next (with_round f l (new_round f l (f.direct es l.wanted) now))
   life_opens laws k now next l es q none low =
       let x = new_round f l (f.direct es l.wanted) now in
       record {
@@ -126,7 +152,9 @@ module _ {V P W H E : Type 0} (f : Meaning V P W H E) where
       goal_front rs ys zero v g = g
       goal_front rs ys (suc i) v g = (g.0, get_front rs ys i g.0 g.1, g.2)
 
-  pub tied_opens : (k now next : ℕ) (l : Life V P W) (x : Round V P) (ended : List (Life V P W)) (packets : List (Packet P W)) (h : Holding V P W) → l.outstanding ≡ None → Tied f k now (Some l) ended next packets h → Tied f k now (Some (with_round f l x)) ended next packets h
+  pub tied_opens : (k now next : ℕ) (l : Life V P W) (x : Round V P) (ended : List (Life V P W))
+      (packets : List (Packet P W)) (h : Holding V P W) → l.outstanding ≡ None
+      → Tied f k now (Some l) ended next packets h → Tied f k now (Some (with_round f l x)) ended next packets h
   tied_opens k now next l x ended packets h none t =
       tied_moves k now k now (Some l) (Some (with_round f l x)) ended ended next packets h (omega arith)
       (kept_life f l (with_round f l x) refl refl (λ i y e. get_front l.rounds (x ∷ []) i y e) ended)
@@ -155,12 +183,15 @@ module _ {V P W H E : Type 0} (f : Meaning V P W H E) where
   no_life true n t now l w once alive same = let a = once refl in let e = ap f.termination same in absurd (omega arith)
 
   -- the life in the table under the consumer's number is the first under it
-  pub rounds_here_of : (k now next : ℕ) (l : Life V P W) (ended : List (Life V P W)) (packets : List (Packet P W)) (h : Holding V P W) → LifeFact f k now next l → Tied f k now (Some l) ended next packets h → l.number ≡ h.number → (s : ℕ) → s ≡ k → rounds_of h.number s (Some l) ended ≡ l.rounds
+  pub rounds_here_of : (k now next : ℕ) (l : Life V P W) (ended : List (Life V P W)) (packets : List (Packet P W))
+      (h : Holding V P W) → LifeFact f k now next l → Tied f k now (Some l) ended next packets h → l.number ≡ h.number
+      → (s : ℕ) → s ≡ k → rounds_of h.number s (Some l) ended ≡ l.rounds
   rounds_here_of k now next l ended packets h q t same s eq =
       subst (λ (s : ℕ). rounds_of h.number s (Some l) ended ≡ l.rounds) (sym eq)
       (rounds_here f l h.number k ended same q.start (no_life (has h.number k ended) 0 0 now l h.wanted t.once q.alive (t.shared.wanted same)))
 
-  sent_not_past : (k : ℕ) (h : Holding V P W) (l : Life V P W) (o : Outstanding V P) → l.start ≡ k → h.start ≤ k → Ahead f k h (length l.rounds) o → NotPast f h (wanted_mark f l o)
+  sent_not_past : (k : ℕ) (h : Holding V P W) (l : Life V P W) (o : Outstanding V P) → l.start ≡ k → h.start ≤ k
+      → Ahead f k h (length l.rounds) o → NotPast f h (wanted_mark f l o)
   sent_not_past k h l o eq low a =
       record {
         round = λ s. let c = a.same (sym s ∙ eq) in omega (arith, c);
@@ -169,14 +200,20 @@ module _ {V P W H E : Type 0} (f : Meaning V P W H E) where
         newer_part = λ s. let c = a.older_part (omega arith) in omega arith;
       }
 
-  pub ahead_of : (k : ℕ) (h : Holding V P W) (l : Life V P W) (o : Outstanding V P) → l.outstanding ≡ Some o → Wanting f k h (length l.rounds) l.outstanding → Ahead f k h (length l.rounds) o
+  pub ahead_of : (k : ℕ) (h : Holding V P W) (l : Life V P W) (o : Outstanding V P) → l.outstanding ≡ Some o
+      → Wanting f k h (length l.rounds) l.outstanding → Ahead f k h (length l.rounds) o
   ahead_of k h l o is a = subst (Wanting f k h (length l.rounds)) is a
 
   pub is_outstanding_of : (l : Life V P W) (o : Outstanding V P) → l.outstanding ≡ Some o → OutstandingFact f l l.outstanding → IsOutstanding f l o
   is_outstanding_of l o is a = subst (OutstandingFact f l) is a
 
   -- the wanted part, as the packet that carries it
-  pub part_fact : (k now next : ℕ) (l : Life V P W) (o : Outstanding V P) (ended : List (Life V P W)) (packets : List (Packet P W)) (h : Holding V P W) (x : P) → l.outstanding ≡ Some o → slice_get o.round.parts o.acknowledged_parts ≡ Some x → LifeFact f k now next l → Tied f k now (Some l) ended next packets h → l.number ≡ h.number → Delivers f k (Some l) ended h (wanted_mark f l o) o.round.moment (nat_lt (suc o.acknowledged_parts) (length o.round.parts)) x
+  pub part_fact : (k now next : ℕ) (l : Life V P W) (o : Outstanding V P) (ended : List (Life V P W))
+      (packets : List (Packet P W)) (h : Holding V P W) (x : P) → l.outstanding ≡ Some o
+      → slice_get o.round.parts o.acknowledged_parts ≡ Some x → LifeFact f k now next l
+      → Tied f k now (Some l) ended next packets h → l.number ≡ h.number
+      → Delivers f k (Some l) ended h (wanted_mark f l o) o.round.moment
+      (nat_lt (suc o.acknowledged_parts) (length o.round.parts)) x
   part_fact k now next l o ended packets h x is here q t same =
       let a = ahead_of k h l o is (t.shared.wanting same) in
       let outstanding = is_outstanding_of l o is q.outstanding in
@@ -189,11 +226,14 @@ module _ {V P W H E : Type 0} (f : Meaning V P W H E) where
           r = o.round;
           round = outstanding.count;
           part = refl;
-          at = subst (λ rs. slice_get rs outstanding.round ≡ Some o.round) (sym (rounds_here_of k now next l ended packets h q t same l.start q.start)) outstanding.here;
+          at = subst (λ rs. slice_get rs outstanding.round ≡ Some o.round)
+              (sym (rounds_here_of k now next l ended packets h q t same l.start q.start)) outstanding.here;
           here = here;
           moment_is = refl;
           more_is = refl;
-          goal = subst (λ rs. GoalAt f rs outstanding.round o.round.base) (sym (rounds_here_of k now next l ended packets h q t same l.start q.start)) (subst (λ v. GoalAt f l.rounds outstanding.round v) (sym outstanding.base) outstanding.goal);
+          goal = subst (λ rs. GoalAt f rs outstanding.round o.round.base)
+              (sym (rounds_here_of k now next l ended packets h q t same l.start q.start))
+              (subst (λ v. GoalAt f l.rounds outstanding.round v) (sym outstanding.base) outstanding.goal);
           load = subst (λ w. o.round.parts ≡ f.load o.round.base o.round.target w) (t.shared.wanted same) outstanding.load;
           base_is_view = subst (λ v. f.is_view v ≡ true) (sym outstanding.base) q.acknowledged_is_view;
           target_is_view = outstanding.target_is_view;
@@ -206,11 +246,16 @@ module _ {V P W H E : Type 0} (f : Meaning V P W H E) where
         };
       }
 
-  pub part_facts : (k now next : ℕ) (l : Life V P W) (o : Outstanding V P) (ended : List (Life V P W)) (packets : List (Packet P W)) (h : Holding V P W) → l.outstanding ≡ Some o → LifeFact f k now next l → Tied f k now (Some l) ended next packets h → (y : Option P) → slice_get o.round.parts o.acknowledged_parts ≡ y → Each (Fact f k (Some l) ended h) (part_message f l o y)
+  pub part_facts : (k now next : ℕ) (l : Life V P W) (o : Outstanding V P) (ended : List (Life V P W))
+      (packets : List (Packet P W)) (h : Holding V P W) → l.outstanding ≡ Some o → LifeFact f k now next l
+      → Tied f k now (Some l) ended next packets h → (y : Option P) → slice_get o.round.parts o.acknowledged_parts ≡ y
+      → Each (Fact f k (Some l) ended h) (part_message f l o y)
   part_facts k now next l o ended packets h is q t None e = tt
   part_facts k now next l o ended packets h is q t (Some x) e = (part_fact k now next l o ended packets h x is e q t, tt)
 
-  pub message_facts : (k now next : ℕ) (l : Life V P W) (o : Outstanding V P) (ended : List (Life V P W)) (packets : List (Packet P W)) (h : Holding V P W) → l.outstanding ≡ Some o → LifeFact f k now next l → Tied f k now (Some l) ended next packets h → (b : Bool) → Each (Fact f k (Some l) ended h) (message_by f b l o)
+  pub message_facts : (k now next : ℕ) (l : Life V P W) (o : Outstanding V P) (ended : List (Life V P W))
+      (packets : List (Packet P W)) (h : Holding V P W) → l.outstanding ≡ Some o → LifeFact f k now next l
+      → Tied f k now (Some l) ended next packets h → (b : Bool) → Each (Fact f k (Some l) ended h) (message_by f b l o)
   message_facts k now next l o ended packets h is q t true = (
     (λ same. record {
       start = let s = q.start in omega arith;
@@ -218,16 +263,24 @@ module _ {V P W H E : Type 0} (f : Meaning V P W H E) where
       tells =
           let outstanding = is_outstanding_of l o is q.outstanding in
           let here = rounds_here_of k now next l ended packets h q t same l.start q.start in
-          record { i = outstanding.round; r = o.round; round = outstanding.count; at = subst (λ rs. slice_get rs outstanding.round ≡ Some o.round) (sym here) outstanding.here; moment_is = refl };
+          record {
+            i = outstanding.round;
+            r = o.round;
+            round = outstanding.count;
+            at = subst (λ rs. slice_get rs outstanding.round ≡ Some o.round) (sym here) outstanding.here;
+            moment_is = refl;
+          };
       low = q.count;
       few = let outstanding = is_outstanding_of l o is q.outstanding in let a = outstanding.part in let b = outstanding.few in omega arith;
     }),
     tt,
   )
-  message_facts k now next l o ended packets h is q t false = part_facts k now next l o ended packets h is q t (slice_get o.round.parts o.acknowledged_parts) refl
+  message_facts k now next l o ended packets h is q t false =
+      part_facts k now next l o ended packets h is q t (slice_get o.round.parts o.acknowledged_parts) refl
 
   -- the time of sending is another one
-  pub life_at : (k now next : ℕ) (l : Life V P W) (o : Outstanding V P) (time : Option ℕ) → l.outstanding ≡ Some o → LifeFact f k now next l → LifeFact f k now next (with_outstanding f l (sent_at o time))
+  pub life_at : (k now next : ℕ) (l : Life V P W) (o : Outstanding V P) (time : Option ℕ) → l.outstanding ≡ Some o
+      → LifeFact f k now next l → LifeFact f k now next (with_outstanding f l (sent_at o time))
   life_at k now next l o time is q =
       let outstanding = is_outstanding_of l o is q.outstanding in
       record {
@@ -236,10 +289,23 @@ module _ {V P W H E : Type 0} (f : Meaning V P W H E) where
         alive = q.alive;
         acknowledged_is_view = q.acknowledged_is_view;
         count = q.count;
-        outstanding = record { round = outstanding.round; count = outstanding.count; here = outstanding.here; base = outstanding.base; goal = outstanding.goal; load = outstanding.load; part = outstanding.part; few = outstanding.few; target_is_view = outstanding.target_is_view };
+        outstanding = record {
+          round = outstanding.round;
+          count = outstanding.count;
+          here = outstanding.here;
+          base = outstanding.base;
+          goal = outstanding.goal;
+          load = outstanding.load;
+          part = outstanding.part;
+          few = outstanding.few;
+          target_is_view = outstanding.target_is_view;
+        };
       }
 
-  pub tied_at : (k now next : ℕ) (l : Life V P W) (o : Outstanding V P) (time : Option ℕ) (ended : List (Life V P W)) (packets : List (Packet P W)) (h : Holding V P W) → l.outstanding ≡ Some o → Tied f k now (Some l) ended next packets h → Tied f k now (Some (with_outstanding f l (sent_at o time))) ended next packets h
+  pub tied_at : (k now next : ℕ) (l : Life V P W) (o : Outstanding V P) (time : Option ℕ) (ended : List (Life V P W))
+      (packets : List (Packet P W)) (h : Holding V P W) → l.outstanding ≡ Some o
+      → Tied f k now (Some l) ended next packets h → Tied f k now
+      (Some (with_outstanding f l (sent_at o time))) ended next packets h
   tied_at k now next l o time ended packets h is t =
       tied_moves k now k now (Some l) (Some (with_outstanding f l (sent_at o time))) ended ended next packets h (omega arith)
       (kept_life f l (with_outstanding f l (sent_at o time)) refl refl (λ i y e. e) ended)
@@ -247,19 +313,40 @@ module _ {V P W H E : Type 0} (f : Meaning V P W H E) where
       (record {
         number = t.shared.number;
         wanted = t.shared.wanted;
-        wanting = λ same. let a = ahead_of k h l o is (t.shared.wanting same) in record { same = a.same; older_round = a.older_round; older_part = a.older_part };
+        wanting = λ same. let a = ahead_of k h l o is (t.shared.wanting same) in
+            record { same = a.same; older_round = a.older_round; older_part = a.older_part };
       })
       t.once t
 
   -- ---- a heartbeat is sent
   heartbeat_outstanding : (l : Life V P W) (t : ℕ) (o : Option (Outstanding V P)) → OutstandingFact f l o → OutstandingFact f (with_heartbeat f l t) o
   heartbeat_outstanding l t None g = g
-  heartbeat_outstanding l t (Some o) outstanding = record { round = outstanding.round; count = outstanding.count; here = outstanding.here; base = outstanding.base; goal = outstanding.goal; load = outstanding.load; part = outstanding.part; few = outstanding.few; target_is_view = outstanding.target_is_view }
+  heartbeat_outstanding l t (Some o) outstanding =
+      record {
+        round = outstanding.round;
+        count = outstanding.count;
+        here = outstanding.here;
+        base = outstanding.base;
+        goal = outstanding.goal;
+        load = outstanding.load;
+        part = outstanding.part;
+        few = outstanding.few;
+        target_is_view = outstanding.target_is_view;
+      }
 
   pub life_heartbeat : (k now next : ℕ) (l : Life V P W) (t : ℕ) → LifeFact f k now next l → LifeFact f k now next (with_heartbeat f l t)
-  life_heartbeat k now next l t q = record { start = q.start; number = q.number; alive = q.alive; acknowledged_is_view = q.acknowledged_is_view; count = q.count; outstanding = heartbeat_outstanding l t l.outstanding q.outstanding }
+  life_heartbeat k now next l t q = record {
+    start = q.start;
+    number = q.number;
+    alive = q.alive;
+    acknowledged_is_view = q.acknowledged_is_view;
+    count = q.count;
+    outstanding = heartbeat_outstanding l t l.outstanding q.outstanding;
+  }
 
-  pub tied_heartbeat : (k now next : ℕ) (l : Life V P W) (time : ℕ) (ended : List (Life V P W)) (packets : List (Packet P W)) (h : Holding V P W) → Tied f k now (Some l) ended next packets h → Tied f k now (Some (with_heartbeat f l time)) ended next packets h
+  pub tied_heartbeat : (k now next : ℕ) (l : Life V P W) (time : ℕ) (ended : List (Life V P W))
+      (packets : List (Packet P W)) (h : Holding V P W) → Tied f k now (Some l) ended next packets h
+      → Tied f k now (Some (with_heartbeat f l time)) ended next packets h
   tied_heartbeat k now next l time ended packets h t =
       tied_moves k now k now (Some l) (Some (with_heartbeat f l time)) ended ended next packets h (omega arith)
       (kept_life f l (with_heartbeat f l time) refl refl (λ i y e. e) ended)
@@ -268,7 +355,10 @@ module _ {V P W H E : Type 0} (f : Meaning V P W H E) where
       t.once t
 
   -- ---- the wanted part is acknowledged
-  pub life_next : (k now next : ℕ) (l : Life V P W) (o : Outstanding V P) (time : Option ℕ) → l.outstanding ≡ Some o → suc o.acknowledged_parts < length o.round.parts → LifeFact f k now next l → LifeFact f k now next (with_outstanding f l (record { round = o.round; acknowledged_parts = suc o.acknowledged_parts; last_sent = time }))
+  pub life_next : (k now next : ℕ) (l : Life V P W) (o : Outstanding V P) (time : Option ℕ) → l.outstanding ≡ Some o
+      → suc o.acknowledged_parts < length o.round.parts → LifeFact f k now next l
+      → LifeFact f k now next (with_outstanding f l
+      (record { round = o.round; acknowledged_parts = suc o.acknowledged_parts; last_sent = time }))
   life_next k now next l o time is low q =
       let outstanding = is_outstanding_of l o is q.outstanding in
       record {
@@ -277,10 +367,21 @@ module _ {V P W H E : Type 0} (f : Meaning V P W H E) where
         alive = q.alive;
         acknowledged_is_view = q.acknowledged_is_view;
         count = q.count;
-        outstanding = record { round = outstanding.round; count = outstanding.count; here = outstanding.here; base = outstanding.base; goal = outstanding.goal; load = outstanding.load; part = low; few = outstanding.few; target_is_view = outstanding.target_is_view };
+        outstanding = record {
+          round = outstanding.round;
+          count = outstanding.count;
+          here = outstanding.here;
+          base = outstanding.base;
+          goal = outstanding.goal;
+          load = outstanding.load;
+          part = low;
+          few = outstanding.few;
+          target_is_view = outstanding.target_is_view;
+        };
       }
 
-  pub life_closed : (k now next : ℕ) (l : Life V P W) (o : Outstanding V P) → l.outstanding ≡ Some o → LifeFact f k now next l → LifeFact f k now next (closed f l o)
+  pub life_closed : (k now next : ℕ) (l : Life V P W) (o : Outstanding V P) → l.outstanding ≡ Some o
+      → LifeFact f k now next l → LifeFact f k now next (closed f l o)
   life_closed k now next l o is q =
       let outstanding = is_outstanding_of l o is q.outstanding in
       record {
@@ -299,12 +400,25 @@ module _ {V P W H E : Type 0} (f : Meaning V P W H E) where
     pub part : m.part ≡ suc o.acknowledged_parts
     pub before : l.number ≡ h.number → Before f h m
 
-  pub tied_next : (k now next : ℕ) (l : Life V P W) (o : Outstanding V P) (time : Option ℕ) (m : Mark) (ended : List (Life V P W)) (packets : List (Packet P W)) (h : Holding V P W) → l.outstanding ≡ Some o → suc o.acknowledged_parts < length o.round.parts → Acknowledged k h l o m → Tied f k now (Some l) ended next packets h → Tied f k now (Some (with_outstanding f l (record { round = o.round; acknowledged_parts = suc o.acknowledged_parts; last_sent = time }))) ended next packets h
+  pub tied_next : (k now next : ℕ) (l : Life V P W) (o : Outstanding V P) (time : Option ℕ) (m : Mark)
+      (ended : List (Life V P W)) (packets : List (Packet P W)) (h : Holding V P W) → l.outstanding ≡ Some o
+      → suc o.acknowledged_parts < length o.round.parts → Acknowledged k h l o m
+      → Tied f k now (Some l) ended next packets h → Tied f k now
+      (Some (with_outstanding f l (record {
+        round = o.round;
+        acknowledged_parts = suc o.acknowledged_parts;
+        last_sent = time;
+      }))) ended next packets h
   tied_next k now next l o time m ended packets h is low acknowledged t =
       let o' : Outstanding V P = record { round = o.round; acknowledged_parts = suc o.acknowledged_parts; last_sent = time } in
       tied_moves k now k now (Some l) (Some (with_outstanding f l o')) ended ended next packets h (omega arith)
       (kept_life f l (with_outstanding f l o') refl refl (λ i y e. e) ended)
-      (λ m moment more y d same. let b = d.behind same in record { round = b.round; part = λ s r. let c : m.part ≤ suc o.acknowledged_parts = subst (λ u. PartBehind f u m.part) is (b.part s r) in omega arith })
+      (λ m moment more y d same. let b = d.behind same in
+      record {
+        round = b.round;
+        part = λ s r. let c : m.part ≤ suc o.acknowledged_parts =
+            subst (λ u. PartBehind f u m.part) is (b.part s r) in omega arith;
+      })
       (record {
         number = t.shared.number;
         wanted = t.shared.wanted;
@@ -324,12 +438,17 @@ module _ {V P W H E : Type 0} (f : Meaning V P W H E) where
       })
       t.once t
 
-  after_last : (r b n p len : ℕ) → ((suc r ≡ n) × (b ≡ p)) ⊎ (((suc r ≡ n) × (b ≡ suc p) × (suc p < len)) ⊎ ((r ≡ n) × (b ≡ 0) × (suc p ≡ len))) → (n ≡ suc r → suc p ≤ b) → len ≤ suc p → p < len → (r ≡ n) × (b ≡ 0)
+  after_last : (r b n p len : ℕ) → ((suc r ≡ n) × (b ≡ p))
+      ⊎ (((suc r ≡ n) × (b ≡ suc p) × (suc p < len)) ⊎ ((r ≡ n) × (b ≡ 0) × (suc p ≡ len))) → (n ≡ suc r → suc p ≤ b)
+      → len ≤ suc p → p < len → (r ≡ n) × (b ≡ 0)
   after_last r b n p len (inl c) before low part = let g = before (sym c.0) in absurd (omega arith)
   after_last r b n p len (inr (inl c)) before low part = absurd (omega arith)
   after_last r b n p len (inr (inr c)) before low part = (c.0, c.1)
 
-  pub tied_closed : (k now next : ℕ) (l : Life V P W) (o : Outstanding V P) (m : Mark) (ended : List (Life V P W)) (packets : List (Packet P W)) (h : Holding V P W) → l.outstanding ≡ Some o → length o.round.parts ≤ suc o.acknowledged_parts → LifeFact f k now next l → Acknowledged k h l o m → Tied f k now (Some l) ended next packets h → Tied f k now (Some (closed f l o)) ended next packets h
+  pub tied_closed : (k now next : ℕ) (l : Life V P W) (o : Outstanding V P) (m : Mark) (ended : List (Life V P W))
+      (packets : List (Packet P W)) (h : Holding V P W) → l.outstanding ≡ Some o
+      → length o.round.parts ≤ suc o.acknowledged_parts → LifeFact f k now next l → Acknowledged k h l o m
+      → Tied f k now (Some l) ended next packets h → Tied f k now (Some (closed f l o)) ended next packets h
   tied_closed k now next l o m ended packets h is low q acknowledged t =
       tied_moves k now k now (Some l) (Some (closed f l o)) ended ended next packets h (omega arith)
       (kept_life f l (closed f l o) refl refl (λ i y e. e) ended)
@@ -342,8 +461,12 @@ module _ {V P W H E : Type 0} (f : Meaning V P W H E) where
             let b = acknowledged.before same in
             let ar = acknowledged.round in let ap = acknowledged.part in let ast = acknowledged.start in
             record {
-              round = λ s. (after_last h.round (length h.parts) (length l.rounds) o.acknowledged_parts (length o.round.parts) (a.same s) (λ e. let p = b.part (acknowledged.start ∙ sym s) in omega arith) low (is_outstanding_of l o is q.outstanding).part).0;
-              parts = λ s. (after_last h.round (length h.parts) (length l.rounds) o.acknowledged_parts (length o.round.parts) (a.same s) (λ e. let p = b.part (acknowledged.start ∙ sym s) in omega arith) low (is_outstanding_of l o is q.outstanding).part).1;
+              round = λ s. (after_last h.round (length h.parts) (length l.rounds) o.acknowledged_parts
+                  (length o.round.parts) (a.same s) (λ e. let p = b.part (acknowledged.start ∙ sym s) in omega arith)
+                  low (is_outstanding_of l o is q.outstanding).part).0;
+              parts = λ s. (after_last h.round (length h.parts) (length l.rounds) o.acknowledged_parts
+                  (length o.round.parts) (a.same s) (λ e. let p = b.part (acknowledged.start ∙ sym s) in omega arith)
+                  low (is_outstanding_of l o is q.outstanding).part).1;
               older = λ s. let c = b.start in absurd (omega arith);
             };
       })
@@ -363,17 +486,23 @@ module _ {V P W H E : Type 0} (f : Meaning V P W H E) where
       by true q e = g (match_number f l n s q)
       by false q e = absurd (cc)
 
-  pub once_retired : (n s : ℕ) (e : Option (Life V P W)) (ls : List (Life V P W)) (R : Type 0) → IfUnder n e (λ l. R) → (has n s ls ≡ true → R) → has n s (ls ++ retire f e) ≡ true → R
+  pub once_retired : (n s : ℕ) (e : Option (Life V P W)) (ls : List (Life V P W)) (R : Type 0) → IfUnder n e (λ l. R)
+      → (has n s ls ≡ true → R) → has n s (ls ++ retire f e) ≡ true → R
   once_retired n s e ls R g old h = ⊎_elim old (has_retire n s e R g) (or_cases _ _ (sym (has_retired f n s ls e) ∙ h))
 
-  pub tied_ends : (k now now' : ℕ) (e : Option (Life V P W)) (ended : List (Life V P W)) (next : ℕ) (packets : List (Packet P W)) (h : Holding V P W) → now ≤ now' → IfUnder h.number e (λ l. f.termination h.wanted ≤ now') → Tied f k now e ended next packets h → Tied f k now' None (ended ++ retire f e) next packets h
+  pub tied_ends : (k now now' : ℕ) (e : Option (Life V P W)) (ended : List (Life V P W)) (next : ℕ)
+      (packets : List (Packet P W)) (h : Holding V P W) → now ≤ now'
+      → IfUnder h.number e (λ l. f.termination h.wanted ≤ now') → Tied f k now e ended next packets h
+      → Tied f k now' None (ended ++ retire f e) next packets h
   tied_ends k now now' e ended next packets h le under t =
       tied_moves k now k now' e None ended (ended ++ retire f e) next packets h (omega arith) (kept_ended f e ended)
       (λ m moment more y d. tt) tt
       (once_retired h.number k e ended (f.termination h.wanted ≤ now') under (λ b. let a = t.once b in omega arith))
       t
 
-  pub tied_anew : (k now now' next : ℕ) (e : Option (Life V P W)) (ended : List (Life V P W)) (packets : List (Packet P W)) (h : Holding V P W) → TableFact f k now next e → Each (Old f k next) ended → Tied f k now e ended next packets h → Tied f (suc k) now' None (ended ++ retire f e) next packets h
+  pub tied_anew : (k now now' next : ℕ) (e : Option (Life V P W)) (ended : List (Life V P W))
+      (packets : List (Packet P W)) (h : Holding V P W) → TableFact f k now next e → Each (Old f k next) ended
+      → Tied f k now e ended next packets h → Tied f (suc k) now' None (ended ++ retire f e) next packets h
   tied_anew k now now' next e ended packets h q olds t =
       tied_moves k now (suc k) now' e None ended (ended ++ retire f e) next packets h (omega arith) (kept_ended f e ended)
       (λ m moment more y d. tt) tt
@@ -389,10 +518,14 @@ module _ {V P W H E : Type 0} (f : Meaning V P W H E) where
           by false r b = cc
 
       nothing : has h.number (suc k) (ended ++ retire f e) ≡ true → ⊥
-      nothing b = ⊎_elim (has_one f (Old f k next) ⊥ h.number (suc k) ended (λ l en es o. let a = o.start in omega arith) olds) (life_start e q) (or_cases _ _ (sym (has_retired f h.number (suc k) ended e) ∙ b))
+      nothing b = ⊎_elim (has_one f (Old f k next) ⊥ h.number (suc k) ended
+          (λ l en es o. let a = o.start in omega arith) olds) (life_start e q)
+          (or_cases _ _ (sym (has_retired f h.number (suc k) ended e) ∙ b))
 
   -- the clock goes on
-  pub tied_clock : (k now now' : ℕ) (e : Option (Life V P W)) (ended : List (Life V P W)) (next : ℕ) (packets : List (Packet P W)) (h : Holding V P W) → now ≤ now' → Tied f k now e ended next packets h → Tied f k now' e ended next packets h
+  pub tied_clock : (k now now' : ℕ) (e : Option (Life V P W)) (ended : List (Life V P W)) (next : ℕ)
+      (packets : List (Packet P W)) (h : Holding V P W) → now ≤ now' → Tied f k now e ended next packets h
+      → Tied f k now' e ended next packets h
   tied_clock k now now' e ended next packets h le t =
       record {
         number = t.number;
@@ -424,7 +557,10 @@ module _ {V P W H E : Type 0} (f : Meaning V P W H E) where
   smaller_up n m None le g = tt
   smaller_up n m (Some l) le g = omega arith
 
-  pub tied_accepts : (k now next n : ℕ) (x : W) (e : Option (Life V P W)) (ended : List (Life V P W)) (packets : List (Packet P W)) (h : Holding V P W) → 1 ≤ k → Smaller n e → now < f.termination x → Fact f k e ended h (Subscribe n x) → Tied f k now e ended next packets h → Tied f k now (Some (new_life f k now n x)) (ended ++ retire f e) next packets h
+  pub tied_accepts : (k now next n : ℕ) (x : W) (e : Option (Life V P W)) (ended : List (Life V P W))
+      (packets : List (Packet P W)) (h : Holding V P W) → 1 ≤ k → Smaller n e → now < f.termination x
+      → Fact f k e ended h (Subscribe n x) → Tied f k now e ended next packets h
+      → Tied f k now (Some (new_life f k now n x)) (ended ++ retire f e) next packets h
   tied_accepts k now next n x e ended packets h first small alive fact t =
       tied_moves k now k now e (Some (new_life f k now n x)) ended (ended ++ retire f e) next packets h (omega arith) (kept_fresh f e ended k now n x)
       (λ m moment more y d same. record {

@@ -6,9 +6,11 @@ use Rattle.siri_life.specs.Meaning.{Meaning}
 use Rattle.siri_life.specs.Life.{Mark, Subscribe, Terminate, Supply, Acknowledge, Notify, Delivery}
 use Rattle.siri_life.specs.Link.{Holding, Outcome, UnknownSubscription, OldStart, Gap, Repeat, Overlong, Wanted, outcome}
 use Rattle.siri_life.specs.Named.{Of, Name}
-use Rattle.siri_life.specs.Serving.{Serving, Act, Clocked, Fed, Heard, Settled, About, Carries, ToProducer, ToConsumer, served, served_letters, serving_after, serving_letters, told}
+use Rattle.siri_life.specs.Serving.{Serving, Act, Clocked, Fed, Heard, Settled, About, Carries, ToProducer, ToConsumer, served}
+use Rattle.siri_life.specs.Serving.{served_letters, serving_after, serving_letters, told}
 use Rattle.siri_life.specs.Network
-use Rattle.siri_life.specs.Network.{Network, Happening, Starts, Clocks, Feeds, Asks, Stops, Requests, Delivers, act, acts, takes, takes_letter, step, acts_about, acts_of_letter, serving_by}
+use Rattle.siri_life.specs.Network.{Network, Happening, Starts, Clocks, Feeds, Asks, Stops, Requests, Delivers, act, acts, takes}
+use Rattle.siri_life.specs.Network.{takes_letter, step, acts_about, acts_of_letter, serving_by}
 
 told_after : {A : Type 0} (xs ys : List A) → (xs ++ []) ++ ys ≡ xs ++ ys
 told_after xs ys = ap (λ zs. zs ++ ys) (append-nil xs)
@@ -62,7 +64,8 @@ module _ {V P W H E : Type 0} (f : Meaning V P W H E) where
   notified_serves n c s m None = refl
   notified_serves n c s m (Some h) = readied_serves n c (outcome f h m)
 
-  delivered_serves : (n : Network V P W H) (c s : Name) (m : Mark) (more : Bool) (x : P) (held : Option (Holding V P W)) → (Network.delivered f n c s m more x held).serving ≡ n.serving
+  delivered_serves : (n : Network V P W H) (c s : Name) (m : Mark) (more : Bool) (x : P) (held : Option (Holding V P W))
+      → (Network.delivered f n c s m more x held).serving ≡ n.serving
   delivered_serves n c s m more x None = refl
   delivered_serves n c s m more x (Some h) = refl
 

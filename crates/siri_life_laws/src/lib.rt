@@ -8,19 +8,21 @@
 //!     a producer's history                 -> what it serves       ---> what other subscriptions change of it: nothing
 //! ```
 //!
-//! They hold of any views, parts and wanted subscriptions whose laws are those of `IsLawful`: that the parts of a round lead
-//! to its target, that there is one at least and 400 at most, and that the empty view and each target are views. Nothing is
-//! asked of what is near.
+//! They hold of any views, parts and wanted subscriptions whose laws are those of `IsLawful`: that the parts of a round
+//! lead to its target, that there is one at least and 400 at most, and that the empty view and each target are views.
+//! Nothing is asked of what is near.
 //!
-//! Stands on `siri_life`. How the laws are proved: `proofs/Facts.antt` has what holds at every moment between the two ends of
-//! one subscription, `Moves` that the producer's steps keep it, `Takes` that the consumer's do, `Steps` that each event does;
-//! `Claims` what follows. `Sees` and `Fits` show that a network, as one subscription of it sees it, is such a link.
-//! No law says that a packet comes: all of them hold where each one is lost. Small schedules that run are in `siri_life_examples`.
+//! Stands on `siri_life`. How the laws are proved: `proofs/Facts.antt` has what holds at every moment between the two
+//! ends of one subscription, `Moves` that the producer's steps keep it, `Takes` that the consumer's do, `Steps` that
+//! each event does; `Claims` what follows. `Sees` and `Fits` show that a network, as one subscription of it sees it, is
+//! such a link. No law says that a packet comes: all of them hold where each one is lost. Small schedules that run are
+//! in `siri_life_laws`.
 #![tactic(auto)]
 
 mod link_laws;
 mod network_laws;
 mod producer_laws;
+mod schedules;
 
 pub use link_laws::{
     link_carries_its_rounds, link_meets_where_quiet, link_shows_no_gap, link_takes_parts_once,
@@ -34,3 +36,4 @@ pub use producer_laws::{
     networks_serve_as_their_producer, other_subscriptions_change_nothing, producers_serve_alone,
     second_settle_does_nothing,
 };
+pub use schedules::{direct_rounds, fetched_rounds, heartbeats, numbers, starts};

@@ -9,8 +9,8 @@ ghost use Rattle.siri_life.specs.Network.{Happening, Delivers, seen_by, step, ne
 ghost use Rattle.siri_life.specs.Serving.{About, Carries};
 ghost use Rattle.siri_life_laws.specs.Claims.{ChangesNoView, HasMark, CarriesItsRound, ViewIsGoal, MeetsWhereQuiet};
 
-/// At every moment each consumer's view of each subscription is the target of the round that it comes from, or empty where it
-/// comes from none.
+/// At every moment each consumer's view of each subscription is the target of the round that it comes from, or empty
+/// where it comes from none.
 pub fn views_are_goals<V, P, W, H, E>()
     ensures { (f : Meaning V P W H E) → IsLawful f → (t : ℕ) (es : List (Happening W E)) (c s : Name)
         → ViewIsGoal f (seen_by f c s (network_after f es (opening f 1 t))) ((network_after f es (opening f 1 t)).holdings c s) }
@@ -24,9 +24,9 @@ pub fn views_meet_where_quiet<V, P, W, H, E>()
         (find c s (network_after f es (opening f 1 t)).serving.table) }
 {}
 
-/// Each ServiceDelivery that was ever sent of a subscription, under the number that its consumer holds, carries the part that
-/// its mark names of the round that its mark names, with the moment at which that round opened and with MoreData where a part
-/// comes after it; each DataReadyNotification tells of such a round, with its moment.
+/// Each ServiceDelivery that was ever sent of a subscription, under the number that its consumer holds, carries the
+/// part that its mark names of the round that its mark names, with the moment at which that round opened and with
+/// MoreData where a part comes after it; each DataReadyNotification tells of such a round, with its moment.
 pub fn packets_carry_their_rounds<V, P, W, H, E>()
     ensures { (f : Meaning V P W H E) → IsLawful f → (t : ℕ) (es : List (Happening W E)) (k : ℕ) (x : Of (About P W)) (p : Packet P W)
         → slice_get (network_after f es (opening f 1 t)).letters k ≡ Some x → x.it ≡ Carries p
@@ -43,8 +43,8 @@ pub fn parts_are_taken_once<V, P, W, H, E>()
         → ChangesNoView (outcome_of f ((network_after f after (step f (network_after f before (opening f 1 t)) (Delivers k))).holdings c s) m) }
 {}
 
-/// No ServiceDelivery and no DataReadyNotification that was ever sent shows its consumer a gap, or is past the greatest round
-/// or part.
+/// No ServiceDelivery and no DataReadyNotification that was ever sent shows its consumer a gap, or is past the greatest
+/// round or part.
 pub fn no_gap_is_shown<V, P, W, H, E>()
     ensures { (f : Meaning V P W H E) → IsLawful f → (t : ℕ) (es : List (Happening W E)) (k : ℕ) (x : Of (About P W)) (p : Packet P W) (m : Mark)
         → slice_get (network_after f es (opening f 1 t)).letters k ≡ Some x → x.it ≡ Carries p → HasMark p m

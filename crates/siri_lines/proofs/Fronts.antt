@@ -24,7 +24,9 @@ module _ {W : Type 0} (event : Events W) where
   splits [] n world end next line after text gone brings =
       splits_here n world next line after text (event n world line) refl
       (ap (λ w. event n w line) (same_Some world end gone) ∙ ap (λ m. event m end line) (omega arith) ∙ brings)
-  splits (first ∷ before) n world end next line after text gone brings = by (event n world first) refl (λ w gone_later. splits before (n + 1) w end next line after text gone_later (ap (λ m. event m end line) (omega arith) ∙ brings))
+  splits (first ∷ before) n world end next line after text gone brings =
+      by (event n world first) refl (λ w gone_later. splits before (n + 1) w end next line after text gone_later
+      (ap (λ m. event m end line) (omega arith) ∙ brings))
     where
       by : (v : Verdict W) → event n world first ≡ v
           → ((w : W) → gone_through event (n + 1) w before ≡ Some end → Splits (n + 1) w before (before ++ line ∷ after) text)

@@ -1,5 +1,6 @@
 -- The lines of a text that comes in parts.
-use Rattle.std.proofs.Common.{◌≡◌, ℕ, zero, suc, ◌+◌, ◌-◌, ◌≤◌, ◌<◌, List, [], ◌∷◌, ◌++◌, Bool, true, false, cond, eqb, refl, sym, ap, ◌∙◌, append_assoc, append-nil, length, take, drop, map, arith, add-one, subst, length-append, inl, inr}
+use Rattle.std.proofs.Common.{◌≡◌, ℕ, zero, suc, ◌+◌, ◌-◌, ◌≤◌, ◌<◌, List, [], ◌∷◌, ◌++◌, Bool, true, false, cond, eqb, refl, sym, ap, ◌∙◌}
+use Rattle.std.proofs.Common.{append_assoc, append-nil, length, take, drop, map, arith, add-one, subst, length-append, inl, inr}
 use Rattle.std.proofs.Math.Seq.{take-length}
 use Rattle.std.specs.Prelude.{slice_index, ◌==◌}
 use Rattle.std.specs.List.{slice_split, onto_first}
@@ -8,7 +9,7 @@ use Rattle.std.proofs.lemmas.Bool.{lt-ltb}
 use Rattle.std.proofs.lemmas.Bool.Decides.{eqb_tells}
 use Rattle.std.proofs.lemmas.List.{length-take-le}
 use Rattle.siri_base.specs.declared.status.Status.TheVariants as status
-use Rattle.siri_lines.specs.RunResult.{Events, ends_with, report_from, verdict}
+use Rattle.siri_lines.specs.RunResult.{Events, ends_with, report_from, verdict, longest_line}
 use Rattle.siri_lines.specs.Ends.{AreWholeLines, HasNoBreak}
 
 abbrev is_break : ℕ → Bool
@@ -27,7 +28,8 @@ some_part (b ∷ bs) =
       | false ↦ (b ∷ y, more, ap (onto_first b) e)
     ]
 
-onto_first_append : (b : ℕ) (y : List ℕ) (more rest : List (List ℕ)) (parts : List (List ℕ)) → parts ≡ y ∷ more → onto_first b (parts ++ rest) ≡ onto_first b parts ++ rest
+onto_first_append : (b : ℕ) (y : List ℕ) (more rest : List (List ℕ)) (parts : List (List ℕ)) → parts ≡ y ∷ more
+    → onto_first b (parts ++ rest) ≡ onto_first b parts ++ rest
 onto_first_append b y more rest parts e = rw e refl
 
 -- a line feed cuts the parts
@@ -35,7 +37,9 @@ parts_break : (front rest : List ℕ) → parts_of (front ++ 10 ∷ rest) ≡ pa
 parts_break [] rest = refl
 parts_break (b ∷ front) rest =
     let (y, more, e) = some_part front in
-    elim (is_break b) as (λ t. cond t ([] ∷ parts_of (front ++ 10 ∷ rest)) (onto_first b (parts_of (front ++ 10 ∷ rest))) ≡ cond t ([] ∷ parts_of front) (onto_first b (parts_of front)) ++ parts_of rest) [
+    elim (is_break b) as (λ t. cond t ([] ∷ parts_of (front ++ 10 ∷ rest))
+    (onto_first b (parts_of (front ++ 10 ∷ rest))) ≡ cond t ([] ∷ parts_of front) (onto_first b (parts_of front))
+    ++ parts_of rest) [
       | true ↦ ap (λ ps. [] ∷ ps) (parts_break front rest)
       | false ↦ ap (onto_first b) (parts_break front rest) ∙ onto_first_append b y more (parts_of rest) (parts_of front) e
     ]
@@ -49,7 +53,9 @@ lines_of_more (x ∷ z ∷ xs) y ys = ap (λ ls. strip_carriage_return x ∷ ls)
 lines_break : (front rest : List ℕ) → lines (front ++ 10 ∷ rest) ≡ map strip_carriage_return (parts_of front) ++ lines rest
 lines_break front rest =
     let (y, more, e) = some_part rest in
-    ap lines_of_parts (parts_break front rest ∙ ap (λ ps. parts_of front ++ ps) e) ∙ lines_of_more (parts_of front) y more ∙ ap (λ ps. map strip_carriage_return (parts_of front) ++ lines_of_parts ps) (sym e)
+    ap lines_of_parts (parts_break front rest ∙ ap (λ ps. parts_of front ++ ps) e)
+    ∙ lines_of_more (parts_of front) y more ∙ ap
+    (λ ps. map strip_carriage_return (parts_of front) ++ lines_of_parts ps) (sym e)
 
 -- whole lines and what follows them
 pub lines_whole : (bytes rest : List ℕ) → AreWholeLines bytes → lines (bytes ++ rest) ≡ lines bytes ++ lines rest
@@ -70,7 +76,8 @@ no_break_append [] run h e = e
 no_break_append (b ∷ line) run h e = (h.0, no_break_append line run h.1 e)
 
 -- no line feed stands before a place
-pub no_break_before : (bytes : List ℕ) (n : ℕ) → n ≤ length bytes → ((k : ℕ) → 0 ≤ k → k < n → ¬ ((slice_index bytes k == 10) ≡ true)) → HasNoBreak (take n bytes)
+pub no_break_before : (bytes : List ℕ) (n : ℕ) → n ≤ length bytes
+    → ((k : ℕ) → 0 ≤ k → k < n → ¬ ((slice_index bytes k == 10) ≡ true)) → HasNoBreak (take n bytes)
 no_break_before bytes zero h none = tt
 no_break_before [] (suc n) h none = tt
 no_break_before (b ∷ bytes) (suc n) h none = (
@@ -114,15 +121,21 @@ length-strip l = elim (eqb (slice_index l (length l - 1)) 13) as (λ t. length l
   | false ↦ omega arith
 ]
 
-first_too_long : {W : Type 0} (most : ℕ) (event : Events W) (n : ℕ) (w : W) (line : List ℕ) (more : List (List ℕ)) → 1048576 < length line → report_from (verdict most event) n w (line ∷ more) ≡ ends_with (status.Limit n)
-first_too_long most event n w line more h = rw (lt-ltb 1048576 (length line) h) refl
+first_too_long : {W : Type 0} (most : ℕ) (event : Events W) (n : ℕ) (w : W) (line : List ℕ) (more : List (List ℕ))
+    → longest_line < length line → report_from (verdict most event) n w (line ∷ more) ≡ ends_with (status.Limit n)
+first_too_long most event n w line more h = rw (lt-ltb longest_line (length line) h) refl
 
-parts_too_long : {W : Type 0} (most : ℕ) (event : Events W) (n : ℕ) (w : W) (line : List ℕ) (more : List (List ℕ)) → 1048577 < length line → report_from (verdict most event) n w (lines_of_parts (line ∷ more)) ≡ ends_with (status.Limit n)
-parts_too_long most event n w line [] h = let e : eqb (length line) 0 ≡ false = grind (arith, eqb_tells) in rw e (first_too_long most event n w line [] (omega arith))
-parts_too_long most event n w line (z ∷ more) h = first_too_long most event n w (strip_carriage_return line) (lines_of_parts (z ∷ more)) (omega (arith, length-strip line))
+parts_too_long : {W : Type 0} (most : ℕ) (event : Events W) (n : ℕ) (w : W) (line : List ℕ) (more : List (List ℕ))
+    → 1048577 < length line → report_from (verdict most event) n w (lines_of_parts (line ∷ more)) ≡ ends_with
+    (status.Limit n)
+parts_too_long most event n w line [] h = let e : eqb (length line) 0 ≡ false = grind (arith, eqb_tells) in
+    rw e (first_too_long most event n w line [] (omega arith))
+parts_too_long most event n w line (z ∷ more) h = first_too_long most event n w (strip_carriage_return line)
+    (lines_of_parts (z ∷ more)) (omega (arith, length-strip line))
 
 -- a line that has become too long ends the run, whatever follows
-pub too_long : {W : Type 0} (most : ℕ) (event : Events W) (n : ℕ) (w : W) (line rest : List ℕ) → HasNoBreak line → 1048577 < length line → report_from (verdict most event) n w (lines (line ++ rest)) ≡ ends_with (status.Limit n)
+pub too_long : {W : Type 0} (most : ℕ) (event : Events W) (n : ℕ) (w : W) (line rest : List ℕ) → HasNoBreak line
+    → 1048577 < length line → report_from (verdict most event) n w (lines (line ++ rest)) ≡ ends_with (status.Limit n)
 too_long most event n w line rest h long =
     let (y, more, e) = some_part rest in
     rw (begun line rest y more h e) (parts_too_long most event n w (line ++ y) more (omega (arith, length-append line y)))

@@ -30,10 +30,14 @@ goes_on (RunEnds status) later = ends_with status
 abbrev pub Events : Type 0 → Type 0
 Events W = ℕ → W → List ℕ → Verdict W
 
--- a line's length is tested first, at most 1,048,576 bytes, then its number, so many at most, then what it does
+-- the most bytes that a line has
+abbrev pub longest_line : ℕ
+longest_line = 1048576
+
+-- a line's length is tested first, then its number, so many at most, then what it does
 abbrev pub verdict : {W : Type 0} → ℕ → Events W → Events W
 verdict most event n world line =
-    if nat_lt 1048576 (length line) then RunEnds (status.Limit n)
+    if nat_lt longest_line (length line) then RunEnds (status.Limit n)
     else if nat_lt most n then RunEnds (status.Limit n)
     else event n world line
 

@@ -6,13 +6,13 @@
 //!                                                               sink
 //! ```
 //!
-//! What a line does is a [`LineTaker`]'s own: by the number of a line, what the lines before it made and its bytes it says what
-//! is written and what they make now, or how the run ends. `read_lines` says what all lines of a source write together, and
-//! which status ends the run.
+//! What a line does is a [`LineTaker`]'s own: by the number of a line, what the lines before it made and its bytes it
+//! says what is written and what they make now, or how the run ends. `read_lines` says what all lines of a source write
+//! together, and which status ends the run.
 //!
-//! A line ends with a line feed, and the carriage return before it is left out; bytes after the last line feed are a line where
-//! there are any. A line has at most 1,048,576 bytes without its end. The bytes between two line feeds are looked for and kept
-//! at once, and no more than one line is ever kept.
+//! A line ends with a line feed, and the carriage return before it is left out; bytes after the last line feed are a
+//! line where there are any. A line has at most 1,048,576 bytes without its end. The bytes between two line feeds are
+//! looked for and kept at once, and no more than one line is ever kept.
 //!
 //! The line that tells how a run ended is written here, too.
 //!

@@ -1,4 +1,5 @@
-// What takes lines.
+//! What takes lines.
+
 ghost use Rattle.siri_lines.specs.RunResult.{Events};
 ghost use Rattle.siri_base.specs.MetFailures.{SinkMeets};
 ghost use Rattle.siri_lines.specs.Brings.{Brings, StopCause, has_failed_to_write};

@@ -1,4 +1,5 @@
-// Lines that come in pieces.
+//! Lines that come in pieces.
+
 ghost use Rattle.std.specs.Prelude.{◌≡◌, ◌≤◌, ◌<◌, ◌+◌, ◌∷◌, ◌++◌, [], length, take, OnOk, IfErr};
 ghost use Rattle.std.specs.Str.Lines.{strip_carriage_return};
 ghost use Rattle.siri_base.specs.MetFailures.{SinkMeets, is_write_fault};
@@ -14,14 +15,14 @@ use siri_base::{Sink, Status};
 use std::alloc::Global;
 
 /// The most bytes that a line may have, its end left out.
-const LINE_BYTES: usize = 1_048_576;
+const LONGEST_LINE: usize = 1_048_576;
 
 /// The most bytes of a line that are kept: a carriage return may follow the longest line.
-const KEPT_BYTES: usize = LINE_BYTES + 1;
+const MOST_KEPT: usize = LONGEST_LINE + 1;
 
 /// Lines of which some bytes have come.
 #[derive(Drop)]
-pub struct Reader {
+pub(crate) struct Reader {
     /// The most lines that there may be.
     most: u64,
     /// How many lines have ended.
@@ -32,7 +33,7 @@ pub struct Reader {
 
 impl Reader {
     /// Nothing has come. There may be so many lines at most, up to 1,000,000. It takes no memory.
-    pub fn new(alloc: Global, most: u64) -> Self
+    pub(crate) fn new(alloc: Global, most: u64) -> Self
         requires { most ≤ 1000000 }
         ensures start { (result.lines ≡ 0) × (result.line.items ≡ []) }
         ensures most { result.most ≡ most }
@@ -46,7 +47,7 @@ impl Reader {
     }
 
     /// Takes the next piece, and has the lines that end in it taken.
-    pub fn take<T: LineTaker, K: Sink>(
+    pub(crate) fn take<T: LineTaker, K: Sink>(
         &mut self,
         taker: &mut T,
         piece: &[u8],
@@ -72,7 +73,7 @@ impl Reader {
     }
 
     /// The input has ended: has its last line taken, where no line feed ended it.
-    pub fn finish<T: LineTaker, K: Sink>(&mut self, taker: &mut T, sink: &mut K) -> Status
+    pub(crate) fn finish<T: LineTaker, K: Sink>(&mut self, taker: &mut T, sink: &mut K) -> Status
         requires { IsWithin self.old }
         ensures ends { InEachWorld T.fits taker.old self.old (λ from.
             Finishes (verdict self.old.most T.event) (K.held sink.old) from (K.held sink.new) result) }
@@ -122,7 +123,7 @@ impl Reader {
         ensures lines { self.new.lines ≡ self.old.lines }
         ensures most { self.new.most ≡ self.old.most }
     {
-        if run.len() > KEPT_BYTES - self.line.len() {
+        if run.len() > MOST_KEPT - self.line.len() {
             return Err(Stop::Limit {
                 line: self.lines + 1,
             });
@@ -133,7 +134,8 @@ impl Reader {
         }
     }
 
-    /// The line has ended: its first `ended` bytes, without its end, are taken. Its length is tested first, then its number.
+    /// The line has ended: its first `ended` bytes, without its end, are taken. Its length is tested first, then its
+    /// number.
     fn end_line<T: LineTaker, K: Sink>(
         &mut self,
         taker: &mut T,
@@ -152,7 +154,7 @@ impl Reader {
         ensures meets { SinkMeets (has_failed_to_write result) (K.held sink.old) (K.held sink.new) (K.fails sink.old) (K.fails sink.new) }
     {
         let number = self.lines + 1;
-        if ended > LINE_BYTES || number > self.most {
+        if ended > LONGEST_LINE || number > self.most {
             return Err(Stop::Limit { line: number });
         }
         taker.take_line(number, &self.line[..ended], sink)?;

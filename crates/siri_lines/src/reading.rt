@@ -1,4 +1,5 @@
-// Reads all lines of a source.
+//! Reads all lines of a source.
+
 ghost use Rattle.std.specs.Prelude.{◌≡◌, ◌≤◌, ◌<◌, length};
 ghost use Rattle.siri_base.specs.Causes.{Rose};
 ghost use Rattle.siri_base.specs.MetFailures.{SinkMeets, SourceMeets, is_read_fault, is_write_fault};
@@ -17,12 +18,13 @@ use std::alloc::Global;
 /// How many bytes are asked of the source at once.
 const PIECE: usize = 65_536;
 
-/// Reads lines to the source's end, so many at most, up to 1,000,000, and has each taken. What a line brings is written before
-/// the next is taken.
+/// Reads lines to the source's end, so many at most, up to 1,000,000, and has each taken. What a line brings is written
+/// before the next is taken.
 ///
-/// `Limit` exactly at the first line of more than 1,048,576 bytes, without its end, or of a greater number, where no line before
-/// it ended the run. `ReadFault` only where the source failed. A source or a sink that fails ends the run there: nothing is read or
-/// written after it, nor is anything read beyond the piece in which the end of a line lay that ended the run.
+/// `Limit` exactly at the first line of more than 1,048,576 bytes, without its end, or of a greater number, where no
+/// line before it ended the run. `ReadFault` only where the source failed. A source or a sink that fails ends the run
+/// there: nothing is read or written after it, nor is anything read beyond the piece in which the end of a line lay
+/// that ended the run.
 pub fn read_lines<T: LineTaker, S: Source, K: Sink>(
     alloc: Global,
     most: u64,

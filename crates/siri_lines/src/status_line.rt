@@ -1,4 +1,5 @@
-// The line that tells how a run ended.
+//! The line that tells how a run ended.
+
 ghost use Rattle.std.specs.Prelude.{◌≡◌, IfOk, OnErr, OnOk};
 ghost use Rattle.std.specs.Io.KnownBytes.{Appends};
 ghost use Rattle.siri_base.specs.Causes.{HasOutsideCause};
@@ -25,6 +26,7 @@ pub fn write_status<K: Sink>(
     write_text(sink, &status_line(alloc, status)?)
 }
 
+/// The text of a status and a line feed, or nothing where it has no text.
 fn status_line(alloc: Global, status: &Status) -> Result<Vec<u8>, OutOfMemory>
     ensures { IfOk result (λ line. line.items ≡ status_line status.now) }
 {

@@ -1,4 +1,5 @@
-// Why lines are read no further.
+//! Why lines are read no further.
+
 ghost use Rattle.std.specs.Prelude.{◌≡◌};
 ghost use Rattle.siri_lines.specs.Stops.{sink_stop, status_of};
 ghost use Rattle.siri_lines.specs.declared.stop.Stop.TheVariants.{OutOfMemory};

@@ -1,75 +1,19 @@
 -- How many packets are ever sent, and that a view passes no limit.
-use Rattle.std.proofs.Common.{◌≡◌, ℕ, ◌+◌, ◌≤◌, Bool, true, false, List, [], ◌∷◌, ◌++◌, length, Option, Some, None, Err, refl, sym, ap, ◌∙◌, length-append, if◌then◌else◌, arith}
-use Rattle.std.specs.Prelude.{ℤ, fold, nat_lt}
+use Rattle.std.proofs.Common.{◌≡◌, ℕ, ◌+◌, ◌≤◌, Bool, true, false, List, [], ◌∷◌, ◌++◌, length, Option, Some, None, Err, refl, sym, ap, ◌∙◌}
+use Rattle.std.proofs.Common.{length-append, if◌then◌else◌, arith}
+use Rattle.std.specs.Prelude.{fold}
 use Rattle.std.proofs.lemmas.Bool.{ltb-true, ltb-false}
-use Rattle.siri_topic.specs.declared.subscription.Subscription.{Subscription}
-use Rattle.siri_view.specs.Consuming.{Consuming, greatest_number, after_terminate, termination_of}
+use Rattle.siri_view.specs.Consuming.{Consuming}
 use Rattle.siri_view.specs.Kept.{KeptSubscription, kept_of}
-use Rattle.siri_view.specs.declared.outcome.AskError.{AskError}
-use Rattle.siri_view.specs.declared.outcome.AskError.TheVariants as ask_error
 use Rattle.siri_world_model.specs.declared.event.Event.{Event}
 use Rattle.siri_world_model.specs.declared.event.Event.TheVariants as event
 use Rattle.siri_world_model.specs.declared.step_error.StepError.{StepError}
 use Rattle.siri_world_model.specs.declared.step_error.StepError.TheVariants as error
-use Rattle.siri_world_model.specs.Lines as line
-use Rattle.siri_world_model.specs.Packets.{SentPacket, ToProducer, ToConsumer, packet_at}
-use Rattle.siri_world_model.specs.Consumers.{consumer_of, consumer_or_new}
+use Rattle.siri_world_model.specs.Consumers.{consumer_of}
 use Rattle.siri_world_model.specs.World.{World, nothing}
-use Rattle.siri_world_model.specs.Effects.{Effect, effect, tells, sent_by, subscribed_if, ask_refusal, terminated, terminated_if, checked, taken_if, delivered, viewed, viewed_if}
+use Rattle.siri_world_model.specs.Effects.{effect, viewed, viewed_if}
 use Rattle.siri_world_model.specs.Told.{is_early, passes_starts, passes_consumers, passes_packets, refusal, told, told_if, after, after_if, world_after}
-
--- ---- the packets of an effect are beside those of its world
-
-by_numbers : {packets : List SentPacket} (spent : Bool) (refused sent : Effect) → refused.world.packets ≡ packets → sent.world.packets ≡ packets → (if spent then refused else sent).world.packets ≡ packets
-by_numbers true refused sent a b = a
-by_numbers false refused sent a b = b
-
-subscribed_keeps : (refused : Option AskError) (world : World) (consumer : Consuming) (wanted : Subscription) (beat : ℤ) → (subscribed_if refused world consumer wanted beat).world.packets ≡ world.packets
-subscribed_keeps (Some why) world consumer wanted beat = refl
-subscribed_keeps None world consumer wanted beat = refl
-
-terminated_keeps : (world : World) (name identifier : List ℕ) (consumer : Option Consuming) → (terminated world name identifier consumer).world.packets ≡ world.packets
-terminated_keeps world name identifier None = refl
-terminated_keeps world name identifier (Some consumer) = by_kept (kept_of identifier consumer.held)
-  where
-    by_kept : (kept : Option KeptSubscription) → (terminated_if world consumer identifier kept).world.packets ≡ world.packets
-    by_kept None = refl
-    by_kept (Some kept) = by_numbers (nat_lt greatest_number consumer.next_number) (tells world (line.Refused consumer.name ask_error.Spent ∷ [])) (sent_by world (after_terminate consumer identifier) [] (termination_of consumer identifier ∷ [])) refl refl
-
-checked_keeps : (world : World) (name : List ℕ) (consumer : Option Consuming) → (checked world name consumer).world.packets ≡ world.packets
-checked_keeps world name None = refl
-checked_keeps world name (Some consumer) = refl
-
-delivered_keeps : (world : World) (number : ℕ) (packet : Option SentPacket) → (delivered world number packet).world.packets ≡ world.packets
-delivered_keeps world number None = refl
-delivered_keeps world number (Some (ToProducer sender message)) = refl
-delivered_keeps world number (Some (ToConsumer receiver message)) = by_consumer (consumer_of receiver world.consumers)
-  where
-    by_consumer : (consumer : Option Consuming) → (taken_if world consumer message).world.packets ≡ world.packets
-    by_consumer None = refl
-    by_consumer (Some consumer) = refl
-
-viewed_keeps : (world : World) (name identifier : List ℕ) (consumer : Option Consuming) → (viewed world name identifier consumer).world.packets ≡ world.packets
-viewed_keeps world name identifier None = refl
-viewed_keeps world name identifier (Some consumer) = by_kept (kept_of identifier consumer.held)
-  where
-    by_kept : (kept : Option KeptSubscription) → (viewed_if world consumer identifier kept).world.packets ≡ world.packets
-    by_kept None = refl
-    by_kept (Some kept) = refl
-
-effect_keeps : (world : World) (happening : Event) → (effect world happening).world.packets ≡ world.packets
-unfolding effect
-effect_keeps world (event.Start moment) = refl
-effect_keeps world (event.Clock moment) = refl
-effect_keeps world (event.Feed delivery) = refl
-effect_keeps world (event.Ask request) = refl
-effect_keeps world (event.Subscribe name wanted beat) =
-    let consumer = consumer_or_new world.moment name (consumer_of name world.consumers) in
-    subscribed_keeps (ask_refusal consumer wanted) world consumer wanted beat
-effect_keeps world (event.Terminate name identifier) = terminated_keeps world name identifier (consumer_of name world.consumers)
-effect_keeps world (event.Status name) = checked_keeps world name (consumer_of name world.consumers)
-effect_keeps world (event.Deliver number) = delivered_keeps world number (packet_at number world.packets)
-effect_keeps world (event.View name identifier) = viewed_keeps world name identifier (consumer_of name world.consumers)
+use Rattle.siri_world.proofs.Deeds.{packets_stay}
 
 -- ---- the last test
 
@@ -81,7 +25,8 @@ first_of early starts consumers packets =
     else (if consumers then Some error.ConsumerLimit
     else (if packets then Some error.PacketLimit else None)))
 
-refusal_is : (world : World) (happening : Event) → refusal world happening ≡ first_of (is_early world happening) (passes_starts world happening) (passes_consumers world happening) (passes_packets world happening)
+refusal_is : (world : World) (happening : Event) → refusal world happening ≡ first_of (is_early world happening)
+    (passes_starts world happening) (passes_consumers world happening) (passes_packets world happening)
 unfolding refusal first_of
 refusal_is world happening = refl
 
@@ -107,11 +52,17 @@ after_few : (world : World) (happening : Event) → length world.packets ≤ 100
 after_few world happening few = by_refusal (refusal world happening) refl
   where
     done : passes_packets world happening ≡ false → length ((effect world happening).world.packets ++ (effect world happening).packets) ≤ 1000000
-    done is = omega (arith, ltb-false 1000000 (length world.packets + length (effect world happening).packets) is, length-append (effect world happening).world.packets (effect world happening).packets, ap length (effect_keeps world happening))
+    done is = omega (
+      arith,
+      ltb-false 1000000 (length world.packets + length (effect world happening).packets) is,
+      length-append (effect world happening).world.packets (effect world happening).packets,
+      ap length (packets_stay world happening),
+    )
 
     by_refusal : (refused : Option StepError) → refusal world happening ≡ refused → length (after_if refused world happening).packets ≤ 1000000
     by_refusal (Some why) is = few
-    by_refusal None is = done (not_last (is_early world happening) (passes_starts world happening) (passes_consumers world happening) (passes_packets world happening) (sym (refusal_is world happening) ∙ is))
+    by_refusal None is = done (not_last (is_early world happening) (passes_starts world happening)
+        (passes_consumers world happening) (passes_packets world happening) (sym (refusal_is world happening) ∙ is))
 
 -- no more packets than this are ever sent
 pub few_packets : (events : List Event) → length (world_after events).packets ≤ 1000000
@@ -135,7 +86,8 @@ view_sends_none world name identifier = by_consumer (consumer_of name world.cons
     by_consumer None = refl
     by_consumer (Some consumer) = by_kept consumer (kept_of identifier consumer.held)
 
-refused_by : (refused : Option StepError) (world : World) (happening : Event) → told_if refused world happening ≡ Err error.PacketLimit → refused ≡ Some error.PacketLimit
+refused_by : (refused : Option StepError) (world : World) (happening : Event)
+    → told_if refused world happening ≡ Err error.PacketLimit → refused ≡ Some error.PacketLimit
 refused_by (Some why) world happening is = cc
 refused_by None world happening is = cc
 
@@ -144,5 +96,13 @@ pub view_passes_none : (events : List Event) (name identifier : List ℕ) → to
 view_passes_none events name identifier is =
     let world = world_after events in
     let happening = event.View name identifier in
-    let passes : passes_packets world happening ≡ true = is_last (is_early world happening) (passes_starts world happening) (passes_consumers world happening) (passes_packets world happening) (sym (refusal_is world happening) ∙ refused_by (refusal world happening) world happening is) in
-    omega (arith, ltb-true 1000000 (length world.packets + length (effect world happening).packets) passes, few_packets events, ap length (view_sends_none world name identifier))
+    let passes : passes_packets world happening ≡ true =
+    is_last (is_early world happening) (passes_starts world happening) (passes_consumers world happening)
+    (passes_packets world happening) (sym (refusal_is world happening)
+    ∙ refused_by (refusal world happening) world happening is) in
+    omega (
+      arith,
+      ltb-true 1000000 (length world.packets + length (effect world happening).packets) passes,
+      few_packets events,
+      ap length (view_sends_none world name identifier),
+    )

@@ -33,7 +33,8 @@ viewed_changes_nothing world name identifier (Some consumer) = by_kept (kept_of 
     by_kept None = with_none world
     by_kept (Some kept) = with_none world
 
-effect_of_view : (world : World) (name identifier : List ℕ) → effect world (event.View name identifier) ≡ viewed world name identifier (consumer_of name world.consumers)
+effect_of_view : (world : World) (name identifier : List ℕ)
+    → effect world (event.View name identifier) ≡ viewed world name identifier (consumer_of name world.consumers)
 unfolding effect
 effect_of_view world name identifier = refl
 
@@ -56,13 +57,15 @@ after_one events event = from nothing events
 -- ---- the player at the end
 
 -- what stands for a view too stands for what was before it
-still_stands : (known : Known) (events : List Event) (name identifier : List ℕ) → StandsFor known (events ++ event.View name identifier ∷ []) → StandsFor known events
+still_stands : (known : Known) (events : List Event) (name identifier : List ℕ)
+    → StandsFor known (events ++ event.View name identifier ∷ []) → StandsFor known events
 still_stands known events name identifier stands =
     let family : World → Type 0 = λ world. Knows known world in
     subst family (after_one events (event.View name identifier) ∙ view_changes_nothing (world_after events) name identifier) stands
 
 -- the player came as far as before, whatever its world is
-plays_still : (old new : Playing) (progress : Progress) → Plays old progress → StandsFor new.world progress.events → new ≡ record old { world = new.world } → Plays new progress
+plays_still : (old new : Playing) (progress : Progress) → Plays old progress → StandsFor new.world progress.events
+    → new ≡ record old { world = new.world } → Plays new progress
 plays_still old new progress plays stands rest = record {
   world = stands;
   number = ap (λ (p : Playing). p.number) rest ∙ plays.number;
@@ -73,7 +76,10 @@ plays_still old new progress plays stands rest = record {
 }
 
 -- a view was told
-pub shows_view : (old new : Playing) (number : ℕ) (seen shared : Event) (progress : Progress) (lines given : List Line) → seen ≡ shared → shared ≡ viewing number → given ≡ lines → Plays old progress → new ≡ record old { world = new.world } → told (world_of progress) seen ≡ Ok (told_lines lines) → StandsFor new.world (progress.events ++ seen ∷ []) → Shown new given (view number (world_of progress)) progress
+pub shows_view : (old new : Playing) (number : ℕ) (seen shared : Event) (progress : Progress) (lines given : List Line)
+    → seen ≡ shared → shared ≡ viewing number → given ≡ lines → Plays old progress
+    → new ≡ record old { world = new.world } → told (world_of progress) seen ≡ Ok (told_lines lines)
+    → StandsFor new.world (progress.events ++ seen ∷ []) → Shown new given (view number (world_of progress)) progress
 shows_view old new number seen shared progress lines given seen_is shared_is given_is plays rest is stands =
     let viewed_is : seen ≡ viewing number = seen_is ∙ shared_is in
     let family : Event → Type 0 = λ happening. StandsFor new.world (progress.events ++ happening ∷ []) in
@@ -83,13 +89,18 @@ shows_view old new number seen shared progress lines given seen_is shared_is giv
     }
 
 -- a view wasn't told
-pub shows_none : (old new : Playing) (number : ℕ) (seen shared : Event) (progress : Progress) (why : StepError) (given : List Line) → seen ≡ shared → shared ≡ viewing number → IsUntold why given → Plays old progress → new ≡ record old { world = new.world } → Refuses (world_of progress) seen why → Stays why old.world new.world → Shown new given (view number (world_of progress)) progress
-shows_none old new number seen shared progress why given seen_is shared_is untold plays rest refuses stays = by_error why untold (subst family (seen_is ∙ shared_is) refuses) stays
+pub shows_none : (old new : Playing) (number : ℕ) (seen shared : Event) (progress : Progress) (why : StepError)
+    (given : List Line) → seen ≡ shared → shared ≡ viewing number → IsUntold why given → Plays old progress
+    → new ≡ record old { world = new.world } → Refuses (world_of progress) seen why → Stays why old.world new.world
+    → Shown new given (view number (world_of progress)) progress
+shows_none old new number seen shared progress why given seen_is shared_is untold plays rest refuses stays =
+    by_error why untold (subst family (seen_is ∙ shared_is) refuses) stays
   where
     family : Event → Type 0
     family happening = Refuses (world_of progress) happening why
 
-    same : (why : StepError) → given ≡ [] → told (world_of progress) (viewing number) ≡ Err why → new.world ≡ old.world → Shown new given (view number (world_of progress)) progress
+    same : (why : StepError) → given ≡ [] → told (world_of progress) (viewing number) ≡ Err why → new.world ≡ old.world
+        → Shown new given (view number (world_of progress)) progress
     same why none is stays =
         let known : Known → Type 0 = λ known. StandsFor known progress.events in
         record {
@@ -97,7 +108,8 @@ shows_none old new number seen shared progress why given seen_is shared_is untol
           plays = plays_still old new progress plays (subst known (sym stays) plays.world) rest;
         }
 
-    by_error : (why : StepError) → IsUntold why given → Refuses (world_of progress) (viewing number) why → Stays why old.world new.world → Shown new given (view number (world_of progress)) progress
+    by_error : (why : StepError) → IsUntold why given → Refuses (world_of progress) (viewing number) why
+        → Stays why old.world new.world → Shown new given (view number (world_of progress)) progress
     by_error error.NotStarted none is stays = same error.NotStarted none is stays
     by_error error.StartLimit none is stays = same error.StartLimit none is stays
     by_error error.ConsumerLimit none is stays = same error.ConsumerLimit none is stays

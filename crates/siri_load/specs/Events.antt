@@ -1,6 +1,7 @@
 -- The events of a load: what the consumer subscribes to, what is fed, when the clock moves. Moments are milliseconds since 1970.
-use Rattle.std.specs.Prelude.{ℕ, ◌+◌, ◌*◌, ◌%◌, ◌==◌, ℤ, pos, true, false, List, [], ◌∷◌, ◌++◌, codes, Some, None, if◌then◌else◌}
+use Rattle.std.specs.Prelude.{ℕ, ◌+◌, ◌*◌, ◌%◌, ◌==◌, ℤ, pos, true, List, [], ◌∷◌, ◌++◌, codes, Some, None, if◌then◌else◌}
 use Rattle.std.specs.Fmt.{decimal}
+use Rattle.siri_records.specs.Blank.{blank_call, blank_visit_journey}
 use Rattle.siri_records.specs.declared.call.StopCall.{StopCall}
 use Rattle.siri_records.specs.declared.item.Item.{Item}
 use Rattle.siri_records.specs.declared.item.Item.TheVariants as item
@@ -8,6 +9,7 @@ use Rattle.siri_records.specs.declared.key.Key.{Key}
 use Rattle.siri_records.specs.declared.key.Key.TheVariants as key
 use Rattle.siri_topic.specs.declared.subscription.Subscription.{Subscription}
 use Rattle.siri_topic.specs.declared.topics.Topic.TheVariants as topic
+use Rattle.siri_messages.specs.Blank.{blank_functional_delivery, blank_service_delivery}
 use Rattle.siri_messages.specs.declared.deliveries.FunctionalDelivery.{FunctionalDelivery}
 use Rattle.siri_messages.specs.declared.deliveries.ServiceDelivery.{ServiceDelivery}
 use Rattle.siri_world_model.specs.declared.event.Event.{Event}
@@ -74,22 +76,7 @@ subscribing number = event.Subscribe consumer (subscription number) (pos 0)
 
 -- a call with an ExpectedDepartureTime alone
 unfoldable pub call : ℕ → StopCall
-call moment = record {
-  stop_point_ref = None;
-  order = None;
-  stop_point_name = None;
-  vehicle_at_stop = None;
-  aimed_arrival_time = None;
-  expected_arrival_time = None;
-  actual_arrival_time = None;
-  arrival_status = None;
-  arrival_platform_name = None;
-  aimed_departure_time = None;
-  expected_departure_time = Some moment;
-  actual_departure_time = None;
-  departure_status = None;
-  departure_platform_name = None;
-}
+call moment = record blank_call { expected_departure_time = Some moment }
 
 -- a visit of the line L1, by its monitoring point, its ItemIdentifier and its departure
 unfoldable pub visit : (at known_by departure : ℕ) → Item
@@ -97,22 +84,7 @@ visit at known_by departure = item.Visit (record {
   recorded_at_time = None;
   item_identifier = identifier known_by;
   monitoring_ref = stop at;
-  monitored_vehicle_journey = record {
-    line_ref = Some (codes "L1");
-    direction_ref = None;
-    data_frame_ref = None;
-    dated_vehicle_journey_ref = None;
-    published_line_name = None;
-    operator_ref = None;
-    destination_ref = None;
-    destination_name = None;
-    vehicle_ref = None;
-    monitored = None;
-    occupancy = None;
-    delay = None;
-    vehicle_location = None;
-    monitored_call = call departure;
-  };
+  monitored_vehicle_journey = record (blank_visit_journey (call departure)) { line_ref = Some (codes "L1") };
 })
 
 -- what a cancellation names (EN 15531-3, MonitoredStopVisitCancellation)
@@ -121,34 +93,11 @@ cancelled at known_by = key.Visit (stop at) (identifier known_by)
 
 -- items and cancellations of Stop Monitoring, of no round
 unfoldable pub functional : List Item → List Key → FunctionalDelivery
-functional items removals = record {
-  response_timestamp = None;
-  subscriber_ref = None;
-  subscription_ref = None;
-  status = true;
-  error_condition = None;
-  start = None;
-  round = None;
-  part = None;
-  items = items;
-  removals = removals;
-}
+functional items removals = record blank_functional_delivery { items = items; removals = removals }
 
 -- a delivery of Stop Monitoring alone
 abbrev pub delivery_of : List FunctionalDelivery → ServiceDelivery
-delivery_of deliveries = record {
-  response_timestamp = None;
-  producer_ref = None;
-  response_message_identifier = None;
-  request_message_ref = None;
-  status = true;
-  error_condition = None;
-  more_data = false;
-  stop_monitoring_delivery = deliveries;
-  estimated_timetable_delivery = [];
-  vehicle_monitoring_delivery = [];
-  situation_exchange_delivery = [];
-}
+delivery_of deliveries = record blank_service_delivery { stop_monitoring_delivery = deliveries }
 
 -- a delivery of them alone
 abbrev pub delivery : List Item → List Key → ServiceDelivery

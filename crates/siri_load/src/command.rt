@@ -1,4 +1,5 @@
-// The command `load`.
+//! The command `load`.
+
 ghost use Rattle.std.specs.Prelude.{◌≡◌};
 ghost use Rattle.siri_base.specs.Causes.{Rose};
 ghost use Rattle.siri_base.specs.MetFailures.{SinkMeets, is_write_fault};
@@ -11,9 +12,9 @@ use siri_base::{OutsideError, Sink, Status};
 use siri_lines::write_text;
 use std::alloc::Global;
 
-/// Plays the load of two numbers, its seed and how many events there are, and writes `load SEED COUNT lines L packets P lost X
-/// quiet Q items I`: the lines made, the packets sent and lost, and in the end the subscriptions that are quiet and the items
-/// shown.
+/// Plays the load of two numbers, its seed and how many events there are, and writes `load SEED COUNT lines L packets P
+/// lost X quiet Q items I`: the lines made, the packets sent and lost, and in the end the subscriptions that are quiet
+/// and the items shown.
 ///
 /// `Limit` exactly where a line of the script passes a limit, with the number of that line; nothing is written then.
 /// `WriteFault` only where the sink failed, `OutOfMemory` wherever memory is asked for, otherwise `Done`.

@@ -1,8 +1,9 @@
-// The events of a load. An event is shared as soon as it is made, since it is dear to let go in a proof; and the functions that
-// make a large value can't fail.
+//! The events of a load. An event is shared as soon as it is made, since it is dear to let go in a proof; and the
+//! functions that make a large value can't fail.
+
 ghost use Rattle.std.specs.Prelude.{◌≡◌, ◌≤◌, ◌++◌, length, pos, IfOk};
 ghost use Rattle.std.specs.Fmt.{decimal};
-ghost use Rattle.siri_load.specs.Events as definition;
+ghost use Rattle.siri_load.specs.Events.{call, cancelled, cancelling, consumer as the_consumer, delivery, delivery_of, feeding, first_moment, functional, identifier as identifier_of, later, stop, subscribing, subscription, viewing, visit};
 
 use siri_base::{List, Moment, Name, OutOfMemory, Span, TextError};
 use siri_messages::{FunctionalDelivery, ServiceDelivery};
@@ -18,12 +19,15 @@ const FIRST_MOMENT: u64 = 1_714_521_600_000;
 /// 2024-05-31T00:00:00Z
 const LAST_MOMENT: u64 = 1_717_113_600_000;
 
+/// A minute in milliseconds: the ChangeBeforeUpdates of odd subscriptions.
 const MINUTE: u64 = 60_000;
 
+/// An hour in milliseconds: the PreviewInterval of every subscription.
 const HOUR: u64 = 3_600_000;
 
 // ---- values
 
+/// The moment so many milliseconds after 1970 began, up to the year 9999.
 fn moment(ms: u64) -> Moment
     requires { ms ≤ 253402300799999 }
     ensures { result ≡ ms }
@@ -34,6 +38,7 @@ fn moment(ms: u64) -> Moment
     }
 }
 
+/// A span of so many milliseconds, an hour at most.
 fn span(ms: u64) -> Span
     requires { ms ≤ 3600000 }
     ensures { result ≡ pos ms }
@@ -44,6 +49,7 @@ fn span(ms: u64) -> Span
     }
 }
 
+/// The name that a text of 1 to 255 bytes is.
 fn name(alloc: Global, text: &str) -> Result<Name, OutOfMemory>
     requires some { 1 ≤ length text.now }
     requires short { length text.now ≤ 255 }
@@ -70,26 +76,28 @@ fn numbered(alloc: Global, before: &str, number: u64) -> Result<Name, OutOfMemor
 
 /// The one consumer.
 pub(crate) fn consumer(alloc: Global) -> Result<Name, OutOfMemory>
-    ensures { IfOk result (λ name. name ≡ definition.consumer) }
+    ensures { IfOk result (λ name. name ≡ the_consumer) }
 {
     name(alloc, "load")
 }
 
+/// The MonitoringRef of a number: `s` and the number.
 fn stop(alloc: Global, number: u64) -> Result<Name, OutOfMemory>
-    ensures { IfOk result (λ name. name ≡ definition.stop number) }
+    ensures { IfOk result (λ name. name ≡ stop number) }
 {
     numbered(alloc, "s", number)
 }
 
+/// The ItemIdentifier of a number: `i` and the number.
 fn identifier(alloc: Global, number: u64) -> Result<Name, OutOfMemory>
-    ensures { IfOk result (λ name. name ≡ definition.identifier number) }
+    ensures { IfOk result (λ name. name ≡ identifier_of number) }
 {
     numbered(alloc, "i", number)
 }
 
 /// The moment of the start.
 pub(crate) fn first_moment() -> Moment
-    ensures { result ≡ definition.first_moment }
+    ensures { result ≡ first_moment }
 {
     moment(FIRST_MOMENT)
 }
@@ -98,7 +106,7 @@ pub(crate) fn first_moment() -> Moment
 pub(crate) fn later(from: Moment, seconds: u64) -> Moment
     requires moment { from ≤ 200000000000000 }
     requires seconds { seconds ≤ 7200 }
-    ensures { result ≡ definition.later from seconds }
+    ensures { result ≡ later from seconds }
 {
     moment(from.ms() as u64 + 1000 * seconds)
 }
@@ -107,7 +115,7 @@ pub(crate) fn later(from: Moment, seconds: u64) -> Moment
 
 /// The producer starts.
 pub(crate) fn starting(alloc: Global) -> Result<Rc<Event>, OutOfMemory>
-    ensures { IfOk result (λ event. event.value ≡ Event.Start definition.first_moment) }
+    ensures { IfOk result (λ event. event.value ≡ Event.Start first_moment) }
 {
     Ok(Rc::new(alloc, Event::Start(first_moment()))?)
 }
@@ -130,7 +138,7 @@ pub(crate) fn delivering(alloc: Global, number: u64) -> Result<Rc<Event>, OutOfM
 
 /// The consumer asks for its subscription of a number.
 pub(crate) fn subscribing(alloc: Global, number: u64) -> Result<Rc<Event>, OutOfMemory>
-    ensures { IfOk result (λ event. event.value ≡ definition.subscribing number) }
+    ensures { IfOk result (λ event. event.value ≡ subscribing number) }
 {
     let subscriber = consumer(alloc)?;
     let identifier = numbered(alloc, "", number)?;
@@ -140,6 +148,7 @@ pub(crate) fn subscribing(alloc: Global, number: u64) -> Result<Rc<Event>, OutOf
     Ok(Rc::new(alloc, subscribe(consumer, wanted))?)
 }
 
+/// The consumer asks for a subscription, without heartbeats.
 fn subscribe(consumer: Name, wanted: Subscription) -> Event
     ensures { result ≡ Event.Subscribe consumer wanted (pos 0) }
 {
@@ -158,10 +167,10 @@ fn subscription(
     monitoring_ref: Name,
     number: u64,
 ) -> Subscription
-    requires subscriber { subscriber ≡ definition.consumer }
+    requires subscriber { subscriber ≡ the_consumer }
     requires identifier { identifier ≡ decimal number }
-    requires stop { monitoring_ref ≡ definition.stop number }
-    ensures { result ≡ definition.subscription number }
+    requires stop { monitoring_ref ≡ stop number }
+    ensures { result ≡ subscription number }
 {
     Subscription {
         subscriber,
@@ -192,7 +201,7 @@ pub(crate) fn feeding(
     known_by: u64,
     departure: Moment,
 ) -> Result<Rc<Event>, OutOfMemory>
-    ensures { IfOk result (λ event. event.value ≡ definition.feeding at known_by departure) }
+    ensures { IfOk result (λ event. event.value ≡ feeding at known_by departure) }
 {
     let mut items = List::new(alloc);
     items.push(visit(alloc, at, known_by, departure)?)?;
@@ -201,78 +210,53 @@ pub(crate) fn feeding(
 
 /// A feed of one cancellation.
 pub(crate) fn cancelling(alloc: Global, at: u64, known_by: u64) -> Result<Rc<Event>, OutOfMemory>
-    ensures { IfOk result (λ event. event.value ≡ definition.cancelling at known_by) }
+    ensures { IfOk result (λ event. event.value ≡ cancelling at known_by) }
 {
     let mut removals = List::new(alloc);
     removals.push(cancelled(alloc, at, known_by)?)?;
     feed(alloc, List::new(alloc), removals)
 }
 
+/// A feed of visits and cancellations in one StopMonitoringDelivery.
 fn feed(alloc: Global, items: List<Item>, removals: List<Key>) -> Result<Rc<Event>, OutOfMemory>
-    ensures { IfOk result (λ event. event.value ≡ Event.Feed (definition.delivery items removals)) }
+    ensures { IfOk result (λ event. event.value ≡ Event.Feed (delivery items removals)) }
 {
     let mut stops = List::new(alloc);
-    stops.push(functional(items, removals))?;
+    stops.push(functional(alloc, items, removals))?;
     Ok(Rc::new(alloc, Event::Feed(delivery(alloc, stops)))?)
 }
 
 /// A visit of the line L1.
 #[tactic(auto, unfolding(crate::specs::Events::visit))]
 fn visit(alloc: Global, at: u64, known_by: u64, departure: Moment) -> Result<Item, OutOfMemory>
-    ensures { IfOk result (λ item. item ≡ definition.visit at known_by departure) }
+    ensures { IfOk result (λ item. item ≡ visit at known_by departure) }
 {
     let item_identifier = identifier(alloc, known_by)?;
     let monitoring_ref = stop(alloc, at)?;
     let line_ref = name(alloc, "L1")?;
+    let mut monitored_vehicle_journey = VisitJourney::blank(call(departure));
+    monitored_vehicle_journey.line_ref = Some(line_ref);
     Ok(Item::Visit(Visit {
         recorded_at_time: None,
         item_identifier,
         monitoring_ref,
-        monitored_vehicle_journey: VisitJourney {
-            line_ref: Some(line_ref),
-            direction_ref: None,
-            data_frame_ref: None,
-            dated_vehicle_journey_ref: None,
-            published_line_name: None,
-            operator_ref: None,
-            destination_ref: None,
-            destination_name: None,
-            vehicle_ref: None,
-            monitored: None,
-            occupancy: None,
-            delay: None,
-            vehicle_location: None,
-            monitored_call: call(departure),
-        },
+        monitored_vehicle_journey,
     }))
 }
 
 /// A call with an ExpectedDepartureTime alone.
 #[tactic(auto, unfolding(crate::specs::Events::call))]
 fn call(departure: Moment) -> StopCall
-    ensures { result ≡ definition.call departure }
+    ensures { result ≡ call departure }
 {
-    StopCall {
-        stop_point_ref: None,
-        order: None,
-        stop_point_name: None,
-        vehicle_at_stop: None,
-        aimed_arrival_time: None,
-        expected_arrival_time: None,
-        actual_arrival_time: None,
-        arrival_status: None,
-        arrival_platform_name: None,
-        aimed_departure_time: None,
-        expected_departure_time: Some(departure),
-        actual_departure_time: None,
-        departure_status: None,
-        departure_platform_name: None,
-    }
+    let mut call = StopCall::blank();
+    call.expected_departure_time = Some(departure);
+    call
 }
 
 /// What a cancellation names.
 fn cancelled(alloc: Global, at: u64, known_by: u64) -> Result<Key, OutOfMemory>
-    ensures { IfOk result (λ key. key ≡ definition.cancelled at known_by) }
+    ensures { IfOk result (λ key. key ≡ cancelled at known_by) }
 {
     Ok(Key::Visit {
         monitoring: stop(alloc, at)?,
@@ -282,47 +266,29 @@ fn cancelled(alloc: Global, at: u64, known_by: u64) -> Result<Key, OutOfMemory>
 
 /// Items and cancellations of Stop Monitoring.
 #[tactic(auto, unfolding(crate::specs::Events::functional))]
-fn functional(items: List<Item>, removals: List<Key>) -> FunctionalDelivery
-    ensures { result ≡ definition.functional items removals }
+fn functional(alloc: Global, items: List<Item>, removals: List<Key>) -> FunctionalDelivery
+    ensures { result ≡ functional items removals }
 {
-    FunctionalDelivery {
-        response_timestamp: None,
-        subscriber_ref: None,
-        subscription_ref: None,
-        status: true,
-        error_condition: None,
-        start: None,
-        round: None,
-        part: None,
-        items,
-        removals,
-    }
+    let mut delivery = FunctionalDelivery::blank(alloc);
+    delivery.items = items;
+    delivery.removals = removals;
+    delivery
 }
 
 /// A delivery of them alone.
 fn delivery(alloc: Global, stops: List<FunctionalDelivery>) -> ServiceDelivery
-    ensures { result ≡ definition.delivery_of stops }
+    ensures { result ≡ delivery_of stops }
 {
-    ServiceDelivery {
-        response_timestamp: None,
-        producer_ref: None,
-        response_message_identifier: None,
-        request_message_ref: None,
-        status: true,
-        error_condition: None,
-        more_data: false,
-        stop_monitoring_delivery: stops,
-        estimated_timetable_delivery: List::new(alloc),
-        vehicle_monitoring_delivery: List::new(alloc),
-        situation_exchange_delivery: List::new(alloc),
-    }
+    let mut delivery = ServiceDelivery::blank(alloc);
+    delivery.stop_monitoring_delivery = stops;
+    delivery
 }
 
 // ---- what is told of at the end
 
 /// What the consumer shows of its subscription of a number.
 pub(crate) fn viewing(alloc: Global, number: u64) -> Result<Rc<Event>, OutOfMemory>
-    ensures { IfOk result (λ event. event.value ≡ definition.viewing number) }
+    ensures { IfOk result (λ event. event.value ≡ viewing number) }
 {
     let consumer = consumer(alloc)?;
     let identifier = numbered(alloc, "", number)?;

@@ -1,11 +1,14 @@
-// What is drawn.
+//! What is drawn.
+
 ghost use Rattle.std.specs.Prelude.{◌≡◌, ◌<◌, ◌≤◌};
 ghost use Rattle.siri_load.specs.Generator.{next, drawn};
 
 use std::marker::Model;
 
+/// What the number is multiplied by at a draw, modulo 2^64 (Knuth's MMIX).
 const MULTIPLIER: u64 = 6_364_136_223_846_793_005;
 
+/// What is added then, modulo 2^64 (Knuth's MMIX).
 const INCREMENT: u64 = 1_442_695_040_888_963_407;
 
 /// A linear congruential generator over 64 bits. Contracts see its number.

@@ -1,4 +1,4 @@
-// What becomes of packets.
+//! What becomes of packets.
 
 /// What becomes of packets.
 #[derive(Clone, Copy, Debug)]

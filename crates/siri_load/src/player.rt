@@ -1,7 +1,7 @@
-// The player of a load.
+//! The player of a load.
+
 ghost use Rattle.std.specs.Prelude.{◌≡◌, ◌+◌, ◌<◌, ◌≤◌, IfOk, OnOk};
-ghost use Rattle.siri_load.specs.Load as definition;
-ghost use Rattle.siri_load.specs.Load.{Progress, fresh, world_of};
+ghost use Rattle.siri_load.specs.Load.{Progress, fresh, world_of, cancels, clocks, delivers, delivers_or_loses, feeds, happens, makes, makes_by, opens, plays, sent, subscribes, takes_all, view, views};
 ghost use Rattle.siri_load.specs.Playing.{Plays, Does, takes, Shown, IsUntold};
 
 use crate::events::{
@@ -20,8 +20,8 @@ use std::rc::Rc;
 /// The most lines of a script.
 const MOST_LINES: u64 = 1_000_000;
 
-/// Plays the script of a load as it is made. Contracts see its world, the number of its generator, the moment that it gave last,
-/// how many lines it made, how many packets it looked at in order of number, and how many of these it lost.
+/// Plays the script of a load as it is made. Contracts see its world, the number of its generator, the moment that it
+/// gave last, how many lines it made, how many packets it looked at in order of number, and how many of these it lost.
 #[derive(Drop)]
 pub(crate) struct Player {
     alloc: Global,
@@ -68,7 +68,7 @@ impl Player {
 
     /// How many packets were sent.
     pub(crate) fn sent(&self) -> u64
-        ensures number { (progress : Progress) → Plays self.now progress → result ≡ definition.sent progress }
+        ensures number { (progress : Progress) → Plays self.now progress → result ≡ sent progress }
         ensures bound { result ≤ 1000000 }
     {
         self.world.sent()
@@ -83,7 +83,7 @@ impl Player {
 
     /// One more line is made, which is this event.
     fn make(&mut self, event: Rc<Event>) -> Result<(), Stop>
-        ensures made { Does self.old self.new result (definition.makes event.value) }
+        ensures made { Does self.old self.new result (makes event.value) }
         ensures rest { OnOk result (self.new ≡ record self.old { world = self.new.world; lines = self.old.lines + 1 }) }
     {
         let line = self.lines + 1;
@@ -104,7 +104,7 @@ impl Player {
     /// The next packet is delivered.
     fn deliver(&mut self) -> Result<(), Stop>
         requires { self.old.looked < 1000000 }
-        ensures done { Does self.old self.new result definition.delivers }
+        ensures done { Does self.old self.new result delivers }
         ensures looked { OnOk result (self.new.looked ≡ self.old.looked + 1) }
     {
         self.looked += 1;
@@ -114,7 +114,7 @@ impl Player {
     /// The next packet is lost where 0 of 10 is drawn, and else delivered.
     fn deliver_or_lose(&mut self) -> Result<(), Stop>
         requires { self.old.looked < 1000000 }
-        ensures done { Does self.old self.new result definition.delivers_or_loses }
+        ensures done { Does self.old self.new result delivers_or_loses }
         ensures looked { OnOk result (self.new.looked ≡ self.old.looked + 1) }
     {
         if self.generator.draw(10) == 0 {
@@ -125,6 +125,7 @@ impl Player {
         self.deliver()
     }
 
+    /// The next packet is delivered, or may be lost where the network loses some.
     fn take(&mut self, network: Network) -> Result<(), Stop>
         requires { self.old.looked < 1000000 }
         ensures done { Does self.old self.new result (takes network) }
@@ -138,7 +139,7 @@ impl Player {
 
     /// Every new packet is taken in order of number until none is left.
     fn take_all(&mut self, network: Network) -> Result<(), Stop>
-        ensures { Does self.old self.new result (definition.takes_all (takes network)) }
+        ensures { Does self.old self.new result (takes_all (takes network)) }
     {
         while self.looked < self.world.sent() {
             self.take(network)?;
@@ -150,7 +151,7 @@ impl Player {
 
     /// The start and the four subscriptions.
     fn open(&mut self) -> Result<(), Stop>
-        ensures { Does self.old self.new result definition.opens }
+        ensures { Does self.old self.new result opens }
     {
         self.make(starting(self.alloc)?)?;
         self.subscribe(1)?;
@@ -161,7 +162,7 @@ impl Player {
 
     /// The consumer asks for its subscription of a number, and every packet is delivered.
     fn subscribe(&mut self, number: u64) -> Result<(), Stop>
-        ensures { Does self.old self.new result (definition.subscribes number) }
+        ensures { Does self.old self.new result (subscribes number) }
     {
         self.make(subscribing(self.alloc, number)?)?;
         self.take_all(Network::Lossless)
@@ -169,7 +170,7 @@ impl Player {
 
     /// The clock moves on by a second or more, a minute at most.
     fn move_clock(&mut self) -> Result<(), Stop>
-        ensures { Does self.old self.new result definition.clocks }
+        ensures { Does self.old self.new result clocks }
     {
         let seconds = self.generator.draw(60) + 1;
         let moment = later(self.moment, seconds);
@@ -180,7 +181,7 @@ impl Player {
 
     /// A visit is fed, which departs within two hours.
     fn feed(&mut self) -> Result<(), Stop>
-        ensures { Does self.old self.new result definition.feeds }
+        ensures { Does self.old self.new result feeds }
     {
         let at = self.generator.draw(4) + 1;
         let known_by = self.generator.draw(500);
@@ -190,7 +191,7 @@ impl Player {
 
     /// A visit is cancelled.
     fn cancel(&mut self) -> Result<(), Stop>
-        ensures { Does self.old self.new result definition.cancels }
+        ensures { Does self.old self.new result cancels }
     {
         let stop = self.generator.draw(4) + 1;
         let item = self.generator.draw(500);
@@ -199,7 +200,7 @@ impl Player {
 
     /// What was drawn of 10 says what is made: the clock by 0, a cancellation by 9, a visit by the others.
     fn make_drawn(&mut self, choice: u64) -> Result<(), Stop>
-        ensures { Does self.old self.new result (definition.makes_by choice) }
+        ensures { Does self.old self.new result (makes_by choice) }
     {
         match choice {
             0 => self.move_clock(),
@@ -210,7 +211,7 @@ impl Player {
 
     /// An event is drawn, and every new packet is delivered or lost.
     fn happen(&mut self) -> Result<(), Stop>
-        ensures { Does self.old self.new result definition.happens }
+        ensures { Does self.old self.new result happens }
     {
         let choice = self.generator.draw(10);
         self.make_drawn(choice)?;
@@ -219,7 +220,7 @@ impl Player {
 
     /// The whole script, with so many events.
     pub(crate) fn play(&mut self, count: u64) -> Result<(), Stop>
-        ensures { Does self.old self.new result (definition.plays count) }
+        ensures { Does self.old self.new result (plays count) }
     {
         self.open()?;
         for _ in 0..count {
@@ -232,7 +233,7 @@ impl Player {
 
     /// What is told of the four views.
     pub(crate) fn views(&mut self) -> Result<Vec<Line>, OutOfMemory>
-        ensures { (progress : Progress) → Plays self.old progress → IfOk result (λ lines. Shown self.new lines.items (definition.views (world_of progress)) progress) }
+        ensures { (progress : Progress) → Plays self.old progress → IfOk result (λ lines. Shown self.new lines.items (views (world_of progress)) progress) }
     {
         let mut lines = self.view(1)?;
         lines.append(&mut self.view(2)?)?;
@@ -243,7 +244,7 @@ impl Player {
 
     /// What is told of the view of a number. It passes no limit.
     fn view(&mut self, number: u64) -> Result<Vec<Line>, OutOfMemory>
-        ensures { (progress : Progress) → Plays self.old progress → IfOk result (λ lines. Shown self.new lines.items (definition.view number (world_of progress)) progress) }
+        ensures { (progress : Progress) → Plays self.old progress → IfOk result (λ lines. Shown self.new lines.items (view number (world_of progress)) progress) }
     {
         let event = viewing(self.alloc, number)?;
         match self.world.step(&*event) {

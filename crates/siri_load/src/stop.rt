@@ -1,4 +1,5 @@
-// Why a load is played no further.
+//! Why a load is played no further.
+
 ghost use Rattle.std.specs.Prelude.{◌≡◌};
 ghost use Rattle.siri_load.specs.declared.stop.Stop.TheVariants.{OutOfMemory};
 

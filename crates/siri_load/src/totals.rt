@@ -1,9 +1,9 @@
-// The line that a load comes to.
+//! The line that a load comes to.
+
 ghost use Rattle.std.specs.Prelude.{◌≡◌, ◌++◌, count_by, IfOk, OnOk};
 ghost use Rattle.std.specs.Fmt.{decimal};
 ghost use Rattle.siri_world_model.specs.Lines.{told_line};
-ghost use Rattle.siri_load.specs.Load as definition;
-ghost use Rattle.siri_load.specs.Load.{load_text};
+ghost use Rattle.siri_load.specs.Load.{load_text, is_item, is_quiet_view, summary};
 ghost use Rattle.siri_load.specs.Playing.{Sums};
 
 use crate::player::Player;
@@ -46,7 +46,7 @@ pub(crate) fn summary(alloc: Global, seed: u64, count: u64) -> Result<Vec<u8>, S
 /// A view that is quiet.
 #[tactic(auto, unfolding(crate::specs::Load::is_quiet_view))]
 fn is_quiet(line: &Line) -> bool
-    ensures { result ≡ definition.is_quiet_view (told_line line.now) }
+    ensures { result ≡ is_quiet_view (told_line line.now) }
 {
     match line {
         Line::View { quiet, .. } => *quiet,
@@ -57,7 +57,7 @@ fn is_quiet(line: &Line) -> bool
 /// An item of a view.
 #[tactic(auto, unfolding(crate::specs::Load::is_item))]
 fn is_item(line: &Line) -> bool
-    ensures { result ≡ definition.is_item (told_line line.now) }
+    ensures { result ≡ is_item (told_line line.now) }
 {
     match line {
         Line::Item(_) => true,
@@ -67,7 +67,7 @@ fn is_item(line: &Line) -> bool
 
 /// How many views are quiet.
 fn quiet(lines: &[Line]) -> usize
-    ensures { result ≡ count_by (λ line. definition.is_quiet_view (told_line line)) lines.now }
+    ensures { result ≡ count_by (λ line. is_quiet_view (told_line line)) lines.now }
 {
     let mut count = 0;
     for line in lines {
@@ -80,7 +80,7 @@ fn quiet(lines: &[Line]) -> usize
 
 /// How many items the views have.
 fn items(lines: &[Line]) -> usize
-    ensures { result ≡ count_by (λ line. definition.is_item (told_line line)) lines.now }
+    ensures { result ≡ count_by (λ line. is_item (told_line line)) lines.now }
 {
     let mut count = 0;
     for line in lines {
@@ -91,8 +91,9 @@ fn items(lines: &[Line]) -> usize
     count
 }
 
+/// `load SEED COUNT lines N packets N lost N quiet N items N` and a line feed.
 fn text_of(alloc: Global, totals: Totals) -> Result<Vec<u8>, OutOfMemory>
-    ensures { IfOk result (λ text. text.items ≡ definition.summary totals.seed totals.count totals.lines totals.packets totals.lost totals.quiet totals.items) }
+    ensures { IfOk result (λ text. text.items ≡ summary totals.seed totals.count totals.lines totals.packets totals.lost totals.quiet totals.items) }
 {
     let mut text = Vec::new(alloc);
     push(alloc, &mut text, b"load ", totals.seed)?;

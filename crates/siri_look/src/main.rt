@@ -1,7 +1,7 @@
 //! The program for a first look: `replay`, `check` and `convert`, as `siri` does them.
 //!
-//! `./siri` runs it unproved where the program isn't built. It stands on neither the network nor the reader of the command
-//! line, nor on the adapters over the system, so the kit reads it in less than a minute.
+//! `./siri` runs it unproved where the program isn't built. It stands on neither the network nor the reader of the
+//! command line, nor on the adapters over the system, so the kit reads it in less than a minute.
 #![tactic(auto)]
 
 ghost use Rattle.std.specs.Prelude.{◌≡◌, codes};
@@ -44,7 +44,8 @@ fn run_command(rt: &HostRuntime) -> Status {
     }
 }
 
-/// Does what the word says, as the whole program does: what is written and which status ends the run are those of `siri`.
+/// Does what the word says, as the whole program does: what is written and which status ends the run are those of
+/// `siri`.
 fn look<S: Source, K: Sink>(alloc: Global, word: &str, source: &mut S, sink: &mut K) -> Status
     ensures replay { word.now ≡ codes "replay" → Reports report (S.left source.old) (S.left source.new) (K.held sink.old) (K.held sink.new) result }
     ensures views { word.now ≡ codes "replay" → ReportsViews (S.left source.old) (S.left source.new) (K.held sink.old) (K.held sink.new) result }

@@ -13,7 +13,8 @@ pub record Asked : Type 0 where
 -- Situation Exchange
 abbrev pub subscriptions_in : SubscriptionRequest → List Subscription
 subscriptions_in r =
-    r.stop_monitoring_subscription_request ++ r.estimated_timetable_subscription_request ++ r.vehicle_monitoring_subscription_request ++ r.situation_exchange_subscription_request
+    r.stop_monitoring_subscription_request ++ r.estimated_timetable_subscription_request
+    ++ r.vehicle_monitoring_subscription_request ++ r.situation_exchange_subscription_request
 
 -- what it asks for with one of them
 abbrev pub asked_with : SubscriptionRequest → Subscription → Asked

@@ -1,3 +1,4 @@
+pub mod Blank
 pub mod Kinds
 pub mod Rounds
 pub mod Asked

@@ -1,10 +1,13 @@
-// Deliveries of items.
+//! Deliveries of items.
+
 ghost use Rattle.std.specs.Prelude.{◌≡◌};
 ghost use Rattle.std.specs.List.{list_any};
+ghost use Rattle.siri_messages.specs.Blank.{blank_functional_delivery, blank_service_delivery};
 ghost use Rattle.siri_messages.specs.Rounds.{has_round, in_a_round};
 
 use siri_base::{Copies, List, Moment, Name, OutOfMemory, Text};
 use siri_records::{Item, Key};
+use std::alloc::Global;
 
 /// What is delivered of the four services (EN 15531-2, ServiceDelivery): the answer to a request, a part of a
 /// subscription's round, or a feed.
@@ -62,6 +65,25 @@ impl Drop for FunctionalDelivery {
 }
 
 impl ServiceDelivery {
+    /// A delivery of no service, with status true, of which nothing else is said.
+    pub fn blank(alloc: Global) -> ServiceDelivery
+        ensures { result ≡ blank_service_delivery }
+    {
+        ServiceDelivery {
+            response_timestamp: None,
+            producer_ref: None,
+            response_message_identifier: None,
+            request_message_ref: None,
+            status: true,
+            error_condition: None,
+            more_data: false,
+            stop_monitoring_delivery: List::new(alloc),
+            estimated_timetable_delivery: List::new(alloc),
+            vehicle_monitoring_delivery: List::new(alloc),
+            situation_exchange_delivery: List::new(alloc),
+        }
+    }
+
     /// Whether some functional delivery of the four services belongs to a round, whether it has items or not. One that
     /// belongs to none is a feed, or the answer to a request.
     pub fn has_round(&self) -> bool
@@ -75,6 +97,23 @@ impl ServiceDelivery {
 }
 
 impl FunctionalDelivery {
+    /// A delivery of no round with nothing in it, with status true, of which nothing else is said.
+    pub fn blank(alloc: Global) -> FunctionalDelivery
+        ensures { result ≡ blank_functional_delivery }
+    {
+        FunctionalDelivery {
+            response_timestamp: None,
+            subscriber_ref: None,
+            subscription_ref: None,
+            status: true,
+            error_condition: None,
+            start: None,
+            round: None,
+            part: None,
+            items: List::new(alloc),
+            removals: List::new(alloc),
+        }
+    }
     /// Its items and its removals.
     pub fn into_entries(self) -> (List<Item>, List<Key>)
         ensures { result ≡ (self.items, self.removals) }

@@ -1,4 +1,5 @@
-// One of the messages.
+//! One of the messages.
+
 ghost use Rattle.std.specs.Prelude.{◌≡◌};
 ghost use Rattle.siri_messages.specs.Kinds.{kind_of, service_delivery_of, service_request_of};
 

@@ -1,4 +1,5 @@
-// Requests that are answered at once.
+//! Requests that are answered at once.
+
 ghost use Rattle.std.specs.Prelude.{◌≡◌};
 
 use siri_base::{Copies, List, Moment, Name, OutOfMemory};

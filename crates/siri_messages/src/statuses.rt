@@ -1,4 +1,5 @@
-// Whether the producer is there, and since when.
+//! Whether the producer is there, and since when.
+
 ghost use Rattle.std.specs.Prelude.{◌≡◌};
 
 use siri_base::{Copies, Moment, Name, OutOfMemory};

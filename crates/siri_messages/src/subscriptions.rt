@@ -1,4 +1,5 @@
-// Requests for subscriptions, and their answers.
+//! Requests for subscriptions, and their answers.
+
 ghost use Rattle.std.specs.Prelude.{◌≡◌};
 
 use siri_base::{Copies, List, Moment, Name, OutOfMemory, Span, Text};

@@ -1,4 +1,5 @@
-// How rounds are announced, fetched and acknowledged.
+//! How rounds are announced, fetched and acknowledged.
+
 ghost use Rattle.std.specs.Prelude.{◌≡◌};
 
 use siri_base::{Copies, Moment, Name, OutOfMemory, Text};
@@ -81,7 +82,8 @@ impl Drop for DataSupplyRequest {
     }
 }
 
-/// A delivery was taken (EN 15531-2, DataReceivedAcknowledgement). It has a mark where it acknowledges a part of a round.
+/// A delivery was taken (EN 15531-2, DataReceivedAcknowledgement). It has a mark where it acknowledges a part of a
+/// round.
 pub struct DataReceivedAcknowledgement {
     pub response_timestamp: Option<Moment>,
     pub consumer_ref: Option<Name>,

@@ -1,4 +1,5 @@
-// Requests to end subscriptions, and their answers.
+//! Requests to end subscriptions, and their answers.
+
 ghost use Rattle.std.specs.Prelude.{◌≡◌};
 
 use siri_base::{Copies, List, Moment, Name, OutOfMemory, Text};

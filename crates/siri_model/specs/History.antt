@@ -10,7 +10,7 @@ use Rattle.siri_messages.specs.declared.deliveries.ServiceDelivery.{ServiceDeliv
 use Rattle.siri_messages.specs.declared.deliveries.FunctionalDelivery.{FunctionalDelivery}
 use Rattle.siri_messages.specs.declared.message.Message.{Message}
 use Rattle.siri_messages.specs.declared.message.Message.TheVariants as message
-use Rattle.siri_messages.specs.Rounds.{has_round}
+use Rattle.siri_messages.specs.Rounds.{functional_deliveries, has_round}
 
 -- an entry of a feed: an item that was observed, or a key that was withdrawn
 pub data Entry : Type 0 where
@@ -23,7 +23,7 @@ entries_in d = map Observed d.items ++ map Withdrawn d.removals
 
 -- the entries of a delivery, in the order Stop Monitoring, Estimated Timetable, Vehicle Monitoring, Situation Exchange
 abbrev pub entries_of : ServiceDelivery → List Entry
-entries_of d = flat_map entries_in (d.stop_monitoring_delivery ++ d.estimated_timetable_delivery ++ d.vehicle_monitoring_delivery ++ d.situation_exchange_delivery)
+entries_of d = flat_map entries_in (functional_deliveries d)
 
 -- the entries that a taken message feeds: those of a ServiceDelivery that belongs to no round
 abbrev pub entries_fed : Message → List Entry

@@ -131,7 +131,8 @@ unfoldable pub rows_taken : ℕ → ℕ → Message → List (Row KeptLife) → 
 rows_taken start now (message.SubscriptionRequest r) rows = rows_asked now r.message_identifier (asked_in r) rows
 rows_taken start now (message.TerminateSubscriptionRequest r) rows = rows_ended r.message_identifier r.subscriber_ref r.subscription_ref rows
 rows_taken start now (message.DataReceivedAcknowledgement a) rows = rows_acknowledged start now a.status a.consumer_ref a.extensions rows
-rows_taken start now (message.DataSupplyRequest r) rows = with_row_of r.consumer_ref r.extensions.subscription (supplied_row start now (mark_of r.extensions)) rows
+rows_taken start now (message.DataSupplyRequest r) rows =
+    with_row_of r.consumer_ref r.extensions.subscription (supplied_row start now (mark_of r.extensions)) rows
 rows_taken start now other rows = rows
 
 -- after a step, by what was known before it

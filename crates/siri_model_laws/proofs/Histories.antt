@@ -1,5 +1,6 @@
 -- The rows of a history's table after one more step.
-use Rattle.std.proofs.Common.{◌≡◌, ℕ, List, [], ◌∷◌, ◌++◌, map, fold, max, Bool, true, false, cond, not, ◌&&◌, ◌||◌, Option, None, Some, refl, sym, ap, ◌∙◌, subst}
+use Rattle.std.proofs.Common.{◌≡◌, ℕ, List, [], ◌∷◌, ◌++◌, map, fold, max, Bool, true, false, cond, not, ◌&&◌, ◌||◌, Option, None, Some}
+use Rattle.std.proofs.Common.{refl, sym, ap, ◌∙◌, subst}
 use Rattle.std.specs.Prelude.{if◌then◌else◌, option_map, find as find_first}
 use Rattle.std.specs.Cmp.Lexicographic.{bytes_decides}
 use Rattle.std.proofs.lemmas.Bool.{and_parts}
@@ -10,7 +11,8 @@ use Rattle.siri_messages.specs.declared.supplies.Mark.{Mark}
 use Rattle.siri_change.specs.Parts.{Carried}
 use Rattle.siri_life.specs.Life.{Subscribe, Terminate, is_before, after_acknowledgement, after_supply, new_life}
 use Rattle.siri_life.specs.Named.{Name, Of, same_name, same_subscription, those, first, find, put, without, keep}
-use Rattle.siri_life.specs.Serving.{Act, Fed, Heard, accepted_if, accepts, acknowledged, clocked_serving, ended_if, expired_serving, lives_on, serving_after, settled_rows, supplied, with_rows}
+use Rattle.siri_life.specs.Serving.{Act, Fed, Heard, accepted_if, accepts, acknowledged, clocked_serving, ended_if, expired_serving}
+use Rattle.siri_life.specs.Serving.{lives_on, serving_after, settled_rows, supplied, with_rows}
 use Rattle.siri_subs.specs.declared.entry.Row.{Row}
 use Rattle.siri_subs.specs.Table as table
 use Rattle.siri_subs.specs.Table.{EachOnce, is_held, is_of}
@@ -20,14 +22,16 @@ use Rattle.siri_model.specs.History.{Entry, Step, Start, Clock, Feed, Take, Sett
 use Rattle.siri_model.specs.Lives.{Living, Served, acknowledgement_of, acts_in, mark_of, none_served, served_after, serving_of, table_of, life_of}
 use Rattle.siri_messages.specs.Asked.{Asked, asked_in}
 use Rattle.siri_model.specs.Meaning.{meaning}
-use Rattle.siri_model.specs.Rows.{KeptLife, acknowledged_row, supplied_row, row_of, rows_of, settled_row, with_row_of, rows_asked, rows_ended as rows_terminated, rows_acknowledged, rows_taken, rows_after}
+use Rattle.siri_model.specs.Rows.{KeptLife, acknowledged_row, supplied_row, row_of, rows_of, settled_row, with_row_of, rows_asked}
+use Rattle.siri_model.specs.Rows.{rows_ended as rows_terminated, rows_acknowledged, rows_taken, rows_after}
 use Rattle.siri_model_laws.proofs.Moves.{IsLike, acknowledgement_like, acknowledgement_moves, supply_like, supply_moves, rows_settled, settled_like}
 use Rattle.siri_model_laws.proofs.Serves.{AreNamed, goes_with, heard_keeps, more_served}
 use Rattle.siri_model_laws.proofs.Tables.{rows_without, rows_expired, rows_put, rows_accepted, rows_ended, rows_none, rows_changed, row_found}
 
 -- ---- names
 
-named_put : (c s : Name) (l : Living) (t : List (Of Living)) → AreNamed t → c ≡ l.wanted.subscription.subscriber → s ≡ l.wanted.subscription.identifier → AreNamed (put c s l t)
+named_put : (c s : Name) (l : Living) (t : List (Of Living)) → AreNamed t → c ≡ l.wanted.subscription.subscriber
+    → s ≡ l.wanted.subscription.identifier → AreNamed (put c s l t)
 named_put c s l [] n a b = ((a, b), tt)
 named_put c s l (x ∷ xs) n a b = by (same_subscription c s x.subscriber x.identifier) (named_put c s l xs n.1 a b)
   where
@@ -54,15 +58,25 @@ named_kept p (x ∷ xs) n = by (p x.it) (named_kept p xs n.1)
 named_settled : (known : History) (now : ℕ) (t : List (Of Living)) → AreNamed t → AreNamed (settled_rows meaning known now t)
 named_settled known now [] n = tt
 named_settled known now (x ∷ xs) n =
-    let wanted = settled_like x.it (meaning.direct known x.it.wanted) now in
-    ((n.0.0 ∙ ap (λ (w : Asked). w.subscription.subscriber) (sym wanted), n.0.1 ∙ ap (λ (w : Asked). w.subscription.identifier) (sym wanted)), named_settled known now xs n.1)
+    let wanted = settled_like x.it (meaning.direct known x.it.wanted) now in (
+      (
+        n.0.0 ∙ ap (λ (w : Asked). w.subscription.subscriber) (sym wanted),
+        n.0.1
+            ∙ ap (λ (w : Asked). w.subscription.identifier) (sym wanted),
+      ),
+      named_settled known now xs n.1,
+    )
 
 -- the life of a subscription stands under its names
-found_named : (c s : Name) (t : List (Of Living)) (l : Living) → AreNamed t → find c s t ≡ Some l → (c ≡ l.wanted.subscription.subscriber) × (s ≡ l.wanted.subscription.identifier)
+found_named : (c s : Name) (t : List (Of Living)) (l : Living) → AreNamed t → find c s t ≡ Some l
+    → (c ≡ l.wanted.subscription.subscriber) × (s ≡ l.wanted.subscription.identifier)
 found_named c s [] l n there = absurd (cc)
 found_named c s (x ∷ xs) l n there = by (same_subscription c s x.subscriber x.identifier) refl there (found_named c s xs l n.1)
   where
-    by : (b : Bool) → same_subscription c s x.subscriber x.identifier ≡ b → first (cond b (x.it ∷ those c s xs) (those c s xs)) ≡ Some l → (find c s xs ≡ Some l → (c ≡ l.wanted.subscription.subscriber) × (s ≡ l.wanted.subscription.identifier)) → (c ≡ l.wanted.subscription.subscriber) × (s ≡ l.wanted.subscription.identifier)
+    by : (b : Bool) → same_subscription c s x.subscriber x.identifier ≡ b
+        → first (cond b (x.it ∷ those c s xs) (those c s xs)) ≡ Some l
+        → (find c s xs ≡ Some l → (c ≡ l.wanted.subscription.subscriber) × (s ≡ l.wanted.subscription.identifier))
+        → (c ≡ l.wanted.subscription.subscriber) × (s ≡ l.wanted.subscription.identifier)
     by true is there r =
         let same : x.it ≡ l = cc in
         let names = and_parts (same_name c x.subscriber) (same_name s x.identifier) is in (
@@ -73,7 +87,8 @@ found_named c s (x ∷ xs) l n there = by (same_subscription c s x.subscriber x.
 
 -- ---- each subscription once, under its names
 
-held_settled : (c s : Name) (known : History) (now : ℕ) (t : List (Of Living)) → is_held c s (rows_of (settled_rows meaning known now t)) ≡ is_held c s (rows_of t)
+held_settled : (c s : Name) (known : History) (now : ℕ) (t : List (Of Living))
+    → is_held c s (rows_of (settled_rows meaning known now t)) ≡ is_held c s (rows_of t)
 held_settled c s known now [] = refl
 held_settled c s known now (x ∷ xs) =
     let wanted = settled_like x.it (meaning.direct known x.it.wanted) now in
@@ -102,12 +117,14 @@ well_clocked v moment well =
       once = subst EachOnce (sym (rows_expired now v.table)) (once_kept (λ (h : Row KeptLife). not (table.is_terminated now h)) (rows_of v.table) well.once);
     }
 
-well_accepted : (v : Served) (n : ℕ) (x : Asked) (b : Bool) → IsWell v → IsWell (accepted_if meaning b v x.subscription.subscriber x.subscription.identifier n x)
+well_accepted : (v : Served) (n : ℕ) (x : Asked) (b : Bool) → IsWell v
+    → IsWell (accepted_if meaning b v x.subscription.subscriber x.subscription.identifier n x)
 well_accepted v n x true well =
     let l = new_life meaning v.start v.now n x in
     record {
       named = named_put x.subscription.subscriber x.subscription.identifier l v.table well.named refl refl;
-      once = subst EachOnce (sym (rows_put x.subscription.subscriber x.subscription.identifier l v.table well.named refl refl)) (once_put (row_of l) (rows_of v.table) well.once);
+      once = subst EachOnce (sym (rows_put x.subscription.subscriber x.subscription.identifier l v.table well.named refl
+          refl)) (once_put (row_of l) (rows_of v.table) well.once);
     }
 well_accepted v n x false well = record { named = well.named; once = well.once }
 
@@ -119,7 +136,8 @@ well_ended v c s true well = record {
 well_ended v c s false well = record { named = well.named; once = well.once }
 
 -- a life moves on, in its place
-well_moved : (v : Served) (c s : Name) (l l' : Living) → find c s v.table ≡ Some l → IsLike l' l → IsWell v → IsWell (with_rows meaning v (put c s l' v.table) [])
+well_moved : (v : Served) (c s : Name) (l l' : Living) → find c s v.table ≡ Some l → IsLike l' l → IsWell v
+    → IsWell (with_rows meaning v (put c s l' v.table) [])
 well_moved v c s l l' is alike well =
     let names = found_named c s v.table l well.named is in
     let wanted = sym alike.wanted in
@@ -151,56 +169,79 @@ asked_acts : ℕ → List Asked → List (Act Carried Asked Entry)
 asked_acts n asked = map (λ x. Heard x.subscription.subscriber x.subscription.identifier (Subscribe n x)) asked
 
 abbrev heard_asked : Served → ℕ → Asked → Served
-heard_asked v n x = accepted_if meaning (accepts meaning v x.subscription.subscriber x.subscription.identifier n x) v x.subscription.subscriber x.subscription.identifier n x
+heard_asked v n x = accepted_if meaning (accepts meaning v x.subscription.subscriber x.subscription.identifier n x) v
+    x.subscription.subscriber x.subscription.identifier n x
 
-well_asked : (v : Served) (n : ℕ) (asked : List Asked) → IsWell v → IsWell (serving_after meaning (map (λ x. Heard x.subscription.subscriber x.subscription.identifier (Subscribe n x)) asked) v)
+well_asked : (v : Served) (n : ℕ) (asked : List Asked) → IsWell v
+    → IsWell (serving_after meaning (map (λ x. Heard x.subscription.subscriber x.subscription.identifier
+    (Subscribe n x)) asked) v)
 well_asked v n [] well = well
-well_asked v n (x ∷ asked) well = well_asked (heard_asked v n x) n asked (well_accepted v n x (accepts meaning v x.subscription.subscriber x.subscription.identifier n x) well)
+well_asked v n (x ∷ asked) well = well_asked (heard_asked v n x) n asked
+    (well_accepted v n x (accepts meaning v x.subscription.subscriber x.subscription.identifier n x) well)
 
-rows_after_asked : (v : Served) (n : ℕ) (asked : List Asked) → IsWell v → rows_of (serving_after meaning (map (λ x. Heard x.subscription.subscriber x.subscription.identifier (Subscribe n x)) asked) v).table ≡ rows_asked v.now n asked (rows_of v.table)
+rows_after_asked : (v : Served) (n : ℕ) (asked : List Asked) → IsWell v
+    → rows_of (serving_after meaning (map (λ x. Heard x.subscription.subscriber x.subscription.identifier
+    (Subscribe n x)) asked) v).table ≡ rows_asked v.now n asked (rows_of v.table)
 rows_after_asked v n [] well = refl
 rows_after_asked v n (x ∷ asked) well =
     rows_after_asked (heard_asked v n x) n asked (well_accepted v n x (accepts meaning v x.subscription.subscriber x.subscription.identifier n x) well)
-    ∙ ap (λ now. rows_asked now n asked (rows_of (heard_asked v n x).table)) (heard_keeps v x.subscription.subscriber x.subscription.identifier (Subscribe n x)).now
+    ∙ ap (λ now. rows_asked now n asked (rows_of (heard_asked v n x).table))
+    (heard_keeps v x.subscription.subscriber x.subscription.identifier (Subscribe n x)).now
     ∙ ap (rows_asked v.now n asked) (rows_accepted v x n well.named)
 
 -- terminations
 abbrev heard_ended : Served → Name → ℕ → Name → Served
 heard_ended v c n s = ended_if meaning (is_before meaning (find c s v.table) n) v c s
 
-well_terminated : (v : Served) (c : Name) (n : ℕ) (identifiers : List Name) → IsWell v → IsWell (serving_after meaning (map (λ s. Heard c s (Terminate n)) identifiers) v)
+well_terminated : (v : Served) (c : Name) (n : ℕ) (identifiers : List Name) → IsWell v
+    → IsWell (serving_after meaning (map (λ s. Heard c s (Terminate n)) identifiers) v)
 well_terminated v c n [] well = well
-well_terminated v c n (s ∷ identifiers) well = well_terminated (heard_ended v c n s) c n identifiers (well_ended v c s (is_before meaning (find c s v.table) n) well)
+well_terminated v c n (s ∷ identifiers) well = well_terminated (heard_ended v c n s) c n identifiers
+    (well_ended v c s (is_before meaning (find c s v.table) n) well)
 
-rows_after_terminated : (v : Served) (c : Name) (n : ℕ) (identifiers : List Name) → IsWell v → rows_of (serving_after meaning (map (λ s. Heard c s (Terminate n)) identifiers) v).table ≡ rows_terminated n c identifiers (rows_of v.table)
+rows_after_terminated : (v : Served) (c : Name) (n : ℕ) (identifiers : List Name) → IsWell v
+    → rows_of (serving_after meaning (map (λ s. Heard c s (Terminate n)) identifiers) v).table ≡ rows_terminated n c
+    identifiers (rows_of v.table)
 rows_after_terminated v c n [] well = refl
 rows_after_terminated v c n (s ∷ identifiers) well =
     rows_after_terminated (heard_ended v c n s) c n identifiers (well_ended v c s (is_before meaning (find c s v.table) n) well)
     ∙ ap (rows_terminated n c identifiers) (rows_ended v c s n well.named)
 
 -- an acknowledgement
-well_received : (v : Served) (status : Bool) (consumer : Option Name) (mark : Option Mark) → IsWell v → IsWell (serving_after meaning (acknowledgement_of status consumer mark) v)
+well_received : (v : Served) (status : Bool) (consumer : Option Name) (mark : Option Mark) → IsWell v
+    → IsWell (serving_after meaning (acknowledgement_of status consumer mark) v)
 well_received v true (Some c) (Some m) well = well_acknowledged v c m.subscription (mark_of m) well
 well_received v true (Some c) None well = well
 well_received v true None mark well = well
 well_received v false consumer mark well = well
 
-rows_after_acknowledged : (v : Served) (c s : Name) (m : _) → IsWell v → rows_of (acknowledged meaning v c s m (find c s v.table)).table ≡ with_row_of c s (acknowledged_row v.start v.now m) (rows_of v.table)
+rows_after_acknowledged : (v : Served) (c s : Name) (m : _) → IsWell v
+    → rows_of (acknowledged meaning v c s m (find c s v.table)).table ≡ with_row_of c s
+    (acknowledged_row v.start v.now m) (rows_of v.table)
 rows_after_acknowledged v c s m well = by (find c s v.table) refl
   where
-    by : (l : Option Living) → find c s v.table ≡ l → rows_of (acknowledged meaning v c s m l).table ≡ with_row_of c s (acknowledged_row v.start v.now m) (rows_of v.table)
+    by : (l : Option Living) → find c s v.table ≡ l → rows_of (acknowledged meaning v c s m l).table ≡ with_row_of c s
+        (acknowledged_row v.start v.now m) (rows_of v.table)
     by None is = sym (rows_none c s (acknowledged_row v.start v.now m) v.table well.named is)
-    by (Some l) is = rows_changed c s (acknowledged_row v.start v.now m) l (after_acknowledgement meaning l v.start m v.now) v.table well.named well.once is (acknowledgement_moves l v.start m v.now)
+    by (Some l) is = rows_changed c s (acknowledged_row v.start v.now m) l
+        (after_acknowledgement meaning l v.start m v.now) v.table well.named well.once is
+        (acknowledgement_moves l v.start m v.now)
 
 -- a request for a part
-rows_after_supplied : (v : Served) (c s : Name) (m : _) → IsWell v → rows_of (supplied meaning v c s m (find c s v.table)).table ≡ with_row_of c s (supplied_row v.start v.now m) (rows_of v.table)
+rows_after_supplied : (v : Served) (c s : Name) (m : _) → IsWell v
+    → rows_of (supplied meaning v c s m (find c s v.table)).table ≡ with_row_of c s (supplied_row v.start v.now m)
+    (rows_of v.table)
 rows_after_supplied v c s m well = by (find c s v.table) refl
   where
-    by : (l : Option Living) → find c s v.table ≡ l → rows_of (supplied meaning v c s m l).table ≡ with_row_of c s (supplied_row v.start v.now m) (rows_of v.table)
+    by : (l : Option Living) → find c s v.table ≡ l → rows_of (supplied meaning v c s m l).table ≡ with_row_of c s
+        (supplied_row v.start v.now m) (rows_of v.table)
     by None is = sym (rows_none c s (supplied_row v.start v.now m) v.table well.named is)
-    by (Some l) is = rows_changed c s (supplied_row v.start v.now m) l (after_supply meaning l v.start m v.now) v.table well.named well.once is (supply_moves l v.start m v.now)
+    by (Some l) is = rows_changed c s (supplied_row v.start v.now m) l
+        (after_supply meaning l v.start m v.now) v.table well.named well.once is (supply_moves l v.start m v.now)
 
-rows_after_received : (v : Served) (status : Bool) (consumer : Option Name) (mark : Option Mark) → IsWell v → rows_of (serving_after meaning (acknowledgement_of status consumer mark) v).table ≡ rows_acknowledged v.start v.now status consumer mark (rows_of v.table)
+rows_after_received : (v : Served) (status : Bool) (consumer : Option Name) (mark : Option Mark) → IsWell v
+    → rows_of (serving_after meaning (acknowledgement_of status consumer mark) v).table ≡ rows_acknowledged v.start
+    v.now status consumer mark (rows_of v.table)
 rows_after_received v true (Some c) (Some m) well = rows_after_acknowledged v c m.subscription (mark_of m) well
 rows_after_received v true (Some c) None well = refl
 rows_after_received v true None mark well = refl
@@ -270,17 +311,22 @@ well_from v (step ∷ steps) well = well_from (served_after v step) steps (well_
 pub well_after : (h : History) → IsWell (serving_of h)
 well_after h = well_from none_served h (record { named = tt; once = tt })
 
-rows_after_settle : (h : History) → rows_of (settled_rows meaning (serving_of h).known (serving_of h).now (table_of h)) ≡ map (settled_row (now_of h) (current h)) (rows_of (table_of h))
+rows_after_settle : (h : History) → rows_of
+    (settled_rows meaning (serving_of h).known (serving_of h).now (table_of h)) ≡ map
+    (settled_row (now_of h) (current h)) (rows_of (table_of h))
 rows_after_settle h =
     let v = serving_of h in
     let goes = goes_with h in
-    rows_settled v.known v.now (current h) v.table (λ wanted. ap (λ (s : State). shown s.now s.current wanted.subscription.topic) goes.known ∙ ap (λ n. shown n (current h) wanted.subscription.topic) (sym goes.now))
+    rows_settled v.known v.now (current h) v.table
+    (λ wanted. ap (λ (s : State). shown s.now s.current wanted.subscription.topic) goes.known
+    ∙ ap (λ n. shown n (current h) wanted.subscription.topic) (sym goes.now))
     ∙ ap (λ n. map (settled_row n (current h)) (rows_of v.table)) goes.now
 
 rows_step : (h : History) (step : Step) → rows_of (served_after (serving_of h) step).table ≡ rows_after (state_of h) step (rows_of (table_of h))
 unfolding served_after rows_after
 rows_step h (Start number moment) = refl
-rows_step h (Clock moment) = rows_expired (max (serving_of h).now moment) (table_of h) ∙ ap (λ n. table.expired (max n moment) (rows_of (table_of h))) (goes_with h).now
+rows_step h (Clock moment) = rows_expired (max (serving_of h).now moment) (table_of h)
+    ∙ ap (λ n. table.expired (max n moment) (rows_of (table_of h))) (goes_with h).now
 rows_step h (Feed entries) = refl
 rows_step h (Take m) =
     rows_after_taken (serving_of h) m (well_after h)
@@ -292,5 +338,7 @@ pub rows_go_on : (h : History) (step : Step) → rows_of (table_of (h ++ step �
 rows_go_on h step = ap (λ (v : Served). rows_of v.table) (more_served h step) ∙ rows_step h step
 
 -- the row of a subscription is that of its life
-pub row_of_life : (h : History) (subscriber identifier : List ℕ) → find_first (is_of subscriber identifier) (rows_of (table_of h)) ≡ option_map row_of (life_of subscriber identifier h)
+pub row_of_life : (h : History) (subscriber identifier : List ℕ)
+    → find_first (is_of subscriber identifier) (rows_of (table_of h)) ≡ option_map row_of
+    (life_of subscriber identifier h)
 row_of_life h subscriber identifier = row_found subscriber identifier (table_of h) (well_after h).named

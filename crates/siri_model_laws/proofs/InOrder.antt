@@ -12,7 +12,8 @@ use Rattle.siri_records.specs.Keys.{key_of}
 use Rattle.siri_records.specs.Order.{key_cmp}
 use Rattle.siri_records.proofs.Order.{key_cmp_total}
 use Rattle.siri_records.specs.Keyed.{Items, living, InOrder}
-use Rattle.siri_model.specs.History.{Entry, Observed, Withdrawn, is_refused, Step, Start, Clock, Feed, Take, Settle, History, State, nothing, after_entry, after_step, entries_fed, state_of, current}
+use Rattle.siri_model.specs.History.{Entry, Observed, Withdrawn, is_refused, Step, Start, Clock, Feed, Take, Settle, History, State}
+use Rattle.siri_model.specs.History.{nothing, after_entry, after_step, entries_fed, state_of, current}
 use Rattle.siri_model_laws.proofs.Entries.{filter_stronger, sorted_inserted, sorted_removed}
 
 -- ---- items stay in order
@@ -22,7 +23,8 @@ in_order_if true old new a b = a
 in_order_if false old new a b = b
 
 pub in_order_after : (now : ℕ) (items : Items) (e : Entry) → InOrder items → InOrder (after_entry now items e)
-in_order_after now items (Observed item) s = in_order_if (is_refused now items item) items (insert_entry key_cmp items (key_of item) item) s (sorted_inserted key_cmp_total (key_of item) item items s)
+in_order_after now items (Observed item) s = in_order_if (is_refused now items item) items
+    (insert_entry key_cmp items (key_of item) item) s (sorted_inserted key_cmp_total (key_of item) item items s)
 in_order_after now items (Withdrawn key) s = sorted_removed key_cmp_total key items s
 
 -- ---- the current items are in order of key
@@ -58,13 +60,19 @@ more_steps h step = fold-append after_step nothing h (step ∷ [])
 -- ---- a later moment
 
 -- what has not ended later has not ended now
-ended_later : (end : Option ℕ) (now later : ℕ) → now ≤ later → not (option_map_or (λ e. nat_lt e later) end false) ≡ true → not (option_map_or (λ e. nat_lt e now) end false) ≡ true
+ended_later : (end : Option ℕ) (now later : ℕ) → now ≤ later
+    → not (option_map_or (λ e. nat_lt e later) end false) ≡ true
+    → not (option_map_or (λ e. nat_lt e now) end false) ≡ true
 ended_later None now later le h = refl
 ended_later (Some e) now later le h = grind (arith, ltb-true, lt-ltb)
 
-alive_later_at : (closed : Bool) (end : Option ℕ) (now later : ℕ) → now ≤ later → not (closed || option_map_or (λ e. nat_lt e later) end false) ≡ true → not (closed || option_map_or (λ e. nat_lt e now) end false) ≡ true
+alive_later_at : (closed : Bool) (end : Option ℕ) (now later : ℕ) → now ≤ later
+    → not (closed || option_map_or (λ e. nat_lt e later) end false) ≡ true
+    → not (closed || option_map_or (λ e. nat_lt e now) end false) ≡ true
 alive_later_at true end now later le h = h
 alive_later_at false end now later le h = ended_later end now later le h
 
 pub live_later : (now later : ℕ) (items : Items) → now ≤ later → living later (living now items) ≡ living later items
-live_later now later items le = filter_stronger (λ (e : Key × Item). not (is_dead e.1 now)) (λ (e : Key × Item). not (is_dead e.1 later)) (λ e h. alive_later_at (is_closed e.1) (end_of e.1) now later le h) items
+live_later now later items le = filter_stronger (λ (e : Key × Item). not (is_dead e.1 now))
+    (λ (e : Key × Item). not (is_dead e.1 later)) (λ e h. alive_later_at (is_closed e.1) (end_of e.1) now later le h)
+    items

@@ -10,7 +10,7 @@ use Rattle.siri_records.specs.declared.key.Key.{Key}
 use Rattle.siri_records.specs.Ends.{is_dead}
 use Rattle.siri_records.specs.Keys.{key_of}
 use Rattle.siri_records.specs.Order.{key_cmp}
-use Rattle.siri_records.specs.Keyed.{Items, living, InOrder}
+use Rattle.siri_records.specs.Keyed.{Items, living, InOrder, most_live}
 use Rattle.siri_topic.specs.declared.topics.Topic.{Topic}
 use Rattle.siri_topic.specs.Shown.{is_shown}
 use Rattle.siri_topic.proofs.Dead.{dead_are_never_shown}
@@ -37,7 +37,8 @@ alive_where_shown topic item now false dead shows = refl
 -- of the live items is shown what is shown of all
 pub shown_live : (now : ℕ) (items : Items) (topic : Topic) → shown now (living now items) topic ≡ shown now items topic
 shown_live now items topic =
-    filter_stronger (λ (e : Key × Item). not (is_dead e.1 now)) (λ (e : Key × Item). is_shown topic e.1 now) (λ e shows. alive_where_shown topic e.1 now (is_dead e.1 now) refl shows) items
+    filter_stronger (λ (e : Key × Item). not (is_dead e.1 now)) (λ (e : Key × Item). is_shown topic e.1 now)
+    (λ e shows. alive_where_shown topic e.1 now (is_dead e.1 now) refl shows) items
 
 pub shown_in_order : (now : ℕ) (items : Items) (topic : Topic) → InOrder items → InOrder (shown now items topic)
 shown_in_order now items topic s = sorted_passing key_cmp (λ item. is_shown topic item now) items s
@@ -45,11 +46,11 @@ shown_in_order now items topic s = sorted_passing key_cmp (λ item. is_shown top
 few_passing : {X : Type 0} (p : X → Bool) (xs : List X) → length (filter p xs) ≤ length xs
 few_passing p xs = omega (arith, length-filter_both p (λ x. not (p x)) (λ x. refl) xs)
 
-few_shown : (h : History) (topic : Topic) → length (shown (now_of h) (current h) topic) ≤ 20000
+few_shown : (h : History) (topic : Topic) → length (shown (now_of h) (current h) topic) ≤ most_live
 few_shown h topic =
     let now = now_of h in
     let few = few_passing (λ (e : Key × Item). is_shown topic e.1 now) (living now (current h)) in
-    subst (λ (items : Items). length items ≤ 20000) (shown_live now (current h) topic) (omega (arith, few, few_live h))
+    subst (λ (items : Items). length items ≤ most_live) (shown_live now (current h) topic) (omega (arith, few, few_live h))
 
 keyed_test : (items : Items) → IsKeyed items → is_keyed items ≡ true
 keyed_test [] k = refl
@@ -64,7 +65,11 @@ pub direct_view : (h : History) (wanted : Asked) → is_view (direct_of h wanted
 direct_view h wanted =
     let topic = wanted.subscription.topic in
     let keyed = keyed_passing (λ (item : Item). is_shown topic item (now_of h)) (current h) (current_keyed h) in
-    (view_stated (direct_of h wanted)).1 (shown_in_order (now_of h) (current h) topic (current_in_order h), keyed_test (direct_of h wanted) keyed, few_shown h topic)
+    (view_stated (direct_of h wanted)).1 (
+      shown_in_order (now_of h) (current h) topic (current_in_order h),
+      keyed_test (direct_of h wanted) keyed,
+      few_shown h topic,
+    )
 
 -- ---- the laws
 
@@ -75,7 +80,8 @@ parts_apply view (p ∷ parts) = parts_apply (meaning.apply view p) parts
 
 pub meaning_lawful : IsLawful meaning
 meaning_lawful = record {
-  parts_lead_to_the_target = λ a t w viewed leads. parts_apply (part.base_view a w.subscription.incremental) (meaning.load a t w) ∙ carried_views_lead a t w.subscription.incremental viewed leads;
+  parts_lead_to_the_target = λ a t w viewed leads. parts_apply (part.base_view a w.subscription.incremental)
+      (meaning.load a t w) ∙ carried_views_lead a t w.subscription.incremental viewed leads;
   some_part = λ a t w. carried_some a t w.subscription.incremental;
   few_parts = λ a t w viewed leads. carried_few a t w.subscription.incremental viewed leads;
   empty_is_view = refl;

@@ -4,7 +4,9 @@ use Rattle.std.specs.Prelude.{nat_lt, ◌==◌}
 use Rattle.std.proofs.lemmas.Bool.{and_parts, eqb-true}
 use Rattle.siri_records.specs.Keyed.{Items}
 use Rattle.siri_change.specs.Parts.{Carried}
-use Rattle.siri_life.specs.Life.{Mark, Outstanding, is_mark, is_due, acknowledged_at, acknowledged_if, next_part, after_acknowledgement, supplied_at, after_supply, opened, opened_at, opened_if, wants_round, new_round, after_send, sent_if, after_heartbeat, heartbeat_if, sends_heartbeat, settled}
+use Rattle.siri_life.specs.Life.{Mark, Outstanding, is_mark, is_due, acknowledged_at, acknowledged_if, next_part, after_acknowledgement}
+use Rattle.siri_life.specs.Life.{supplied_at, after_supply, opened, opened_at, opened_if, wants_round, new_round, after_send, sent_if}
+use Rattle.siri_life.specs.Life.{after_heartbeat, heartbeat_if, sends_heartbeat, settled}
 use Rattle.siri_life.specs.Named.{Of}
 use Rattle.siri_life.specs.Serving.{settled_rows}
 use Rattle.siri_life.specs.Slot.{Slot, slot_of, begun, opens_round, with_acknowledgement, with_supply}
@@ -26,7 +28,11 @@ like_itself : (l : Living) → IsLike l l
 like_itself l = record { number = refl; wanted = refl; heartbeat = refl }
 
 like_then : (a b c : Living) → IsLike b a → IsLike c b → IsLike c a
-like_then a b c first later = record { number = later.number ∙ first.number; wanted = later.wanted ∙ first.wanted; heartbeat = later.heartbeat ∙ first.heartbeat }
+like_then a b c first later = record {
+  number = later.number ∙ first.number;
+  wanted = later.wanted ∙ first.wanted;
+  heartbeat = later.heartbeat ∙ first.heartbeat;
+}
 
 -- the row of a life that is like another, with these rounds
 row_like : (new old : Living) (rounds : Slot Items Carried) → IsLike new old → slot_of meaning new ≡ rounds
@@ -69,7 +75,9 @@ module _ (l : Living) (k : ℕ) (m : Mark) (now : ℕ) where
       by : (b : Bool) → is_numbered m l.number k ≡ b → acknowledged_row k now m (row_of l) ≡ row_of (after_acknowledgement meaning l k m now)
       by true is =
           let parts = and_parts (m.number == l.number) (m.start == k) is in
-          rw is (row_like (after_acknowledgement meaning l k m now) l (with_acknowledgement (slot_of meaning l) m.round m.part now) acknowledgement_like (slot_acknowledges meaning l k m now (eqb-true m.number l.number parts.0) (eqb-true m.start k parts.1)))
+          rw is (row_like (after_acknowledgement meaning l k m now) l
+          (with_acknowledgement (slot_of meaning l) m.round m.part now) acknowledgement_like
+          (slot_acknowledges meaning l k m now (eqb-true m.number l.number parts.0) (eqb-true m.start k parts.1)))
       by false is = rw is (ap row_of (sym (slot_keeps meaning l k m now is)))
 
 -- ---- a request for a part
@@ -97,7 +105,9 @@ module _ (l : Living) (k : ℕ) (m : Mark) (now : ℕ) where
     where
       by : (o : Option (Outstanding Items Carried)) → supplied_at meaning o l k m now ≡ l
       by None = refl
-      by (Some o) = ap (λ b. sent_if meaning b l o now) (other_supply (meaning.fetched l.wanted) (is_numbered m l.number k) (m.round == length l.rounds && m.part == suc o.acknowledged_parts) off)
+      by (Some o) = ap (λ b. sent_if meaning b l o now)
+          (other_supply (meaning.fetched l.wanted) (is_numbered m l.number k)
+          (m.round == length l.rounds && m.part == suc o.acknowledged_parts) off)
 
   pub supply_moves : supplied_row k now m (row_of l) ≡ row_of (after_supply meaning l k m now)
   supply_moves = by (is_numbered m l.number k) refl
@@ -105,7 +115,9 @@ module _ (l : Living) (k : ℕ) (m : Mark) (now : ℕ) where
       by : (b : Bool) → is_numbered m l.number k ≡ b → supplied_row k now m (row_of l) ≡ row_of (after_supply meaning l k m now)
       by true is =
           let parts = and_parts (m.number == l.number) (m.start == k) is in
-          rw is (row_like (after_supply meaning l k m now) l (with_supply (slot_of meaning l) m.round m.part now) supply_like (slot_supplies meaning l k m now (eqb-true m.number l.number parts.0) (eqb-true m.start k parts.1)))
+          rw is (row_like (after_supply meaning l k m now) l
+          (with_supply (slot_of meaning l) m.round m.part now) supply_like
+          (slot_supplies meaning l k m now (eqb-true m.number l.number parts.0) (eqb-true m.start k parts.1)))
       by false is = rw is (ap row_of (sym (supply_keeps is)))
 
 -- ---- a settle
@@ -125,11 +137,14 @@ module _ (l : Living) (direct : Items) (now : ℕ) where
   look_moves : looked l.wanted direct now (slot_of meaning l) ≡ slot_of meaning (opened meaning l direct now)
   look_moves = by l.outstanding
     where
-      test : (b : Bool) → cond b (begun (slot_of meaning l) (new_round meaning l direct now)) (slot_of meaning l) ≡ slot_of meaning (opened_if meaning b l direct now)
+      test : (b : Bool) → cond b (begun (slot_of meaning l) (new_round meaning l direct now))
+          (slot_of meaning l) ≡ slot_of meaning (opened_if meaning b l direct now)
       test true = sym (slot_begins meaning l (new_round meaning l direct now))
       test false = refl
 
-      by : (o : Option (Outstanding Items Carried)) → cond (opens_round meaning o (slot_of meaning l) l.wanted direct) (begun (slot_of meaning l) (new_round meaning l direct now)) (slot_of meaning l) ≡ slot_of meaning (opened_at meaning o l direct now)
+      by : (o : Option (Outstanding Items Carried)) → cond (opens_round meaning o (slot_of meaning l) l.wanted direct)
+          (begun (slot_of meaning l) (new_round meaning l direct now)) (slot_of meaning l) ≡ slot_of meaning
+          (opened_at meaning o l direct now)
       by None = test (wants_round meaning l direct)
       by (Some o) = refl
 
@@ -142,20 +157,29 @@ module _ (l : Living) (now : ℕ) where
       by (Some o) = sent_like l now (is_due o.last_sent now) o
 
   -- a heartbeat leaves all else
-  beat_leaves : row_of (after_heartbeat meaning l now) ≡ record (row_of l) { slot = record { rounds = slot_of meaning l; last_heartbeat = cond (sends_heartbeat meaning l now) now l.last_heartbeat } }
+  beat_leaves : row_of (after_heartbeat meaning l now) ≡ record (row_of l) {
+    slot = record {
+      rounds = slot_of meaning l;
+      last_heartbeat =
+          cond (sends_heartbeat meaning l now) now l.last_heartbeat;
+    };
+  }
   beat_leaves = by (sends_heartbeat meaning l now)
     where
-      by : (b : Bool) → row_of (heartbeat_if meaning b l now) ≡ record (row_of l) { slot = record { rounds = slot_of meaning l; last_heartbeat = cond b now l.last_heartbeat } }
+      by : (b : Bool) → row_of (heartbeat_if meaning b l now) ≡ record (row_of l)
+          { slot = record { rounds = slot_of meaning l; last_heartbeat = cond b now l.last_heartbeat } }
       by true = refl
       by false = refl
 
-pub settle_moves : (l : Living) (items : Items) (now : ℕ) → settled_row now items (row_of l) ≡ row_of (settled meaning l (shown now items l.wanted.subscription.topic) now)
+pub settle_moves : (l : Living) (items : Items) (now : ℕ)
+    → settled_row now items (row_of l) ≡ row_of (settled meaning l (shown now items l.wanted.subscription.topic) now)
 settle_moves l items now =
     let direct = shown now items l.wanted.subscription.topic in
     let look = opened meaning l direct now in
     let sent = after_send meaning look look.outstanding now in
     let alike = like_then l look sent (opened_like l direct now) (send_like look now) in
-    let rounds : slot_of meaning sent ≡ sent_if_due now (looked l.wanted direct now (slot_of meaning l)) = slot_sends meaning look now ∙ ap (sent_if_due now) (sym (look_moves l direct now)) in
+    let rounds : slot_of meaning sent ≡ sent_if_due now (looked l.wanted direct now (slot_of meaning l)) =
+    slot_sends meaning look now ∙ ap (sent_if_due now) (sym (look_moves l direct now)) in
     sym (
     beat_leaves sent now
     ∙ (λ i. record {
@@ -181,7 +205,10 @@ settled_like l direct now =
     by false l = refl
 
 -- all rows
-pub rows_settled : (known : History) (now : ℕ) (items : Items) (t : List (Of Living)) → ((wanted : Asked) → meaning.direct known wanted ≡ shown now items wanted.subscription.topic) → rows_of (settled_rows meaning known now t) ≡ map (settled_row now items) (rows_of t)
+pub rows_settled : (known : History) (now : ℕ) (items : Items) (t : List (Of Living))
+    → ((wanted : Asked) → meaning.direct known wanted ≡ shown now items wanted.subscription.topic)
+    → rows_of (settled_rows meaning known now t) ≡ map (settled_row now items) (rows_of t)
 rows_settled known now items [] knows = refl
 rows_settled known now items (x ∷ xs) knows = λ i.
-    (ap (λ direct. row_of (settled meaning x.it direct now)) (knows x.it.wanted) ∙ sym (settle_moves x.it items now)) i ∷ rows_settled known now items xs knows i
+    (ap (λ direct. row_of (settled meaning x.it direct now)) (knows x.it.wanted) ∙ sym (settle_moves x.it items now))
+    i ∷ rows_settled known now items xs knows i

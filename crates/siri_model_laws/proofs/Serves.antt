@@ -56,9 +56,11 @@ heard_keeps v c s (Notify m t) = keeps_itself v
 heard_keeps v c s (Delivery m t more x) = keeps_itself v
 
 -- nor does what is heard of many
-pub all_keep : {A : Type 0} (c s : A → Name) (p : A → Packet Carried Asked) (xs : List A) (v : Served) → Keeps (serving_after meaning (map (λ x. Heard (c x) (s x) (p x)) xs) v) v
+pub all_keep : {A : Type 0} (c s : A → Name) (p : A → Packet Carried Asked) (xs : List A) (v : Served)
+    → Keeps (serving_after meaning (map (λ x. Heard (c x) (s x) (p x)) xs) v) v
 all_keep c s p [] v = keeps_itself v
-all_keep c s p (x ∷ xs) v = keeps_then v (heard meaning v (c x) (s x) (p x)) _ (heard_keeps v (c x) (s x) (p x)) (all_keep c s p xs (heard meaning v (c x) (s x) (p x)))
+all_keep c s p (x ∷ xs) v = keeps_then v (heard meaning v (c x) (s x) (p x)) _ (heard_keeps v (c x) (s x) (p x))
+    (all_keep c s p xs (heard meaning v (c x) (s x) (p x)))
 
 -- a side goes with a state
 pub record Goes (v : Served) (state : State) : Type 0 where
@@ -77,13 +79,15 @@ goes_fed v state entries goes = record {
   known = more_steps v.known (Feed entries) ∙ ap (λ (s : State). after_step s (Feed entries)) goes.known;
 }
 
-acknowledged_keeps : (v : Served) (status : Bool) (consumer : Option Name) (mark : Option _) → Keeps (serving_after meaning (acknowledgement_of status consumer mark) v) v
+acknowledged_keeps : (v : Served) (status : Bool) (consumer : Option Name) (mark : Option _)
+    → Keeps (serving_after meaning (acknowledgement_of status consumer mark) v) v
 acknowledged_keeps v true (Some c) (Some m) = heard_keeps v c m.subscription (Acknowledge (mark_of m))
 acknowledged_keeps v true (Some c) None = keeps_itself v
 acknowledged_keeps v true None m = keeps_itself v
 acknowledged_keeps v false c m = keeps_itself v
 
-goes_delivered : (v : Served) (state : State) (entries : List Entry) (b : Bool) → Goes v state → Goes (serving_after meaning (if b then [] else Fed entries ∷ []) v) (fed state (if b then [] else entries))
+goes_delivered : (v : Served) (state : State) (entries : List Entry) (b : Bool) → Goes v state
+    → Goes (serving_after meaning (if b then [] else Fed entries ∷ []) v) (fed state (if b then [] else entries))
 goes_delivered v state entries true goes = goes
 goes_delivered v state entries false goes = goes_fed v state entries goes
 
@@ -93,14 +97,16 @@ unfolding acts_in
 goes_taken v state (message.ServiceRequest m) goes = goes
 goes_taken v state (message.ServiceDelivery d) goes = goes_delivered v state (entries_of d) (has_round d) goes
 goes_taken v state (message.SubscriptionRequest r) goes =
-    goes_on _ v state (all_keep (λ (a : Asked). a.subscription.subscriber) (λ (a : Asked). a.subscription.identifier) (λ a. Subscribe r.message_identifier a) (asked_in r) v) goes
+    goes_on _ v state (all_keep (λ (a : Asked). a.subscription.subscriber) (λ (a : Asked). a.subscription.identifier)
+    (λ a. Subscribe r.message_identifier a) (asked_in r) v) goes
 goes_taken v state (message.SubscriptionResponse m) goes = goes
 goes_taken v state (message.TerminateSubscriptionRequest r) goes =
     goes_on _ v state (all_keep (λ (i : Name). r.subscriber_ref) (λ i. i) (λ i. Terminate r.message_identifier) r.subscription_ref v) goes
 goes_taken v state (message.TerminateSubscriptionResponse m) goes = goes
 goes_taken v state (message.DataReadyNotification m) goes = goes
 goes_taken v state (message.DataReadyAcknowledgement m) goes = goes
-goes_taken v state (message.DataSupplyRequest r) goes = goes_on _ v state (heard_keeps v r.consumer_ref r.extensions.subscription (Supply (mark_of r.extensions))) goes
+goes_taken v state (message.DataSupplyRequest r) goes =
+    goes_on _ v state (heard_keeps v r.consumer_ref r.extensions.subscription (Supply (mark_of r.extensions))) goes
 goes_taken v state (message.DataReceivedAcknowledgement a) goes = goes_on _ v state (acknowledged_keeps v a.status a.consumer_ref a.extensions) goes
 goes_taken v state (message.CheckStatusRequest m) goes = goes
 goes_taken v state (message.CheckStatusResponse m) goes = goes

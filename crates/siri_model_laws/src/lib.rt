@@ -1,5 +1,5 @@
-//! What follows from the definitions of `siri_model`, of every history: each law is the contract of a function that does
-//! nothing when it is called.
+//! What follows from the definitions of `siri_model`, of every history: each law is the contract of a function that
+//! does nothing when it is called.
 //!
 //! ```text
 //!     a history --current--> items: in order of key, each under its own, few of them live, each the last that was taken
@@ -9,10 +9,12 @@
 //!
 //! Stands on `siri_base`, `siri_records`, `siri_topic`, `siri_messages`, `siri_change`, `siri_subs`, `siri_life` and
 //! `siri_model`. The producer's proofs cite its lemmas.
+//! `small_histories` has small ones, run by the definitions.
 #![tactic(auto)]
 
 mod history_laws;
 mod meaning_laws;
+mod small_histories;
 mod table_laws;
 
 pub use history_laws::{
@@ -20,4 +22,8 @@ pub use history_laws::{
     few_keys_are_live, the_last_observation_is_current,
 };
 pub use meaning_laws::{direct_responses_are_views, lives_of_items_are_lawful};
+pub use small_histories::{
+    acknowledgements_are_of_their_part, changes_wait_for_the_round, complete_sets,
+    departures_are_sent, numbers_and_terminations, small_changes_wait,
+};
 pub use table_laws::{rows_follow_their_lives, subscriptions_are_held_once};

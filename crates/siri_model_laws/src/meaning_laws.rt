@@ -1,4 +1,5 @@
-// What lives ask of views and parts, at items and histories.
+//! What lives ask of views and parts, at items and histories.
+
 ghost use Rattle.std.specs.Prelude.{◌≡◌, true};
 ghost use Rattle.siri_change.specs.Views.{is_view};
 ghost use Rattle.siri_life.specs.Meaning.{IsLawful};
@@ -12,9 +13,9 @@ pub fn direct_responses_are_views()
     ensures { (h : History) (wanted : Asked) → is_view (direct_of h wanted) ≡ true }
 {}
 
-/// A law: items, their changes in parts of a hundred, and histories have what lives ask of views and parts. The parts of a
-/// round lead from the acknowledged view to the target, there is at least one and at most 400, and the empty view and each
-/// target are views.
+/// A law: items, their changes in parts of a hundred, and histories have what lives ask of views and parts. The parts
+/// of a round lead from the acknowledged view to the target, there is at least one and at most 400, and the empty view
+/// and each target are views.
 pub fn lives_of_items_are_lawful()
     ensures { IsLawful meaning }
 {}

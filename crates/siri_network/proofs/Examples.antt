@@ -19,7 +19,9 @@ wire accept_fails = record {
 
 -- with three moments, and the last number but one
 abbrev outside : List ℕ → Outside
-outside accept_fails = outside_of (told_by (Some (wire accept_fails)) 0) (told_by (Some (record { coming = 1 ∷ (2 ∷ (3 ∷ [])); fails = 3 ∷ [] })) 0) (told_by (Some (record { kept = 99999999998; fails = 1 ∷ [] })) 0)
+outside accept_fails = outside_of (told_by (Some (wire accept_fails)) 0)
+    (told_by (Some (record { coming = 1 ∷ (2 ∷ (3 ∷ [])); fails = 3 ∷ [] })) 0)
+    (told_by (Some (record { kept = 99999999998; fails = 1 ∷ [] })) 0)
 
 -- it is enough for two connections where the third call fails
 two_are_enough : HasEnough 2 (outside (2 ∷ []))

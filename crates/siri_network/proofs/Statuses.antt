@@ -50,5 +50,7 @@ no_source_failure left later (Some fails) None is met = met
 no_source_failure left later (Some fails) (Some after) is met = cc (is, met.meets)
 
 -- so no source ended the run
-pub read_unless_named : (end : Status) (left later old new : Bytes) → old ≡ Some [] → SourceMeets (is_read_fault end) left later old new → end ≡ status.ReadFault → ⊥
-read_unless_named end left later old new is met e = no_source_failure left later old new is (subst (λ s. SourceMeets (is_read_fault s) left later old new) e met)
+pub read_unless_named : (end : Status) (left later old new : Bytes) → old ≡ Some []
+    → SourceMeets (is_read_fault end) left later old new → end ≡ status.ReadFault → ⊥
+read_unless_named end left later old new is met e = no_source_failure left later old new is
+    (subst (λ s. SourceMeets (is_read_fault s) left later old new) e met)

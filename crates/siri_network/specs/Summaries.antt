@@ -1,7 +1,7 @@
 -- The line that a run over the network ends with.
 use Rattle.std.specs.Prelude.{ℕ, List, [], ◌∷◌, ◌++◌, codes}
 use Rattle.std.specs.Fmt.{decimal}
-use Rattle.siri_exchange.specs.declared.tally.Tally.{Tally}
+use Rattle.siri_http.specs.declared.tally.Tally.{Tally}
 
 -- a word and a count
 abbrev pub counted_text : List ℕ → ℕ → List ℕ

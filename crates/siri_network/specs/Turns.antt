@@ -17,7 +17,8 @@ abbrev pub running : {State : Type 0} → State → Outside → Running State
 running state outside = record { state = state; outside = outside }
 
 -- one turn, of an end that is given a moment so and answers a connection over a wire so
-pub record Turn {State : Type 0} (given : ℕ → State → State) (Answers : State → Told WireState → State → Told WireState → Type 0) (from to : Running State) : Type 0 where
+pub record Turn {State : Type 0} (given : ℕ → State → State)
+    (Answers : State → Told WireState → State → Told WireState → Type 0) (from to : Running State) : Type 0 where
   pub wire : Told WireState
   pub moment : ℕ
   pub accepts : Call Accepts (Ok (tt {0})) from.outside.wire wire
@@ -44,7 +45,9 @@ pub record FailsToTell (error : NetworkError) (from to : Outside) : Type 0 where
   pub keeper : to.keeper ≡ from.keeper
 
 -- there was no memory to answer the connection to its end: the first steps of that were made
-pub record StopsAnswering {State : Type 0} (given : ℕ → State → State) (Stops : State → Told WireState → Told WireState → Type 0) (error : NetworkError) (from : Running State) (to : Outside) : Type 0 where
+pub record StopsAnswering {State : Type 0} (given : ℕ → State → State)
+    (Stops : State → Told WireState → Told WireState → Type 0) (error : NetworkError) (from : Running State)
+    (to : Outside) : Type 0 where
   pub error_is : error ≡ errors.OutOfMemory
   pub wire : Told WireState
   pub moment : ℕ
@@ -53,11 +56,14 @@ pub record StopsAnswering {State : Type 0} (given : ℕ → State → State) (St
   pub stops : Stops (given moment from.state) wire to.wire
   pub keeper : to.keeper ≡ from.outside.keeper
 
-abbrev pub TurnFails : {State : Type 0} → (given : ℕ → State → State) → (Stops : State → Told WireState → Told WireState → Type 0) → NetworkError → Running State → Outside → Type 0
+abbrev pub TurnFails : {State : Type 0} → (given : ℕ → State → State)
+    → (Stops : State → Told WireState → Told WireState → Type 0) → NetworkError → Running State → Outside → Type 0
 TurnFails given Stops error from to = FailsToAccept error from.outside to ⊎ (FailsToTell error from.outside to ⊎ StopsAnswering given Stops error from to)
 
 -- of so many turns some were made, and the next one ended the run
-pub record TurnsFail {State : Type 0} (Does : Running State → Running State → Type 0) (Ends : NetworkError → Running State → Outside → Type 0) (count : ℕ) (error : NetworkError) (from : Running State) (to : Outside) : Type 0 where
+pub record TurnsFail {State : Type 0} (Does : Running State → Running State → Type 0)
+    (Ends : NetworkError → Running State → Outside → Type 0) (count : ℕ) (error : NetworkError) (from : Running State)
+    (to : Outside) : Type 0 where
   pub made : ℕ
   pub fewer : made < count
   pub last : Running State

@@ -1,4 +1,5 @@
-// The calls of the outside that end a run where they fail.
+//! The calls of the outside that end a run where they fail.
+
 ghost use Rattle.std.specs.Prelude.{◌≤◌, IfOk, OnOk};
 ghost use Rattle.siri_base.specs.OutsideCalls.{GivesMoment, RaisesNumber};
 ghost use Rattle.siri_base.specs.Wires.{Accepts, Listens};

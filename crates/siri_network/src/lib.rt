@@ -1,5 +1,5 @@
-//! What a run over the network is made of, beside its exchanges: the calls of the outside that end it where they fail, and the
-//! line that tells in the end what was counted.
+//! What a run over the network is made of, beside its exchanges: the calls of the outside that end it where they fail,
+//! and the line that tells in the end what was counted.
 //!
 //! ```text
 //!   the start number   keeper -> raise  --+
@@ -10,7 +10,8 @@
 //!   a Tally -> write_summary -> sink
 //! ```
 //!
-//! Stands on `siri_exchange` for the counts and on `siri_lines` for what a run writes. It knows no message.
+//! Stands on `siri_base` for the outside, on `siri_http` for the counts and on `siri_lines` for what a run writes. It
+//! knows no message.
 #![tactic(auto)]
 
 mod calls;

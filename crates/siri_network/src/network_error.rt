@@ -1,4 +1,5 @@
-// Why a run over the network ends before its connections are served.
+//! Why a run over the network ends before its connections are served.
+
 ghost use Rattle.std.specs.Prelude.{◌≡◌};
 ghost use Rattle.siri_network.specs.Errors.{keeper_error, status_of, wire_error};
 ghost use Rattle.siri_network.specs.declared.network_error.NetworkError.TheVariants as error;

@@ -1,4 +1,5 @@
-// The line that a run over the network ends with.
+//! The line that a run over the network ends with.
+
 ghost use Rattle.std.specs.Prelude.{◌≡◌, ◌++◌, IfOk, OnErr, OnOk};
 ghost use Rattle.siri_base.specs.Causes.{HasOutsideCause};
 ghost use Rattle.siri_base.specs.MetFailures.{SinkMeets, has_failed};
@@ -7,7 +8,7 @@ ghost use Rattle.siri_lines.specs.Ends.{AppendsFront};
 ghost use Rattle.siri_network.specs.Summaries.{counted_text, summary_text};
 
 use siri_base::{OutOfMemory, OutsideError, Sink, append, append_number};
-use siri_exchange::Tally;
+use siri_http::Tally;
 use siri_lines::write_text;
 use std::alloc::Global;
 

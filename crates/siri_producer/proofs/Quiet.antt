@@ -17,10 +17,10 @@ use Rattle.siri_model.specs.Meaning.{direct_of, meaning}
 use Rattle.siri_model.specs.Rows.{KeptLife, row_of}
 use Rattle.siri_model_laws.proofs.Histories.{row_of_life}
 use Rattle.siri_model_laws.proofs.Lawful.{shown_live}
-use Rattle.siri_courses.specs.declared.course.Course.{Course}
-use Rattle.siri_courses.specs.Courses.{kept_row, KnowsLevel, KnowLevels}
+use Rattle.siri_subscriptions.specs.declared.course.Course.{Course}
+use Rattle.siri_subscriptions.specs.Courses.{kept_row, KnowsLevel, KnowLevels}
 use Rattle.siri_responder.specs.Known as responder
-use Rattle.siri_take.proofs.Kept.{found_kept, found_at}
+use Rattle.siri_subscriptions.proofs.Kept.{found_kept, found_at}
 use Rattle.siri_subs.proofs.Placed.{found, find_none, none_found}
 use Rattle.siri_subs.specs.Table.{place_of}
 use Rattle.siri_producer.specs.Known.{Known, StandsFor}
@@ -29,11 +29,13 @@ use Rattle.siri_producer.specs.Standing.{IsProducer, known_of}
 
 -- ---- the row that is found
 
-found_level : (now : ℕ) (items : Items) (c s : List ℕ) (rows : List (Row Course)) (row : Row Course) → KnowLevels now items rows → find (is_of c s) rows ≡ Some row → KnowsLevel now items row
+found_level : (now : ℕ) (items : Items) (c s : List ℕ) (rows : List (Row Course)) (row : Row Course)
+    → KnowLevels now items rows → find (is_of c s) rows ≡ Some row → KnowsLevel now items row
 found_level now items c s [] row levels e = absurd (cc)
 found_level now items c s (r ∷ rows) row levels e = by (is_of c s r) e (found_level now items c s rows row (All-tail (KnowsLevel now items) r rows levels))
   where
-    by : (b : Bool) → cond b (Some r) (find (is_of c s) rows) ≡ Some row → (find (is_of c s) rows ≡ Some row → KnowsLevel now items row) → KnowsLevel now items row
+    by : (b : Bool) → cond b (Some r) (find (is_of c s) rows) ≡ Some row
+        → (find (is_of c s) rows ≡ Some row → KnowsLevel now items row) → KnowsLevel now items row
     by true e later =
         let same : r ≡ row = cc in
         subst (KnowsLevel now items) same (All-head (KnowsLevel now items) r rows levels)
@@ -44,7 +46,8 @@ found_level now items c s (r ∷ rows) row levels e = by (is_of c s r) e (found_
 -- a row is quiet by the current items at a moment
 abbrev quiet_at : ℕ → Items → Row KeptLife → Option (Outstanding Items Carried) → Bool
 quiet_at now items row (Some o) = false
-quiet_at now items row None = not (row.slot.rounds.rounds_opened == 0) && change.meets row.wanted.slack row.slot.rounds.acknowledged (shown now items row.wanted.topic)
+quiet_at now items row None = not (row.slot.rounds.rounds_opened == 0)
+    && change.meets row.wanted.slack row.slot.rounds.acknowledged (shown now items row.wanted.topic)
 
 abbrev row_quiet : ℕ → Items → Row KeptLife → Bool
 row_quiet now items row = quiet_at now items row row.slot.rounds.outstanding
@@ -59,29 +62,37 @@ row_of_quiet now items l = by l.outstanding
 kept_quiet : (now : ℕ) (items : Items) (row : Row Course) → KnowsLevel now items row → row_quiet now items (kept_row row) ≡ is_quiet row.slot
 kept_quiet now items row level = by row.slot.rounds.outstanding refl
   where
-    by : (o : Option (Outstanding Items (List KeyChange))) → row.slot.rounds.outstanding ≡ o → quiet_at now items (kept_row row) (option_map outstanding_carried row.slot.rounds.outstanding) ≡ is_quiet row.slot
+    by : (o : Option (Outstanding Items (List KeyChange))) → row.slot.rounds.outstanding ≡ o
+        → quiet_at now items (kept_row row) (option_map outstanding_carried row.slot.rounds.outstanding) ≡ is_quiet
+        row.slot
     by None e = rw (e, level e) refl
     by (Some o) e = rw e refl
 
 -- ---- what is told
 
-told_found : (now : ℕ) (items : Items) (h : History) (found : Option (Row Course)) (living : Option Living) → now ≡ now_of h → ((l : Living) → shown now items l.wanted.subscription.topic ≡ direct_of h l.wanted) → option_map kept_row found ≡ option_map row_of living
+told_found : (now : ℕ) (items : Items) (h : History) (found : Option (Row Course)) (living : Option Living)
+    → now ≡ now_of h → ((l : Living) → shown now items l.wanted.subscription.topic ≡ direct_of h l.wanted)
+    → option_map kept_row found ≡ option_map row_of living
     → ((row : Row Course) → found ≡ Some row → KnowsLevel now items row) → told found ≡ number_if_quiet h living
 told_found now items h None None n shows e levels = refl
 told_found now items h None (Some l) n shows e levels = absurd (cc)
 told_found now items h (Some row) None n shows e levels = absurd (cc)
 told_found now items h (Some row) (Some l) n shows e levels =
     let same : kept_row row ≡ row_of l = cc in
-    let quiet = sym (kept_quiet now items row (levels row refl)) ∙ ap (row_quiet now items) same ∙ row_of_quiet now items l ∙ ap (life.is_quiet meaning l) (shows l) in
+    let quiet = sym (kept_quiet now items row (levels row refl)) ∙ ap (row_quiet now items) same
+    ∙ row_of_quiet now items l ∙ ap (life.is_quiet meaning l) (shows l) in
     λ i. if quiet i then Some ((ap (λ (r : Row KeptLife). r.number) same) i) else None
 
-pub told_is_quiet : (known : responder.Known) (rows : List (Row Course)) (h : History) (c s : List ℕ) → StandsFor (known_of known rows true) h → KnowLevels known.moment known.held rows → told (find (is_of c s) rows) ≡ quiet_number h c s
+pub told_is_quiet : (known : responder.Known) (rows : List (Row Course)) (h : History) (c s : List ℕ)
+    → StandsFor (known_of known rows true) h → KnowLevels known.moment known.held rows
+    → told (find (is_of c s) rows) ≡ quiet_number h c s
 told_is_quiet known rows h c s stands levels =
     let knows = stands.responder in
     let shows : (l : Living) → shown known.moment known.held l.wanted.subscription.topic ≡ direct_of h l.wanted = λ l.
     (λ i. shown (knows.moment i) (knows.held i) l.wanted.subscription.topic) ∙ shown_live (now_of h) (current h) l.wanted.subscription.topic in
     let same = sym (found_kept c s rows) ∙ ap (find (is_of c s)) stands.table ∙ row_of_life h c s in
-    told_found known.moment known.held h (find (is_of c s) rows) (life_of c s h) knows.moment shows same (λ row e. found_level known.moment known.held c s rows row levels e)
+    told_found known.moment known.held h (find (is_of c s) rows) (life_of c s h) knows.moment shows same
+    (λ row e. found_level known.moment known.held c s rows row levels e)
     ∙ rw (sym stands.settled) refl
 
 -- ---- by the place at which a subscription is held
@@ -97,7 +108,9 @@ found_there c s rows place is = found_at c s rows place (found (is_of c s) rows 
 pub told_row : (row : Row Course) (b : Bool) → is_quiet row.slot ≡ b → told (Some row) ≡ cond b (Some row.number) None
 told_row row b is = rw is refl
 
-pub quiet_told : (known : responder.Known) (rows : List (Row Course)) (settled : Bool) (now : Known) (h : History) (c s : List ℕ) → IsProducer known rows settled → known_of known rows settled ≡ now → settled ≡ true → StandsFor now h → told (find (is_of c s) rows) ≡ quiet_number h c s
+pub quiet_told : (known : responder.Known) (rows : List (Row Course)) (settled : Bool) (now : Known) (h : History)
+    (c s : List ℕ) → IsProducer known rows settled → known_of known rows settled ≡ now → settled ≡ true
+    → StandsFor now h → told (find (is_of c s) rows) ≡ quiet_number h c s
 quiet_told known rows settled now h c s is view true_now stands =
     let here = subst (λ (k : Known). StandsFor k h) (sym view) stands in
     told_is_quiet known rows h c s (subst (λ b. StandsFor (known_of known rows b) h) true_now here) (is.levels true_now)

@@ -18,15 +18,17 @@ use Rattle.siri_model_laws.proofs.InOrder.{more_steps}
 use Rattle.siri_model_laws.proofs.Lawful.{shown_live}
 use Rattle.siri_responder.specs.Known as responder
 use Rattle.siri_responder.proofs.Stands.{stands_alike, stands_named}
-use Rattle.siri_courses.specs.declared.course.Course.{Course}
-use Rattle.siri_courses.specs.Courses.{kept, kept_rows}
-use Rattle.siri_settle.specs.Sends.{At, row_sends, table_sends}
+use Rattle.siri_subscriptions.specs.declared.course.Course.{Course}
+use Rattle.siri_subscriptions.specs.Courses.{kept, kept_rows}
+use Rattle.siri_subscriptions.specs.Sends.{At, row_sends, table_sends}
 use Rattle.siri_producer.specs.Known.{Known, StandsFor, GoesOn, TookSome}
 use Rattle.siri_producer.specs.Standing.{IsProducer, known_of}
 
 -- ---- one more step
 
-pub goes_on : (old new : Known) (h : History) (step : Step) → StandsFor old h → responder.StandsFor new.responder (h ++ step ∷ []) → new.table ≡ rows_after (state_of h) step old.table → new.is_settled ≡ is_settle (Some step) → StandsFor new (h ++ step ∷ [])
+pub goes_on : (old new : Known) (h : History) (step : Step) → StandsFor old h
+    → responder.StandsFor new.responder (h ++ step ∷ []) → new.table ≡ rows_after (state_of h) step old.table
+    → new.is_settled ≡ is_settle (Some step) → StandsFor new (h ++ step ∷ [])
 goes_on old new h step s knows rows settled = record {
   responder = knows;
   table = rows ∙ ap (rows_after (state_of h) step) s.table ∙ sym (rows_go_on h step);
@@ -39,7 +41,8 @@ goes_on old new h step s knows rows settled = record {
 pub stands_counted : (old new : responder.Known) (h : History) → new ≡ record old { reads = new.reads } → responder.StandsFor old h → responder.StandsFor new h
 stands_counted old new h is s = subst (λ (k : responder.Known). responder.StandsFor k h) (sym is) (stands_named old old.name new.reads h s)
 
-knows_same : (known : responder.Known) (h : History) (step : Step) → after_step (state_of h) step ≡ state_of h → responder.StandsFor known h → responder.StandsFor known (h ++ step ∷ [])
+knows_same : (known : responder.Known) (h : History) (step : Step) → after_step (state_of h) step ≡ state_of h
+    → responder.StandsFor known h → responder.StandsFor known (h ++ step ∷ [])
 knows_same known h step same s = stands_alike known h (h ++ step ∷ []) (more_steps h step ∙ same) s
 
 pub knows_settled : (known : responder.Known) (h : History) → responder.StandsFor known h → responder.StandsFor known (h ++ Settle ∷ [])
@@ -51,16 +54,19 @@ takes_nothing : (state : State) (m : Message) → entries_fed m ≡ [] → after
 unfolding after_step
 takes_nothing state m none = rw none refl
 
-pub knows_taken : (known : responder.Known) (h : History) (m : Message) → entries_fed m ≡ [] → responder.StandsFor known h → responder.StandsFor known (h ++ Take m ∷ [])
+pub knows_taken : (known : responder.Known) (h : History) (m : Message) → entries_fed m ≡ []
+    → responder.StandsFor known h → responder.StandsFor known (h ++ Take m ∷ [])
 knows_taken known h m none s = knows_same known h (Take m) (takes_nothing (state_of h) m none) s
 
 -- a message that is a feed
 pub fed_all : (d : ServiceDelivery) → has_round d ≡ false → entries_fed (message.ServiceDelivery d) ≡ entries_of d
 fed_all d none = rw none refl
 
-pub knows_fed : (known : responder.Known) (h : History) (m : Message) → responder.StandsFor known (h ++ Feed (entries_fed m) ∷ []) → responder.StandsFor known (h ++ Take m ∷ [])
+pub knows_fed : (known : responder.Known) (h : History) (m : Message)
+    → responder.StandsFor known (h ++ Feed (entries_fed m) ∷ []) → responder.StandsFor known (h ++ Take m ∷ [])
 unfolding after_step
-knows_fed known h m s = stands_alike known (h ++ Feed (entries_fed m) ∷ []) (h ++ Take m ∷ []) (more_steps h (Take m) ∙ sym (more_steps h (Feed (entries_fed m)))) s
+knows_fed known h m s = stands_alike known (h ++ Feed (entries_fed m) ∷ []) (h ++ Take m ∷ [])
+    (more_steps h (Take m) ∙ sym (more_steps h (Feed (entries_fed m)))) s
 
 -- ---- what is held is what is shown of
 
@@ -68,7 +74,8 @@ knows_fed known h m s = stands_alike known (h ++ Feed (entries_fed m) ∷ []) (h
 settled_live : (now : ℕ) (items : Items) (row : Row KeptLife) → settled_row now (living now items) row ≡ settled_row now items row
 settled_live now items row = rw (shown_live now items row.wanted.topic) refl
 
-pub rows_settled_live : (now : ℕ) (items : Items) (rows : List (Row KeptLife)) → map (settled_row now (living now items)) rows ≡ map (settled_row now items) rows
+pub rows_settled_live : (now : ℕ) (items : Items) (rows : List (Row KeptLife))
+    → map (settled_row now (living now items)) rows ≡ map (settled_row now items) rows
 rows_settled_live now items [] = refl
 rows_settled_live now items (row ∷ rows) = λ i. settled_live now items row i ∷ rows_settled_live now items rows i
 
@@ -93,21 +100,26 @@ rows_started : (number moment : ℕ) → rows_of (table_of (Start number moment 
 unfolding served_after
 rows_started number moment = refl
 
-pub started : (known : responder.Known) (rows : List (Row Course)) (number moment : ℕ) → responder.StandsFor known (Start number moment ∷ []) → rows ≡ [] → StandsFor (known_of known rows false) (Start number moment ∷ [])
+pub started : (known : responder.Known) (rows : List (Row Course)) (number moment : ℕ)
+    → responder.StandsFor known (Start number moment ∷ []) → rows ≡ []
+    → StandsFor (known_of known rows false) (Start number moment ∷ [])
 started known rows number moment knows none = record {
   responder = knows;
   table = ap kept_rows none ∙ sym (rows_started number moment);
   settled = refl;
 }
 
-rows_clocked : (rows after : List (Row Course)) (h : History) (moment now : ℕ) → now ≡ now_of (h ++ Clock moment ∷ []) → after ≡ expired now rows → kept_rows after ≡ rows_after (state_of h) (Clock moment) (kept_rows rows)
+rows_clocked : (rows after : List (Row Course)) (h : History) (moment now : ℕ) → now ≡ now_of (h ++ Clock moment ∷ [])
+    → after ≡ expired now rows → kept_rows after ≡ rows_after (state_of h) (Clock moment) (kept_rows rows)
 unfolding rows_after after_step
 rows_clocked rows after h moment now is e =
     ap kept_rows e
     ∙ sym (expired_mapped kept now rows)
     ∙ ap (λ n. expired n (kept_rows rows)) (is ∙ ap (λ (s : State). s.now) (more_steps h (Clock moment)))
 
-pub goes_clocked : (known new : responder.Known) (rows after : List (Row Course)) (settled : Bool) (moment now : ℕ) → responder.GoesOn known new (Clock moment) → now ≡ new.moment → after ≡ expired now rows → GoesOn (known_of known rows settled) (known_of new after false) (Clock moment)
+pub goes_clocked : (known new : responder.Known) (rows after : List (Row Course)) (settled : Bool) (moment now : ℕ)
+    → responder.GoesOn known new (Clock moment) → now ≡ new.moment → after ≡ expired now rows
+    → GoesOn (known_of known rows settled) (known_of new after false) (Clock moment)
 goes_clocked known new rows after settled moment now goes is e = λ h s.
     let knows = goes h s.responder in
     goes_on (known_of known rows settled) (known_of new after false) h (Clock moment) s knows (rows_clocked rows after h moment now (is ∙ knows.moment) e) refl
@@ -116,14 +128,23 @@ rows_fed : (rows : List (Row KeptLife)) (state : State) (entries : List Entry) �
 unfolding rows_after
 rows_fed rows state entries = refl
 
-pub goes_fed : (known new : responder.Known) (rows : List (Row Course)) (settled : Bool) (entries : List Entry) → responder.GoesOn known new (Feed entries) → GoesOn (known_of known rows settled) (known_of new rows false) (Feed entries)
+pub goes_fed : (known new : responder.Known) (rows : List (Row Course)) (settled : Bool) (entries : List Entry)
+    → responder.GoesOn known new (Feed entries) → GoesOn (known_of known rows settled) (known_of new rows false)
+    (Feed entries)
 goes_fed known new rows settled entries goes = λ h s.
-    goes_on (known_of known rows settled) (known_of new rows false) h (Feed entries) s (goes h s.responder) (rows_fed (kept_rows rows) (state_of h) entries) refl
+    goes_on (known_of known rows settled) (known_of new rows false) h (Feed entries) s (goes h s.responder)
+    (rows_fed (kept_rows rows) (state_of h) entries) refl
 
-pub took_fed : (known new : responder.Known) (rows : List (Row Course)) (settled : Bool) (entries : List Entry) → responder.TookSome known new entries → TookSome (known_of known rows settled) (known_of new rows false) entries
+pub took_fed : (known new : responder.Known) (rows : List (Row Course)) (settled : Bool) (entries : List Entry)
+    → responder.TookSome known new entries → TookSome (known_of known rows settled) (known_of new rows false) entries
 took_fed known new rows settled entries some = (some.0, goes_fed known new rows settled (take some.0 entries) some.1)
 
-pub is_fed : {T E : Type 0} (result : Result T E) (known new : responder.Known) (rows : List (Row Course)) (settled : Bool) (entries : List Entry) → ((h : History) × StandsFor (known_of known rows settled) h)
+pub is_fed : {T E : Type 0} (result : Result T E) (known new : responder.Known) (rows : List (Row Course))
+    (settled : Bool) (entries : List Entry) → ((h : History) × StandsFor (known_of known rows settled) h)
     → OnOk result (responder.GoesOn known new (Feed entries)) → OnErr result (responder.TookSome known new entries) → IsProducer new rows false
-is_fed (Ok value) known new rows settled entries has ok err = is_producer new rows (went (known_of known rows settled) (known_of new rows false) (Feed entries) has (goes_fed known new rows settled entries ok))
-is_fed (Err error) known new rows settled entries has ok err = is_producer new rows (went (known_of known rows settled) (known_of new rows false) (Feed (take err.0 entries)) has (goes_fed known new rows settled (take err.0 entries) err.1))
+is_fed (Ok value) known new rows settled entries has ok err =
+    is_producer new rows (went (known_of known rows settled) (known_of new rows false) (Feed entries) has
+    (goes_fed known new rows settled entries ok))
+is_fed (Err error) known new rows settled entries has ok err =
+    is_producer new rows (went (known_of known rows settled) (known_of new rows false) (Feed (take err.0 entries)) has
+    (goes_fed known new rows settled (take err.0 entries) err.1))

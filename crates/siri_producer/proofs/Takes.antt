@@ -1,6 +1,7 @@
 -- What a message makes of a producer, and what it answers.
-use Rattle.std.proofs.Common.{◌≡◌, ℕ, List, [], ◌∷◌, ◌++◌, length, Bool, true, false, not, None, refl, sym, ap, ◌∙◌, subst}
+use Rattle.std.proofs.Common.{◌≡◌, ℕ, List, [], ◌∷◌, ◌++◌, length, Bool, true, false, not, None, Result, Err, refl, sym, ap, ◌∙◌, subst}
 use Rattle.std.proofs.Math.Seq.{take-length}
+use Rattle.siri_base.specs.declared.errors.OutOfMemory.{OutOfMemory}
 use Rattle.siri_messages.specs.Asked.{asked_in}
 use Rattle.siri_messages.specs.Rounds.{has_round}
 use Rattle.siri_messages.specs.declared.deliveries.ServiceDelivery.{ServiceDelivery}
@@ -27,66 +28,85 @@ use Rattle.siri_replies.specs.Statuses.{feed_acknowledgement, status_response}
 use Rattle.siri_responder.specs.declared.feeding.Fed.{Fed}
 use Rattle.siri_responder.specs.FedCounts.{fed_counts}
 use Rattle.siri_responder.specs.Known as responder
-use Rattle.siri_courses.specs.declared.course.Course.{Course}
-use Rattle.siri_courses.specs.Courses.{kept_rows}
-use Rattle.siri_take.specs.declared.supplies.SupplyAnswer.{SupplyAnswer}
-use Rattle.siri_take.specs.Supplies.{rows_supplied, supply_answer}
-use Rattle.siri_take.specs.Acknowledgements.{counts}
-use Rattle.siri_take.specs.Requests.{subscription_answer}
-use Rattle.siri_take.specs.Terminations.{termination_answer}
+use Rattle.siri_subscriptions.specs.declared.course.Course.{Course}
+use Rattle.siri_subscriptions.specs.Courses.{kept_rows}
+use Rattle.siri_subscriptions.specs.declared.supplies.SupplyAnswer.{SupplyAnswer}
+use Rattle.siri_subscriptions.specs.Supplies.{rows_supplied, supply_answer}
+use Rattle.siri_subscriptions.specs.Acknowledgements.{counts}
+use Rattle.siri_subscriptions.specs.Requests.{subscription_answer}
+use Rattle.siri_subscriptions.specs.Terminations.{termination_answer}
+use Rattle.siri_producer.specs.declared.answers.Answer.{Answer}
 use Rattle.siri_producer.specs.declared.answers.Note.TheVariants as note
 use Rattle.siri_producer.specs.Answers.{acknowledged_note, answer_to, is_ignored, noted, replied, supply_reply}
-use Rattle.siri_producer.specs.Known.{Known, StandsFor, GoesOn, TookSome, AnswerFor, RefusedAt, RefusedIf}
+use Rattle.siri_producer.specs.Known.{Known, StandsFor, GoesOn, TookSome, AnswerFor, RefusedAt, RefusedIf, Takes}
 use Rattle.siri_producer.specs.Standing.{IsProducer, known_of}
 use Rattle.siri_producer.proofs.Stands.{fed_all, goes_fed, goes_on, is_producer, knows_fed, knows_taken, stands_counted, went}
 use Rattle.siri_responder.proofs.Stands.{stands_alike}
 
 module _ (known : responder.Known) (rows : List (Row Course)) (settled : Bool) where
   -- ---- ServiceRequest
-  pub goes_asked : (new : responder.Known) (r : ServiceRequest) → new ≡ record known { reads = new.reads } → GoesOn (known_of known rows settled) (known_of new rows false) (Take (message.ServiceRequest r))
+  pub goes_asked : (new : responder.Known) (r : ServiceRequest) → new ≡ record known { reads = new.reads }
+      → GoesOn (known_of known rows settled) (known_of new rows false) (Take (message.ServiceRequest r))
   unfolding rows_after rows_taken
   goes_asked new r rest = λ h s.
       let m = message.ServiceRequest r in
-      goes_on (known_of known rows settled) (known_of new rows false) h (Take m) s (stands_counted known new (h ++ Take m ∷ []) rest (knows_taken known h m refl s.responder)) refl refl
+      goes_on (known_of known rows settled) (known_of new rows false) h (Take m) s
+      (stands_counted known new (h ++ Take m ∷ []) rest (knows_taken known h m refl s.responder)) refl refl
 
-  pub answer_asked : (r : ServiceRequest) (d : ServiceDelivery) → responder.ResponseFor known r d → AnswerFor (known_of known rows settled) (message.ServiceRequest r) (replied note.Asked (message.ServiceDelivery d))
+  pub answer_asked : (r : ServiceRequest) (d : ServiceDelivery) → responder.ResponseFor known r d
+      → AnswerFor (known_of known rows settled) (message.ServiceRequest r)
+      (replied note.Asked (message.ServiceDelivery d))
   unfolding answer_to
   answer_asked r d is = λ h s. ap (λ d. replied note.Asked (message.ServiceDelivery d)) (is h s.responder)
 
   -- ---- SubscriptionRequest
-  pub goes_subscribed : (after : List (Row Course)) (now : ℕ) (r : SubscriptionRequest) → now ≡ known.moment → kept_rows after ≡ rows_asked now r.message_identifier (asked_in r) (kept_rows rows) → GoesOn (known_of known rows settled) (known_of known after false) (Take (message.SubscriptionRequest r))
+  pub goes_subscribed : (after : List (Row Course)) (now : ℕ) (r : SubscriptionRequest) → now ≡ known.moment
+      → kept_rows after ≡ rows_asked now r.message_identifier (asked_in r) (kept_rows rows)
+      → GoesOn (known_of known rows settled) (known_of known after false) (Take (message.SubscriptionRequest r))
   unfolding rows_after rows_taken
   goes_subscribed after now r n is = λ h s.
       let m = message.SubscriptionRequest r in
       goes_on (known_of known rows settled) (known_of known after false) h (Take m) s (knows_taken known h m refl s.responder)
       (is ∙ ap (λ n. rows_asked n r.message_identifier (asked_in r) (kept_rows rows)) (n ∙ s.responder.moment)) refl
 
-  pub answer_subscribed : (now : ℕ) (r : SubscriptionRequest) (a : SubscriptionResponse) → now ≡ known.moment → a ≡ subscription_answer now r (kept_rows rows) → AnswerFor (known_of known rows settled) (message.SubscriptionRequest r) (replied note.Subscribed (message.SubscriptionResponse a))
+  pub answer_subscribed : (now : ℕ) (r : SubscriptionRequest) (a : SubscriptionResponse) → now ≡ known.moment
+      → a ≡ subscription_answer now r (kept_rows rows) → AnswerFor (known_of known rows settled)
+      (message.SubscriptionRequest r) (replied note.Subscribed (message.SubscriptionResponse a))
   unfolding answer_to
   answer_subscribed now r a n is = λ h s.
       ap (λ a. replied note.Subscribed (message.SubscriptionResponse a)) (is ∙ (λ i. subscription_answer ((n ∙ s.responder.moment) i) r (s.table i)))
 
   -- ---- TerminateSubscriptionRequest
-  pub goes_ended : (after : List (Row Course)) (r : TerminateSubscriptionRequest) → kept_rows after ≡ rows_ended r.message_identifier r.subscriber_ref r.subscription_ref (kept_rows rows) → GoesOn (known_of known rows settled) (known_of known after false) (Take (message.TerminateSubscriptionRequest r))
+  pub goes_ended : (after : List (Row Course)) (r : TerminateSubscriptionRequest)
+      → kept_rows after ≡ rows_ended r.message_identifier r.subscriber_ref r.subscription_ref (kept_rows rows)
+      → GoesOn (known_of known rows settled) (known_of known after false)
+      (Take (message.TerminateSubscriptionRequest r))
   unfolding rows_after rows_taken
   goes_ended after r is = λ h s.
       let m = message.TerminateSubscriptionRequest r in
       goes_on (known_of known rows settled) (known_of known after false) h (Take m) s (knows_taken known h m refl s.responder) is refl
 
-  pub answer_ended : (now : ℕ) (r : TerminateSubscriptionRequest) (a : TerminateSubscriptionResponse) → now ≡ known.moment → a ≡ termination_answer now r (kept_rows rows) → AnswerFor (known_of known rows settled) (message.TerminateSubscriptionRequest r) (replied note.Ended (message.TerminateSubscriptionResponse a))
+  pub answer_ended : (now : ℕ) (r : TerminateSubscriptionRequest) (a : TerminateSubscriptionResponse)
+      → now ≡ known.moment → a ≡ termination_answer now r (kept_rows rows)
+      → AnswerFor (known_of known rows settled) (message.TerminateSubscriptionRequest r)
+      (replied note.Ended (message.TerminateSubscriptionResponse a))
   unfolding answer_to
   answer_ended now r a n is = λ h s.
       ap (λ a. replied note.Ended (message.TerminateSubscriptionResponse a)) (is ∙ (λ i. termination_answer ((n ∙ s.responder.moment) i) r (s.table i)))
 
   -- ---- DataSupplyRequest
-  pub goes_supplied : (after : List (Row Course)) (start now : ℕ) (r : DataSupplyRequest) → start ≡ known.start → now ≡ known.moment → kept_rows after ≡ rows_supplied start now r.consumer_ref r.extensions (kept_rows rows) → GoesOn (known_of known rows settled) (known_of known after false) (Take (message.DataSupplyRequest r))
+  pub goes_supplied : (after : List (Row Course)) (start now : ℕ) (r : DataSupplyRequest) → start ≡ known.start
+      → now ≡ known.moment → kept_rows after ≡ rows_supplied start now r.consumer_ref r.extensions (kept_rows rows)
+      → GoesOn (known_of known rows settled) (known_of known after false) (Take (message.DataSupplyRequest r))
   unfolding rows_after rows_taken
   goes_supplied after start now r k n is = λ h s.
       let m = message.DataSupplyRequest r in
       goes_on (known_of known rows settled) (known_of known after false) h (Take m) s (knows_taken known h m refl s.responder)
       (is ∙ (λ i. rows_supplied ((k ∙ s.responder.start) i) ((n ∙ s.responder.moment) i) r.consumer_ref r.extensions (kept_rows rows))) refl
 
-  pub answer_supplied : (name : List ℕ) (start now : ℕ) (r : DataSupplyRequest) (a : SupplyAnswer) → name ≡ known.name → start ≡ known.start → now ≡ known.moment → a ≡ supply_answer name start now r (kept_rows rows) → AnswerFor (known_of known rows settled) (message.DataSupplyRequest r) (supply_reply a)
+  pub answer_supplied : (name : List ℕ) (start now : ℕ) (r : DataSupplyRequest) (a : SupplyAnswer) → name ≡ known.name
+      → start ≡ known.start → now ≡ known.moment → a ≡ supply_answer name start now r (kept_rows rows)
+      → AnswerFor (known_of known rows settled) (message.DataSupplyRequest r) (supply_reply a)
   unfolding answer_to
   answer_supplied name start now r a p k n is = λ h s.
       ap supply_reply (is ∙ (λ i. supply_answer (p i) ((k ∙ s.responder.start) i) ((n ∙ s.responder.moment) i) r (s.table i)))
@@ -98,28 +118,46 @@ module _ (known : responder.Known) (rows : List (Row Course)) (settled : Bool) w
       let m = message.CheckStatusRequest r in
       goes_on (known_of known rows settled) (known_of known rows false) h (Take m) s (knows_taken known h m refl s.responder) refl refl
 
-  pub answer_checked : (name : List ℕ) (now started : ℕ) (r : CheckStatusRequest) (a : CheckStatusResponse) → name ≡ known.name → now ≡ known.moment → started ≡ known.started → a ≡ status_response name now started r → AnswerFor (known_of known rows settled) (message.CheckStatusRequest r) (replied note.Checked (message.CheckStatusResponse a))
+  pub answer_checked : (name : List ℕ) (now started : ℕ) (r : CheckStatusRequest) (a : CheckStatusResponse)
+      → name ≡ known.name → now ≡ known.moment → started ≡ known.started → a ≡ status_response name now started r
+      → AnswerFor (known_of known rows settled) (message.CheckStatusRequest r)
+      (replied note.Checked (message.CheckStatusResponse a))
   unfolding answer_to
   answer_checked name now started r a p n k is = λ h s.
-      ap (λ a. replied note.Checked (message.CheckStatusResponse a)) (is ∙ (λ i. status_response (p i) ((n ∙ s.responder.moment) i) ((k ∙ s.responder.started) i) r))
+      ap (λ a. replied note.Checked (message.CheckStatusResponse a))
+      (is ∙ (λ i. status_response (p i) ((n ∙ s.responder.moment) i) ((k ∙ s.responder.started) i) r))
 
   -- ---- DataReceivedAcknowledgement
-  pub goes_acknowledged : (after : List (Row Course)) (start now : ℕ) (a : DataReceivedAcknowledgement) → start ≡ known.start → now ≡ known.moment → kept_rows after ≡ rows_acknowledged start now a.status a.consumer_ref a.extensions (kept_rows rows) → GoesOn (known_of known rows settled) (known_of known after false) (Take (message.DataReceivedAcknowledgement a))
+  pub goes_acknowledged : (after : List (Row Course)) (start now : ℕ) (a : DataReceivedAcknowledgement)
+      → start ≡ known.start → now ≡ known.moment → kept_rows after ≡ rows_acknowledged start now a.status a.consumer_ref
+      a.extensions (kept_rows rows) → GoesOn (known_of known rows settled) (known_of known after false)
+      (Take (message.DataReceivedAcknowledgement a))
   unfolding rows_after rows_taken
   goes_acknowledged after start now a k n is = λ h s.
       let m = message.DataReceivedAcknowledgement a in
       goes_on (known_of known rows settled) (known_of known after false) h (Take m) s (knows_taken known h m refl s.responder)
       (is ∙ (λ i. rows_acknowledged ((k ∙ s.responder.start) i) ((n ∙ s.responder.moment) i) a.status a.consumer_ref a.extensions (kept_rows rows))) refl
 
-  pub answer_acknowledged : (start : ℕ) (a : DataReceivedAcknowledgement) (b : Bool) → start ≡ known.start → counts start a (kept_rows rows) ≡ b → AnswerFor (known_of known rows settled) (message.DataReceivedAcknowledgement a) (noted (acknowledged_note b))
+  pub answer_acknowledged : (start : ℕ) (a : DataReceivedAcknowledgement) (b : Bool) → start ≡ known.start
+      → counts start a (kept_rows rows) ≡ b → AnswerFor (known_of known rows settled)
+      (message.DataReceivedAcknowledgement a) (noted (acknowledged_note b))
   unfolding answer_to
   answer_acknowledged start a b k is = λ h s.
       ap (λ b. noted (acknowledged_note b)) (sym is ∙ (λ i. counts ((k ∙ s.responder.start) i) a (s.table i)))
 
+-- ---- memory was wanting
+
+pub refused : (old new : Known) (m : Message) (result : Result Answer OutOfMemory) (error : OutOfMemory) → result ≡ Err error
+    → RefusedAt old new m → new.responder.name ≡ old.responder.name → Takes old new m result
+refused old new m result error is refusal name =
+    let at_error : Takes old new m (Err error) = record { ok = tt; answer = tt; err = refusal; name = name } in
+    subst (Takes old new m) (sym is) at_error
+
 -- ---- a ServiceDelivery of no round
 
 -- as a feed
-pub feed_taken : (known : Known) (h : History) (d : ServiceDelivery) → has_round d ≡ false → StandsFor known (h ++ Feed (entries_of d) ∷ []) → StandsFor known (h ++ Take (message.ServiceDelivery d) ∷ [])
+pub feed_taken : (known : Known) (h : History) (d : ServiceDelivery) → has_round d ≡ false
+    → StandsFor known (h ++ Feed (entries_of d) ∷ []) → StandsFor known (h ++ Take (message.ServiceDelivery d) ∷ [])
 unfolding rows_after rows_taken
 feed_taken known h d none s =
     let m = message.ServiceDelivery d in
@@ -131,7 +169,8 @@ feed_taken known h d none s =
     }
 
 -- all of it was taken, but the reply wasn't made
-pub refused_reply : (old new : Known) (d : ServiceDelivery) → has_round d ≡ false → GoesOn old new (Feed (entries_of d)) → RefusedAt old new (message.ServiceDelivery d)
+pub refused_reply : (old new : Known) (d : ServiceDelivery) → has_round d ≡ false → GoesOn old new (Feed (entries_of d))
+    → RefusedAt old new (message.ServiceDelivery d)
 refused_reply old new d none goes =
     let entries = entries_fed (message.ServiceDelivery d) in
     let all : GoesOn old new (Feed entries) = subst (λ es. GoesOn old new (Feed es)) (sym (fed_all d none)) goes in
@@ -142,8 +181,10 @@ now_fed : (h : History) (d : ServiceDelivery) → now_of (h ++ Feed (entries_of 
 unfolding after_step
 now_fed h d = ap (λ (s : State). s.now) (more_steps h (Feed (entries_of d)))
 
-pub answer_fed : (old new : Known) (d : ServiceDelivery) (h : History) (fed : Fed) (name : List ℕ) (now : ℕ) (reply : DataReceivedAcknowledgement) → has_round d ≡ false → StandsFor old h → GoesOn old new (Feed (entries_of d))
-    → fed ≡ fed_counts (counts_of (now_of h) (current h) (entries_of d)) → name ≡ old.responder.name → now ≡ new.responder.moment → reply ≡ feed_acknowledgement name now d fed.full
+pub answer_fed : (old new : Known) (d : ServiceDelivery) (h : History) (fed : Fed) (name : List ℕ) (now : ℕ)
+    (reply : DataReceivedAcknowledgement) → has_round d ≡ false → StandsFor old h → GoesOn old new (Feed (entries_of d))
+    → fed ≡ fed_counts (counts_of (now_of h) (current h) (entries_of d)) → name ≡ old.responder.name
+    → now ≡ new.responder.moment → reply ≡ feed_acknowledgement name now d fed.full
     → replied (note.Fed fed) (message.DataReceivedAcknowledgement reply) ≡ answer_to old.responder.name h (message.ServiceDelivery d)
 unfolding answer_to
 answer_fed old new d h fed name now reply none s goes counts n m is =
@@ -202,10 +243,13 @@ answer_other name h (message.CheckStatusRequest r) other = absurd (cc)
 answer_other name h (message.CheckStatusResponse m) other = refl
 answer_other name h (message.HeartbeatNotification m) other = refl
 
-pub goes_ignored : (known : responder.Known) (rows : List (Row Course)) (settled : Bool) (m : Message) → is_ignored m ≡ true → GoesOn (known_of known rows settled) (known_of known rows false) (Take m)
+pub goes_ignored : (known : responder.Known) (rows : List (Row Course)) (settled : Bool) (m : Message)
+    → is_ignored m ≡ true → GoesOn (known_of known rows settled) (known_of known rows false) (Take m)
 unfolding rows_after
 goes_ignored known rows settled m other = λ h s.
-    goes_on (known_of known rows settled) (known_of known rows false) h (Take m) s (knows_taken known h m (takes_none m other) s.responder) (rows_ignored (start_of h) (now_of h) m (kept_rows rows) other) refl
+    goes_on (known_of known rows settled) (known_of known rows false) h (Take m) s
+    (knows_taken known h m (takes_none m other) s.responder)
+    (rows_ignored (start_of h) (now_of h) m (kept_rows rows) other) refl
 
 pub answer_ignored : (known : Known) (m : Message) → is_ignored m ≡ true → AnswerFor known m (noted note.Ignored)
 answer_ignored known m other = λ h s. answer_other known.responder.name h m other
@@ -215,6 +259,7 @@ still : (known : responder.Known) (h : History) → responder.StandsFor known h 
 unfolding after_step
 still known h s = stands_alike known h (h ++ Feed [] ∷ []) (more_steps h (Feed [])) s
 
-pub some_ignored : (known : responder.Known) (rows : List (Row Course)) (settled : Bool) → ((h : History) × StandsFor (known_of known rows settled) h) → IsProducer known rows false
+pub some_ignored : (known : responder.Known) (rows : List (Row Course)) (settled : Bool)
+    → ((h : History) × StandsFor (known_of known rows settled) h) → IsProducer known rows false
 some_ignored known rows settled has =
     is_producer known rows (went (known_of known rows settled) (known_of known rows false) (Feed []) has (goes_fed known known rows settled [] (still known)))

@@ -13,11 +13,11 @@ use Rattle.siri_replies.specs.Statuses.{feed_acknowledgement, status_response}
 use Rattle.siri_responder.specs.FedCounts.{fed_counts}
 use Rattle.siri_rounds.specs.declared.answers.SupplyError.{SupplyError}
 use Rattle.siri_rounds.specs.declared.answers.SupplyError.TheVariants as refused_as
-use Rattle.siri_take.specs.Requests.{subscription_answer}
-use Rattle.siri_take.specs.Terminations.{termination_answer}
-use Rattle.siri_take.specs.declared.supplies.SupplyAnswer.{SupplyAnswer}
-use Rattle.siri_take.specs.Supplies.{supply_answer}
-use Rattle.siri_take.specs.Acknowledgements.{counts}
+use Rattle.siri_subscriptions.specs.Requests.{subscription_answer}
+use Rattle.siri_subscriptions.specs.Terminations.{termination_answer}
+use Rattle.siri_subscriptions.specs.declared.supplies.SupplyAnswer.{SupplyAnswer}
+use Rattle.siri_subscriptions.specs.Supplies.{supply_answer}
+use Rattle.siri_subscriptions.specs.Acknowledgements.{counts}
 use Rattle.siri_producer.specs.declared.answers.Answer.{Answer}
 use Rattle.siri_producer.specs.declared.answers.Note.{Note}
 use Rattle.siri_producer.specs.declared.answers.Note.TheVariants as note
@@ -69,8 +69,10 @@ acknowledged_note false = note.NotThis
 -- the answer of a producer of this name, after a history
 unfoldable pub answer_to : (name : List ℕ) → History → Message → Answer
 answer_to name h (message.ServiceRequest r) = replied note.Asked (message.ServiceDelivery (response name (now_of h) (current h) r))
-answer_to name h (message.SubscriptionRequest r) = replied note.Subscribed (message.SubscriptionResponse (subscription_answer (now_of h) r (rows_of (table_of h))))
-answer_to name h (message.TerminateSubscriptionRequest r) = replied note.Ended (message.TerminateSubscriptionResponse (termination_answer (now_of h) r (rows_of (table_of h))))
+answer_to name h (message.SubscriptionRequest r) = replied note.Subscribed
+    (message.SubscriptionResponse (subscription_answer (now_of h) r (rows_of (table_of h))))
+answer_to name h (message.TerminateSubscriptionRequest r) =
+    replied note.Ended (message.TerminateSubscriptionResponse (termination_answer (now_of h) r (rows_of (table_of h))))
 answer_to name h (message.DataSupplyRequest r) = supply_reply (supply_answer name (start_of h) (now_of h) r (rows_of (table_of h)))
 answer_to name h (message.DataReceivedAcknowledgement a) = noted (acknowledged_note (counts (start_of h) a (rows_of (table_of h))))
 answer_to name h (message.CheckStatusRequest r) = replied note.Checked (message.CheckStatusResponse (status_response name (now_of h) (started_of h) r))

@@ -1,18 +1,19 @@
 -- What a producer knows, and the histories that it stands for.
-use Rattle.std.specs.Prelude.{◌≡◌, ℕ, List, ◌∷◌, [], ◌++◌, take, Bool, true, false}
+use Rattle.std.specs.Prelude.{◌≡◌, ℕ, List, ◌∷◌, [], ◌++◌, take, Bool, true, false, Result, IfOk, OnOk, OnErr}
+use Rattle.siri_base.specs.declared.errors.OutOfMemory.{OutOfMemory}
 use Rattle.siri_messages.specs.declared.deliveries.ServiceDelivery.{ServiceDelivery}
 use Rattle.siri_messages.specs.declared.message.Message.{Message}
 use Rattle.siri_messages.specs.declared.requests.ServiceRequest.{ServiceRequest}
 use Rattle.siri_subs.specs.declared.entry.Row.{Row}
 use Rattle.siri_model.specs.Direct.{response}
 use Rattle.siri_model.specs.Fed.{counts_of}
-use Rattle.siri_model.specs.History.{Entry, Feed, History, Step, entries_fed, now_of, current}
+use Rattle.siri_model.specs.History.{Entry, Feed, Take, History, Step, entries_fed, now_of, current}
 use Rattle.siri_model.specs.Lives.{table_of, is_settled}
 use Rattle.siri_model.specs.Rows.{KeptLife, rows_of}
 use Rattle.siri_responder.specs.declared.feeding.Fed.{Fed}
 use Rattle.siri_responder.specs.FedCounts.{fed_counts}
 use Rattle.siri_responder.specs.Known as responder
-use Rattle.siri_settle.specs.declared.outs.Out.{Out}
+use Rattle.siri_subscriptions.specs.declared.outs.Out.{Out}
 use Rattle.siri_producer.specs.declared.answers.Answer.{Answer}
 use Rattle.siri_producer.specs.Answers.{answer_to, is_feed}
 use Rattle.siri_producer.specs.Sends.{sends}
@@ -68,3 +69,13 @@ AnswerFor known message answer = (h : History) → StandsFor known h → answer 
 -- what is sent at a settle
 abbrev pub SendsFor : Known → List Out → Type 0
 SendsFor known outs = (h : History) → StandsFor known h → outs ≡ sends known.responder.name h
+
+-- ---- what a message does
+
+-- a producer takes a message with this result: where it answers, it stands for whatever it stood for and the message after it,
+-- and the answer is the one by that history; where memory was wanting, it refuses the message; its name stays
+pub record Takes (old new : Known) (message : Message) (result : Result Answer OutOfMemory) : Type 0 where
+  pub ok : OnOk result (GoesOn old new (Take message))
+  pub answer : IfOk result (AnswerFor old message)
+  pub err : OnErr result (RefusedAt old new message)
+  pub name : new.responder.name ≡ old.responder.name

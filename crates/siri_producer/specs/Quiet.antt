@@ -2,7 +2,7 @@
 -- Whether a subscription is quiet, by what is kept of it.
 use Rattle.std.specs.Prelude.{ℕ, ◌==◌, Bool, not, ◌&&◌, is_some, if◌then◌else◌, Option, Some, None}
 use Rattle.siri_subs.specs.declared.entry.Row.{Row}
-use Rattle.siri_courses.specs.declared.course.Course.{Course}
+use Rattle.siri_subscriptions.specs.declared.course.Course.{Course}
 
 -- nothing is outstanding, a round was opened, and the last look found the views level
 abbrev pub is_quiet : Course → Bool

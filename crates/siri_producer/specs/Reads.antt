@@ -2,7 +2,7 @@
 use Rattle.std.specs.Prelude.{◌≡◌, ◌+◌, ◌*◌, ◌≤◌, length}
 use Rattle.siri_messages.specs.declared.message.Message.{Message}
 use Rattle.siri_messages.specs.declared.message.Message.TheVariants as message
-use Rattle.siri_direct.specs.Topics.{topics_in}
+use Rattle.siri_responder.specs.Topics.{topics_in}
 use Rattle.siri_producer.specs.Known.{Known}
 
 -- for a ServiceRequest it rises by at most as many steps as items are held, for each of its topics; for any other message it

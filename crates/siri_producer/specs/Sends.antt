@@ -3,8 +3,8 @@ use Rattle.std.specs.Prelude.{ℕ, List}
 use Rattle.siri_model.specs.History.{History, now_of, start_of, started_of, current}
 use Rattle.siri_model.specs.Lives.{table_of}
 use Rattle.siri_model.specs.Rows.{rows_of}
-use Rattle.siri_settle.specs.declared.outs.Out.{Out}
-use Rattle.siri_settle.specs.Sends.{At, table_sends}
+use Rattle.siri_subscriptions.specs.declared.outs.Out.{Out}
+use Rattle.siri_subscriptions.specs.Sends.{At, table_sends}
 
 -- a producer of this name after a history
 abbrev pub at_of : (name : List ℕ) → History → At

@@ -2,8 +2,8 @@
 -- A producer as it is kept: there is a history that it stands for, and after a settle it knows whether each view is level.
 use Rattle.std.specs.Prelude.{◌≡◌, List, Bool, true}
 use Rattle.siri_subs.specs.declared.entry.Row.{Row}
-use Rattle.siri_courses.specs.declared.course.Course.{Course}
-use Rattle.siri_courses.specs.Courses.{kept_rows, KnowLevels}
+use Rattle.siri_subscriptions.specs.declared.course.Course.{Course}
+use Rattle.siri_subscriptions.specs.Courses.{kept_rows, KnowLevels}
 use Rattle.siri_model.specs.History.{History}
 use Rattle.siri_responder.specs.Known as responder
 use Rattle.siri_producer.specs.Known.{Known, StandsFor}

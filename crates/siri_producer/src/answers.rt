@@ -1,4 +1,5 @@
-// What is answered to a message that is taken.
+//! What is answered to a message that is taken.
+
 ghost use Rattle.std.specs.Prelude.{◌≡◌, Some, None};
 
 use siri_base::Place;
@@ -16,8 +17,8 @@ pub enum Note {
     Ended,
     /// A DataSupplyRequest of the wanted part of a round that is to be fetched: the reply is the part.
     Supplied,
-    /// A DataSupplyRequest of a subscription that isn't held, whose delivery isn't fetched, or of which no round is outstanding.
-    /// Nothing changed, and the reply has Status false.
+    /// A DataSupplyRequest of a subscription that isn't held, whose delivery isn't fetched, or of which no round is
+    /// outstanding. Nothing changed, and the reply has Status false.
     NothingReady,
     /// Any other DataSupplyRequest. Nothing changed, and the reply has Status false.
     WrongPart {
@@ -45,7 +46,7 @@ pub struct Answer {
 }
 
 impl Answer {
-    // With a reply.
+    /// With a reply.
     pub(crate) fn replied(note: Note, reply: Message) -> Answer
         ensures { result ≡ record { note = note; reply = Some reply } }
     {
@@ -55,7 +56,7 @@ impl Answer {
         }
     }
 
-    // With none.
+    /// With none.
     pub(crate) fn noted(note: Note) -> Answer
         ensures { result ≡ record { note = note; reply = None } }
     {

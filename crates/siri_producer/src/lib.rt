@@ -11,13 +11,14 @@
 //!     a subscription         -> quiet  ---> its number, where its consumer's view is known to be right
 //! ```
 //!
-//! A producer stands for the history of its steps: what it holds are the current items of that history that aren't dead, and
-//! its table is that of the lives of the subscriptions in it. An event is a `clock`, a `feed` or a `take`, and a `settle` after
-//! it.
+//! A producer stands for the history of its steps: what it holds are the current items of that history that aren't
+//! dead, and its table is that of the lives of the subscriptions in it. An event is a `clock`, a `feed` or a `take`,
+//! and a `settle` after it.
 //!
-//! Stands on `siri_base`, `siri_messages`, `siri_subs`, `siri_rounds`, `siri_replies`, `siri_responder`, `siri_courses`,
-//! `siri_take` and `siri_settle`; its contracts cite the histories and lives of `siri_model`, and its proofs what follows of
-//! them in `siri_model_laws`. It reads and writes no text, and knows no wire and no clock.
+//! Stands on `siri_base`, `siri_messages`, `siri_subs`, `siri_rounds`, `siri_replies`, `siri_responder`,
+//! `siri_subscriptions`, `siri_subscriptions` and `siri_subscriptions`; its contracts cite the histories and lives of
+//! `siri_model`, and its proofs what follows of them in `siri_model_laws`. It reads and writes no text, and knows no
+//! wire and no clock.
 #![tactic(auto)]
 
 mod answers;
@@ -27,4 +28,4 @@ mod taking;
 pub use answers::{Answer, Note};
 pub use producer::Producer;
 pub use siri_responder::Fed;
-pub use siri_settle::Out;
+pub use siri_subscriptions::Out;

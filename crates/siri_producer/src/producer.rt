@@ -1,25 +1,28 @@
-// The producer.
+//! The producer.
+
 ghost use Rattle.std.specs.Prelude.{◌≡◌, ◌+◌, ◌*◌, ◌≤◌, [], ◌∷◌, length, IfOk, OnOk, OnErr};
-ghost use Rattle.siri_direct.specs.Topics.{topics_in};
+ghost use Rattle.siri_responder.specs.Topics.{topics_in};
 ghost use Rattle.siri_model.specs.History.{History, Start, Clock, Feed, Take, Settle, entries_of};
 ghost use Rattle.siri_model.specs.Lives.{quiet_number};
-ghost use Rattle.siri_producer.specs.Quiet as definition;
+ghost use Rattle.siri_producer.specs.Quiet.{is_quiet};
 ghost use Rattle.siri_producer.specs.Known.{StandsFor, GoesOn, TookSome, CountsFor, ResponseFor, AnswerFor, RefusedAt, SameButReads, SendsFor};
 ghost use Rattle.siri_producer.specs.Reads.{ReadsFor};
+ghost use Rattle.siri_records.specs.Keyed.{most_live};
+ghost use Rattle.siri_base.specs.Numbers.{greatest_number};
+ghost use Rattle.siri_subs.specs.Table.{most_subscriptions};
 
 use crate::{Answer, Fed, Out};
 use siri_base::{List, Moment, Name, OutOfMemory};
-use siri_courses::Course;
 use siri_messages::{Message, ServiceDelivery, ServiceRequest};
 use siri_responder::Responder;
-use siri_settle::settle;
 use siri_subs::Table;
+use siri_subscriptions::{Course, settle};
 use std::alloc::Global;
 use std::marker::Model;
 
-/// A producer, with a name, the number of its start and the moment of it, which is its ServiceStartedTime. It has a moment,
-/// which is the greatest that it was given, holds the current items that aren't dead then, and keeps at most 200
-/// subscriptions, each with its rounds.
+/// A producer, with a name, the number of its start and the moment of it, which is its ServiceStartedTime. It has a
+/// moment, which is the greatest that it was given, holds the current items that aren't dead then, and keeps at most
+/// 200 subscriptions, each with its rounds.
 pub struct Producer {
     pub(crate) alloc: Global,
     pub(crate) responder: Responder,
@@ -39,7 +42,7 @@ impl Drop for Producer {
 }
 
 impl Model for Producer {
-    ghost use Rattle.siri_courses.specs.Courses.{kept_rows};
+    ghost use Rattle.siri_subscriptions.specs.Courses.{kept_rows};
     ghost use Rattle.siri_producer.specs.Known.{Known};
     ghost use Rattle.siri_producer.specs.Standing.{IsProducer};
 
@@ -54,7 +57,7 @@ impl Producer {
     /// A producer at its start, of a number from 1 to 999,999,999,999,999,999. It holds nothing, and no subscription.
     pub fn new(alloc: Global, name: Name, start: u64, now: Moment) -> Result<Producer, OutOfMemory>
         requires from_one { 1 ≤ start }
-        requires to_eighteen_digits { start ≤ 999999999999999999 }
+        requires to_eighteen_digits { start ≤ greatest_number }
         ensures stands { IfOk result (λ producer. StandsFor producer (Start start now ∷ [])) }
         ensures name { IfOk result (λ producer. producer.responder.name ≡ name) }
         ensures reads { IfOk result (λ producer. producer.responder.reads ≡ 0) }
@@ -67,8 +70,8 @@ impl Producer {
         })
     }
 
-    /// Its moment becomes the later one; dead items leave, and subscriptions whose termination time has come. It takes no
-    /// memory.
+    /// Its moment becomes the later one; dead items leave, and subscriptions whose termination time has come. It takes
+    /// no memory.
     pub fn clock(&mut self, now: Moment)
         ensures stands { GoesOn self.old self.new (Clock now) }
         ensures name { self.new.responder.name ≡ self.old.responder.name }
@@ -79,9 +82,9 @@ impl Producer {
         self.table.expire(self.responder.now());
     }
 
-    /// Takes the items and removals of a delivery, in the order Stop Monitoring, Estimated Timetable, Vehicle Monitoring,
-    /// Situation Exchange, delivery by delivery, items before removals, and tells how many. Each item is copied as it
-    /// comes. After want of memory the entries before the refused one stand.
+    /// Takes the items and removals of a delivery, in the order Stop Monitoring, Estimated Timetable, Vehicle
+    /// Monitoring, Situation Exchange, delivery by delivery, items before removals, and tells how many. Each item is
+    /// copied as it comes. After want of memory the entries before the refused one stand.
     pub fn feed(&mut self, delivery: &ServiceDelivery) -> Result<Fed, OutOfMemory>
         ensures ok { OnOk result (GoesOn self.old self.new (Feed (entries_of delivery.now))) }
         ensures counts { IfOk result (CountsFor self.old (entries_of delivery.now)) }
@@ -106,8 +109,8 @@ impl Producer {
     }
 
     /// The direct response to a request: one functional delivery for each of its topics, in the order Stop Monitoring,
-    /// Estimated Timetable, Vehicle Monitoring, Situation Exchange and in each list's order. Nothing but the counter changes,
-    /// and that rises by at most as many steps as items are held, for each topic.
+    /// Estimated Timetable, Vehicle Monitoring, Situation Exchange and in each list's order. Nothing but the counter
+    /// changes, and that rises by at most as many steps as items are held, for each topic.
     pub fn direct(&mut self, request: &ServiceRequest) -> Result<ServiceDelivery, OutOfMemory>
         ensures ok { IfOk result (ResponseFor self.old request.now) }
         ensures rest { SameButReads self.old self.new }
@@ -117,10 +120,10 @@ impl Producer {
         self.responder.direct(request)
     }
 
-    /// Takes a message, and answers what became of it, with the reply. A ServiceDelivery of no round is a feed; after want of
-    /// memory its entries before the refused one stand, and all of them where only the reply found none. After want of memory
-    /// for any other message nothing but the counter of steps changed. The counter rises for a ServiceRequest alone, as `direct`
-    /// says: by at most as many steps as items are held, for each topic.
+    /// Takes a message, and answers what became of it, with the reply. A ServiceDelivery of no round is a feed; after
+    /// want of memory its entries before the refused one stand, and all of them where only the reply found none. After
+    /// want of memory for any other message nothing but the counter of steps changed. The counter rises for a
+    /// ServiceRequest alone, as `direct` says: by at most as many steps as items are held, for each topic.
     pub fn take(&mut self, message: &Message) -> Result<Answer, OutOfMemory>
         ensures ok { OnOk result (GoesOn self.old self.new (Take message.now)) }
         ensures answer { IfOk result (AnswerFor self.old message.now) }
@@ -141,9 +144,9 @@ impl Producer {
         }
     }
 
-    /// The end of an event: each subscription in the order of the table looks whether a round is due and opens it, and what is
-    /// due is sent: the message of its wanted part, and then a heartbeat. All memory is taken before anything changes, so after
-    /// want of memory nothing but the counter of steps did.
+    /// The end of an event: each subscription in the order of the table looks whether a round is due and opens it, and
+    /// what is due is sent: the message of its wanted part, and then a heartbeat. All memory is taken before anything
+    /// changes, so after want of memory nothing but the counter of steps did.
     pub fn settle(&mut self) -> Result<List<Out>, OutOfMemory>
         ensures ok { OnOk result (GoesOn self.old self.new Settle) }
         ensures sends { IfOk result (SendsFor self.old) }
@@ -157,8 +160,8 @@ impl Producer {
     }
 
     /// The number of a subscription, where it is quiet, right after a settle: nothing of it is outstanding, a round was
-    /// acknowledged, and the acknowledged view is what is shown, but for predicted times and delays within its slack. It takes
-    /// no memory.
+    /// acknowledged, and the acknowledged view is what is shown, but for predicted times and delays within its slack.
+    /// It takes no memory.
     pub fn quiet(&self, subscriber: &Name, identifier: &Name) -> Option<u64>
         ensures { (h : History) → StandsFor self.now h → result ≡ quiet_number h subscriber.now identifier.now }
     {
@@ -204,7 +207,7 @@ impl Producer {
     pub fn held(&self) -> usize
         ensures number { result ≡ length self.now.responder.held }
         ensures stands { (h : History) × StandsFor self.now h }
-        ensures few { length self.now.responder.held ≤ 20000 }
+        ensures few { length self.now.responder.held ≤ most_live }
     {
         self.responder.held()
     }
@@ -212,7 +215,7 @@ impl Producer {
     /// How many subscriptions it holds, at most 200.
     pub fn subscriptions(&self) -> usize
         ensures number { result ≡ length self.now.table }
-        ensures few { length self.now.table ≤ 200 }
+        ensures few { length self.now.table ≤ most_subscriptions }
     {
         self.table.len()
     }
@@ -225,9 +228,9 @@ impl Producer {
     }
 }
 
-// Whether a subscription is quiet, by what its last look found.
+/// Whether a subscription is quiet, by what its last look found.
 fn is_quiet(course: &Course) -> bool
-    ensures { result ≡ definition.is_quiet course.now }
+    ensures { result ≡ is_quiet course.now }
 {
     course.rounds.outstanding().is_none() && course.rounds.last() > 0 && course.is_level
 }

@@ -1,13 +1,13 @@
-// What a producer does with each message.
-ghost use Rattle.std.specs.Prelude.{◌≡◌, ◌+◌, ◌*◌, ◌≤◌, length, IfOk, OnOk, OnErr, true, false};
-ghost use Rattle.siri_direct.specs.Topics.{topics_in};
+//! What a producer does with each message.
+
+ghost use Rattle.std.specs.Prelude.{◌≡◌, ◌+◌, ◌*◌, ◌≤◌, length, true, false};
+ghost use Rattle.siri_responder.specs.Topics.{topics_in};
 ghost use Rattle.siri_messages.specs.declared.message.Message.{Message};
 ghost use Rattle.siri_messages.specs.declared.message.Message.TheVariants as message;
 ghost use Rattle.siri_messages.specs.Rounds.{has_round};
+ghost use Rattle.siri_producer.specs.Answers.{is_ignored, supply_note};
 ghost use Rattle.siri_model.specs.History.{Take};
-ghost use Rattle.siri_producer.specs.Answers as definition;
-ghost use Rattle.siri_producer.specs.Answers.{is_ignored};
-ghost use Rattle.siri_producer.specs.Known.{GoesOn, AnswerFor, RefusedAt};
+ghost use Rattle.siri_producer.specs.Known.{AnswerFor, GoesOn, Takes};
 
 use crate::{Answer, Note, Producer};
 use siri_base::OutOfMemory;
@@ -17,17 +17,15 @@ use siri_messages::{
 };
 use siri_replies::{feed_acknowledgement, status_response};
 use siri_rounds::{SupplyError, Taken};
-use siri_take::{acknowledge, subscribe, supply, terminate};
+use siri_subscriptions::{acknowledge, subscribe, supply, terminate};
 
 impl Producer {
+    /// A ServiceRequest, which is answered by the direct response of its topics.
     pub(crate) fn take_service_request(
         &mut self,
         request: &ServiceRequest,
     ) -> Result<Answer, OutOfMemory>
-        ensures ok { OnOk result (GoesOn self.old self.new (Take (message.ServiceRequest request.now))) }
-        ensures answer { IfOk result (AnswerFor self.old (message.ServiceRequest request.now)) }
-        ensures err { OnErr result (RefusedAt self.old self.new (message.ServiceRequest request.now)) }
-        ensures name { self.new.responder.name ≡ self.old.responder.name }
+        ensures takes { Takes self.old self.new (message.ServiceRequest request.now) result }
         ensures risen { self.old.responder.reads ≤ self.new.responder.reads }
         ensures reads { self.new.responder.reads ≤ self.old.responder.reads + length self.old.responder.held * topics_in request.now }
     {
@@ -36,14 +34,12 @@ impl Producer {
         Ok(Answer::replied(Note::Asked, Message::ServiceDelivery(delivery)))
     }
 
+    /// A SubscriptionRequest, which is answered by a status for each of its subscriptions.
     pub(crate) fn take_subscriptions(
         &mut self,
         request: &SubscriptionRequest,
     ) -> Result<Answer, OutOfMemory>
-        ensures ok { OnOk result (GoesOn self.old self.new (Take (message.SubscriptionRequest request.now))) }
-        ensures answer { IfOk result (AnswerFor self.old (message.SubscriptionRequest request.now)) }
-        ensures err { OnErr result (RefusedAt self.old self.new (message.SubscriptionRequest request.now)) }
-        ensures name { self.new.responder.name ≡ self.old.responder.name }
+        ensures takes { Takes self.old self.new (message.SubscriptionRequest request.now) result }
         ensures reads { self.new.responder.reads ≡ self.old.responder.reads }
     {
         let response = subscribe(self.alloc, &mut self.table, self.responder.now(), request)?;
@@ -51,14 +47,12 @@ impl Producer {
         Ok(Answer::replied(Note::Subscribed, Message::SubscriptionResponse(response)))
     }
 
+    /// A TerminateSubscriptionRequest, which is answered by a status for each subscription.
     pub(crate) fn take_terminations(
         &mut self,
         request: &TerminateSubscriptionRequest,
     ) -> Result<Answer, OutOfMemory>
-        ensures ok { OnOk result (GoesOn self.old self.new (Take (message.TerminateSubscriptionRequest request.now))) }
-        ensures answer { IfOk result (AnswerFor self.old (message.TerminateSubscriptionRequest request.now)) }
-        ensures err { OnErr result (RefusedAt self.old self.new (message.TerminateSubscriptionRequest request.now)) }
-        ensures name { self.new.responder.name ≡ self.old.responder.name }
+        ensures takes { Takes self.old self.new (message.TerminateSubscriptionRequest request.now) result }
         ensures reads { self.new.responder.reads ≡ self.old.responder.reads }
     {
         let response = terminate(self.alloc, &mut self.table, self.responder.now(), request)?;
@@ -69,14 +63,12 @@ impl Producer {
         ))
     }
 
+    /// A DataSupplyRequest, which is answered by the part it asks for, or by why that isn't supplied.
     pub(crate) fn take_supply_request(
         &mut self,
         request: &DataSupplyRequest,
     ) -> Result<Answer, OutOfMemory>
-        ensures ok { OnOk result (GoesOn self.old self.new (Take (message.DataSupplyRequest request.now))) }
-        ensures answer { IfOk result (AnswerFor self.old (message.DataSupplyRequest request.now)) }
-        ensures err { OnErr result (RefusedAt self.old self.new (message.DataSupplyRequest request.now)) }
-        ensures name { self.new.responder.name ≡ self.old.responder.name }
+        ensures takes { Takes self.old self.new (message.DataSupplyRequest request.now) result }
         ensures reads { self.new.responder.reads ≡ self.old.responder.reads }
     {
         let start = self.responder.start();
@@ -90,13 +82,12 @@ impl Producer {
         ))
     }
 
+    /// A DataReceivedAcknowledgement, which has no reply. It takes no memory.
     pub(crate) fn take_acknowledgement(
         &mut self,
         acknowledgement: &DataReceivedAcknowledgement,
     ) -> Answer
-        ensures stands { GoesOn self.old self.new (Take (message.DataReceivedAcknowledgement acknowledgement.now)) }
-        ensures answer { AnswerFor self.old (message.DataReceivedAcknowledgement acknowledgement.now) result }
-        ensures name { self.new.responder.name ≡ self.old.responder.name }
+        ensures takes { Takes self.old self.new (message.DataReceivedAcknowledgement acknowledgement.now) (Ok result) }
         ensures reads { self.new.responder.reads ≡ self.old.responder.reads }
     {
         let start = self.responder.start();
@@ -113,14 +104,12 @@ impl Producer {
         }
     }
 
+    /// A CheckStatusRequest, which is answered by the moment at which the producer started.
     pub(crate) fn take_status_request(
         &mut self,
         request: &CheckStatusRequest,
     ) -> Result<Answer, OutOfMemory>
-        ensures ok { OnOk result (GoesOn self.old self.new (Take (message.CheckStatusRequest request.now))) }
-        ensures answer { IfOk result (AnswerFor self.old (message.CheckStatusRequest request.now)) }
-        ensures err { OnErr result (RefusedAt self.old self.new (message.CheckStatusRequest request.now)) }
-        ensures name { self.new.responder.name ≡ self.old.responder.name }
+        ensures takes { Takes self.old self.new (message.CheckStatusRequest request.now) result }
         ensures reads { self.new.responder.reads ≡ self.old.responder.reads }
     {
         let now = self.responder.now();
@@ -130,15 +119,12 @@ impl Producer {
         Ok(Answer::replied(Note::Checked, Message::CheckStatusResponse(response)))
     }
 
-    // A ServiceDelivery, which is a feed where it is of no round.
+    /// A ServiceDelivery, which is a feed where it is of no round.
     pub(crate) fn take_delivery(
         &mut self,
         delivery: &ServiceDelivery,
     ) -> Result<Answer, OutOfMemory>
-        ensures ok { OnOk result (GoesOn self.old self.new (Take (message.ServiceDelivery delivery.now))) }
-        ensures answer { IfOk result (AnswerFor self.old (message.ServiceDelivery delivery.now)) }
-        ensures err { OnErr result (RefusedAt self.old self.new (message.ServiceDelivery delivery.now)) }
-        ensures name { self.new.responder.name ≡ self.old.responder.name }
+        ensures takes { Takes self.old self.new (message.ServiceDelivery delivery.now) result }
         ensures reads { self.new.responder.reads ≡ self.old.responder.reads }
     {
         if delivery.has_round() {
@@ -147,13 +133,10 @@ impl Producer {
         self.take_feed(delivery)
     }
 
-    // A ServiceDelivery of no round.
+    /// A ServiceDelivery of no round.
     pub(crate) fn take_feed(&mut self, delivery: &ServiceDelivery) -> Result<Answer, OutOfMemory>
         requires { has_round delivery.now ≡ false }
-        ensures ok { OnOk result (GoesOn self.old self.new (Take (message.ServiceDelivery delivery.now))) }
-        ensures answer { IfOk result (AnswerFor self.old (message.ServiceDelivery delivery.now)) }
-        ensures err { OnErr result (RefusedAt self.old self.new (message.ServiceDelivery delivery.now)) }
-        ensures name { self.new.responder.name ≡ self.old.responder.name }
+        ensures takes { Takes self.old self.new (message.ServiceDelivery delivery.now) result }
         ensures reads { self.new.responder.reads ≡ self.old.responder.reads }
     {
         let fed = self.feed(delivery)?;
@@ -168,7 +151,7 @@ impl Producer {
         Ok(Answer::replied(Note::Fed(fed), Message::DataReceivedAcknowledgement(reply)))
     }
 
-    // Any other message. Nothing changes, but that an event has begun.
+    /// Any other message. Nothing changes, but that an event has begun.
     pub(crate) fn ignore(&mut self) -> Answer
         ensures stands { (m : Message) → is_ignored m ≡ true → GoesOn self.old self.new (Take m) }
         ensures answer { (m : Message) → is_ignored m ≡ true → AnswerFor self.old m result }
@@ -180,9 +163,9 @@ impl Producer {
     }
 }
 
-// What a request for a part is told.
+/// What a request for a part is told.
 fn supply_note(outcome: Result<(), SupplyError>) -> Note
-    ensures { result ≡ definition.supply_note outcome }
+    ensures { result ≡ supply_note outcome }
 {
     match outcome {
         Ok(()) => Note::Supplied,

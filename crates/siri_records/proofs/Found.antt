@@ -11,16 +11,24 @@ use Rattle.std.proofs.lemmas.Bool.{cases_lt}
 use Rattle.siri_records.specs.Places.{IsHere, IsGap, Finds}
 
 module _ {K X : Type 0} (query : K → Ordering) where
-  pub here_from : (es : List (K × X)) (i : ℕ) → i < length es → ((j : ℕ) (d : K × X) → j < i → query (get_or es j d).0 ≡ Greater) → ((d : K × X) → query (get_or es i d).0 ≡ Equal) → IsHere query es i
+  pub here_from : (es : List (K × X)) (i : ℕ) → i < length es
+      → ((j : ℕ) (d : K × X) → j < i → query (get_or es j d).0 ≡ Greater)
+      → ((d : K × X) → query (get_or es i d).0 ≡ Equal) → IsHere query es i
   here_from [] i lt above equal = absurd (omega (arith, lt))
   here_from (e ∷ es) zero lt above equal = equal e
   here_from (e ∷ es) (suc i) lt above equal = (above 0 e (omega arith), here_from es i (omega (arith, lt)) (λ j d l. above (suc j) d (omega (arith, l))) equal)
 
-  pub gap_from : (es : List (K × X)) (i : ℕ) → i ≤ length es → ((j : ℕ) (d : K × X) → j < i → query (get_or es j d).0 ≡ Greater) → ((j : ℕ) (d : K × X) → i ≤ j → j < length es → query (get_or es j d).0 ≡ Less) → IsGap query es i
+  pub gap_from : (es : List (K × X)) (i : ℕ) → i ≤ length es
+      → ((j : ℕ) (d : K × X) → j < i → query (get_or es j d).0 ≡ Greater)
+      → ((j : ℕ) (d : K × X) → i ≤ j → j < length es → query (get_or es j d).0 ≡ Less) → IsGap query es i
   gap_from [] zero le above below = tt
   gap_from [] (suc i) le above below = absurd (omega (arith, le))
   gap_from (e ∷ es) zero le above below = below 0 e (omega arith) (omega arith)
-  gap_from (e ∷ es) (suc i) le above below = (above 0 e (omega arith), gap_from es i (omega (arith, le)) (λ j d l. above (suc j) d (omega (arith, l))) (λ j d l m. below (suc j) d (omega (arith, l)) (omega (arith, m))))
+  gap_from (e ∷ es) (suc i) le above below = (
+    above 0 e (omega arith),
+    gap_from es i (omega (arith, le)) (λ j d l. above (suc j) d (omega (arith, l)))
+        (λ j d l m. below (suc j) d (omega (arith, l)) (omega (arith, m))),
+  )
 
 get_or_keys : {K X : Type 0} (es : List (K × X)) (i : ℕ) (d : K × X) → get_or (keys_of es) i d.0 ≡ (get_or es i d).0
 get_or_keys [] i d = refl
@@ -31,7 +39,8 @@ length_keys : {K X : Type 0} (es : List (K × X)) → length (keys_of es) ≡ le
 length_keys [] = refl
 length_keys (e ∷ es) = ap suc (length_keys es)
 
-less_at : {K X : Type 0} (cmp : K → K → Ordering) (es : List (K × X)) → IsStrictlySortedBy cmp (keys_of es) → (i j : ℕ) (d : K × X) → i < j → j < length es → cmp (get_or es i d).0 (get_or es j d).0 ≡ Less
+less_at : {K X : Type 0} (cmp : K → K → Ordering) (es : List (K × X)) → IsStrictlySortedBy cmp (keys_of es)
+    → (i j : ℕ) (d : K × X) → i < j → j < length es → cmp (get_or es i d).0 (get_or es j d).0 ≡ Less
 less_at cmp es sorted i j d lt in_range =
     rw (← get_or_keys es i d, ← get_or_keys es j d) (Less-from_sorted cmp (keys_of es) i j d.0 sorted lt (rw (length_keys es) in_range))
 
@@ -63,8 +72,11 @@ module _ {K X : Type 0} {cmp : K → K → Ordering} (total : IsTotalOrder cmp) 
   -- a binary search ends at the key, or at the gap for it
   pub found : (r : Result ℕ ℕ) → IsSearchInRange r (length es) → IsBinarySearchResult (λ e. cmp e.0 k) es r → Finds (cmp k) es r
   found (Ok i) in_range equal = here_from (cmp k) es i in_range
-      (λ j d lt. sym (total.congr (get_or es i d).0 k (get_or es j d).0 (equal d)) ∙ (total.antisymm (get_or es i d).0 (get_or es j d).0 ∙ ap ordering_reverse (less_at cmp es sorted j i d lt in_range)))
+      (λ j d lt. sym (total.congr (get_or es i d).0 k (get_or es j d).0 (equal d))
+      ∙ (total.antisymm (get_or es i d).0 (get_or es j d).0
+      ∙ ap ordering_reverse (less_at cmp es sorted j i d lt in_range)))
       (λ d. flip total k (get_or es i d).0 Equal (equal d))
   found (Err i) in_range parted =
       let p = parted all_rise in
-      gap_from (cmp k) es i in_range (λ j d lt. flip total k (get_or es j d).0 Less (p.0 j d (omega arith) lt)) (λ j d le lt. flip total k (get_or es j d).0 Greater (p.1 j d le lt))
+      gap_from (cmp k) es i in_range (λ j d lt. flip total k (get_or es j d).0 Less (p.0 j d (omega arith) lt))
+      (λ j d le lt. flip total k (get_or es j d).0 Greater (p.1 j d le lt))

@@ -8,7 +8,8 @@ use Rattle.std.specs.declared.cmp.Ordering.TheVariants.{Less}
 
 -- a test of what is seen of the elements
 module _ {A B : Type 0} (f : A → B) (q : B → Bool) where
-  view_case : (x : A) (xs : List A) (b : Bool) → q (f x) ≡ b → map f (filter (λ y. q (f y)) xs) ≡ filter q (map f xs) → map f (filter (λ y. q (f y)) (x ∷ xs)) ≡ filter q (map f (x ∷ xs))
+  view_case : (x : A) (xs : List A) (b : Bool) → q (f x) ≡ b → map f (filter (λ y. q (f y)) xs) ≡ filter q (map f xs)
+      → map f (filter (λ y. q (f y)) (x ∷ xs)) ≡ filter q (map f (x ∷ xs))
   view_case x xs true h rest = rw h (ap (λ l. f x ∷ l) rest)
   view_case x xs false h rest = rw h rest
 
@@ -18,7 +19,8 @@ module _ {A B : Type 0} (f : A → B) (q : B → Bool) where
 
 -- keys stay in order
 module _ {K X : Type 0} (p : K × X → Bool) where
-  all_case : (P : K → Type 0) (e : K × X) (es : List (K × X)) (b : Bool) → p e ≡ b → P e.0 → AllByRecursion P (keys_of (filter p es)) → AllByRecursion P (keys_of (filter p (e ∷ es)))
+  all_case : (P : K → Type 0) (e : K × X) (es : List (K × X)) (b : Bool) → p e ≡ b → P e.0
+      → AllByRecursion P (keys_of (filter p es)) → AllByRecursion P (keys_of (filter p (e ∷ es)))
   all_case P e es true h here rest = rw h (here, rest)
   all_case P e es false h here rest = rw h rest
 
@@ -26,7 +28,9 @@ module _ {K X : Type 0} (p : K × X → Bool) where
   all_kept P [] a = tt
   all_kept P (e ∷ es) a = all_case P e es (p e) refl a.0 (all_kept P es a.1)
 
-  sorted_case : (cmp : K → K → Ordering) (e : K × X) (es : List (K × X)) (b : Bool) → p e ≡ b → AllByRecursion (λ y. cmp e.0 y ≡ Less) (keys_of (filter p es)) → IsStrictlySortedBy cmp (keys_of (filter p es)) → IsStrictlySortedBy cmp (keys_of (filter p (e ∷ es)))
+  sorted_case : (cmp : K → K → Ordering) (e : K × X) (es : List (K × X)) (b : Bool) → p e ≡ b
+      → AllByRecursion (λ y. cmp e.0 y ≡ Less) (keys_of (filter p es)) → IsStrictlySortedBy cmp (keys_of (filter p es))
+      → IsStrictlySortedBy cmp (keys_of (filter p (e ∷ es)))
   unfolding IsStrictlySortedBy
   sorted_case cmp e es true h above rest = rw h (above, rest)
   sorted_case cmp e es false h above rest = rw h rest
@@ -38,7 +42,9 @@ module _ {K X : Type 0} (p : K × X → Bool) where
 
 -- a test of the values
 module _ {K X : Type 0} (t : X → Bool) where
-  passing_case : (e : K × X) (es : List (K × X)) (b : Bool) → t e.1 ≡ b → AllByRecursion (λ x. t x ≡ false) (values_of (filter (λ e. not (t e.1)) es)) → AllByRecursion (λ x. t x ≡ false) (values_of (filter (λ e. not (t e.1)) (e ∷ es)))
+  passing_case : (e : K × X) (es : List (K × X)) (b : Bool) → t e.1 ≡ b
+      → AllByRecursion (λ x. t x ≡ false) (values_of (filter (λ e. not (t e.1)) es))
+      → AllByRecursion (λ x. t x ≡ false) (values_of (filter (λ e. not (t e.1)) (e ∷ es)))
   passing_case e es true h rest = rw h rest
   passing_case e es false h rest = rw h (h, rest)
 
@@ -47,7 +53,9 @@ module _ {K X : Type 0} (t : X → Bool) where
   passing [] = tt
   passing (e ∷ es) = passing_case e es (t e.1) refl (passing es)
 
-  none_case : (e : K × X) (es : List (K × X)) (b : Bool) → t e.1 ≡ b → filter (λ e. t e.1) (e ∷ es) ≡ [] → (filter (λ e. t e.1) es ≡ [] → AllByRecursion (λ x. t x ≡ false) (values_of es)) → AllByRecursion (λ x. t x ≡ false) (values_of (e ∷ es))
+  none_case : (e : K × X) (es : List (K × X)) (b : Bool) → t e.1 ≡ b → filter (λ e. t e.1) (e ∷ es) ≡ []
+      → (filter (λ e. t e.1) es ≡ [] → AllByRecursion (λ x. t x ≡ false) (values_of es))
+      → AllByRecursion (λ x. t x ≡ false) (values_of (e ∷ es))
   none_case e es true h none rest = absurd (cc (h, none))
   none_case e es false h none rest = (h, rest (rw h at none))
 

@@ -14,7 +14,10 @@ use Rattle.siri_records.specs.declared.vehicle.Vehicle.{Vehicle}
 use Rattle.siri_records.specs.declared.vehicle.VehicleJourney.{VehicleJourney}
 use Rattle.siri_records.specs.declared.visit.Visit.{Visit}
 use Rattle.siri_records.specs.declared.visit.VisitJourney.{VisitJourney}
-use Rattle.siri_records.specs.Near.{same_text, same_location, same_period, is_close, are_close_moments, is_near_call, is_near_visit_journey, is_near_visit, is_near_journey, is_near_vehicle_journey, is_near_vehicle, is_near_situation, is_near, steady_call, steady_visit_journey, steady_visit, steady_journey, steady_vehicle_journey, steady_vehicle, steady}
+use Rattle.siri_records.specs.Near.{same_text, same_location, same_period, is_close, are_close_moments, is_near_call, is_near_visit_journey}
+use Rattle.siri_records.specs.Near.{is_near_visit, is_near_journey, is_near_vehicle_journey, is_near_vehicle, is_near_situation, is_near}
+use Rattle.siri_records.specs.Near.{steady_call, steady_visit_journey, steady_visit, steady_journey, steady_vehicle_journey, steady_vehicle}
+use Rattle.siri_records.specs.Near.{steady}
 
 -- ---- tests that hold of equal values alone
 
@@ -121,7 +124,8 @@ call_agrees slack a b e =
 
 calls_agree : (slack : ℤ) (as' bs : List StopCall) → pointwise (is_near_call slack) as' bs ≡ true → map steady_call as' ≡ map steady_call bs
 calls_agree slack [] [] e = refl
-calls_agree slack (a ∷ as') (b ∷ bs) e = let f = both (is_near_call slack a b) (pointwise (is_near_call slack) as' bs) e in λ i. call_agrees slack a b f.0 i ∷ calls_agree slack as' bs f.1 i
+calls_agree slack (a ∷ as') (b ∷ bs) e = let f = both (is_near_call slack a b)
+    (pointwise (is_near_call slack) as' bs) e in λ i. call_agrees slack a b f.0 i ∷ calls_agree slack as' bs f.1 i
 calls_agree slack [] (b ∷ bs) e = cc
 calls_agree slack (a ∷ as') [] e = cc
 

@@ -1,5 +1,6 @@
 -- What stands at a place.
-use Rattle.std.proofs.Common.{◌≡◌, ℕ, suc, zero, ◌<◌, ◌≤◌, List, [], ◌∷◌, ◌++◌, length, get_or, drop, take, map, Some, None, slice_get, ◌+◌, refl, ap, sym, subst, ◌∙◌, arith, add-one}
+use Rattle.std.proofs.Common.{◌≡◌, ℕ, suc, zero, ◌<◌, ◌≤◌, List, [], ◌∷◌, ◌++◌, length, get_or, drop, take, map, Some, None, slice_get, ◌+◌}
+use Rattle.std.proofs.Common.{refl, ap, sym, subst, ◌∙◌, arith, add-one}
 use Rattle.std.specs.Map.{keys_of}
 use Rattle.std.specs.List.{AllByRecursion}
 use Rattle.std.specs.List.Sorted.{IsStrictlySortedBy}
@@ -66,12 +67,15 @@ all_at P (x ∷ es) zero e a lt is = subst (λ (y : _). P y.0) (sym is) a.0
 all_at P (x ∷ es) (suc i) e a lt is = all_at P es i e a.1 (omega (arith, lt)) is
 
 -- in order the key of a place stands there
-pub here_at : {K X : Type 0} {cmp : K → K → Ordering} (total : IsTotalOrder cmp) (es : List (K × X)) (i : ℕ) (e : K × X) → IsStrictlySortedBy cmp (keys_of es) → i < length es → e ≡ get_or es i e → IsHere (cmp e.0) es i
+pub here_at : {K X : Type 0} {cmp : K → K → Ordering} (total : IsTotalOrder cmp) (es : List (K × X)) (i : ℕ) (e : K × X)
+    → IsStrictlySortedBy cmp (keys_of es) → i < length es → e ≡ get_or es i e → IsHere (cmp e.0) es i
 unfolding IsStrictlySortedBy
 here_at total [] i e s lt is = absurd (omega (arith, lt))
 here_at {cmp = cmp} total (x ∷ es) zero e s lt is = ap (λ (y : _). cmp e.0 y.0) (sym is) ∙ tied_itself total e.0
-here_at {cmp = cmp} total (x ∷ es) (suc i) e s lt is =
-    (total.antisymm e.0 x.0 ∙ ap ordering_reverse (all_at (λ y. cmp x.0 y ≡ Less) es i e s.0 (omega (arith, lt)) is), here_at total es i e s.1 (omega (arith, lt)) is)
+here_at {cmp = cmp} total (x ∷ es) (suc i) e s lt is = (
+  total.antisymm e.0 x.0 ∙ ap ordering_reverse (all_at (λ y. cmp x.0 y ≡ Less) es i e s.0 (omega (arith, lt)) is),
+  here_at total es i e s.1 (omega (arith, lt)) is,
+)
 
 -- ---- more entries
 
@@ -128,10 +132,15 @@ take_whole (y ∷ xs) (suc i) le = ap (λ l. y ∷ l) (take_whole xs i (omega (a
 
 -- ---- a copy, entry by entry
 
-pub copied_step : (es done more : List (Key × Shared)) (i : ℕ) (e copy : Key × Shared) → i < length es → e ≡ get_or es i e → (copy.0 ≡ e.0) × (copy.1.value ≡ e.1.value) → more ≡ done ++ copy ∷ [] → entries_view done ≡ take i (entries_view es) → entries_view more ≡ take (i + 1) (entries_view es)
+pub copied_step : (es done more : List (Key × Shared)) (i : ℕ) (e copy : Key × Shared) → i < length es
+    → e ≡ get_or es i e → (copy.0 ≡ e.0) × (copy.1.value ≡ e.1.value) → more ≡ done ++ copy ∷ []
+    → entries_view done ≡ take i (entries_view es) → entries_view more ≡ take (i + 1) (entries_view es)
 copied_step es done more i e copy lt is same one so_far =
     let pair : ◌≡◌ {A = Key × Item} (copy.0, copy.1.value) (e.0, e.1.value) = λ j. (same.0 j, same.1 j) in
-    ap entries_view one ∙ (viewed_append done (copy ∷ []) ∙ (ap (λ l. l ++ (copy.0, copy.1.value) ∷ []) so_far ∙ (ap (λ (x : Key × Item). take i (entries_view es) ++ x ∷ []) pair ∙ sym (take_at (entries_view es) i (e.0, e.1.value) (entry_at es i e lt is)))))
+    ap entries_view one ∙ (viewed_append done (copy ∷ [])
+    ∙ (ap (λ l. l ++ (copy.0, copy.1.value) ∷ []) so_far
+    ∙ (ap (λ (x : Key × Item). take i (entries_view es) ++ x ∷ []) pair
+    ∙ sym (take_at (entries_view es) i (e.0, e.1.value) (entry_at es i e lt is)))))
 
 pub copied_order : (es done : List (Key × Shared)) (i : ℕ) → length es ≤ i → entries_view done ≡ take i (entries_view es) → InOrder es → InOrder done
 copied_order es done i le so_far s =

@@ -1,3 +1,4 @@
+pub mod Blank
 pub mod Ends
 pub mod Keyed
 pub mod Keys

@@ -1,5 +1,7 @@
-// Calls of a journey at stops.
+//! Calls of a journey at stops.
+
 ghost use Rattle.std.specs.Prelude.{◌≡◌};
+ghost use Rattle.siri_records.specs.Blank.{blank_call};
 
 use siri_base::{Copies, Moment, Name, OutOfMemory, Text};
 
@@ -20,6 +22,30 @@ pub struct StopCall {
     pub actual_departure_time: Option<Moment>,
     pub departure_status: Option<Text>,
     pub departure_platform_name: Option<Text>,
+}
+
+impl StopCall {
+    /// A call of which nothing is said.
+    pub fn blank() -> StopCall
+        ensures { result ≡ blank_call }
+    {
+        StopCall {
+            stop_point_ref: None,
+            order: None,
+            stop_point_name: None,
+            vehicle_at_stop: None,
+            aimed_arrival_time: None,
+            expected_arrival_time: None,
+            actual_arrival_time: None,
+            arrival_status: None,
+            arrival_platform_name: None,
+            aimed_departure_time: None,
+            expected_departure_time: None,
+            actual_departure_time: None,
+            departure_status: None,
+            departure_platform_name: None,
+        }
+    }
 }
 
 impl Drop for StopCall {

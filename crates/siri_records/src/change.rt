@@ -1,4 +1,5 @@
-// Changes of keys.
+//! Changes of keys.
+
 ghost use Rattle.std.specs.Prelude.{◌≡◌};
 
 use crate::{Item, Key};

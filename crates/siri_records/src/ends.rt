@@ -1,4 +1,5 @@
-// When items begin, end and are over.
+//! When items begin, end and are over.
+
 ghost use Rattle.std.specs.Prelude.{◌≡◌, map, fold};
 ghost use Rattle.siri_records.specs.Ends as ends;
 
@@ -75,7 +76,7 @@ pub fn dead(item: &Item, now: Moment) -> bool
         }
 }
 
-// The least moment of these calls and of those before them.
+/// The least moment of these calls and of those before them.
 fn first_call(before: Option<Moment>, calls: &[StopCall]) -> Option<Moment>
     ensures { result ≡ fold ends.earlier before (map ends.call_moment calls.now) }
 {
@@ -86,7 +87,7 @@ fn first_call(before: Option<Moment>, calls: &[StopCall]) -> Option<Moment>
     first
 }
 
-// The greatest moment of these calls and of those before them.
+/// The greatest moment of these calls and of those before them.
 fn last_call(before: Option<Moment>, calls: &[StopCall]) -> Option<Moment>
     ensures { result ≡ fold ends.later before (map ends.call_moment calls.now) }
 {
@@ -97,7 +98,7 @@ fn last_call(before: Option<Moment>, calls: &[StopCall]) -> Option<Moment>
     last
 }
 
-// The least start.
+/// The least start.
 fn first_start(periods: &[Period]) -> Option<Moment>
     ensures { result ≡ ends.least (map (λ p. Some p.start_time) periods.now) }
 {
@@ -108,7 +109,7 @@ fn first_start(periods: &[Period]) -> Option<Moment>
     first
 }
 
-// The greatest end, none where a period is open.
+/// The greatest end, none where a period is open.
 fn last_end(periods: &[Period]) -> Option<Moment>
     ensures { result ≡ ends.last_end periods.now }
 {
@@ -119,7 +120,7 @@ fn last_end(periods: &[Period]) -> Option<Moment>
     last
 }
 
-// The earlier of two moments, where an absent one gives way.
+/// The earlier of two moments, where an absent one gives way.
 fn earlier(a: Option<Moment>, b: Option<Moment>) -> Option<Moment>
     ensures { result ≡ ends.earlier a b }
 {
@@ -129,7 +130,7 @@ fn earlier(a: Option<Moment>, b: Option<Moment>) -> Option<Moment>
     }
 }
 
-// The later of two moments, where an absent one gives way.
+/// The later of two moments, where an absent one gives way.
 fn later(a: Option<Moment>, b: Option<Moment>) -> Option<Moment>
     ensures { result ≡ ends.later a b }
 {

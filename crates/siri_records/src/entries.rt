@@ -1,4 +1,5 @@
-// Shared items in a vector, in order of key.
+//! Shared items in a vector, in order of key.
+
 ghost use Rattle.std.specs.Prelude.{◌≡◌, ◌<◌, ◌≤◌, ◌+◌, vec_len, is_some, IsNone, IsSome, IsOk, OnOk, OnErr, IfOk};
 ghost use Rattle.std.specs.Vec.{vec_capacity};
 ghost use Rattle.std.specs.Map.{remove_entry};
@@ -12,9 +13,10 @@ use siri_base::{Copies, OutOfMemory};
 use std::cmp::Ordering;
 use std::rc::Rc;
 
+/// A key and its item, which others may hold too.
 pub(crate) type Entry = (Key, Rc<Item>);
 
-// Where the key stands, or where it would.
+/// Where the key stands, or where it would.
 pub(crate) fn find(entries: &Vec<Entry>, key: &Key) -> Result<usize, usize>
     requires { InOrder entries.now.items }
     ensures { Finds (key_cmp key.now) entries.now.items result }
@@ -26,13 +28,14 @@ pub(crate) fn find(entries: &Vec<Entry>, key: &Key) -> Result<usize, usize>
     )
 }
 
+/// Keys by service, then by their names in turn, an absent name first.
 fn compare(a: &Key, b: &Key) -> Ordering
     ensures { result ≡ key_cmp a.now b.now }
 {
     a.cmp(b)
 }
 
-// The change is made. It takes no memory where there is room for one more entry.
+/// The change is made. It takes no memory where there is room for one more entry.
 pub(crate) fn make(entries: &mut Vec<Entry>, change: Change) -> Result<(), OutOfMemory>
     requires { InOrder entries.old.items }
     ensures ok { OnOk result (entries_view entries.new.items ≡ after_change (entries_view entries.old.items) change) }
@@ -49,13 +52,13 @@ pub(crate) fn make(entries: &mut Vec<Entry>, change: Change) -> Result<(), OutOf
         Some(item) => put(entries, key, item),
         None => {
             let _ = remove(entries, &key);
-            discard_key(key);
+            drop(key);
             Ok(())
         }
     }
 }
 
-// The item becomes the one of the key. Room for a key that isn't held is taken before anything changes.
+/// The item becomes the one of the key. Room for a key that isn't held is taken before anything changes.
 pub(crate) fn put(entries: &mut Vec<Entry>, key: Key, item: Rc<Item>) -> Result<(), OutOfMemory>
     requires { InOrder entries.old.items }
     ensures ok { OnOk result (entries_view entries.new.items ≡ insert_entry key_cmp (entries_view entries.old.items) key item.value) }
@@ -68,7 +71,7 @@ pub(crate) fn put(entries: &mut Vec<Entry>, key: Key, item: Rc<Item>) -> Result<
 {
     match find(entries, &key) {
         Ok(at) => {
-            discard_key(key);
+            drop(key);
             replace(entries, at, item);
             Ok(())
         }
@@ -79,7 +82,7 @@ pub(crate) fn put(entries: &mut Vec<Entry>, key: Key, item: Rc<Item>) -> Result<
     }
 }
 
-// Whether the key was held. It isn't afterwards.
+/// Whether the key was held. It isn't afterwards.
 pub(crate) fn remove(entries: &mut Vec<Entry>, key: &Key) -> bool
     requires { InOrder entries.old.items }
     ensures rest { entries_view entries.new.items ≡ remove_entry (is_at (key_cmp key.now)) (entries_view entries.old.items) }
@@ -90,13 +93,14 @@ pub(crate) fn remove(entries: &mut Vec<Entry>, key: &Key) -> bool
 {
     match find(entries, key) {
         Ok(at) => {
-            discard(entries.remove(at));
+            drop(entries.remove(at));
             true
         }
         Err(_) => false,
     }
 }
 
+/// The item at a place becomes this one; its key stays. It takes no memory.
 fn replace(entries: &mut Vec<Entry>, at: usize, item: Rc<Item>)
     requires { at < vec_len entries.old }
     ensures items { entries.new.items ≡ set_value_at entries.old.items at item }
@@ -106,19 +110,10 @@ fn replace(entries: &mut Vec<Entry>, at: usize, item: Rc<Item>)
     entries[at].1 = item;
 }
 
-// The same shared item under a copy of its key.
+/// The same shared item under a copy of its key.
 pub(crate) fn copy_entry(entry: &Entry) -> Result<Entry, OutOfMemory>
     ensures { IfOk result (λ copy. (copy.0 ≡ entry.now.0) × (copy.1.value ≡ entry.now.1.value)) }
 {
     let item = entry.1.clone()?;
     Ok((entry.0.copy()?, item))
 }
-
-// Each of these lets one value go and does nothing else. A value of these types that goes at the end of a longer function
-// opens, in that function's proof, the letting go of each of its fields on each path: minutes in place of seconds.
-
-pub(crate) fn discard_item(_item: Rc<Item>) {}
-
-fn discard_key(_key: Key) {}
-
-fn discard(_entry: Entry) {}

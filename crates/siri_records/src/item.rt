@@ -1,4 +1,5 @@
-// Items of the four services.
+//! Items of the four services.
+
 ghost use Rattle.std.specs.Prelude.{◌≡◌};
 
 use crate::{Journey, Situation, Vehicle, Visit};

@@ -1,4 +1,5 @@
-// Journeys with their calls.
+//! Journeys with their calls.
+
 ghost use Rattle.std.specs.Prelude.{◌≡◌};
 
 use crate::call::StopCall;

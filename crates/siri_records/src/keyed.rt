@@ -1,4 +1,5 @@
-// Shared items by their keys.
+//! Shared items by their keys.
+
 ghost use Rattle.std.specs.Prelude.{◌≡◌, ◌<◌, ◌+◌, ◌^◌, [], ◌∷◌, ◌++◌, length, option_map, is_some, slice_get, not, Some, IsNone, IsSome, IsOk, OnSome, OnOk, OnErr};
 ghost use Rattle.std.specs.List.Sorted.{IsStrictlySortedBy};
 ghost use Rattle.std.specs.Map.{keys_of, lookup, remove_entry};
@@ -7,7 +8,7 @@ ghost use Rattle.siri_records.specs.Ends.{is_dead};
 ghost use Rattle.siri_records.specs.Order.{key_cmp};
 ghost use Rattle.siri_records.specs.Keyed.{InOrder, PlacedAt, living, deref_entry, after_change, apply};
 
-use crate::entries::{copy_entry, discard_item, find, make, put, remove};
+use crate::entries::{copy_entry, find, make, put, remove};
 use crate::{Change, Item, Key, dead};
 use siri_base::{Copies, List, Moment, OutOfMemory};
 use std::alloc::Global;
@@ -120,7 +121,7 @@ impl KeyedItems {
         ensures rest { self.new ≡ remove_entry (is_at (key_cmp result)) self.old }
     {
         let (key, item) = self.entries.remove(place);
-        discard_item(item);
+        drop(item);
         key
     }
 
@@ -135,8 +136,8 @@ impl KeyedItems {
         );
     }
 
-    /// Makes a change: an item becomes the one of its key, and a removal removes the key, where it is held. After want of
-    /// memory all is as before; a removal, and an item of a held key, take none.
+    /// Makes a change: an item becomes the one of its key, and a removal removes the key, where it is held. After want
+    /// of memory all is as before; a removal, and an item of a held key, take none.
     pub fn change(&mut self, change: Change) -> Result<(), OutOfMemory>
         ensures ok { OnOk result (self.new ≡ after_change self.old change) }
         ensures err { OnErr result (self.new ≡ self.old) }

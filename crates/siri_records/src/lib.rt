@@ -1,4 +1,5 @@
-//! Visits, journeys, vehicles and situations: what each holds, what it is known by, when it is over, and when two are near.
+//! Visits, journeys, vehicles and situations: what each holds, what it is known by, when it is over, and when two are
+//! near.
 //!
 //! `KeyedItems` holds shared items in order of key, each key once: a store's current items and a subscription's views
 //! stand on it.

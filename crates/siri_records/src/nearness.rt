@@ -1,8 +1,9 @@
-// When two items are as good as equal.
+//! When two items are as good as equal.
+
 ghost use Rattle.std.specs.Prelude.{◌≡◌, ℤ, true};
 ghost use Rattle.std.specs.Cmp.Lexicographic.{pointwise};
 ghost use Rattle.std.specs.Option.{option_eq};
-ghost use Rattle.siri_records.specs.Near as definition;
+ghost use Rattle.siri_records.specs.Near.{are_close_moments, is_close, is_near, is_near_call, is_near_journey, is_near_situation, is_near_vehicle, is_near_vehicle_journey, is_near_visit, is_near_visit_journey, same_period, steady};
 
 use crate::{
     Item, Journey, Period, Situation, StopCall, Vehicle, VehicleJourney, Visit, VisitJourney,
@@ -14,7 +15,7 @@ use siri_base::{Moment, Span};
 /// have it. Calls are compared list by list and place by place. Situations are near where they are equal in every
 /// field (how this profile reads ChangeBeforeUpdates, EN 15531-3).
 pub fn near(a: &Item, b: &Item, slack: Span) -> bool
-    ensures { result ≡ definition.is_near slack a.now b.now }
+    ensures { result ≡ is_near slack a.now b.now }
 {
     match (a, b) {
         (Item::Visit(a), Item::Visit(b)) => near_visits(a, b, slack),
@@ -25,9 +26,10 @@ pub fn near(a: &Item, b: &Item, slack: Span) -> bool
     }
 }
 
+/// Their names are equal and their journeys near; RecordedAtTime isn't looked at.
 #[tactic(auto, unfolding(crate::specs::Near::is_near_visit))]
 fn near_visits(a: &Visit, b: &Visit, slack: Span) -> bool
-    ensures { result ≡ definition.is_near_visit slack a.now b.now }
+    ensures { result ≡ is_near_visit slack a.now b.now }
 {
     a.item_identifier == b.item_identifier
         && a.monitoring_ref == b.monitoring_ref
@@ -38,9 +40,10 @@ fn near_visits(a: &Visit, b: &Visit, slack: Span) -> bool
         )
 }
 
+/// All fields are equal but Delay and MonitoredCall, which are near.
 #[tactic(auto, unfolding(crate::specs::Near::is_near_visit_journey))]
 fn near_visit_journeys(a: &VisitJourney, b: &VisitJourney, slack: Span) -> bool
-    ensures { result ≡ definition.is_near_visit_journey slack a.now b.now }
+    ensures { result ≡ is_near_visit_journey slack a.now b.now }
 {
     a.line_ref == b.line_ref
         && a.direction_ref == b.direction_ref
@@ -58,9 +61,10 @@ fn near_visit_journeys(a: &VisitJourney, b: &VisitJourney, slack: Span) -> bool
         && near_calls(&a.monitored_call, &b.monitored_call, slack)
 }
 
+/// All fields are equal but RecordedAtTime, Delay and the calls, which are near list by list.
 #[tactic(auto, unfolding(crate::specs::Near::is_near_journey))]
 fn near_journeys(a: &Journey, b: &Journey, slack: Span) -> bool
-    ensures { result ≡ definition.is_near_journey slack a.now b.now }
+    ensures { result ≡ is_near_journey slack a.now b.now }
 {
     a.line_ref == b.line_ref
         && a.direction_ref == b.direction_ref
@@ -79,9 +83,10 @@ fn near_journeys(a: &Journey, b: &Journey, slack: Span) -> bool
         && near_call_lists(a.estimated_calls.slice(), b.estimated_calls.slice(), slack)
 }
 
+/// ItemIdentifier and ValidUntilTime are equal, and the journeys near; RecordedAtTime isn't looked at.
 #[tactic(auto, unfolding(crate::specs::Near::is_near_vehicle))]
 fn near_vehicles(a: &Vehicle, b: &Vehicle, slack: Span) -> bool
-    ensures { result ≡ definition.is_near_vehicle slack a.now b.now }
+    ensures { result ≡ is_near_vehicle slack a.now b.now }
 {
     a.item_identifier == b.item_identifier
         && a.valid_until_time == b.valid_until_time
@@ -92,9 +97,10 @@ fn near_vehicles(a: &Vehicle, b: &Vehicle, slack: Span) -> bool
         )
 }
 
+/// All fields are equal but Delay and MonitoredCall, which are near or both absent.
 #[tactic(auto, unfolding(crate::specs::Near::is_near_vehicle_journey))]
 fn near_vehicle_journeys(a: &VehicleJourney, b: &VehicleJourney, slack: Span) -> bool
-    ensures { result ≡ definition.is_near_vehicle_journey slack a.now b.now }
+    ensures { result ≡ is_near_vehicle_journey slack a.now b.now }
 {
     a.line_ref == b.line_ref
         && a.direction_ref == b.direction_ref
@@ -112,9 +118,10 @@ fn near_vehicle_journeys(a: &VehicleJourney, b: &VehicleJourney, slack: Span) ->
         && near_optional_calls(&a.monitored_call, &b.monitored_call, slack)
 }
 
+/// All fields are equal: ChangeBeforeUpdates isn't for situations.
 #[tactic(auto, unfolding(crate::specs::Near::is_near_situation))]
 fn near_situations(a: &Situation, b: &Situation) -> bool
-    ensures { result ≡ definition.is_near_situation a.now b.now }
+    ensures { result ≡ is_near_situation a.now b.now }
 {
     a.creation_time == b.creation_time
         && a.participant_ref == b.participant_ref
@@ -131,9 +138,10 @@ fn near_situations(a: &Situation, b: &Situation) -> bool
         && a.affected_stop_points.slice() == b.affected_stop_points.slice()
 }
 
+/// All fields are equal but ExpectedArrivalTime and ExpectedDepartureTime, which are near.
 #[tactic(auto, unfolding(crate::specs::Near::is_near_call))]
 fn near_calls(a: &StopCall, b: &StopCall, slack: Span) -> bool
-    ensures { result ≡ definition.is_near_call slack a.now b.now }
+    ensures { result ≡ is_near_call slack a.now b.now }
 {
     a.stop_point_ref == b.stop_point_ref
         && a.order == b.order
@@ -151,15 +159,16 @@ fn near_calls(a: &StopCall, b: &StopCall, slack: Span) -> bool
         && a.departure_platform_name == b.departure_platform_name
 }
 
+/// The same periods in the same order.
 fn same_periods(a: &[Period], b: &[Period]) -> bool
-    ensures { result ≡ pointwise definition.same_period a.now b.now }
+    ensures { result ≡ pointwise same_period a.now b.now }
 {
     a == b
 }
 
-// Call by call, in lists of one length.
+/// Call by call, in lists of one length.
 fn near_call_lists(a: &[StopCall], b: &[StopCall], slack: Span) -> bool
-    ensures { result ≡ pointwise (definition.is_near_call slack) a.now b.now }
+    ensures { result ≡ pointwise (is_near_call slack) a.now b.now }
 {
     if a.len() != b.len() {
         return false;
@@ -172,8 +181,9 @@ fn near_call_lists(a: &[StopCall], b: &[StopCall], slack: Span) -> bool
     true
 }
 
+/// Both calls are absent, or both are there and near.
 fn near_optional_calls(a: &Option<StopCall>, b: &Option<StopCall>, slack: Span) -> bool
-    ensures { result ≡ option_eq (definition.is_near_call slack) a.now b.now }
+    ensures { result ≡ option_eq (is_near_call slack) a.now b.now }
 {
     match (a, b) {
         (None, None) => true,
@@ -182,8 +192,9 @@ fn near_optional_calls(a: &Option<StopCall>, b: &Option<StopCall>, slack: Span) 
     }
 }
 
+/// Both moments are absent, or both are there and equal or less than the slack apart.
 fn near_moments(a: Option<Moment>, b: Option<Moment>, slack: Span) -> bool
-    ensures { result ≡ option_eq (definition.are_close_moments slack) a b }
+    ensures { result ≡ option_eq (are_close_moments slack) a b }
 {
     match (a, b) {
         (None, None) => true,
@@ -192,8 +203,9 @@ fn near_moments(a: Option<Moment>, b: Option<Moment>, slack: Span) -> bool
     }
 }
 
+/// Both delays are absent, or both are there and equal or less than the slack apart.
 fn near_delays(a: Option<Span>, b: Option<Span>, slack: Span) -> bool
-    ensures { result ≡ option_eq (definition.is_close slack) a b }
+    ensures { result ≡ option_eq (is_close slack) a b }
 {
     match (a, b) {
         (None, None) => true,
@@ -202,9 +214,9 @@ fn near_delays(a: Option<Span>, b: Option<Span>, slack: Span) -> bool
     }
 }
 
-// Whether two numbers of milliseconds are equal, or less than the slack apart.
+/// Whether two numbers of milliseconds are equal, or less than the slack apart.
 fn close(a: i64, b: i64, slack: Span) -> bool
-    ensures { result ≡ definition.is_close slack a b }
+    ensures { result ≡ is_close slack a b }
 {
     a == b || i128::from(a.abs_diff(b)) < i128::from(slack.ms())
 }
@@ -212,6 +224,6 @@ fn close(a: i64, b: i64, slack: Span) -> bool
 /// A law, which does nothing when it is called: every item is near itself, with whatever slack, and items that are near
 /// are equal in every field but RecordedAtTime, ExpectedArrivalTime, ExpectedDepartureTime and Delay.
 pub fn near_items_agree()
-    ensures itself { (slack : ℤ) (a : Item) → definition.is_near slack a a ≡ true }
-    ensures agree { (slack : ℤ) (a b : Item) → definition.is_near slack a b ≡ true → definition.steady a ≡ definition.steady b }
+    ensures itself { (slack : ℤ) (a : Item) → is_near slack a a ≡ true }
+    ensures agree { (slack : ℤ) (a b : Item) → is_near slack a b ≡ true → steady a ≡ steady b }
 {}

@@ -1,4 +1,5 @@
-// Situations of the network.
+//! Situations of the network.
+
 ghost use Rattle.std.specs.Prelude.{◌≡◌};
 
 use siri_base::{Copies, List, Moment, Name, OutOfMemory, Text};

@@ -1,5 +1,7 @@
-// Vehicles under way.
+//! Vehicles under way.
+
 ghost use Rattle.std.specs.Prelude.{◌≡◌};
+ghost use Rattle.siri_records.specs.Blank.{blank_vehicle_journey};
 
 use crate::call::StopCall;
 use crate::visit::VehicleLocation;
@@ -40,6 +42,30 @@ pub struct VehicleJourney {
     pub delay: Option<Span>,
     pub vehicle_location: Option<VehicleLocation>,
     pub monitored_call: Option<StopCall>,
+}
+
+impl VehicleJourney {
+    /// A journey of which nothing is said but its vehicle.
+    pub fn blank(vehicle_ref: Name) -> VehicleJourney
+        ensures { result ≡ blank_vehicle_journey vehicle_ref }
+    {
+        VehicleJourney {
+            line_ref: None,
+            direction_ref: None,
+            data_frame_ref: None,
+            dated_vehicle_journey_ref: None,
+            published_line_name: None,
+            operator_ref: None,
+            destination_ref: None,
+            destination_name: None,
+            vehicle_ref,
+            monitored: None,
+            occupancy: None,
+            delay: None,
+            vehicle_location: None,
+            monitored_call: None,
+        }
+    }
 }
 
 impl Drop for VehicleJourney {

@@ -1,5 +1,7 @@
-// Visits of vehicles at stops.
+//! Visits of vehicles at stops.
+
 ghost use Rattle.std.specs.Prelude.{◌≡◌};
+ghost use Rattle.siri_records.specs.Blank.{blank_visit_journey};
 
 use crate::call::StopCall;
 use siri_base::{Copies, Moment, Name, OutOfMemory, Span, Text};
@@ -40,6 +42,30 @@ pub struct VisitJourney {
     pub delay: Option<Span>,
     pub vehicle_location: Option<VehicleLocation>,
     pub monitored_call: StopCall,
+}
+
+impl VisitJourney {
+    /// A journey of which nothing is said but its call.
+    pub fn blank(monitored_call: StopCall) -> VisitJourney
+        ensures { result ≡ blank_visit_journey monitored_call }
+    {
+        VisitJourney {
+            line_ref: None,
+            direction_ref: None,
+            data_frame_ref: None,
+            dated_vehicle_journey_ref: None,
+            published_line_name: None,
+            operator_ref: None,
+            destination_ref: None,
+            destination_name: None,
+            vehicle_ref: None,
+            monitored: None,
+            occupancy: None,
+            delay: None,
+            vehicle_location: None,
+            monitored_call,
+        }
+    }
 }
 
 impl Drop for VisitJourney {

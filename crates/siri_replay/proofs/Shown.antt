@@ -9,7 +9,7 @@ use Rattle.siri_base.specs.declared.status.Status.TheVariants as status
 use Rattle.siri_lines.specs.Ends.{Bytes, Ends}
 use Rattle.siri_lines.specs.Reports.{Reports, Writes}
 use Rattle.siri_lines.specs.Fronts.{gone_on, gone_through}
-use Rattle.siri_lines.specs.RunResult.{Events, Verdict, Goes, RunEnds, report_from, verdict}
+use Rattle.siri_lines.specs.RunResult.{Events, Verdict, Goes, RunEnds, report_from, verdict, longest_line}
 use Rattle.siri_lines.proofs.Fronts.{splits}
 use Rattle.siri_world_model.specs.declared.event.Event.{Event}
 use Rattle.siri_world_model.specs.declared.event.Event.TheVariants as event
@@ -20,29 +20,34 @@ use Rattle.siri_world_laws.specs.Views.{AllHappen}
 use Rattle.siri_world_laws.proofs.Happen.{none_happen, happen_more, told_happens}
 use Rattle.siri_world_laws.proofs.Telling.{views_tell}
 use Rattle.siri_replay.specs.Events.{line_said}
-use Rattle.siri_replay.specs.Report.{World, by_said, by_told, event as event_of, is_started, report}
+use Rattle.siri_replay.specs.Report.{World, by_said, by_told, event as event_of, is_started, report, most_lines}
 use Rattle.siri_replay.specs.ReportLines.{lines_text}
 use Rattle.siri_replay.specs.Views.{ReportsViews, ViewsAreDirect, ViewsWritten, WritesViews, brings, text_of}
 
 -- ---- one line
 
 -- a line that doesn't end the run is neither too long nor one too many
-goes_by : {W : Type 0} (most : ℕ) (ev : Events W) (n : ℕ) (w : W) (line text : List ℕ) (next : W) → verdict most ev n w line ≡ Goes text next → ev n w line ≡ Goes text next
+goes_by : {W : Type 0} (most : ℕ) (ev : Events W) (n : ℕ) (w : W) (line text : List ℕ) (next : W)
+    → verdict most ev n w line ≡ Goes text next → ev n w line ≡ Goes text next
 goes_by {W = W} most ev n w line text next is =
-    behind (nat_lt most n) (ev n w line) (status.Limit n) (behind (nat_lt 1048576 (length line)) (if nat_lt most n then RunEnds (status.Limit n) else ev n w line) (status.Limit n) is)
+    behind (nat_lt most n) (ev n w line) (status.Limit n)
+    (behind (nat_lt longest_line (length line)) (if nat_lt most n then RunEnds (status.Limit n) else ev n w line)
+    (status.Limit n) is)
   where
     behind : (b : Bool) (v : Verdict W) (end : Status) → (if b then RunEnds end else v) ≡ Goes text next → v ≡ Goes text next
     behind true v end is = absurd (cc)
     behind false v end is = is
 
 -- the event of a line that goes on happened
-happens_by : (n : ℕ) (events : World) (said : Result (Option Event) ScriptReason) (text : List ℕ) (next : World) → AllHappen events → by_said n events said ≡ Goes text next → AllHappen next
+happens_by : (n : ℕ) (events : World) (said : Result (Option Event) ScriptReason) (text : List ℕ) (next : World)
+    → AllHappen events → by_said n events said ≡ Goes text next → AllHappen next
 happens_by n events (Err why) text next happen is = absurd (cc)
 happens_by n events (Ok None) text next happen is = let q : events ≡ next = cc in subst AllHappen q happen
 happens_by n events (Ok (Some e)) text next happen is = by (told (world_after events) e) refl is
   where
     by : (result : Result (List ToldLine) StepError) → told (world_after events) e ≡ result → by_told n events e result ≡ Goes text next → AllHappen next
-    by (Ok lines) at is = let q : (events ++ e ∷ []) ≡ next = cc in subst AllHappen q (happen_more events e happen (told_happens (world_after events) e lines at))
+    by (Ok lines) at is = let q : (events ++ e ∷ []) ≡ next = cc in
+        subst AllHappen q (happen_more events e happen (told_happens (world_after events) e lines at))
     by (Err error) at is = absurd (cc)
 
 -- ---- the lines before
@@ -56,7 +61,7 @@ all_happen (line ∷ before) n events end happen gone = by (brings n events line
         → ((next : World) → AllHappen next → gone_through brings (n + 1) next before ≡ Some end → AllHappen end)
         → gone_on v (λ after. gone_through brings (n + 1) after before) ≡ Some end → AllHappen end
     by (Goes text next) at more gone =
-        more next (happens_by n events (line_said (is_started events) line) text next happen (goes_by 1000000 event_of n events line text next at)) gone
+        more next (happens_by n events (line_said (is_started events) line) text next happen (goes_by most_lines event_of n events line text next at)) gone
     by (RunEnds status) at more gone = absurd (none-some end gone)
 
 -- ---- the line of a view
@@ -67,7 +72,8 @@ pub record IsTold (events : World) (e : Event) (text : List ℕ) : Type 0 where
   pub is : told (world_after events) e ≡ Ok told_lines
   pub text_is : text ≡ lines_text told_lines
 
-told_by : (n : ℕ) (events : World) (e : Event) (text : List ℕ) (next : World) → by_told n events e (told (world_after events) e) ≡ Goes text next → IsTold events e text
+told_by : (n : ℕ) (events : World) (e : Event) (text : List ℕ) (next : World)
+    → by_told n events e (told (world_after events) e) ≡ Goes text next → IsTold events e text
 told_by n events e text next is = by (told (world_after events) e) refl is
   where
     by : (result : Result (List ToldLine) StepError) → told (world_after events) e ≡ result → by_told n events e result ≡ Goes text next → IsTold events e text
@@ -79,9 +85,10 @@ unfolding report
 views_direct script before events consumer identifier asked =
     let n = suc (length before) in
     let happen = all_happen before 1 [] events none_happen asked.happened in
-    let goes = goes_by 1000000 event_of n events asked.line asked.text asked.later asked.goes_on in
+    let goes = goes_by most_lines event_of n events asked.line asked.text asked.later asked.goes_on in
     let one = told_by n events (event.View consumer identifier) asked.text asked.later (ap (by_said n events) (sym asked.asks) ∙ goes) in
-    let split = splits brings before 1 [] events asked.later asked.line asked.after asked.text asked.happened (ap (λ m. brings m events asked.line) (omega arith) ∙ asked.goes_on) in
+    let split = splits brings before 1 [] events asked.later asked.line asked.after asked.text asked.happened
+    (ap (λ m. brings m events asked.line) (omega arith) ∙ asked.goes_on) in
     record {
       told = one.told_lines;
       is_view = views_tell events happen consumer identifier one.told_lines one.is;

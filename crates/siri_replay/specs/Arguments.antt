@@ -7,7 +7,7 @@ use Rattle.std.specs.Str.{is_utf8}
 use Rattle.siri_base.specs.declared.reason.ScriptReason.{ScriptReason}
 use Rattle.siri_base.specs.declared.reason.ScriptReason.TheVariants as reason
 use Rattle.siri_time.specs.Moment.{moment_of}
-use Rattle.siri_tables.specs.Scalars.{number_of}
+use Rattle.siri_base.specs.Numbers.{number_of}
 use Rattle.siri_messages.specs.declared.message.Message.{Message}
 use Rattle.siri_messages.specs.declared.message.Message.TheVariants as message
 use Rattle.siri_messages.specs.declared.deliveries.ServiceDelivery.{ServiceDelivery}

@@ -35,6 +35,10 @@ by_said n events (Err why) = RunEnds (status.Script n why)
 abbrev pub event : Events World
 event n events line = by_said n events (line_said (is_started events) line)
 
+-- the most lines that a script has
+abbrev pub most_lines : ℕ
+most_lines = 1000000
+
 -- the report of a script's bytes, of at most 1,000,000 lines
 unfoldable pub report : List ℕ → RunResult
-report bytes = report_of (verdict 1000000 event) [] bytes
+report bytes = report_of (verdict most_lines event) [] bytes

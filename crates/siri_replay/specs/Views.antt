@@ -17,12 +17,12 @@ use Rattle.siri_world_model.specs.declared.event.Event.TheVariants as event
 use Rattle.siri_world_model.specs.Lines.{ToldLine}
 use Rattle.siri_world_laws.specs.Views.{TellsView}
 use Rattle.siri_replay.specs.Events.{line_said}
-use Rattle.siri_replay.specs.Report.{World, event as event_of, is_started, report}
+use Rattle.siri_replay.specs.Report.{World, event as event_of, is_started, report, most_lines}
 use Rattle.siri_replay.specs.ReportLines.{lines_text}
 
 -- what a line brings, of at most 1,000,000
 abbrev pub brings : Events World
-brings = verdict 1000000 event_of
+brings = verdict most_lines event_of
 
 -- what the report of these lines writes
 abbrev pub text_of : List (List ℕ) → List ℕ

@@ -1,13 +1,13 @@
-// The arguments of a script's words.
+//! The arguments of a script's words.
+
 ghost use Rattle.std.specs.Prelude.{◌≡◌, option_map};
 ghost use Rattle.std.specs.List.{list_all};
 ghost use Rattle.siri_replay.specs.Arguments.{consumer_in, delivery_in, document_in, identifier_in, is_consumer, is_consumer_byte, is_consumer_word, moment_in, name_of, number_in, request_in, wanted_in};
 ghost use Rattle.siri_script.specs.Reads.{Reads};
 
-use siri_base::{Moment, Name, ScriptReason, TextError};
+use siri_base::{Moment, Name, ScriptReason, TextError, number_of};
 use siri_messages::{Message, ServiceDelivery, ServiceRequest};
 use siri_script::{LineError, bad_document, wanted_said};
-use siri_tables::number_of;
 use siri_time::read_moment;
 use siri_wire::{DecodeError, Wanted, decode};
 use std::alloc::Global;
@@ -16,7 +16,7 @@ use std::alloc::Global;
 const PRODUCER: &[u8] = b"producer";
 
 /// The moment that an argument is.
-pub fn moment_in(argument: Option<&[u8]>) -> Result<Moment, LineError>
+pub(crate) fn moment_in(argument: Option<&[u8]>) -> Result<Moment, LineError>
     ensures { Reads result (moment_in (option_map (λ text. text.now) argument.entry)) }
 {
     let Some(text) = argument else {
@@ -42,12 +42,14 @@ fn name_of(alloc: Global, text: &[u8]) -> Result<Name, LineError>
     }
 }
 
+/// Whether a byte is a letter, a digit, `_` or `-` of ASCII.
 fn is_consumer_byte(byte: u8) -> bool
     ensures { result ≡ is_consumer_byte byte }
 {
     byte.is_ascii_alphanumeric() || byte == b'_' || byte == b'-'
 }
 
+/// Whether a text has only letters, digits, `_` and `-` of ASCII; the empty text has.
 fn is_all_consumer_bytes(text: &[u8]) -> bool
     ensures { result ≡ list_all is_consumer_byte text.now }
 {
@@ -69,7 +71,7 @@ fn is_consumer(text: &[u8]) -> bool
 }
 
 /// The name of a consumer that an argument is.
-pub fn consumer_in(alloc: Global, argument: Option<&[u8]>) -> Result<Name, LineError>
+pub(crate) fn consumer_in(alloc: Global, argument: Option<&[u8]>) -> Result<Name, LineError>
     ensures { Reads result (consumer_in (option_map (λ text. text.now) argument.entry)) }
 {
     match argument {
@@ -79,7 +81,7 @@ pub fn consumer_in(alloc: Global, argument: Option<&[u8]>) -> Result<Name, LineE
 }
 
 /// The identifier of a subscription that an argument is.
-pub fn identifier_in(alloc: Global, argument: Option<&[u8]>) -> Result<Name, LineError>
+pub(crate) fn identifier_in(alloc: Global, argument: Option<&[u8]>) -> Result<Name, LineError>
     ensures { Reads result (identifier_in (option_map (λ text. text.now) argument.entry)) }
 {
     match argument {
@@ -89,7 +91,7 @@ pub fn identifier_in(alloc: Global, argument: Option<&[u8]>) -> Result<Name, Lin
 }
 
 /// The number of a packet that an argument is.
-pub fn number_in(argument: Option<&[u8]>) -> Result<u64, LineError>
+pub(crate) fn number_in(argument: Option<&[u8]>) -> Result<u64, LineError>
     ensures { Reads result (number_in (option_map (λ text. text.now) argument.entry)) }
 {
     let Some(text) = argument else {
@@ -119,7 +121,10 @@ fn document_in(alloc: Global, argument: Option<&[u8]>) -> Result<Message, LineEr
 }
 
 /// The delivery to feed: one that belongs to no round.
-pub fn delivery_in(alloc: Global, argument: Option<&[u8]>) -> Result<ServiceDelivery, LineError>
+pub(crate) fn delivery_in(
+    alloc: Global,
+    argument: Option<&[u8]>,
+) -> Result<ServiceDelivery, LineError>
     ensures { Reads result (delivery_in (option_map (λ text. text.now) argument.entry)) }
 {
     match document_in(alloc, argument)?.into_service_delivery() {
@@ -129,7 +134,10 @@ pub fn delivery_in(alloc: Global, argument: Option<&[u8]>) -> Result<ServiceDeli
 }
 
 /// The request to ask.
-pub fn request_in(alloc: Global, argument: Option<&[u8]>) -> Result<ServiceRequest, LineError>
+pub(crate) fn request_in(
+    alloc: Global,
+    argument: Option<&[u8]>,
+) -> Result<ServiceRequest, LineError>
     ensures { Reads result (request_in (option_map (λ text. text.now) argument.entry)) }
 {
     document_in(alloc, argument)?
@@ -138,7 +146,7 @@ pub fn request_in(alloc: Global, argument: Option<&[u8]>) -> Result<ServiceReque
 }
 
 /// The subscription that a consumer asks for by an argument.
-pub fn wanted_in(
+pub(crate) fn wanted_in(
     alloc: Global,
     consumer: &Name,
     argument: Option<&[u8]>,

@@ -1,4 +1,5 @@
-// The command `replay`.
+//! The command `replay`.
+
 ghost use Rattle.std.specs.Prelude.{◌≡◌, []};
 ghost use Rattle.siri_base.specs.Causes.{Rose};
 ghost use Rattle.siri_base.specs.MetFailures.{SinkMeets, SourceMeets, is_read_fault, is_write_fault};
@@ -15,14 +16,14 @@ use siri_lines::read_lines;
 use std::alloc::Global;
 
 /// The most lines that a script may have.
-const LINES: u64 = 1_000_000;
+const MOST_LINES: u64 = 1_000_000;
 
 /// Reads a script to its end, and writes its report as its events are complete.
 ///
-/// `Script` at the first line that isn't of the grammar. `Limit` at the first that has more than 1,048,576 bytes, is the
-/// 1,000,001st, sends packet 1,000,001 or makes a 17th consumer. `ReadFault` and `WriteFault` only where the source or the
-/// sink failed, `OutOfMemory` wherever memory is asked for, otherwise `Done`. A source or a sink that fails ends the run there, and
-/// nothing is read beyond the piece in which the end of a line lay that ended it.
+/// `Script` at the first line that isn't of the grammar. `Limit` at the first that has more than 1,048,576 bytes, is
+/// the 1,000,001st, sends packet 1,000,001 or makes a 17th consumer. `ReadFault` and `WriteFault` only where the source
+/// or the sink failed, `OutOfMemory` wherever memory is asked for, otherwise `Done`. A source or a sink that fails ends
+/// the run there, and nothing is read beyond the piece in which the end of a line lay that ended it.
 #[tactic(auto, using(siri_lines::proofs::Meeting::sink_none, siri_lines::proofs::Meeting::source_none, siri_lines::proofs::Whole::ends_at_once))]
 pub fn replay<S: Source, K: Sink>(alloc: Global, source: &mut S, sink: &mut K) -> Status
     ensures report { Reports report (S.left source.old) (S.left source.new) (K.held sink.old) (K.held sink.new) result }
@@ -36,7 +37,7 @@ pub fn replay<S: Source, K: Sink>(alloc: Global, source: &mut S, sink: &mut K) -
     ensures ends { EndsReading result }
 {
     match Script::new(alloc) {
-        Ok(mut script) => read_lines(alloc, LINES, &mut script, source, sink),
+        Ok(mut script) => read_lines(alloc, MOST_LINES, &mut script, source, sink),
         Err(_) => Status::OutOfMemory,
     }
 }

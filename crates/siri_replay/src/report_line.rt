@@ -1,4 +1,5 @@
-// The lines of a report.
+//! The lines of a report.
+
 ghost use Rattle.std.specs.Prelude.{◌≡◌, ◌++◌, IfOk, OnOk, OnErr};
 ghost use Rattle.std.specs.Io.KnownBytes.{Appends};
 ghost use Rattle.siri_base.specs.Causes.{HasOutsideCause};
@@ -21,7 +22,11 @@ use std::alloc::Global;
 
 /// Writes the texts of these lines, one after the other.
 #[tactic(auto, using(siri_lines::proofs::Meeting::sink_none))]
-pub fn write_lines<K: Sink>(alloc: Global, lines: &[Line], sink: &mut K) -> Result<(), OutsideError>
+pub(crate) fn write_lines<K: Sink>(
+    alloc: Global,
+    lines: &[Line],
+    sink: &mut K,
+) -> Result<(), OutsideError>
     ensures ok { OnOk result (Appends (K.held sink.old) (K.held sink.new) (lines_text (told_lines lines.now))) }
     ensures err { OnErr result (AppendsFront (K.held sink.old) (K.held sink.new) (lines_text (told_lines lines.now))) }
     ensures cause { HasOutsideCause (K.faults sink.old) (K.faults sink.new) result }
@@ -201,6 +206,7 @@ fn view(
     Ok(text)
 }
 
+/// STATE of a view: `quiet` or `moving`.
 fn state_text(quiet: bool) -> &'static str
     ensures { result.now ≡ state_text quiet }
 {

@@ -1,4 +1,5 @@
-// The event that a line of a script says.
+//! The event that a line of a script says.
+
 ghost use Rattle.std.specs.Prelude.{◌≡◌, option_map};
 ghost use Rattle.siri_replay.specs.Events.{event_said, first_of, line_said, rest_of, subscription_said, termination_said, view_said, word_says};
 ghost use Rattle.siri_script.specs.Reads.{Reads};
@@ -15,7 +16,11 @@ use std::alloc::Global;
 /// The event that a line says, and nothing where it is skipped. Before a producer has started no line is taken but its
 /// `start`.
 #[tactic(auto, unfolding(crate::specs::Events::line_said))]
-pub fn line_said(alloc: Global, started: bool, line: &[u8]) -> Result<Option<Event>, LineError>
+pub(crate) fn line_said(
+    alloc: Global,
+    started: bool,
+    line: &[u8],
+) -> Result<Option<Event>, LineError>
     ensures { Reads result (line_said started line.now) }
 {
     if is_skipped(line) {
@@ -27,6 +32,7 @@ pub fn line_said(alloc: Global, started: bool, line: &[u8]) -> Result<Option<Eve
     }
 }
 
+/// What a word says with its arguments, or `NotStarted` of any but `start` before a producer has started.
 fn event_said(
     alloc: Global,
     started: bool,

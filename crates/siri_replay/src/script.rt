@@ -1,4 +1,5 @@
-// What takes the lines of a script.
+//! What takes the lines of a script.
+
 ghost use Rattle.std.specs.Prelude.{◌≡◌, [], ◌||◌, IfOk, Err};
 ghost use Rattle.siri_lines.specs.Brings.{Brings, StopCause, has_failed_to_write};
 ghost use Rattle.siri_base.specs.MetFailures.{SinkMeets};
@@ -14,7 +15,7 @@ use siri_world::{Event, StepError, World};
 use std::alloc::Global;
 
 /// A script, as far as its lines were taken.
-pub struct Script {
+pub(crate) struct Script {
     alloc: Global,
     world: World,
     /// Whether a producer has started.
@@ -33,7 +34,7 @@ impl Drop for Script {
 
 impl Script {
     /// A script of which no line was taken.
-    pub fn new(alloc: Global) -> Result<Script, OutOfMemory>
+    pub(crate) fn new(alloc: Global) -> Result<Script, OutOfMemory>
         ensures { IfOk result (λ script. Fits script []) }
     {
         Ok(Script {

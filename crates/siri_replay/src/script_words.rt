@@ -1,4 +1,5 @@
-// The words of a line of a script.
+//! The words of a line of a script.
+
 ghost use Rattle.std.specs.Prelude.{◌≡◌, ◌≤◌, length, map, option_map, nat_eq};
 ghost use Rattle.std.specs.Cmp.Lexicographic.{pointwise};
 ghost use Rattle.std.specs.Map.{lookup};
@@ -9,7 +10,7 @@ use siri_script::is_text;
 
 /// The words that a line may begin with.
 #[derive(Clone, Copy, Debug)]
-pub enum ScriptWord {
+pub(crate) enum ScriptWord {
     Start,
     Clock,
     Feed,
@@ -58,7 +59,7 @@ fn lookup(mut table: &[(&[u8], ScriptWord)], name: &[u8]) -> Option<ScriptWord>
 }
 
 /// The word that a line begins with. It is refused where it isn't UTF-8, or its first word is none of the nine.
-pub fn word_of(line: &[u8]) -> Result<ScriptWord, ScriptReason>
+pub(crate) fn word_of(line: &[u8]) -> Result<ScriptWord, ScriptReason>
     ensures { result ≡ word_of line.now }
 {
     if !is_text(line) {
@@ -79,14 +80,14 @@ fn word_end(line: &[u8]) -> usize
 }
 
 /// The bytes before the first space.
-pub fn first_word(line: &[u8]) -> &[u8]
+pub(crate) fn first_word(line: &[u8]) -> &[u8]
     ensures { result.now ≡ first_word line.now }
 {
     &line[..word_end(line)]
 }
 
 /// What follows the first space.
-pub fn argument(line: &[u8]) -> Option<&[u8]>
+pub(crate) fn argument(line: &[u8]) -> Option<&[u8]>
     ensures { option_map (λ text. text.now) result ≡ argument_of line.now }
 {
     let end = word_end(line);

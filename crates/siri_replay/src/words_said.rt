@@ -1,4 +1,5 @@
-// What a receiver says of a packet, as a report writes it.
+//! What a receiver says of a packet, as a report writes it.
+
 ghost use Rattle.std.specs.Prelude.{◌≡◌, ◌++◌, OnOk};
 ghost use Rattle.siri_replay.specs.ReportLines.{fed_text, note_text, outcome_text, place_text, word_text};
 
@@ -10,7 +11,7 @@ use siri_world::Word;
 use std::alloc::Global;
 
 /// `OBSERVED WITHDRAWN FULL`
-pub fn append_fed(alloc: Global, into: &mut Vec<u8>, fed: &Fed) -> Result<(), OutOfMemory>
+pub(crate) fn append_fed(alloc: Global, into: &mut Vec<u8>, fed: &Fed) -> Result<(), OutOfMemory>
     ensures { OnOk result (into.new.items ≡ into.old.items ++ fed_text fed.now) }
 {
     append_number(alloc, into, fed.observed)?;
@@ -27,7 +28,7 @@ fn append_place(alloc: Global, into: &mut Vec<u8>, place: Place) -> Result<(), O
 }
 
 /// What a receiver says.
-pub fn append_said(alloc: Global, into: &mut Vec<u8>, word: Word) -> Result<(), OutOfMemory>
+pub(crate) fn append_said(alloc: Global, into: &mut Vec<u8>, word: Word) -> Result<(), OutOfMemory>
     ensures { OnOk result (into.new.items ≡ into.old.items ++ word_text word) }
 {
     match word {
@@ -36,6 +37,7 @@ pub fn append_said(alloc: Global, into: &mut Vec<u8>, word: Word) -> Result<(), 
     }
 }
 
+/// What a producer says: its word, then the place that is wanted or the numbers of a feed.
 fn append_note(alloc: Global, into: &mut Vec<u8>, note: Note) -> Result<(), OutOfMemory>
     ensures { OnOk result (into.new.items ≡ into.old.items ++ note_text note) }
 {
@@ -60,6 +62,7 @@ fn append_note(alloc: Global, into: &mut Vec<u8>, note: Note) -> Result<(), OutO
     }
 }
 
+/// What a consumer says: its word, then the place of a part or the round of a view.
 fn append_outcome(alloc: Global, into: &mut Vec<u8>, outcome: Outcome) -> Result<(), OutOfMemory>
     ensures { OnOk result (into.new.items ≡ into.old.items ++ outcome_text outcome) }
 {

@@ -1,4 +1,5 @@
-//! The messages that a producer makes besides the answers to a ServiceRequest, each from the values that it says (EN 15531-2).
+//! The messages that a producer makes besides the answers to a ServiceRequest, each from the values that it says (EN
+//! 15531-2).
 //!
 //! ```text
 //!     what became of each subscription -> accepted_status, refused_status -> subscription_response
@@ -11,11 +12,12 @@
 //!     its start and its moment         -> status_response, heartbeat
 //! ```
 //!
-//! Each function makes one message, or one status of one, and takes memory only for what that owns. What it takes by value it
-//! moves in; nothing else changes. So a producer may make all that it is going to say before it changes anything.
+//! Each function makes one message, or one status of one, and takes memory only for what that owns. What it takes by
+//! value it moves in; nothing else changes. So a producer may make all that it is going to say before it changes
+//! anything.
 //!
-//! Stands on `siri_base`, `siri_records`, `siri_topic`, `siri_messages` and `siri_change`, and on the refusals of `siri_subs`
-//! and `siri_rounds`. It doesn't say when a message is sent, and reads and writes no text.
+//! Stands on `siri_base`, `siri_records`, `siri_topic`, `siri_messages` and `siri_change`, and on the refusals of
+//! `siri_subs` and `siri_rounds`. It doesn't say when a message is sent, and reads and writes no text.
 #![tactic(auto)]
 
 mod number;

@@ -1,6 +1,7 @@
-// Numbers as names.
+//! Numbers as names.
+
 ghost use Rattle.std.specs.Prelude.{◌≡◌, IfOk};
-ghost use Rattle.siri_replies.specs.Responses as definition;
+ghost use Rattle.siri_replies.specs.Responses.{number_text};
 
 use siri_base::{Name, OutOfMemory, TextError};
 use std::alloc::Global;
@@ -8,7 +9,7 @@ use std::alloc::Global;
 /// The text of a request's number, as RequestMessageRef has it.
 #[tactic(auto, using(crate::proofs::Texts::decimal_some, crate::proofs::Texts::decimal_few))]
 pub fn number_text(alloc: Global, number: u64) -> Result<Name, OutOfMemory>
-    ensures { IfOk result (λ name. name ≡ definition.number_text number) }
+    ensures { IfOk result (λ name. name ≡ number_text number) }
 {
     let digits = number.to_string(alloc)?;
     match Name::new(alloc, digits.as_str()) {

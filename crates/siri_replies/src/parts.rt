@@ -1,8 +1,9 @@
-// A part of a round: its delivery, its notification, and the answer where it isn't supplied.
+//! A part of a round: its delivery, its notification, and the answer where it isn't supplied.
+
 ghost use Rattle.std.specs.Prelude.{◌≡◌, ◌++◌, IfOk, OnOk};
 ghost use Rattle.siri_change.specs.Parts.{carried};
 ghost use Rattle.siri_rounds.specs.Wanted.{part_sent};
-ghost use Rattle.siri_replies.specs.Parts as definition;
+ghost use Rattle.siri_replies.specs.Parts.{in_estimated_timetable, in_situation_exchange, in_stop_monitoring, in_vehicle_monitoring, part_delivery, part_functional, part_notification, refused_supply};
 
 use crate::{Refusal, number_text};
 use siri_base::{Copies, List, Moment, Name, OutOfMemory};
@@ -13,8 +14,8 @@ use siri_rounds::{Part, SupplyError};
 use siri_topic::{Subscription, Topic};
 use std::alloc::Global;
 
-/// The delivery of a part of a subscription's round, of its number, in a start of the producer (ServiceDelivery with one
-/// functional delivery). Items and removed keys are copied.
+/// The delivery of a part of a subscription's round, of its number, in a start of the producer (ServiceDelivery with
+/// one functional delivery). Items and removed keys are copied.
 #[tactic(auto, unfolding(crate::specs::Parts::part_delivery))]
 pub fn part_delivery(
     alloc: Global,
@@ -24,7 +25,7 @@ pub fn part_delivery(
     start: u64,
     part: &Part<'_>,
 ) -> Result<ServiceDelivery, OutOfMemory>
-    ensures { IfOk result (λ delivery. delivery ≡ definition.part_delivery producer.now wanted.now number start (part_sent part.now)) }
+    ensures { IfOk result (λ delivery. delivery ≡ part_delivery producer.now wanted.now number start (part_sent part.now)) }
 {
     let producer = producer.copy()?;
     let request = number_text(alloc, number)?;
@@ -46,17 +47,17 @@ pub fn part_delivery(
     Ok(delivery)
 }
 
-// Puts a functional delivery at the end of the list of its topic's service.
+/// Puts a functional delivery at the end of the list of its topic's service.
 fn put_functional(
     delivery: &mut ServiceDelivery,
     topic: &Topic,
     functional: FunctionalDelivery,
 ) -> Result<(), OutOfMemory>
     ensures { OnOk result (delivery.new ≡ record delivery.old {
-      stop_monitoring_delivery = delivery.old.stop_monitoring_delivery ++ definition.in_stop_monitoring topic.now functional;
-      estimated_timetable_delivery = delivery.old.estimated_timetable_delivery ++ definition.in_estimated_timetable topic.now functional;
-      vehicle_monitoring_delivery = delivery.old.vehicle_monitoring_delivery ++ definition.in_vehicle_monitoring topic.now functional;
-      situation_exchange_delivery = delivery.old.situation_exchange_delivery ++ definition.in_situation_exchange topic.now functional;
+      stop_monitoring_delivery = delivery.old.stop_monitoring_delivery ++ in_stop_monitoring topic.now functional;
+      estimated_timetable_delivery = delivery.old.estimated_timetable_delivery ++ in_estimated_timetable topic.now functional;
+      vehicle_monitoring_delivery = delivery.old.vehicle_monitoring_delivery ++ in_vehicle_monitoring topic.now functional;
+      situation_exchange_delivery = delivery.old.situation_exchange_delivery ++ in_situation_exchange topic.now functional;
     }) }
 {
     match topic {
@@ -68,7 +69,7 @@ fn put_functional(
     Ok(())
 }
 
-// The functional delivery of a part.
+/// The functional delivery of a part.
 #[tactic(auto, unfolding(crate::specs::Parts::part_functional))]
 fn part_functional(
     alloc: Global,
@@ -76,7 +77,7 @@ fn part_functional(
     start: u64,
     part: &Part<'_>,
 ) -> Result<FunctionalDelivery, OutOfMemory>
-    ensures { IfOk result (λ delivery. delivery ≡ definition.part_functional wanted.now start (part_sent part.now)) }
+    ensures { IfOk result (λ delivery. delivery ≡ part_functional wanted.now start (part_sent part.now)) }
 {
     Ok(FunctionalDelivery {
         response_timestamp: Some(part.moment),
@@ -92,7 +93,7 @@ fn part_functional(
     })
 }
 
-// The items of changes, in their order.
+/// The items of changes, in their order.
 fn items_in(alloc: Global, changes: &[Change]) -> Result<List<Item>, OutOfMemory>
     ensures { IfOk result (λ items. items ≡ (carried changes.now).items) }
 {
@@ -105,7 +106,7 @@ fn items_in(alloc: Global, changes: &[Change]) -> Result<List<Item>, OutOfMemory
     Ok(items)
 }
 
-// The keys that changes remove, in their order.
+/// The keys that changes remove, in their order.
 fn removals_in(alloc: Global, changes: &[Change]) -> Result<List<Key>, OutOfMemory>
     ensures { IfOk result (λ removals. removals ≡ (carried changes.now).removals) }
 {
@@ -118,7 +119,8 @@ fn removals_in(alloc: Global, changes: &[Change]) -> Result<List<Key>, OutOfMemo
     Ok(removals)
 }
 
-/// The notification of a part of a subscription's round, of its number, in a start of the producer (DataReadyNotification).
+/// The notification of a part of a subscription's round, of its number, in a start of the producer
+/// (DataReadyNotification).
 #[tactic(auto, unfolding(crate::specs::Parts::part_notification))]
 pub fn part_notification(
     producer: &Name,
@@ -127,7 +129,7 @@ pub fn part_notification(
     start: u64,
     part: &Part<'_>,
 ) -> Result<DataReadyNotification, OutOfMemory>
-    ensures { IfOk result (λ notification. notification ≡ definition.part_notification producer.now wanted.now number start (part_sent part.now)) }
+    ensures { IfOk result (λ notification. notification ≡ part_notification producer.now wanted.now number start (part_sent part.now)) }
 {
     Ok(DataReadyNotification {
         request_timestamp: Some(part.moment),
@@ -150,7 +152,7 @@ pub fn refused_supply(
     now: Moment,
     why: SupplyError,
 ) -> Result<ServiceDelivery, OutOfMemory>
-    ensures { IfOk result (λ delivery. delivery ≡ definition.refused_supply producer.now now why) }
+    ensures { IfOk result (λ delivery. delivery ≡ refused_supply producer.now now why) }
 {
     Ok(ServiceDelivery {
         response_timestamp: Some(now),

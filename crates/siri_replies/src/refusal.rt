@@ -1,12 +1,12 @@
-// Why something is refused.
+//! Why something is refused.
+
 ghost use Rattle.std.specs.Prelude.{◌≡◌, ◌++◌, ◌+◌, ◌≤◌, IfOk, OnOk, length, codes};
 ghost use Rattle.std.specs.Prelude.{string_bytes};
 ghost use Rattle.std.specs.Fmt.{decimal};
-ghost use Rattle.siri_replies.specs.Refusals.{refusal_text, not_accepted_as, not_supplied_as};
+ghost use Rattle.siri_replies.specs.Refusals.{refusal_text, not_supplied_as};
 
 use siri_base::{OutOfMemory, Place, Text, TextError};
 use siri_rounds::SupplyError;
-use siri_subs::AcceptError;
 use std::alloc::Global;
 
 /// Why something is refused. Its text is the ErrorText of an ErrorCondition (EN 15531-2).
@@ -38,17 +38,6 @@ pub enum Refusal {
 }
 
 impl Refusal {
-    /// The refusal of a request for a subscription.
-    pub fn of_request(why: AcceptError) -> Refusal
-        ensures { result ≡ not_accepted_as why }
-    {
-        match why {
-            AcceptError::PastTermination => Refusal::PastTermination,
-            AcceptError::Superseded { held } => Refusal::Superseded { held },
-            AcceptError::TableFull => Refusal::TableFull,
-        }
-    }
-
     /// The refusal of a request for a part.
     pub fn of_supply(why: SupplyError) -> Refusal
         ensures { result ≡ not_supplied_as why }
@@ -76,7 +65,7 @@ impl Refusal {
     }
 }
 
-// A short word.
+/// A short word.
 fn word(alloc: Global, word: &str) -> Result<Text, OutOfMemory>
     requires some { 1 ≤ length word.now }
     requires short { length word.now ≤ 100 }
@@ -89,7 +78,7 @@ fn word(alloc: Global, word: &str) -> Result<Text, OutOfMemory>
     }
 }
 
-// A word with a number behind it.
+/// A word with a number behind it.
 fn numbered(alloc: Global, prefix: &str, number: u64) -> Result<Text, OutOfMemory>
     requires some { 1 ≤ length prefix.now }
     requires short { length prefix.now ≤ 20 }
@@ -100,7 +89,7 @@ fn numbered(alloc: Global, prefix: &str, number: u64) -> Result<Text, OutOfMemor
     word(alloc, text.as_str())
 }
 
-// The place that is wanted, as two numbers.
+/// The place that is wanted, as two numbers.
 fn wrong_part(alloc: Global, wanted: Place) -> Result<Text, OutOfMemory>
     ensures { IfOk result (λ text. text ≡ (codes "WrongPart " ++ decimal wanted.round) ++ (codes " " ++ decimal wanted.part)) }
 {
@@ -111,7 +100,7 @@ fn wrong_part(alloc: Global, wanted: Place) -> Result<Text, OutOfMemory>
     word(alloc, text.as_str())
 }
 
-// A number at the end of a text, in decimal digits, at most 20 of them.
+/// A number at the end of a text, in decimal digits, at most 20 of them.
 #[tactic(auto, using(crate::proofs::Texts::decimal_few))]
 fn push_number(alloc: Global, text: &mut String, number: u64) -> Result<(), OutOfMemory>
     ensures digits { OnOk result (string_bytes text.new ≡ string_bytes text.old ++ decimal number) }

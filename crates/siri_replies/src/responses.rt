@@ -1,6 +1,7 @@
-// Answers to requests for subscriptions, and to requests to end them.
+//! Answers to requests for subscriptions, and to requests to end them.
+
 ghost use Rattle.std.specs.Prelude.{◌≡◌, ℕ, IfOk};
-ghost use Rattle.siri_replies.specs.Responses as definition;
+ghost use Rattle.siri_replies.specs.Responses.{accepted_status, ended_status, number_text, refused_status, subscription_response, termination_response, unknown_status};
 
 use crate::Refusal;
 use siri_base::{Copies, List, Moment, Name, OutOfMemory};
@@ -16,7 +17,7 @@ pub fn accepted_status(
     identifier: &Name,
     valid_until: Moment,
 ) -> Result<ResponseStatus, OutOfMemory>
-    ensures { IfOk result (λ status. status ≡ definition.accepted_status subscriber.now identifier.now valid_until) }
+    ensures { IfOk result (λ status. status ≡ accepted_status subscriber.now identifier.now valid_until) }
 {
     Ok(ResponseStatus {
         subscriber_ref: Some(subscriber.copy()?),
@@ -35,7 +36,7 @@ pub fn refused_status(
     identifier: &Name,
     why: Refusal,
 ) -> Result<ResponseStatus, OutOfMemory>
-    ensures { IfOk result (λ status. status ≡ definition.refused_status subscriber.now identifier.now why) }
+    ensures { IfOk result (λ status. status ≡ refused_status subscriber.now identifier.now why) }
 {
     Ok(ResponseStatus {
         subscriber_ref: Some(subscriber.copy()?),
@@ -54,7 +55,7 @@ pub fn subscription_response(
     number: Name,
     statuses: List<ResponseStatus>,
 ) -> SubscriptionResponse
-    ensures { (n : ℕ) → number ≡ definition.number_text n → result ≡ definition.subscription_response now n statuses }
+    ensures { (n : ℕ) → number ≡ number_text n → result ≡ subscription_response now n statuses }
 {
     SubscriptionResponse {
         response_timestamp: Some(now),
@@ -69,7 +70,7 @@ pub fn ended_status(
     subscriber: &Name,
     identifier: &Name,
 ) -> Result<TerminationResponseStatus, OutOfMemory>
-    ensures { IfOk result (λ status. status ≡ definition.ended_status subscriber.now identifier.now) }
+    ensures { IfOk result (λ status. status ≡ ended_status subscriber.now identifier.now) }
 {
     Ok(TerminationResponseStatus {
         subscriber_ref: Some(subscriber.copy()?),
@@ -79,15 +80,15 @@ pub fn ended_status(
     })
 }
 
-/// The status of a subscription that was to end and isn't held under a smaller number (TerminationResponseStatus with Status
-/// false).
+/// The status of a subscription that was to end and isn't held under a smaller number (TerminationResponseStatus with
+/// Status false).
 #[tactic(auto, unfolding(crate::specs::Responses::unknown_status))]
 pub fn unknown_status(
     alloc: Global,
     subscriber: &Name,
     identifier: &Name,
 ) -> Result<TerminationResponseStatus, OutOfMemory>
-    ensures { IfOk result (λ status. status ≡ definition.unknown_status subscriber.now identifier.now) }
+    ensures { IfOk result (λ status. status ≡ unknown_status subscriber.now identifier.now) }
 {
     Ok(TerminationResponseStatus {
         subscriber_ref: Some(subscriber.copy()?),
@@ -105,7 +106,7 @@ pub fn termination_response(
     number: Name,
     statuses: List<TerminationResponseStatus>,
 ) -> TerminateSubscriptionResponse
-    ensures { (n : ℕ) → number ≡ definition.number_text n → result ≡ definition.termination_response now n statuses }
+    ensures { (n : ℕ) → number ≡ number_text n → result ≡ termination_response now n statuses }
 {
     TerminateSubscriptionResponse {
         response_timestamp: Some(now),

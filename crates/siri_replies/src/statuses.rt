@@ -1,6 +1,7 @@
-// What a producer says of itself and of a feed.
+//! What a producer says of itself and of a feed.
+
 ghost use Rattle.std.specs.Prelude.{◌≡◌, IfOk};
-ghost use Rattle.siri_replies.specs.Statuses as definition;
+ghost use Rattle.siri_replies.specs.Statuses.{feed_acknowledgement, full_text, heartbeat, status_response};
 
 use crate::Refusal;
 use siri_base::{Copies, Moment, Name, OutOfMemory, Text};
@@ -10,8 +11,8 @@ use siri_messages::{
 };
 use std::alloc::Global;
 
-/// The answer at a moment to the question whether the producer is there (CheckStatusResponse): it is, since the moment of its
-/// start.
+/// The answer at a moment to the question whether the producer is there (CheckStatusResponse): it is, since the moment
+/// of its start.
 #[tactic(auto, unfolding(crate::specs::Statuses::status_response))]
 pub fn status_response(
     producer: &Name,
@@ -19,7 +20,7 @@ pub fn status_response(
     started: Moment,
     request: &CheckStatusRequest,
 ) -> Result<CheckStatusResponse, OutOfMemory>
-    ensures { IfOk result (λ response. response ≡ definition.status_response producer.now now started request.now) }
+    ensures { IfOk result (λ response. response ≡ status_response producer.now now started request.now) }
 {
     Ok(CheckStatusResponse {
         response_timestamp: Some(now),
@@ -37,7 +38,7 @@ pub fn heartbeat(
     now: Moment,
     started: Moment,
 ) -> Result<HeartbeatNotification, OutOfMemory>
-    ensures { IfOk result (λ beat. beat ≡ definition.heartbeat producer.now now started) }
+    ensures { IfOk result (λ beat. beat ≡ heartbeat producer.now now started) }
 {
     Ok(HeartbeatNotification {
         request_timestamp: Some(now),
@@ -47,8 +48,8 @@ pub fn heartbeat(
     })
 }
 
-/// The answer at a moment to a feed of which so many items were refused (DataReceivedAcknowledgement): Status is false exactly
-/// where there are some.
+/// The answer at a moment to a feed of which so many items were refused (DataReceivedAcknowledgement): Status is false
+/// exactly where there are some.
 #[tactic(auto, unfolding(crate::specs::Statuses::feed_acknowledgement))]
 pub fn feed_acknowledgement(
     alloc: Global,
@@ -57,7 +58,7 @@ pub fn feed_acknowledgement(
     delivery: &ServiceDelivery,
     full: u64,
 ) -> Result<DataReceivedAcknowledgement, OutOfMemory>
-    ensures { IfOk result (λ answer. answer ≡ definition.feed_acknowledgement producer.now now delivery.now full) }
+    ensures { IfOk result (λ answer. answer ≡ feed_acknowledgement producer.now now delivery.now full) }
 {
     Ok(DataReceivedAcknowledgement {
         response_timestamp: Some(now),
@@ -69,9 +70,9 @@ pub fn feed_acknowledgement(
     })
 }
 
-// The ErrorText where some items were refused.
+/// The ErrorText where some items were refused.
 fn full_text(alloc: Global, full: u64) -> Result<Option<Text>, OutOfMemory>
-    ensures { IfOk result (λ text. text ≡ definition.full_text full) }
+    ensures { IfOk result (λ text. text ≡ full_text full) }
 {
     if full == 0 {
         return Ok(None);

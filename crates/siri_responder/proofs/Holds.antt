@@ -10,7 +10,7 @@ use Rattle.siri_model.specs.History.{History, IsKeyed, now_of, current}
 use Rattle.siri_model_laws.proofs.Current.{current_keyed, few_live, keyed_passing}
 use Rattle.siri_model_laws.proofs.Entries.{sorted_passing}
 use Rattle.siri_model_laws.proofs.InOrder.{current_in_order}
-use Rattle.siri_direct.proofs.Shown.{response_live}
+use Rattle.siri_responder.proofs.Shown.{response_live}
 use Rattle.siri_responder.specs.Known.{Known, StandsFor}
 
 pub held_in_order : (known : Known) → ((h : History) × StandsFor known h) → InOrder known.held
@@ -25,7 +25,8 @@ held_few known has = rw (has.1.held) (few_live has.0)
 -- ---- what a responder answers
 
 -- a responder answers as the histories that it stands for
-pub response_of : (known : Known) (h : History) (request : ServiceRequest) → StandsFor known h → response known.name known.moment known.held request ≡ response known.name (now_of h) (current h) request
+pub response_of : (known : Known) (h : History) (request : ServiceRequest) → StandsFor known h
+    → response known.name known.moment known.held request ≡ response known.name (now_of h) (current h) request
 response_of known h request s =
     (λ i. response known.name (s.moment i) (s.held i) request)
     ∙ response_live known.name (now_of h) (current h) request

@@ -1,5 +1,6 @@
 -- How far a feed came.
-use Rattle.std.proofs.Common.{◌≡◌, ℕ, suc, zero, ◌+◌, ◌<◌, length, get_or, drop, add-one, arith, List, [], ◌∷◌, ◌++◌, flat_map, Result, Ok, Err, Bool, true, false, refl, sym, ap, ◌∙◌, append_assoc, append-nil}
+use Rattle.std.proofs.Common.{◌≡◌, ℕ, suc, zero, ◌+◌, ◌<◌, length, get_or, drop, add-one, arith, List, [], ◌∷◌, ◌++◌, flat_map, Result, Ok}
+use Rattle.std.proofs.Common.{Err, Bool, true, false, refl, sym, ap, ◌∙◌, append_assoc, append-nil}
 use Rattle.std.specs.Prelude.{OnErr}
 use Rattle.std.proofs.lemmas.List.Sums.{fold-append}
 use Rattle.std.proofs.lemmas.List.Concat.{flat_map-append}
@@ -50,13 +51,16 @@ later_some a b c front next is some =
 
 -- ---- the same of deliveries
 
-pub deliveries_front : (a b : Feeding) (ds es : List FunctionalDelivery) → ReachesSome a b (flat_map entries_in ds) → ReachesSome a b (flat_map entries_in (ds ++ es))
+pub deliveries_front : (a b : Feeding) (ds es : List FunctionalDelivery) → ReachesSome a b (flat_map entries_in ds)
+    → ReachesSome a b (flat_map entries_in (ds ++ es))
 deliveries_front a b ds es some = rw (flat_map-append entries_in ds es) (front_some a b (flat_map entries_in ds) (flat_map entries_in es) some)
 
-pub deliveries_later : (a b c : Feeding) (ds es : List FunctionalDelivery) → b ≡ after_all a (flat_map entries_in ds) → ReachesSome b c (flat_map entries_in es) → ReachesSome a c (flat_map entries_in (ds ++ es))
+pub deliveries_later : (a b c : Feeding) (ds es : List FunctionalDelivery) → b ≡ after_all a (flat_map entries_in ds)
+    → ReachesSome b c (flat_map entries_in es) → ReachesSome a c (flat_map entries_in (ds ++ es))
 deliveries_later a b c ds es is some = rw (flat_map-append entries_in ds es) (later_some a b c (flat_map entries_in ds) (flat_map entries_in es) is some)
 
-pub deliveries_both : (a b c : Feeding) (ds es : List FunctionalDelivery) → b ≡ after_all a (flat_map entries_in ds) → c ≡ after_all b (flat_map entries_in es) → c ≡ after_all a (flat_map entries_in (ds ++ es))
+pub deliveries_both : (a b c : Feeding) (ds es : List FunctionalDelivery) → b ≡ after_all a (flat_map entries_in ds)
+    → c ≡ after_all b (flat_map entries_in es) → c ≡ after_all a (flat_map entries_in (ds ++ es))
 deliveries_both a b c ds es first later =
     later
     ∙ ap (λ f. after_all f (flat_map entries_in es)) first
@@ -75,7 +79,8 @@ drop_here xs i x lt is = rw add-one (dropped xs i x lt is)
 
 -- ---- no entry counts a step
 
-reads_observed : (f : Feeding) (item : Item) (refused dead : Bool) → refuses f.store item ≡ refused → is_dead item f.store.moment ≡ dead → (after f (Observed item)).store.reads ≡ f.store.reads
+reads_observed : (f : Feeding) (item : Item) (refused dead : Bool) → refuses f.store item ≡ refused
+    → is_dead item f.store.moment ≡ dead → (after f (Observed item)).store.reads ≡ f.store.reads
 reads_observed f item true dead r d = rw r refl
 reads_observed f item false true r d = rw (r, d) refl
 reads_observed f item false false r d = rw (r, d) refl

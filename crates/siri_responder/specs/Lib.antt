@@ -2,3 +2,5 @@ pub mod Known
 pub mod FedCounts
 pub mod Standing
 pub mod Feeding
+pub mod Answering
+pub mod Topics

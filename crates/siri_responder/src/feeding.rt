@@ -1,4 +1,5 @@
-// What a delivery that is fed does to the store.
+//! What a delivery that is fed does to the store.
+
 ghost use Rattle.std.specs.Prelude.{◌≡◌, OnOk, OnErr, map, flat_map};
 ghost use Rattle.siri_model.specs.History.{Observed, Withdrawn, entries_in, entries_of};
 ghost use Rattle.siri_store.specs.Calls.{NoneDead};
@@ -22,8 +23,8 @@ pub struct Fed {
     pub full: u64,
 }
 
-// The store of a responder, with what is told of the feed that it is given. After want of memory the entries before the
-// refused one stand.
+/// The store of a responder, with what is told of the feed that it is given. After want of memory the entries before
+/// the refused one stand.
 pub(crate) struct Feeding {
     pub(crate) store: Store,
     pub(crate) fed: Fed,
@@ -36,7 +37,7 @@ impl Drop for Feeding {
 }
 
 impl Feeding {
-    // Nothing was fed yet.
+    /// Nothing was fed yet.
     pub(crate) fn new(store: Store) -> Feeding
         ensures store { result.store ≡ store }
         ensures fed { result.fed ≡ record { observed = 0; withdrawn = 0; full = 0 } }
@@ -51,7 +52,7 @@ impl Feeding {
         }
     }
 
-    // A new feed begins, of which nothing is told yet.
+    /// A new feed begins, of which nothing is told yet.
     pub(crate) fn begin(&mut self)
         ensures { self.new ≡ record self.old { fed = record { observed = 0; withdrawn = 0; full = 0 } } }
     {
@@ -62,8 +63,8 @@ impl Feeding {
         };
     }
 
-    // The entries of a delivery, in the order Stop Monitoring, Estimated Timetable, Vehicle Monitoring, Situation
-    // Exchange. Each item is copied as it comes.
+    /// The entries of a delivery, in the order Stop Monitoring, Estimated Timetable, Vehicle Monitoring, Situation
+    /// Exchange. Each item is copied as it comes.
     pub(crate) fn feed(
         &mut self,
         alloc: Global,
@@ -81,7 +82,7 @@ impl Feeding {
         Ok(())
     }
 
-    // The entries of one service, delivery by delivery.
+    /// The entries of one service, delivery by delivery.
     fn feed_all(
         &mut self,
         alloc: Global,
@@ -98,7 +99,7 @@ impl Feeding {
         Ok(())
     }
 
-    // Items before removals.
+    /// Items before removals.
     fn feed_one(&mut self, alloc: Global, delivery: &FunctionalDelivery) -> Result<(), OutOfMemory>
         requires { NoneDead self.old.store }
         ensures ok { OnOk result (self.new ≡ after_all self.old (entries_in delivery.now)) }
@@ -110,6 +111,7 @@ impl Feeding {
         Ok(())
     }
 
+    /// Copies of the items are observed in order; after want of memory the first few of them are.
     fn observe_all(&mut self, alloc: Global, items: &[Item]) -> Result<(), OutOfMemory>
         requires { NoneDead self.old.store }
         ensures ok { OnOk result (self.new ≡ after_all self.old (map Observed items.now)) }
@@ -123,7 +125,7 @@ impl Feeding {
         Ok(())
     }
 
-    // An item that isn't dead, and whose key isn't live, is refused where as many keys are live as may be.
+    /// An item that isn't dead, and whose key isn't live, is refused where as many keys are live as may be.
     pub(crate) fn observe(&mut self, alloc: Global, item: Item) -> Result<(), OutOfMemory>
         requires { NoneDead self.old.store }
         ensures ok { OnOk result (self.new ≡ after self.old (Observed item)) }
@@ -144,6 +146,7 @@ impl Feeding {
         }
     }
 
+    /// The keys are withdrawn in order. It takes no memory.
     pub(crate) fn withdraw_all(&mut self, removals: &[Key])
         requires { NoneDead self.old.store }
         ensures now { self.new ≡ after_all self.old (map Withdrawn removals.now) }
@@ -154,7 +157,7 @@ impl Feeding {
         }
     }
 
-    // The key has no item afterwards, whether it had one or not.
+    /// The key has no item afterwards, whether it had one or not.
     fn withdraw(&mut self, key: &Key)
         requires { NoneDead self.old.store }
         ensures now { self.new ≡ after self.old (Withdrawn key.now) }

@@ -1,4 +1,5 @@
-// What a delivery does to the store whose items are handed over.
+//! What a delivery does to the store whose items are handed over.
+
 ghost use Rattle.std.specs.Prelude.{◌≡◌, OnOk, OnErr, map, flat_map};
 ghost use Rattle.siri_model.specs.History.{Observed, entries_in, entries_of};
 ghost use Rattle.siri_store.specs.Calls.{NoneDead};
@@ -11,7 +12,7 @@ use siri_records::Item;
 use std::alloc::Global;
 
 impl Feeding {
-    // As `feed`, with the delivery's own items.
+    /// As `feed`, with the delivery's own items.
     pub(crate) fn feed_owned(
         &mut self,
         alloc: Global,
@@ -36,7 +37,7 @@ impl Feeding {
         Ok(())
     }
 
-    // The entries of one service, delivery by delivery.
+    /// The entries of one service, delivery by delivery.
     fn feed_all_owned(
         &mut self,
         alloc: Global,
@@ -53,7 +54,7 @@ impl Feeding {
         Ok(())
     }
 
-    // Items before removals.
+    /// Items before removals.
     fn feed_one_owned(
         &mut self,
         alloc: Global,
@@ -70,6 +71,7 @@ impl Feeding {
         Ok(())
     }
 
+    /// The items are observed in order, without copies; after want of memory the first few of them are.
     fn observe_all_owned(&mut self, alloc: Global, items: List<Item>) -> Result<(), OutOfMemory>
         requires { NoneDead self.old.store }
         ensures ok { OnOk result (self.new ≡ after_all self.old (map Observed items)) }

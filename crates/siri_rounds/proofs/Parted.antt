@@ -16,11 +16,18 @@ part_of opened place moment n changes =
     record { place = record { round = opened; part = suc place }; moment = moment; more = nat_lt (suc place) n; carried = part_after changes place }
 
 pub wanted_lent : (lent : PartOf (List KeyChange)) (opened place moment : ℕ) (base target : Items) (list changes : List KeyChange) (last_sent : Option ℕ)
-    → lent ≡ record { place = record { round = opened; part = suc place }; moment = moment; more = nat_lt (suc place) (parts_count changes); carried = part_after changes place }
+    → lent ≡ record {
+      place = record { round = opened; part = suc place };
+      moment = moment;
+      more = nat_lt (suc place) (parts_count changes);
+      carried = part_after changes place;
+    }
     → changes ≡ list → place < parts_count list
     → Some lent ≡ wanted_part_of opened (Some (record { round = round_on base moment target list; acknowledged_parts = place; last_sent = last_sent }))
 wanted_lent lent opened place moment base target list changes last_sent is all lt =
-    rw (each_part list place lt) (ap Some (is ∙ (ap (λ c. part_of opened place moment (parts_count c) c) all ∙ ap (λ n. part_of opened place moment n list) (sym (parts_number list)))))
+    rw (each_part list place lt) (ap Some (is
+    ∙ (ap (λ c. part_of opened place moment (parts_count c) c) all
+    ∙ ap (λ n. part_of opened place moment n list) (sym (parts_number list)))))
 
 -- ---- the wanted part is acknowledged
 

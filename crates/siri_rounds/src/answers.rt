@@ -1,4 +1,5 @@
-// What is answered to a consumer.
+//! What is answered to a consumer.
+
 use siri_base::Place;
 
 /// Why a part wasn't supplied. Nothing changed.

@@ -1,4 +1,5 @@
-// Parts of a round.
+//! Parts of a round.
+
 ghost use Rattle.std.specs.Prelude.{◌≡◌, ◌<◌, ◌+◌, ◌^◌, suc, not, nat_lt, ◌==◌, length};
 ghost use Rattle.siri_change.specs.Parts.{part_after, parts_count};
 ghost use Rattle.siri_rounds.specs.Wanted.{part_lent};
@@ -7,7 +8,7 @@ use siri_base::{Moment, Place};
 use siri_change::Change;
 
 /// How many changes a part has at most.
-const PART_LIMIT: usize = 100;
+const MOST_IN_A_PART: usize = 100;
 
 /// A part of a round, lent.
 #[derive(Drop)]
@@ -22,7 +23,7 @@ pub struct Part<'a> {
     pub changes: &'a [Change],
 }
 
-// The part at a place, counted from 0, of a round with a number, a moment and changes.
+/// The part at a place, counted from 0, of a round with a number, a moment and changes.
 pub(crate) fn part_at(round: u64, moment: Moment, changes: &[Change], place: usize) -> Part<'_>
     requires { place < parts_count changes.now }
     ensures { part_lent result ≡ record { place = record { round = round; part = suc place }; moment = moment; more = nat_lt (suc place) (parts_count changes.now); carried = part_after changes.now place } }
@@ -39,17 +40,17 @@ pub(crate) fn part_at(round: u64, moment: Moment, changes: &[Change], place: usi
     }
 }
 
-// The part at a place, counted from 0, and the changes after it.
+/// The part at a place, counted from 0, and the changes after it.
 pub(crate) fn cut(changes: &[Change], place: usize) -> (&[Change], &[Change])
     requires { place < parts_count changes.now }
     ensures part { result.0.now ≡ part_after changes.now place }
     ensures more { not (length result.1.now == 0) ≡ nat_lt (suc place) (parts_count changes.now) }
     ensures small { place + 2 < 2 ^ 64 }
 {
-    let (_, rest) = changes.split_at(PART_LIMIT * place);
-    if rest.len() <= PART_LIMIT {
+    let (_, rest) = changes.split_at(MOST_IN_A_PART * place);
+    if rest.len() <= MOST_IN_A_PART {
         (rest, &[])
     } else {
-        rest.split_at(PART_LIMIT)
+        rest.split_at(MOST_IN_A_PART)
     }
 }

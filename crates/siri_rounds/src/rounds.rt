@@ -1,27 +1,29 @@
-// The rounds of a subscription.
+//! The rounds of a subscription.
+
 ghost use Rattle.std.specs.Prelude.{◌≡◌, ◌≢◌, ◌↔◌, ◌<◌, suc, Ok, Err, [], true, false, ◌&&◌, is_some, option_map, not, nat_lt, ◌+◌, ◌^◌, Some, None, OnErr};
 ghost use Rattle.siri_records.specs.Keyed.{Items};
 ghost use Rattle.siri_change.specs.Parts.{parts_count};
-ghost use Rattle.siri_life.specs.Life as definition;
+ghost use Rattle.siri_life.specs.Life.{is_due, greatest_round};
 ghost use Rattle.siri_life.specs.Slot.{begun, sent, is_message_due, with_acknowledgement, with_supply};
 ghost use Rattle.siri_rounds.specs.Kept.{IsWanting, outstanding_on};
 ghost use Rattle.siri_rounds.specs.Wanted.{round_on, rounds_carried, wanted_place, wanted_part, part_lent, part_sent, supply_answer};
 
 use crate::parts::{Part, cut, part_at};
 use crate::{SupplyError, Taken};
-use siri_base::{List, Moment, Place};
+use siri_base::{GREATEST_NUMBER, List, Moment, Place};
 use siri_change::{Change, View};
 use std::alloc::Global;
 use std::marker::Model;
 
 /// The greatest number of a round.
-pub const GREATEST_ROUND: u64 = 999_999_999_999_999_999;
+pub const GREATEST_ROUND: u64 = GREATEST_NUMBER;
 
 /// How long a message of the wanted part isn't sent again, in milliseconds.
 const RESEND_INTERVAL: i64 = 30_000;
 
-/// What a producer keeps of a subscription: whether delivery is fetched, the acknowledged view, how many rounds were opened,
-/// and the outstanding round with how many of its parts are acknowledged and when a message of the next was last sent.
+/// What a producer keeps of a subscription: whether delivery is fetched, the acknowledged view, how many rounds were
+/// opened, and the outstanding round with how many of its parts are acknowledged and when a message of the next was
+/// last sent.
 pub struct Rounds {
     fetched: bool,
     acknowledged: View,
@@ -40,7 +42,7 @@ impl Drop for Rounds {
     }
 }
 
-// The outstanding round. Its base is the acknowledged view.
+/// The outstanding round. Its base is the acknowledged view.
 #[derive(Drop)]
 pub(crate) struct Opened {
     moment: Moment,
@@ -82,8 +84,8 @@ impl Rounds {
         self.fetched
     }
 
-    /// The view that the consumer is known to hold: what the last round led to that was acknowledged whole, empty before the
-    /// first.
+    /// The view that the consumer is known to hold: what the last round led to that was acknowledged whole, empty
+    /// before the first.
     pub fn acknowledged(&self) -> &View
         ensures { result.now ≡ self.now.acknowledged }
     {
@@ -108,11 +110,11 @@ impl Rounds {
         }
     }
 
-    /// Opens the next round at a moment: it leads from the acknowledged view to another by a list of changes, and its first
-    /// part is wanted. Nothing is outstanding, and the last round is below the greatest. It takes no memory.
+    /// Opens the next round at a moment: it leads from the acknowledged view to another by a list of changes, and its
+    /// first part is wanted. Nothing is outstanding, and the last round is below the greatest. It takes no memory.
     pub fn begin(&mut self, now: Moment, wanted: View, list: List<Change>)
         requires level { self.old.outstanding ≡ None }
-        requires room { self.old.rounds_opened < 999999999999999999 }
+        requires room { self.old.rounds_opened < greatest_round }
         ensures { self.new ≡ begun self.old (round_on self.old.acknowledged now wanted list) }
     {
         self.last += 1;
@@ -135,7 +137,8 @@ impl Rounds {
         }
     }
 
-    /// A message of the wanted part was sent: the part, or its notification. Where nothing is outstanding nothing changes.
+    /// A message of the wanted part was sent: the part, or its notification. Where nothing is outstanding nothing
+    /// changes.
     pub fn sent(&mut self, now: Moment)
         ensures { self.new ≡ sent self.old now }
     {
@@ -144,8 +147,8 @@ impl Rounds {
         }
     }
 
-    /// The wanted part, lent: the very changes of the list that its round began with, in their order, each with its key.
-    /// `None` exactly where nothing is outstanding.
+    /// The wanted part, lent: the very changes of the list that its round began with, in their order, each with its
+    /// key. `None` exactly where nothing is outstanding.
     pub fn part(&self) -> Option<Part<'_>>
         ensures part { option_map part_lent result ≡ wanted_part self.now }
         ensures sent { option_map part_sent result ≡ wanted_part (rounds_carried self.now) }
@@ -160,20 +163,20 @@ impl Rounds {
         }
     }
 
-    /// The first part of the round that would begin at a moment with a list of changes, lent. Nothing is outstanding, and the
-    /// last round is below the greatest.
+    /// The first part of the round that would begin at a moment with a list of changes, lent. Nothing is outstanding,
+    /// and the last round is below the greatest.
     pub fn first_part<'a>(&self, now: Moment, list: &'a List<Change>) -> Part<'a>
         requires level { self.now.outstanding ≡ None }
-        requires room { self.now.rounds_opened < 999999999999999999 }
+        requires room { self.now.rounds_opened < greatest_round }
         ensures part { (wanted : Items) → Some (part_lent result) ≡ wanted_part (begun self.now (round_on self.now.acknowledged now wanted list.now)) }
         ensures sent { (wanted : Items) → Some (part_sent result) ≡ wanted_part (rounds_carried (begun self.now (round_on self.now.acknowledged now wanted list.now))) }
     {
         part_at(self.last + 1, now, list.slice(), 0)
     }
 
-    /// The consumer asks for a part. Where it is the wanted one of a fetched round, a message of it was sent now; otherwise
-    /// nothing changes: `NothingReady` exactly where no fetched round is outstanding, `WrongPart` with the wanted part exactly
-    /// where one is and this isn't the wanted part. It takes no memory.
+    /// The consumer asks for a part. Where it is the wanted one of a fetched round, a message of it was sent now;
+    /// otherwise nothing changes: `NothingReady` exactly where no fetched round is outstanding, `WrongPart` with the
+    /// wanted part exactly where one is and this isn't the wanted part. It takes no memory.
     pub fn supply(&mut self, place: Place, now: Moment) -> Result<(), SupplyError>
         ensures answer { result ≡ supply_answer self.old place }
         ensures rounds { self.new ≡ with_supply self.old place.round place.part now }
@@ -197,10 +200,10 @@ impl Rounds {
         }
     }
 
-    /// The consumer has taken a part. Where it is the wanted one, the next is wanted: with fetched delivery a message of it
-    /// counts as sent now, with direct delivery none was sent yet. After the last part, the view that the round leads to is the
-    /// acknowledged one, and nothing is outstanding. `NotThis` exactly where it isn't the wanted part, and then nothing changes.
-    /// It takes no memory.
+    /// The consumer has taken a part. Where it is the wanted one, the next is wanted: with fetched delivery a message
+    /// of it counts as sent now, with direct delivery none was sent yet. After the last part, the view that the round
+    /// leads to is the acknowledged one, and nothing is outstanding. `NotThis` exactly where it isn't the wanted part,
+    /// and then nothing changes. It takes no memory.
     pub fn acknowledge(&mut self, place: Place, now: Moment) -> Taken
         ensures taken { (result ≡ Taken.Taken) ↔ (wanted_place self.old ≡ Some place) }
         ensures not_this { (result ≡ Taken.NotThis) ↔ (wanted_place self.old ≢ Some place) }
@@ -223,7 +226,7 @@ impl Rounds {
         Taken::Taken
     }
 
-    // This round is the outstanding one.
+    /// This round is the outstanding one.
     fn keep(&mut self, round: Opened)
         requires { IsWanting round }
         ensures { self.new ≡ record self.old { outstanding = Some (outstanding_on self.old.acknowledged round) } }
@@ -233,7 +236,7 @@ impl Rounds {
 }
 
 impl Opened {
-    // The place of the wanted part, in the round of this number.
+    /// The place of the wanted part, in the round of this number.
     fn place(&self, round: u64) -> Place
         requires { self.now.acknowledged_parts + 1 < 2 ^ 64 }
         ensures { result ≡ record { round = round; part = suc self.now.acknowledged_parts } }
@@ -244,7 +247,7 @@ impl Opened {
         }
     }
 
-    // The wanted part is the last one.
+    /// The wanted part is the last one.
     fn is_last(&self) -> bool
         requires { self.now.acknowledged_parts < parts_count self.now.changes }
         ensures last { result ≡ not (nat_lt (suc self.now.acknowledged_parts) (parts_count self.now.changes)) }
@@ -255,9 +258,9 @@ impl Opened {
     }
 }
 
-// A message is due again.
+/// A message is due again.
 fn is_due(last_sent: Option<Moment>, now: Moment) -> bool
-    ensures { result ≡ definition.is_due last_sent now }
+    ensures { result ≡ is_due last_sent now }
 {
     match last_sent {
         Some(moment) => now.ms() - moment.ms() >= RESEND_INTERVAL,

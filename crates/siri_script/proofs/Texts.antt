@@ -15,6 +15,7 @@ pub not_utf8 : (text : List ℕ) → ¬ (IsUtf8 text) → is_utf8 text ≡ false
 not_utf8 text none = none_at text (is_utf8 text) refl none
 
 -- what was read as UTF-8 is
-pub utf8_where : {E : Type 0} (Q : E → Type 0) (text : List ℕ) (read : Result (Bor (List ℕ)) E) → MatchResult read (λ s. (s.now ≡ text) × IsUtf8 text) (λ e. ¬ (IsUtf8 text) × Q e) → is_ok read ≡ is_utf8 text
+pub utf8_where : {E : Type 0} (Q : E → Type 0) (text : List ℕ) (read : Result (Bor (List ℕ)) E)
+    → MatchResult read (λ s. (s.now ≡ text) × IsUtf8 text) (λ e. ¬ (IsUtf8 text) × Q e) → is_ok read ≡ is_utf8 text
 utf8_where Q text (Ok s) r = sym (is_utf8-from_IsUtf8 text r.1)
 utf8_where Q text (Err e) r = sym (not_utf8 text r.0)

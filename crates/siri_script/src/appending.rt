@@ -1,4 +1,5 @@
-// Words of a line, each behind a space.
+//! Words of a line, each behind a space.
+
 ghost use Rattle.std.specs.Prelude.{◌≡◌, ◌++◌, OnOk};
 ghost use Rattle.std.specs.Fmt.{decimal};
 ghost use Rattle.siri_script.specs.Spaced.{space};

@@ -1,4 +1,5 @@
-// The line of an item.
+//! The line of an item.
+
 ghost use Rattle.std.specs.Prelude.{◌≡◌, ◌++◌, IfOk, OnOk};
 ghost use Rattle.siri_json.specs.Tokens.{tokens_of};
 ghost use Rattle.siri_script.specs.Items.{item_line, item_members, item_name, item_text};

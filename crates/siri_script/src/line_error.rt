@@ -1,4 +1,5 @@
-// Why a line isn't taken.
+//! Why a line isn't taken.
+
 ghost use Rattle.std.specs.Prelude.{◌≡◌};
 ghost use Rattle.siri_script.specs.declared.line_error.LineError.TheVariants.{OutOfMemory};
 ghost use Rattle.siri_script.specs.Reads.{line_stop};

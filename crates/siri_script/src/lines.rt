@@ -1,4 +1,5 @@
-// What a line is, before its words are read.
+//! What a line is, before its words are read.
+
 ghost use Rattle.std.specs.Prelude.{◌≡◌};
 ghost use Rattle.std.specs.Str.{is_utf8};
 ghost use Rattle.siri_script.specs.Lines.{is_skipped};

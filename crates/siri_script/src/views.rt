@@ -1,4 +1,5 @@
-// The line of a view.
+//! The line of a view.
+
 ghost use Rattle.std.specs.Prelude.{◌≡◌, ◌++◌, IfOk, OnOk};
 ghost use Rattle.siri_script.specs.ViewLines.{held_text, view_line};
 

@@ -1,4 +1,5 @@
-// The subscription that a text of a line wants.
+//! The subscription that a text of a line wants.
+
 ghost use Rattle.std.specs.Prelude.{◌≡◌, IfOk};
 ghost use Rattle.siri_script.specs.Reads.{Reads};
 ghost use Rattle.siri_script.specs.Wanted.{bad_document, wanted_said};
@@ -18,8 +19,8 @@ pub fn bad_document(refusal: &Refusal) -> Result<ScriptReason, OutOfMemory>
     })
 }
 
-/// The subscription that a text asks for in the name of this subscriber, as `decode_wanted` reads it: `BadDocument` where the text is
-/// refused, `WrongMessage` where it asks for more than one.
+/// The subscription that a text asks for in the name of this subscriber, as `decode_wanted` reads it: `BadDocument`
+/// where the text is refused, `WrongMessage` where it asks for more than one.
 pub fn wanted_said(alloc: Global, subscriber: &Name, text: &[u8]) -> Result<Wanted, LineError>
     ensures { Reads result (wanted_said subscriber.now text.now) }
 {

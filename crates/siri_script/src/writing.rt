@@ -1,4 +1,5 @@
-// Writes lines.
+//! Writes lines.
+
 ghost use Rattle.std.specs.Prelude.{◌++◌, OnOk, OnErr};
 ghost use Rattle.std.specs.Io.KnownBytes.{Appends};
 ghost use Rattle.siri_base.specs.Causes.{HasOutsideCause};

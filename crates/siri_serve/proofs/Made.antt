@@ -2,7 +2,7 @@
 use Rattle.std.proofs.Common.{◌≡◌, ◌<◌, ◌+◌, ℕ, [], ◌∷◌, ◌++◌, Ok, refl, ◌∙◌, subst, inr}
 use Rattle.siri_base.specs.OutsideCalls.{ClockState, GivesMoment, KeeperState}
 use Rattle.siri_base.specs.Wires.{Accepts, WireState}
-use Rattle.siri_exchange.specs.declared.tally.Tally.{Tally}
+use Rattle.siri_http.specs.declared.tally.Tally.{Tally}
 use Rattle.siri_model.specs.History.{Clock}
 use Rattle.siri_producer.specs.Known.{Known, GoesOn}
 use Rattle.siri_ends.specs.At as ends
@@ -16,7 +16,8 @@ use Rattle.siri_serve.specs.Serving.{EndsAtTurn, EndsInTurns, Serves, ServesFirs
 use Rattle.siri_serve.specs.Steps.{Ends, Goes, Server, running_of, server_of}
 
 -- a connection was accepted, the producer was given a moment, and the connection served
-pub turn_made : (first timed last : Known) (old new : Tally) (before accepted after : Told WireState) (clock later : Told ClockState) (keeper : Told KeeperState) (moment : ℕ)
+pub turn_made : (first timed last : Known) (old new : Tally) (before accepted after : Told WireState)
+    (clock later : Told ClockState) (keeper : Told KeeperState) (moment : ℕ)
     → Call Accepts (Ok (tt {0})) before accepted → Call GivesMoment (Ok moment) clock later
     → GoesOn first timed (Clock moment) → timed.responder.name ≡ first.responder.name
     → ends.Goes ServesOne (end_of timed old accepted.tells accepted.faults) (end_of last new after.tells after.faults)
@@ -41,7 +42,8 @@ turn_made first timed last old new before accepted after clock later keeper mome
 }
 
 -- there was no memory for the rest of the turn
-pub turn_stopped : (first timed : Known) (old : Tally) (before accepted after : Told WireState) (clock later : Told ClockState) (keeper : Told KeeperState) (moment : ℕ) (e : NetworkError)
+pub turn_stopped : (first timed : Known) (old : Tally) (before accepted after : Told WireState)
+    (clock later : Told ClockState) (keeper : Told KeeperState) (moment : ℕ) (e : NetworkError)
     → e ≡ error.OutOfMemory → Call Accepts (Ok (tt {0})) before accepted → Call GivesMoment (Ok moment) clock later
     → GoesOn first timed (Clock moment) → timed.responder.name ≡ first.responder.name
     → ServesSome (end_of timed old accepted.tells accepted.faults) after.tells
@@ -71,7 +73,8 @@ goes_next n m a b c is some next = record {
   goes = λ h stands.
       let one = some.goes h stands in
       let two = next.goes one.0 one.1 in
-      let turn : ServesTurn a.producer.responder.name (running_of b one.0) (running_of c two.0) = subst (λ name. ServesTurn name (running_of b one.0) (running_of c two.0)) some.name two.2 in (
+      let turn : ServesTurn a.producer.responder.name (running_of b one.0) (running_of c two.0) =
+      subst (λ name. ServesTurn name (running_of b one.0) (running_of c two.0)) some.name two.2 in (
         two.0,
         two.1,
         turns_next (ServesTurn a.producer.responder.name) n m (running_of a h) (running_of b one.0) (running_of c two.0) is one.2 turn,
@@ -79,7 +82,9 @@ goes_next n m a b c is some next = record {
 }
 
 -- the next turn ended the run
-pub ends_next : (n count : ℕ) (e : NetworkError) (a b : Server) (after : Outside) → n < count → Goes (λ name. ServesTurns name n) a b → Ends (λ name. EndsAtTurn name e) b after → Ends (λ name. EndsInTurns name count e) a after
+pub ends_next : (n count : ℕ) (e : NetworkError) (a b : Server) (after : Outside) → n < count
+    → Goes (λ name. ServesTurns name n) a b → Ends (λ name. EndsAtTurn name e) b after
+    → Ends (λ name. EndsInTurns name count e) a after
 ends_next n count e a b after fewer some fails h stands =
     let one = some.goes h stands in
     record {

@@ -2,7 +2,7 @@
 use Rattle.std.specs.Prelude.{◌≡◌, ◌⊎◌, ℕ, List, [], ◌∷◌, Ok}
 use Rattle.siri_base.specs.OutsideCalls.{GivesMoment, RaisesNumber}
 use Rattle.siri_base.specs.Wires.{Listens}
-use Rattle.siri_exchange.specs.Tallies.{nothing_yet}
+use Rattle.siri_http.specs.Tallies.{nothing_yet}
 use Rattle.siri_model.specs.History.{Start}
 use Rattle.siri_network.specs.Calls.{Call, Fails, Outside}
 use Rattle.siri_network.specs.Errors.{clock_error, keeper_error, wire_error}

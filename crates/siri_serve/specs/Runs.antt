@@ -3,7 +3,7 @@ use Rattle.std.specs.Prelude.{◌≡◌, ◌⊎◌, ℕ, List}
 use Rattle.std.specs.Io.KnownBytes.{Appends}
 use Rattle.siri_base.specs.declared.status.Status.{Status}
 use Rattle.siri_base.specs.declared.status.Status.TheVariants as status
-use Rattle.siri_exchange.specs.declared.tally.Tally.{Tally}
+use Rattle.siri_http.specs.declared.tally.Tally.{Tally}
 use Rattle.siri_lines.specs.Ends.{AppendsFront, Bytes}
 use Rattle.siri_network.specs.Summaries.{summary_text}
 use Rattle.siri_network.specs.declared.network_error.NetworkError.{NetworkError}

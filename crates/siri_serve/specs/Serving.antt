@@ -1,11 +1,11 @@
 -- A producer that serves connections (EN 15531-2 for what is said, RFC 9112 for how).
 use Rattle.std.specs.Prelude.{◌⊎◌, ℕ, List, [], ◌∷◌, ◌++◌, Option}
 use Rattle.siri_base.specs.Wires.{WireState}
-use Rattle.siri_exchange.specs.declared.tally.Tally.{Tally}
+use Rattle.siri_http.specs.declared.tally.Tally.{Tally}
 use Rattle.siri_model.specs.History.{Clock, History}
-use Rattle.siri_settle.specs.declared.outs.Out.{Out}
+use Rattle.siri_subscriptions.specs.declared.outs.Out.{Out}
 use Rattle.siri_ends.specs.At.{At}
-use Rattle.siri_ends.specs.Sending.{FirstSends}
+use Rattle.siri_ends.specs.Sending.{FirstSends, most_sends}
 use Rattle.siri_ends.specs.Serving.{Answers, FirstAnswer, ServesOne}
 use Rattle.siri_network.specs.Calls.{Outside, Told}
 use Rattle.siri_network.specs.Turns.{Running, Turn, TurnFails, Turns, TurnsFail}
@@ -32,7 +32,7 @@ Serves name from before to after = ServesOne name (end_at from before) (end_at t
 abbrev pub ServesFirst : (name : List ℕ) → At → Option WireState → Type 0
 ServesFirst name at after =
     FirstAnswer name at.history at.wire after
-    ⊎ ((outs : List Out) × (mid : At) × Answers outs name at mid × FirstSends name 100000 outs mid.history mid.wire after)
+    ⊎ ((outs : List Out) × (mid : At) × Answers outs name at mid × FirstSends name most_sends outs mid.history mid.wire after)
 
 abbrev pub StopsServing : (name : List ℕ) → Serving → Told WireState → Told WireState → Type 0
 StopsServing name from before after = ServesFirst name (end_at from before) after.tells

@@ -1,6 +1,6 @@
 -- Inner words: cited by private functions alone. What a part of a run does, with the producer as it is.
 use Rattle.std.specs.Prelude.{◌≡◌, ℕ, List, [], ◌∷◌}
-use Rattle.siri_exchange.specs.declared.tally.Tally.{Tally}
+use Rattle.siri_http.specs.declared.tally.Tally.{Tally}
 use Rattle.siri_model.specs.History.{History, Start}
 use Rattle.siri_producer.specs.Known.{Known, StandsFor}
 use Rattle.siri_network.specs.Calls.{Outside}
@@ -31,7 +31,8 @@ running_of server history = record { state = record { history = history; tally =
 -- A call does this: whatever history the producer stood for before it, it stands for the one that the call leaves. Its name stays.
 pub record Goes (Does : (name : List ℕ) → Running Serving → Running Serving → Type 0) (old new : Server) : Type 0 where
   pub name : new.producer.responder.name ≡ old.producer.responder.name
-  pub goes : (h : History) → StandsFor old.producer h → (after : History) × StandsFor new.producer after × Does old.producer.responder.name (running_of old h) (running_of new after)
+  pub goes : (h : History) → StandsFor old.producer h → (after : History) × StandsFor new.producer after
+      × Does old.producer.responder.name (running_of old h) (running_of new after)
 
 -- A call that ends the run leaves the outside so, whatever history the producer stood for before it.
 abbrev pub Ends : (Does : (name : List ℕ) → Running Serving → Outside → Type 0) → Server → Outside → Type 0

@@ -11,11 +11,11 @@
 //!                              the counts --> one line --> sink
 //! ```
 //!
-//! The contract of `serve` says which calls of the outside are made, what each connection is answered, what is sent where, what is
-//! counted and written, and which status ends the run: by the producer's history, turn after turn.
+//! The contract of `serve` says which calls of the outside are made, what each connection is answered, what is sent
+//! where, what is counted and written, and which status ends the run: by the producer's history, turn after turn.
 //!
-//! Stands on `siri_ends` for a turn, on `siri_network` for the calls of the outside and for the line. It knows no socket and no
-//! file.
+//! Stands on `siri_ends` for a turn of a `siri_producer`, on `siri_network` for the calls of the outside and for the
+//! line, and on `siri_base` and `siri_http` for what these speak of. It knows no socket and no file.
 #![tactic(auto)]
 
 mod opening;

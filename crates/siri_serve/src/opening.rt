@@ -1,6 +1,7 @@
-// How a run opens.
+//! How a run opens.
+
 ghost use Rattle.std.specs.Prelude.{IfOk, IfErr};
-ghost use Rattle.siri_network.specs.Calls.{outside_of, told_by};
+ghost use Rattle.siri_network.specs.Calls.{outside_told};
 ghost use Rattle.siri_serve.specs.Opening.{FailsToOpen};
 ghost use Rattle.siri_serve.specs.Steps.{OpensProducer};
 
@@ -10,7 +11,7 @@ use siri_producer::Producer;
 use std::alloc::Global;
 
 /// Raises the number of the start, listens, reads the clock, and starts a producer of this name.
-pub fn open<W: Wire, C: Clock, E: Keeper>(
+pub(crate) fn open<W: Wire, C: Clock, E: Keeper>(
     alloc: Global,
     name: Name,
     address: &Name,
@@ -19,11 +20,11 @@ pub fn open<W: Wire, C: Clock, E: Keeper>(
     keeper: &mut E,
 ) -> Result<Producer, NetworkError>
     ensures ok { IfOk result (λ producer. OpensProducer name address.now producer
-        (outside_of (told_by (W.tells wire.old) (W.faults wire.old)) (told_by (C.tells clock.old) (C.faults clock.old)) (told_by (E.tells keeper.old) (E.faults keeper.old)))
-        (outside_of (told_by (W.tells wire.new) (W.faults wire.new)) (told_by (C.tells clock.new) (C.faults clock.new)) (told_by (E.tells keeper.new) (E.faults keeper.new)))) }
+        (outside_told W.Wire C.Clock E.Keeper wire.old clock.old keeper.old)
+        (outside_told W.Wire C.Clock E.Keeper wire.new clock.new keeper.new)) }
     ensures err { IfErr result (λ error. FailsToOpen address.now error
-        (outside_of (told_by (W.tells wire.old) (W.faults wire.old)) (told_by (C.tells clock.old) (C.faults clock.old)) (told_by (E.tells keeper.old) (E.faults keeper.old)))
-        (outside_of (told_by (W.tells wire.new) (W.faults wire.new)) (told_by (C.tells clock.new) (C.faults clock.new)) (told_by (E.tells keeper.new) (E.faults keeper.new)))) }
+        (outside_told W.Wire C.Clock E.Keeper wire.old clock.old keeper.old)
+        (outside_told W.Wire C.Clock E.Keeper wire.new clock.new keeper.new)) }
 {
     let start = raise(keeper)?;
     listen(wire, address)?;

@@ -1,24 +1,26 @@
-// The command `serve`.
+//! The command `serve`.
+
 ghost use Rattle.std.specs.Prelude.{◌≡◌, IfErr, IfOk, Some, []};
 ghost use Rattle.siri_base.specs.Causes.{Rose};
 ghost use Rattle.siri_base.specs.MetFailures.{SinkMeets, is_write_fault};
-ghost use Rattle.siri_network.specs.Calls.{outside_of, told_by};
+ghost use Rattle.siri_network.specs.Calls.{outside_told};
 ghost use Rattle.siri_network.specs.Enough.{EndsWhole, HasEnough};
 ghost use Rattle.siri_serve.specs.Runs.{EndsServing, ServeRun, ServesAll, ServesNot};
 
 use crate::opening::open;
 use crate::turns::serve_connections;
 use siri_base::{Clock, Keeper, Name, OutsideError, Sink, Status, Wire};
-use siri_exchange::Tally;
+use siri_http::Tally;
 use siri_network::{NetworkError, write_summary};
 use std::alloc::Global;
 
-/// A producer of this name for so many connections at `HOST:PORT`: it raises the number of its start, listens, reads the clock
-/// for its first moment, and serves each connection at the clock's moment. Then it writes `served N refused R dropped D unsent U`.
+/// A producer of this name for so many connections at `HOST:PORT`: it raises the number of its start, listens, reads
+/// the clock for its first moment, and serves each connection at the clock's moment. Then it writes `served N refused R
+/// dropped D unsent U`.
 ///
-/// `KeeperFault`, `WireFault` and `ClockFault` only where the keeper, the wire or the clock failed, the wire to listen or to
-/// accept; nothing is written then. `WriteFault` only where the sink failed, `OutOfMemory` wherever memory is asked for,
-/// otherwise `Done`.
+/// `KeeperFault`, `WireFault` and `ClockFault` only where the keeper, the wire or the clock failed, the wire to listen
+/// or to accept; nothing is written then. `WriteFault` only where the sink failed, `OutOfMemory` wherever memory is
+/// asked for, otherwise `Done`.
 pub fn serve<K: Sink, W: Wire, C: Clock, E: Keeper>(
     alloc: Global,
     name: Name,
@@ -30,13 +32,13 @@ pub fn serve<K: Sink, W: Wire, C: Clock, E: Keeper>(
     keeper: &mut E,
 ) -> Status
     ensures run { ServeRun name address.now count
-        (outside_of (told_by (W.tells wire.old) (W.faults wire.old)) (told_by (C.tells clock.old) (C.faults clock.old)) (told_by (E.tells keeper.old) (E.faults keeper.old)))
-        (outside_of (told_by (W.tells wire.new) (W.faults wire.new)) (told_by (C.tells clock.new) (C.faults clock.new)) (told_by (E.tells keeper.new) (E.faults keeper.new)))
+        (outside_told W.Wire C.Clock E.Keeper wire.old clock.old keeper.old)
+        (outside_told W.Wire C.Clock E.Keeper wire.new clock.new keeper.new)
         (K.held sink.old) (K.held sink.new) result }
     ensures unwritten { EndsServing result → sink.new ≡ sink.old }
     ensures meets { SinkMeets (is_write_fault result) (K.held sink.old) (K.held sink.new) (K.fails sink.old) (K.fails sink.new) }
     // Where there is enough for so many connections, and no failure is named for the sink.
-    ensures complete { HasEnough count (outside_of (told_by (W.tells wire.old) (W.faults wire.old)) (told_by (C.tells clock.old) (C.faults clock.old)) (told_by (E.tells keeper.old) (E.faults keeper.old)))
+    ensures complete { HasEnough count (outside_told W.Wire C.Clock E.Keeper wire.old clock.old keeper.old)
         → K.fails sink.old ≡ Some [] → EndsWhole result }
     // When each fault comes.
     ensures write_fault { result ≡ Status.WriteFault → Rose (K.faults sink.old) (K.faults sink.new) }
@@ -65,11 +67,11 @@ fn serve_all<W: Wire, C: Clock, E: Keeper>(
     keeper: &mut E,
 ) -> Result<Tally, NetworkError>
     ensures ok { IfOk result (λ tally. ServesAll name address.now count tally
-        (outside_of (told_by (W.tells wire.old) (W.faults wire.old)) (told_by (C.tells clock.old) (C.faults clock.old)) (told_by (E.tells keeper.old) (E.faults keeper.old)))
-        (outside_of (told_by (W.tells wire.new) (W.faults wire.new)) (told_by (C.tells clock.new) (C.faults clock.new)) (told_by (E.tells keeper.new) (E.faults keeper.new)))) }
+        (outside_told W.Wire C.Clock E.Keeper wire.old clock.old keeper.old)
+        (outside_told W.Wire C.Clock E.Keeper wire.new clock.new keeper.new)) }
     ensures err { IfErr result (λ error. ServesNot name address.now count error
-        (outside_of (told_by (W.tells wire.old) (W.faults wire.old)) (told_by (C.tells clock.old) (C.faults clock.old)) (told_by (E.tells keeper.old) (E.faults keeper.old)))
-        (outside_of (told_by (W.tells wire.new) (W.faults wire.new)) (told_by (C.tells clock.new) (C.faults clock.new)) (told_by (E.tells keeper.new) (E.faults keeper.new)))) }
+        (outside_told W.Wire C.Clock E.Keeper wire.old clock.old keeper.old)
+        (outside_told W.Wire C.Clock E.Keeper wire.new clock.new keeper.new)) }
 {
     let mut producer = open(alloc, name, address, wire, clock, keeper)?;
     let mut tally = Tally::new();

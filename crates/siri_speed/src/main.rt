@@ -63,6 +63,7 @@ impl From<TableError> for Stopped {
     }
 }
 
+/// Exits with 0, with 1 where the phase wasn't done, with 64 without its words, with 70 without memory for them.
 fn main(rt: HostRuntime) -> ExitCode {
     let Ok(given) = env::args(&rt) else {
         return ExitCode::from(64);
@@ -114,6 +115,7 @@ fn visits_of<'v, 'a>(tree: &'v Tree<'a>) -> Option<&'v [Tree<'a>]> {
     Some(entry_list(member(service, "MonitoredStopVisit")?))
 }
 
+/// The items that the visits are read as, until the first is refused.
 fn items_of(alloc: Global, visits: &[Tree<'_>]) -> Result<Vec<Item>, Stopped> {
     let root = Path::new(alloc);
     let mut items = Vec::new(alloc);

@@ -1,4 +1,5 @@
-// When heartbeats are due.
+//! When heartbeats are due.
+
 ghost use Rattle.std.specs.Prelude.{◌≡◌, ◌↔◌, IsTrue, pos, ◌+ℤ◌, ◌<ℤ◌, ◌≤ℤ◌};
 ghost use Rattle.siri_status.specs.Beats.{is_due};
 
@@ -23,8 +24,8 @@ impl Model for Beats {
 }
 
 impl Beats {
-    /// The heartbeats of a subscription that is accepted at a moment, with its HeartbeatInterval in milliseconds: zero or
-    /// less is never.
+    /// The heartbeats of a subscription that is accepted at a moment, with its HeartbeatInterval in milliseconds: zero
+    /// or less is never.
     pub fn new(every: Span, now: Moment) -> Beats
         ensures { result ≡ record { every = every; last = now } }
     {
@@ -38,8 +39,8 @@ impl Beats {
         self.last = now;
     }
 
-    /// Whether a heartbeat is due at a moment: exactly where the interval is above zero and that much has passed since the
-    /// last one, or since the acceptance.
+    /// Whether a heartbeat is due at a moment: exactly where the interval is above zero and that much has passed since
+    /// the last one, or since the acceptance.
     pub fn due(&self, now: Moment) -> bool
         ensures value { result ≡ is_due self.now now }
         ensures exact { IsTrue result ↔ ((pos 0 <ℤ self.now.every) × ((pos self.now.last +ℤ self.now.every) ≤ℤ pos now)) }

@@ -28,7 +28,9 @@ use Rattle.siri_store.proofs.Sides.{below_none, above_none, between_all, not_bot
 abbrev Own : Key × Item → Type 0
 Own e = e.0 ≡ key_of e.1
 
-put_case : (es : Items) (e : Key × Item) (k : Key) (i : Item) (o : Ordering) → key_cmp k e.0 ≡ o → k ≡ key_of i → Own e → AllByRecursion Own es → AllByRecursion Own (insert_entry key_cmp es k i) → AllByRecursion Own (insert_entry key_cmp (e ∷ es) k i)
+put_case : (es : Items) (e : Key × Item) (k : Key) (i : Item) (o : Ordering) → key_cmp k e.0 ≡ o → k ≡ key_of i → Own e
+    → AllByRecursion Own es → AllByRecursion Own (insert_entry key_cmp es k i)
+    → AllByRecursion Own (insert_entry key_cmp (e ∷ es) k i)
 put_case es e k i Less is own first rest more = rw is (own, (first, rest))
 put_case es e k i Equal is own first rest more = rw is (sym (key_cmp_exact k e.0 is) ∙ own, rest)
 put_case es e k i Greater is own first rest more = rw is (first, more)
@@ -40,7 +42,9 @@ put_own (e ∷ es) k i own a = put_case es e k i (key_cmp k e.0) refl own a.0 a.
 pub own_put : (es : Items) (k : Key) (i : Item) → k ≡ key_of i → UnderOwnKeys es → UnderOwnKeys (insert_entry key_cmp es k i)
 own_put es k i own all = All-from_recursion Own (insert_entry key_cmp es k i) (put_own es k i own (recursion_from_All Own es all))
 
-remove_case : (test : Key → Bool) (e : Key × Item) (es : Items) (b : Bool) → test e.0 ≡ b → Own e → AllByRecursion Own es → AllByRecursion Own (remove_entry test es) → AllByRecursion Own (remove_entry test (e ∷ es))
+remove_case : (test : Key → Bool) (e : Key × Item) (es : Items) (b : Bool) → test e.0 ≡ b → Own e
+    → AllByRecursion Own es → AllByRecursion Own (remove_entry test es)
+    → AllByRecursion Own (remove_entry test (e ∷ es))
 remove_case test e es true is first rest less = rw is rest
 remove_case test e es false is first rest less = rw is (first, less)
 
@@ -77,17 +81,22 @@ all_showing t now (e ∷ es) a = (showing t now e a.0, all_showing t now es a.1)
 
 -- what is shown of the candidates is what is shown of all
 pub shown_candidates : (t : Topic) (now : ℕ) (es : Items) → UnderOwnKeys es → shown_entries t now (candidates t es) ≡ shown_entries t now es
-shown_candidates t now es all = filter_through (λ (e : Key × Item). may_be_shown t e.0) (shown_at t now) es (all_showing t now es (recursion_from_All Own es all))
+shown_candidates t now es all = filter_through (λ (e : Key × Item). may_be_shown t e.0) (shown_at t now) es
+    (all_showing t now es (recursion_from_All Own es all))
 
 -- so where they stand together, what is shown there is what is shown of all
-pub shown_there : (t : Topic) (now : ℕ) (es : Items) (from to : ℕ) → UnderOwnKeys es → slice_range es from to ≡ candidates t es → shown_entries t now (slice_range es from to) ≡ shown_entries t now es
+pub shown_there : (t : Topic) (now : ℕ) (es : Items) (from to : ℕ) → UnderOwnKeys es
+    → slice_range es from to ≡ candidates t es → shown_entries t now (slice_range es from to) ≡ shown_entries t now es
 shown_there t now es from to all is = ap (shown_entries t now) is ∙ shown_candidates t now es all
 
 -- ---- their places
 
-pub places_rise : (t : Topic) (es : Items) (from to : ℕ) → from ≤ length es → All (λ e. is_below t Equal e.0 ≡ true) (take from es) → All (λ e. is_below t Greater e.0 ≡ false) (drop to es) → from ≤ to
+pub places_rise : (t : Topic) (es : Items) (from to : ℕ) → from ≤ length es
+    → All (λ e. is_below t Equal e.0 ≡ true) (take from es) → All (λ e. is_below t Greater e.0 ≡ false) (drop to es)
+    → from ≤ to
 places_rise t es from to within before after =
-    in_turn (λ (e : Key × Item). is_below t Equal e.0 ≡ true) (λ (e : Key × Item). is_below t Greater e.0 ≡ false) es from to (λ e. not_both t e.0) within before after
+    in_turn (λ (e : Key × Item). is_below t Equal e.0 ≡ true)
+    (λ (e : Key × Item). is_below t Greater e.0 ≡ false) es from to (λ e. not_both t e.0) within before after
 
 -- between the first that isn't below the middle side and the first that is above it, they are the candidates
 pub places_are : (t : Topic) (es : Items) (from to : ℕ) → from ≤ to
@@ -100,4 +109,5 @@ places_are t es from to le below not_below not_above above =
     range_is_kept (λ (e : Key × Item). may_be_shown t e.0) es from to le
     (All-weaker (λ (e : Key × Item). is_below t Equal e.0 ≡ true) (λ (e : Key × Item). may_be_shown t e.0 ≡ false) (λ e. below_none t e.0) (take from es) below)
     (λ k d lt. between_all t _ (after k d lt) (before k d lt))
-    (All-weaker (λ (e : Key × Item). is_below t Greater e.0 ≡ false) (λ (e : Key × Item). may_be_shown t e.0 ≡ false) (λ e. above_none t e.0) (drop to es) above)
+    (All-weaker (λ (e : Key × Item). is_below t Greater e.0 ≡ false) (λ (e : Key × Item). may_be_shown t e.0 ≡ false)
+    (λ e. above_none t e.0) (drop to es) above)

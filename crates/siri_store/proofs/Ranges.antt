@@ -1,5 +1,6 @@
 -- Ranges of entries in order.
-use Rattle.std.proofs.Common.{◌≡◌, ℕ, suc, zero, ◌+◌, ◌-◌, ◌<◌, ◌≤◌, List, [], ◌∷◌, ◌++◌, length, take, drop, Bool, true, false, refl, ap, sym, subst, ◌∙◌, arith, add-one, slice_range}
+use Rattle.std.proofs.Common.{◌≡◌, ℕ, suc, zero, ◌+◌, ◌-◌, ◌<◌, ◌≤◌, List, [], ◌∷◌, ◌++◌, length, take, drop, Bool, true, false, refl, ap}
+use Rattle.std.proofs.Common.{sym, subst, ◌∙◌, arith, add-one, slice_range}
 use Rattle.std.specs.List.{All, AllByRecursion, filter}
 use Rattle.std.specs.List.Sorted.{IsStrictlySortedBy}
 use Rattle.std.specs.Map.{keys_of}
@@ -23,18 +24,21 @@ module _ {K X : Type 0} (cmp : K → K → Ordering) (p : K → Bool) (closed : 
   reached P (x ∷ es) zero e more a is = let same : x ≡ e = cc is in subst (λ (y : K × X). P y.0) same a.0
   reached P (x ∷ es) (suc m) e more a is = reached P es m e more a.1 is
 
-  passes_to : (es : List (K × X)) (m : ℕ) (e : K × X) (more : List (K × X)) → IsStrictlySortedBy cmp (keys_of es) → drop m es ≡ e ∷ more → p e.0 ≡ true → AllByRecursion (λ e. p e.0 ≡ true) (take (suc m) es)
+  passes_to : (es : List (K × X)) (m : ℕ) (e : K × X) (more : List (K × X)) → IsStrictlySortedBy cmp (keys_of es)
+      → drop m es ≡ e ∷ more → p e.0 ≡ true → AllByRecursion (λ e. p e.0 ≡ true) (take (suc m) es)
   unfolding IsStrictlySortedBy
   passes_to [] zero e more s is passes = absurd (cc is)
   passes_to [] (suc m) e more s is passes = absurd (cc is)
   passes_to (x ∷ es) zero e more s is passes = let same : x ≡ e = cc is in (ap (λ (y : K × X). p y.0) same ∙ passes, tt)
-  passes_to (x ∷ es) (suc m) e more s is passes = (closed x.0 e.0 (reached (λ y. cmp x.0 y ≡ Less) es m e more s.0 is) passes, passes_to es m e more s.1 is passes)
+  passes_to (x ∷ es) (suc m) e more s is passes =
+      (closed x.0 e.0 (reached (λ y. cmp x.0 y ≡ Less) es m e more s.0 is) passes, passes_to es m e more s.1 is passes)
 
   all_fail : (k : K) (es : List (K × X)) → p k ≡ false → AllByRecursion (λ y. cmp k y ≡ Less) (keys_of es) → AllByRecursion (λ e. p e.0 ≡ false) es
   all_fail k [] fails a = tt
   all_fail k (x ∷ es) fails a = (fails_after cmp p closed k x.0 (p x.0) refl a.0 fails, all_fail k es fails a.1)
 
-  fails_from : (es : List (K × X)) (m : ℕ) (e : K × X) (more : List (K × X)) → IsStrictlySortedBy cmp (keys_of es) → drop m es ≡ e ∷ more → p e.0 ≡ false → AllByRecursion (λ e. p e.0 ≡ false) (drop m es)
+  fails_from : (es : List (K × X)) (m : ℕ) (e : K × X) (more : List (K × X)) → IsStrictlySortedBy cmp (keys_of es)
+      → drop m es ≡ e ∷ more → p e.0 ≡ false → AllByRecursion (λ e. p e.0 ≡ false) (drop m es)
   unfolding IsStrictlySortedBy
   fails_from [] zero e more s is fails = tt
   fails_from [] (suc m) e more s is fails = tt
@@ -45,10 +49,12 @@ module _ {K X : Type 0} (cmp : K → K → Ordering) (p : K → Bool) (closed : 
   fails_from (x ∷ es) (suc m) e more s is fails = fails_from es m e more s.1 is fails
 
   -- it holds of all up to the place of one of which it holds, and fails from the place of one on of which it fails
-  pub holds_to : (es : List (K × X)) (m : ℕ) (e : K × X) (more : List (K × X)) → IsStrictlySortedBy cmp (keys_of es) → drop m es ≡ e ∷ more → p e.0 ≡ true → All (λ e. p e.0 ≡ true) (take (m + 1) es)
+  pub holds_to : (es : List (K × X)) (m : ℕ) (e : K × X) (more : List (K × X)) → IsStrictlySortedBy cmp (keys_of es)
+      → drop m es ≡ e ∷ more → p e.0 ≡ true → All (λ e. p e.0 ≡ true) (take (m + 1) es)
   holds_to es m e more s is passes = rw add-one (All-from_recursion (λ e. p e.0 ≡ true) (take (suc m) es) (passes_to es m e more s is passes))
 
-  pub fails_on : (es : List (K × X)) (m : ℕ) (e : K × X) (more : List (K × X)) → IsStrictlySortedBy cmp (keys_of es) → drop m es ≡ e ∷ more → p e.0 ≡ false → All (λ e. p e.0 ≡ false) (drop m es)
+  pub fails_on : (es : List (K × X)) (m : ℕ) (e : K × X) (more : List (K × X)) → IsStrictlySortedBy cmp (keys_of es)
+      → drop m es ≡ e ∷ more → p e.0 ≡ false → All (λ e. p e.0 ≡ false) (drop m es)
   fails_on es m e more s is fails = All-from_recursion (λ e. p e.0 ≡ false) (drop m es) (fails_from es m e more s is fails)
 
 -- ---- a range between two places is what a filter keeps
@@ -62,19 +68,24 @@ module _ {X : Type 0} (p : X → Bool) where
   kept_all [] a = refl
   kept_all (x ∷ xs) a = rw a.0 (ap (λ l. x ∷ l) (kept_all xs a.1))
 
-  pub range_is_kept : (xs : List X) (from to : ℕ) → from ≤ to → All (λ x. p x ≡ false) (take from xs) → All (λ x. p x ≡ true) (slice_range xs from to) → All (λ x. p x ≡ false) (drop to xs) → slice_range xs from to ≡ filter p xs
+  pub range_is_kept : (xs : List X) (from to : ℕ) → from ≤ to → All (λ x. p x ≡ false) (take from xs)
+      → All (λ x. p x ≡ true) (slice_range xs from to) → All (λ x. p x ≡ false) (drop to xs)
+      → slice_range xs from to ≡ filter p xs
   range_is_kept xs from to le before inside after =
       let front = kept_none (take from xs) (recursion_from_All (λ x. p x ≡ false) (take from xs) before) in
       let middle = kept_all (slice_range xs from to) (recursion_from_All (λ x. p x ≡ true) (slice_range xs from to) inside) in
       let back = kept_none (drop to xs) (recursion_from_All (λ x. p x ≡ false) (drop to xs) after) in
       let rest : filter p (drop from xs) ≡ slice_range xs from to =
-      ap (filter p) (drop_split xs from to le) ∙ (filter-append p (slice_range xs from to) (drop to xs) ∙ ((λ i. middle i ++ back i) ∙ append-nil (slice_range xs from to))) in
+      ap (filter p) (drop_split xs from to le)
+      ∙ (filter-append p (slice_range xs from to) (drop to xs)
+      ∙ ((λ i. middle i ++ back i) ∙ append-nil (slice_range xs from to))) in
       let whole : filter p xs ≡ slice_range xs from to =
       ap (filter p) (sym (take-append-drop from xs)) ∙ (filter-append p (take from xs) (drop from xs) ∙ (λ i. front i ++ rest i)) in
       sym whole
 
   -- a filter that lets all through that another one does
-  twice_case : (q : X → Bool) (x : X) (xs : List X) (b c : Bool) → p x ≡ b → q x ≡ c → (q x ≡ true → p x ≡ true) → filter q (filter p xs) ≡ filter q xs → filter q (filter p (x ∷ xs)) ≡ filter q (x ∷ xs)
+  twice_case : (q : X → Bool) (x : X) (xs : List X) (b c : Bool) → p x ≡ b → q x ≡ c → (q x ≡ true → p x ≡ true)
+      → filter q (filter p xs) ≡ filter q xs → filter q (filter p (x ∷ xs)) ≡ filter q (x ∷ xs)
   twice_case q x xs true true hp hq through rest = rw (hp, hq) (ap (λ l. x ∷ l) rest)
   twice_case q x xs true false hp hq through rest = rw (hp, hq) rest
   twice_case q x xs false true hp hq through rest = absurd (cc (through hq, hp))
@@ -87,7 +98,8 @@ module _ {X : Type 0} (p : X → Bool) where
 -- ---- the places of a range
 
 module _ {X : Type 0} where
-  turned : (P Q : X → Type 0) (xs : List X) (from to : ℕ) → ((x : X) → P x → Q x → ⊥) → from ≤ length xs → AllByRecursion P (take from xs) → AllByRecursion Q (drop to xs) → from ≤ to
+  turned : (P Q : X → Type 0) (xs : List X) (from to : ℕ) → ((x : X) → P x → Q x → ⊥) → from ≤ length xs
+      → AllByRecursion P (take from xs) → AllByRecursion Q (drop to xs) → from ≤ to
   turned P Q xs zero to apart within before after = omega arith
   turned P Q [] (suc from) to apart within before after = omega (arith, within)
   turned P Q (x ∷ xs) (suc from) zero apart within before after = absurd (apart x before.0 after.0)
@@ -96,7 +108,8 @@ module _ {X : Type 0} where
       omega (arith, rest)
 
   -- what holds before one place and what holds from another on contradict each other
-  pub in_turn : (P Q : X → Type 0) (xs : List X) (from to : ℕ) → ((x : X) → P x → Q x → ⊥) → from ≤ length xs → All P (take from xs) → All Q (drop to xs) → from ≤ to
+  pub in_turn : (P Q : X → Type 0) (xs : List X) (from to : ℕ) → ((x : X) → P x → Q x → ⊥) → from ≤ length xs
+      → All P (take from xs) → All Q (drop to xs) → from ≤ to
   in_turn P Q xs from to apart within before after =
       turned P Q xs from to apart within (recursion_from_All P (take from xs) before) (recursion_from_All Q (drop to xs) after)
 
@@ -123,8 +136,10 @@ module _ {X : Type 0} where
   take_next xs more n m x one is = (λ i. take (one i) (is i))
 
   -- a range begins with what is at its place
-  pub range_next : (xs : List X) (from to : ℕ) (x : X) → from < to → drop from xs ≡ x ∷ drop (from + 1) xs → slice_range xs from to ≡ x ∷ slice_range xs (from + 1) to
-  range_next xs from to x lt is = let one : to - from ≡ suc (to - (from + 1)) = omega arith in take_next (drop from xs) (drop (from + 1) xs) (to - from) (to - (from + 1)) x one is
+  pub range_next : (xs : List X) (from to : ℕ) (x : X) → from < to → drop from xs ≡ x ∷ drop (from + 1) xs
+      → slice_range xs from to ≡ x ∷ slice_range xs (from + 1) to
+  range_next xs from to x lt is = let one : to - from ≡ suc (to - (from + 1)) = omega arith in
+      take_next (drop from xs) (drop (from + 1) xs) (to - from) (to - (from + 1)) x one is
 
   -- and is empty where its end is no higher, and where nothing is at its place
   pub range_over : (xs : List X) (from to : ℕ) → to ≤ from → slice_range xs from to ≡ []

@@ -59,7 +59,8 @@ module _ {K : Type 0} {R : K → K → Ordering} (total : IsTotalOrder R) (a b c
 
 -- ---- keys
 
-points_rise : (t : Topic) (a b : Key) → rank a ≡ rank b → slice_cmp name_cmp (names a) (names b) ≡ Less → ordering_index (point_cmp t a) ≤ ordering_index (point_cmp t b)
+points_rise : (t : Topic) (a b : Key) → rank a ≡ rank b → slice_cmp name_cmp (names a) (names b) ≡ Less
+    → ordering_index (point_cmp t a) ≤ ordering_index (point_cmp t b)
 points_rise (topic.Stop s) (key.Visit m i) (key.Visit n j) same less = rises nat_list_cmp_total m n s.monitoring_ref (slice_cmp nat_cmp m n) _ refl less
 points_rise (topic.Stop s) (key.Visit m i) b same less = absurd (omega arith)
 points_rise (topic.Stop s) a (key.Visit n j) same less = absurd (omega arith)
@@ -71,7 +72,9 @@ then_rises Less p q le = omega arith
 then_rises Equal p q le = le
 then_rises Greater p q le = omega arith
 
-side_case : (t : Topic) (a b : Key) (o : Ordering) → nat_cmp (rank a) (rank b) ≡ o → ordering_then o (slice_cmp name_cmp (names a) (names b)) ≡ Less → ordering_index (side t a) ≤ ordering_index (side t b)
+side_case : (t : Topic) (a b : Key) (o : Ordering) → nat_cmp (rank a) (rank b) ≡ o
+    → ordering_then o (slice_cmp name_cmp (names a) (names b)) ≡ Less
+    → ordering_index (side t a) ≤ ordering_index (side t b)
 side_case t a b Less is less = ranks_rise (rank a) (rank b) (rank_asked t) (point_cmp t a) (point_cmp t b) (less_means (rank a) (rank b) is)
 side_case t a b Equal is less =
     let same : rank a ≡ rank b = nat_cmp-IsAntisymmetric (rank a) (rank b) is in
@@ -87,7 +90,8 @@ below_before t least a b less below =
 
 middle_is : (t : Topic) (k : Key) → may_be_shown t k ≡ is_eq (side t k)
 middle_is (topic.Stop s) (key.Visit m i) =
-    sym (same_from_slice_cmp nat_cmp is_eq same_name refl (λ y ys. refl) (λ x xs. refl) (λ x y xs ys o is. grind (arith, nat_tests)) m s.monitoring_ref (slice_cmp nat_cmp m s.monitoring_ref) refl)
+    sym (same_from_slice_cmp nat_cmp is_eq same_name refl (λ y ys. refl) (λ x xs. refl)
+    (λ x y xs ys o is. grind (arith, nat_tests)) m s.monitoring_ref (slice_cmp nat_cmp m s.monitoring_ref) refl)
 middle_is (topic.Stop s) k = refl
 middle_is (topic.Timetable s) (key.Visit m i) = refl
 middle_is (topic.Timetable s) (key.Journey l d f j) = refl

@@ -1,10 +1,11 @@
-// The held items that may be shown to a topic by their keys: they stand together, since keys are in order of their service,
-// and those of visits in order of their MonitoringRef.
+//! The held items that may be shown to a topic by their keys: they stand together, since keys are in order of their
+//! service, and those of visits in order of their MonitoringRef.
+
 ghost use Rattle.std.specs.Prelude.{◌≡◌, ◌≤◌, take, drop, length, slice_range, true, false};
 ghost use Rattle.std.specs.List.{All};
 ghost use Rattle.siri_records.specs.Keyed.{InOrder};
 ghost use Rattle.siri_records.specs.Order.{rank};
-ghost use Rattle.siri_store.specs.Candidates as definition;
+ghost use Rattle.siri_store.specs.Candidates.{candidates};
 ghost use Rattle.siri_store.specs.Sides.{rank_asked, point_cmp, side, is_below};
 
 use siri_records::{Key, KeyedItems};
@@ -12,9 +13,9 @@ use siri_topic::Topic;
 use std::cmp::Ordering;
 use std::ops::Range;
 
-// Their places. Keys alone are looked at, by halves.
+/// Their places. Keys alone are looked at, by halves.
 pub(crate) fn candidates(items: &KeyedItems, topic: &Topic) -> Range<usize>
-    ensures places { slice_range items.now result.start result.end ≡ definition.candidates topic.now items.now }
+    ensures places { slice_range items.now result.start result.end ≡ candidates topic.now items.now }
     ensures rising { result.start ≤ result.end }
     ensures within { result.end ≤ length items.now }
     ensures ordered { InOrder items.now }
@@ -25,7 +26,7 @@ pub(crate) fn candidates(items: &KeyedItems, topic: &Topic) -> Range<usize>
     }
 }
 
-// The place of the first key that isn't below a side, or their number.
+/// The place of the first key that isn't below a side, or their number.
 fn first_from(items: &KeyedItems, topic: &Topic, least: Ordering) -> usize
     ensures below { All (λ e. is_below topic.now least e.0 ≡ true) (take result items.now) }
     ensures above { All (λ e. is_below topic.now least e.0 ≡ false) (drop result items.now) }
@@ -44,6 +45,7 @@ fn first_from(items: &KeyedItems, topic: &Topic, least: Ordering) -> usize
     low
 }
 
+/// Whether a key stands before a topic's candidates, among them (`Equal`), or behind them.
 fn side(topic: &Topic, key: &Key) -> Ordering
     ensures { result ≡ side topic.now key.now }
 {
@@ -52,7 +54,7 @@ fn side(topic: &Topic, key: &Key) -> Ordering
         .then(point_cmp(topic, key))
 }
 
-// Of two visits' monitoring points, the key's against the topic's.
+/// Of two visits' monitoring points, the key's against the topic's.
 fn point_cmp(topic: &Topic, key: &Key) -> Ordering
     ensures { result ≡ point_cmp topic.now key.now }
 {
@@ -64,7 +66,7 @@ fn point_cmp(topic: &Topic, key: &Key) -> Ordering
     }
 }
 
-// Keys are in order of these.
+/// Keys are in order of these.
 fn rank(key: &Key) -> u8
     ensures { result ≡ rank key.now }
 {
@@ -76,6 +78,7 @@ fn rank(key: &Key) -> u8
     }
 }
 
+/// The rank of the keys of a topic's service.
 fn rank_asked(topic: &Topic) -> u8
     ensures { result ≡ rank_asked topic.now }
 {

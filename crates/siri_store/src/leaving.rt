@@ -1,4 +1,5 @@
-// Which dead item leaves first.
+//! Which dead item leaves first.
+
 ghost use Rattle.std.specs.Prelude.{◌≡◌, ◌<◌, length, slice_get, true, IfSome};
 ghost use Rattle.std.specs.Option.{option_and_then, option_map_or};
 ghost use Rattle.std.specs.Ordering.{is_lt};
@@ -11,7 +12,7 @@ use siri_records::{Item, Key, KeyedItems, dead, end_of};
 use std::cmp::Ordering;
 use std::rc::Rc;
 
-// The place of the dead entry that leaves first.
+/// The place of the dead entry that leaves first.
 pub(crate) fn first_to_leave(items: &KeyedItems, now: Moment) -> Option<usize>
     ensures first { IsFirst (dead_of now items.now) (option_and_then (slice_get items.now) result) }
     ensures within { IfSome result (λ place. place < length items.now) }
@@ -32,7 +33,7 @@ pub(crate) fn first_to_leave(items: &KeyedItems, now: Moment) -> Option<usize>
     first
 }
 
-// Whether an entry leaves before the one at a place, where there is one.
+/// Whether an entry leaves before the one at a place, where there is one.
 fn leaves_before(entry: &(Key, Rc<Item>), items: &KeyedItems, place: Option<usize>) -> bool
     ensures { result ≡ option_map_or (λ other. is_lt (leaving_cmp (entry.now.0, entry.now.1.value) other)) (option_and_then (slice_get items.now) place) true }
 {
@@ -45,7 +46,7 @@ fn leaves_before(entry: &(Key, Rc<Item>), items: &KeyedItems, place: Option<usiz
     }
 }
 
-// By the moment by which they leave, and then by key.
+/// By the moment by which they leave, and then by key.
 fn compare(a: &(Key, Rc<Item>), b: &(Key, Rc<Item>)) -> Ordering
     ensures { result ≡ leaving_cmp (a.now.0, a.now.1.value) (b.now.0, b.now.1.value) }
 {
@@ -55,7 +56,7 @@ fn compare(a: &(Key, Rc<Item>), b: &(Key, Rc<Item>)) -> Ordering
     }
 }
 
-// A closed item without an end counts as ended at 0.
+/// A closed item without an end counts as ended at 0.
 fn leaves_at(item: &Item) -> u64
     ensures { result ≡ leaves_at item.now }
 {

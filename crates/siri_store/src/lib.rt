@@ -10,11 +10,12 @@
 //!     topic         -> shown     ---> all of them in one call      a step for each that may be shown by its key
 //! ```
 //!
-//! An item leaves once it is dead at the store's moment: the store's owner moves the moment by `advance` and then lets the
-//! dead items go by `expire` (or one by one by `expire_one`), before it observes again. No more than 20,000 keys are held.
+//! An item leaves once it is dead at the store's moment: the store's owner moves the moment by `advance` and then lets
+//! the dead items go by `expire` (or one by one by `expire_one`), before it observes again. No more than 20,000 keys
+//! are held.
 //!
-//! Each held item that a caller gets or that is tested for a topic is counted as a step, by a counter that never falls. No
-//! other crate gets hold of the counter or of the items beside it.
+//! Each held item that a caller gets or that is tested for a topic is counted as a step, by a counter that never falls.
+//! No other crate gets hold of the counter or of the items beside it.
 //!
 //! Stands on `siri_base`, `siri_records` and `siri_topic`. It knows no subscription, no message and no clock.
 #![tactic(auto)]
@@ -27,4 +28,4 @@ mod store;
 mod walk;
 
 pub use selected::Selected;
-pub use store::{HELD_LIMIT, ObserveError, Store};
+pub use store::{MOST_LIVE, ObserveError, Store};

@@ -1,4 +1,5 @@
-// The walk over the items that are shown to a topic.
+//! The walk over the items that are shown to a topic.
+
 ghost use Rattle.std.specs.Iterator.{at_most};
 ghost use Rattle.std.specs.Prelude.{◌-◌};
 ghost use Rattle.siri_store.specs.Walk.{steps};

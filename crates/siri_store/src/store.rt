@@ -1,4 +1,5 @@
-// The store of current items.
+//! The store of current items.
+
 ghost use Rattle.std.specs.Prelude.{◌≡◌, ◌↔◌, ◌+◌, ◌≤◌, max, [], length, slice_range, option_map, true, false, None, IfOk, OnOk, OnErr, IsErrOf, ⊤};
 ghost use mathlib.Core.Option.{none};
 ghost use Rattle.std.specs.Borrow.{sem, follows, follows_so};
@@ -23,7 +24,7 @@ use std::rc::Rc;
 use thiserror::Error;
 
 /// The most keys that a store holds.
-pub const HELD_LIMIT: usize = 20_000;
+pub const MOST_LIVE: usize = 20_000;
 
 /// Why an item wasn't observed.
 #[derive(Clone, Copy, Debug, PartialEq, Eq, Error)]
@@ -47,8 +48,8 @@ impl From<OutOfMemory> for ObserveError {
     }
 }
 
-/// Current items in order of key, each under its own key, a moment, and a counter of steps. Contracts see the keys with the
-/// items themselves, the moment and the counter.
+/// Current items in order of key, each under its own key, a moment, and a counter of steps. Contracts see the keys with
+/// the items themselves, the moment and the counter.
 pub struct Store {
     entries: KeyedItems,
     moment: Moment,
@@ -133,19 +134,19 @@ impl Store {
         let key = match key_of(&item) {
             Ok(key) => key,
             Err(_) => {
-                discard_item(item);
+                drop(item);
                 return Err(ObserveError::OutOfMemory);
             }
         };
         if dead(&item, self.moment) {
             let _ = self.entries.remove(&key);
-            discard_key(key);
-            discard_item(item);
+            drop(key);
+            drop(item);
             return Ok(());
         }
-        if self.entries.len() >= HELD_LIMIT && !self.entries.has(&key) {
-            discard_key(key);
-            discard_item(item);
+        if self.entries.len() >= MOST_LIVE && !self.entries.has(&key) {
+            drop(key);
+            drop(item);
             return Err(ObserveError::StoreFull);
         }
         self.entries.put(key, item)?;
@@ -178,9 +179,9 @@ impl Store {
         self.entries.get(key)
     }
 
-    /// Lends, in order of key, the held items that are shown to a topic at the store's moment. The walk looks only at held
-    /// items that may be shown to the topic by their keys, and each that it looks at is a step. The store holds still as long
-    /// as the walk is alive.
+    /// Lends, in order of key, the held items that are shown to a topic at the store's moment. The walk looks only at
+    /// held items that may be shown to the topic by their keys, and each that it looks at is a step. The store holds
+    /// still as long as the walk is alive.
     pub fn select<'a>(&'a mut self, topic: &'a Topic) -> Selected<'a>
         ensures* keeps { sem 𝓛 (follows the_row counter_row self.entry.ghost_name result.counter.ghost_name (λ steps. record self.old { reads = steps })) }
         ensures counter { result.counter.now ≡ self.old.reads }
@@ -203,8 +204,9 @@ impl Store {
         }
     }
 
-    /// All held items that are shown to a topic at the store's moment, in order of key, shared with the store. Each held
-    /// item that may be shown to the topic by its key is a step. After want of memory nothing but the counter has changed.
+    /// All held items that are shown to a topic at the store's moment, in order of key, shared with the store. Each
+    /// held item that may be shown to the topic by its key is a step. After want of memory nothing but the counter has
+    /// changed.
     pub fn shown(&mut self, alloc: Global, topic: &Topic) -> Result<Vec<Rc<Item>>, OutOfMemory>
         ensures ok { IfOk result (λ items. unshared items.items ≡ shown_of topic.now self.old.moment self.old.entries) }
         ensures steps { OnOk result (self.new.reads ≡ counted self.old.reads (length (candidates topic.now self.old.entries))) }
@@ -245,10 +247,3 @@ impl Store {
         self.moment
     }
 }
-
-// Each lets one value go and does nothing else: the letting go of an item's or a key's fields would otherwise be opened on
-// each path of the caller's proof.
-
-fn discard_item(_item: Rc<Item>) {}
-
-fn discard_key(_key: Key) {}

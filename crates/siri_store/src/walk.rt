@@ -1,4 +1,6 @@
-// Walks that the store makes itself, over the held items that may be shown to a topic by their keys. Each item is a step.
+//! Walks that the store makes itself, over the held items that may be shown to a topic by their keys. Each item is a
+//! step.
+
 ghost use Rattle.std.specs.Prelude.{◌≡◌, ◌+◌, ◌≤◌, length, IfOk, OnOk};
 ghost use Rattle.siri_records.specs.Keyed.{InOrder, unshared};
 ghost use Rattle.siri_store.specs.Candidates.{UnderOwnKeys, candidates};
@@ -13,7 +15,7 @@ use siri_topic::{Topic, shown};
 use std::alloc::Global;
 use std::rc::Rc;
 
-// Those that are shown to a topic at a moment.
+/// Those that are shown to a topic at a moment.
 pub(crate) fn shown_items(
     alloc: Global,
     items: &KeyedItems,
@@ -42,7 +44,7 @@ pub(crate) fn shown_items(
     Ok(found)
 }
 
-// The same with copies of their keys.
+/// The same with copies of their keys.
 pub(crate) fn shown_entries(
     alloc: Global,
     items: &KeyedItems,

@@ -7,7 +7,8 @@ use Rattle.siri_subs.specs.declared.errors.Accepted.{Accepted}
 use Rattle.siri_subs.specs.declared.errors.Accepted.TheVariants as accepted_as
 use Rattle.siri_subs.specs.declared.errors.AcceptError.{AcceptError}
 use Rattle.siri_subs.specs.Mapped.{mapped_row, with_mapped_slots}
-use Rattle.siri_subs.specs.Table.{limit, answer_of, is_above, is_of, number_of, place_of, is_terminated, answer, put, after, accepted, without, is_ended_by, ended, expired, with_slot_of}
+use Rattle.siri_subs.specs.Table.{most_subscriptions, answer_of, is_above, is_of, number_of, place_of, is_terminated, answer, put, after, accepted}
+use Rattle.siri_subs.specs.Table.{without, is_ended_by, ended, expired}
 
 module _ {E F : Type 0} (slot_of : E → F) where
   pub length_mapped : (table : List (Row E)) → length (with_mapped_slots slot_of table) ≡ length table
@@ -21,7 +22,8 @@ module _ {E F : Type 0} (slot_of : E → F) where
   filter_case p q h table true same is rest = rw (same, is) (ap (λ l. mapped_row slot_of h ∷ l) rest)
   filter_case p q h table false same is rest = rw (same, is) rest
 
-  filter_mapped : (p : Row E → Bool) (q : Row F → Bool) → ((h : Row E) → q (mapped_row slot_of h) ≡ p h) → (table : List (Row E)) → filter q (with_mapped_slots slot_of table) ≡ with_mapped_slots slot_of (filter p table)
+  filter_mapped : (p : Row E → Bool) (q : Row F → Bool) → ((h : Row E) → q (mapped_row slot_of h) ≡ p h)
+      → (table : List (Row E)) → filter q (with_mapped_slots slot_of table) ≡ with_mapped_slots slot_of (filter p table)
   filter_mapped p q same [] = refl
   filter_mapped p q same (h ∷ table) = filter_case p q h table (p h) (same h) refl (filter_mapped p q same table)
 
@@ -31,7 +33,8 @@ module _ {E F : Type 0} (slot_of : E → F) where
   pub expired_mapped : (now : ℕ) (table : List (Row E)) → expired now (with_mapped_slots slot_of table) ≡ with_mapped_slots slot_of (expired now table)
   expired_mapped now table = filter_mapped (λ h. not (is_terminated now h)) (λ h. not (is_terminated now h)) (λ h. refl) table
 
-  number_case : (s i : List ℕ) (h : Row E) (table : List (Row E)) (b : Bool) → is_of s i h ≡ b → number_of s i (with_mapped_slots slot_of table) ≡ number_of s i table
+  number_case : (s i : List ℕ) (h : Row E) (table : List (Row E)) (b : Bool) → is_of s i h ≡ b
+      → number_of s i (with_mapped_slots slot_of table) ≡ number_of s i table
       → number_of s i (with_mapped_slots slot_of (h ∷ table)) ≡ number_of s i (h ∷ table)
   number_case s i h table true is rest = rw is refl
   number_case s i h table false is rest = rw is rest
@@ -59,33 +62,33 @@ module _ {E F : Type 0} (slot_of : E → F) where
 
   pub answer_mapped : (now : ℕ) (h : Row E) (table : List (Row E)) → answer now (mapped_row slot_of h) (with_mapped_slots slot_of table) ≡ answer now h table
   answer_mapped now h table =
-      λ j. answer_of (is_terminated now h) (nat_le limit (length_mapped table j)) h.number (number_mapped h.wanted.subscriber h.wanted.identifier table j)
+      λ j. answer_of (is_terminated now h) (nat_le most_subscriptions (length_mapped table j)) h.number (number_mapped h.wanted.subscriber h.wanted.identifier table j)
 
-  after_mapped : (r : Result Accepted AcceptError) (h : Row E) (table : List (Row E)) → after r (mapped_row slot_of h) (with_mapped_slots slot_of table) ≡ with_mapped_slots slot_of (after r h table)
+  after_mapped : (r : Result Accepted AcceptError) (h : Row E) (table : List (Row E))
+      → after r (mapped_row slot_of h) (with_mapped_slots slot_of table) ≡ with_mapped_slots slot_of (after r h table)
   after_mapped (Ok accepted_as.New) h table = put_mapped h table
   after_mapped (Ok accepted_as.Renewed) h table = put_mapped h table
   after_mapped (Ok accepted_as.Again) h table = refl
   after_mapped (Err refusal) h table = refl
 
-  pub accepted_mapped : (now : ℕ) (h : Row E) (table : List (Row E)) → accepted now (mapped_row slot_of h) (with_mapped_slots slot_of table) ≡ with_mapped_slots slot_of (accepted now h table)
+  pub accepted_mapped : (now : ℕ) (h : Row E) (table : List (Row E))
+      → accepted now (mapped_row slot_of h) (with_mapped_slots slot_of table) ≡ with_mapped_slots slot_of
+      (accepted now h table)
   accepted_mapped now h table =
       ap (λ r. after r (mapped_row slot_of h) (with_mapped_slots slot_of table)) (answer_mapped now h table) ∙ after_mapped (answer now h table) h table
 
-  pub is_ended_mapped : (number : ℕ) (s i : List ℕ) (table : List (Row E)) → is_ended_by number s i (with_mapped_slots slot_of table) ≡ is_ended_by number s i table
+  pub is_ended_mapped : (number : ℕ) (s i : List ℕ) (table : List (Row E))
+      → is_ended_by number s i (with_mapped_slots slot_of table) ≡ is_ended_by number s i table
   is_ended_mapped number s i table = ap (is_above number) (number_mapped s i table)
 
-  ended_case : (b : Bool) (s i : List ℕ) (table : List (Row E)) → cond b (without s i (with_mapped_slots slot_of table)) (with_mapped_slots slot_of table) ≡ with_mapped_slots slot_of (cond b (without s i table) table)
+  ended_case : (b : Bool) (s i : List ℕ) (table : List (Row E))
+      → cond b (without s i (with_mapped_slots slot_of table))
+      (with_mapped_slots slot_of table) ≡ with_mapped_slots slot_of (cond b (without s i table) table)
   ended_case true s i table = without_mapped s i table
   ended_case false s i table = refl
 
-  pub ended_mapped : (number : ℕ) (s i : List ℕ) (table : List (Row E)) → ended number s i (with_mapped_slots slot_of table) ≡ with_mapped_slots slot_of (ended number s i table)
+  pub ended_mapped : (number : ℕ) (s i : List ℕ) (table : List (Row E))
+      → ended number s i (with_mapped_slots slot_of table) ≡ with_mapped_slots slot_of (ended number s i table)
   ended_mapped number s i table =
-      ap (λ b. cond b (without s i (with_mapped_slots slot_of table)) (with_mapped_slots slot_of table)) (is_ended_mapped number s i table) ∙ ended_case (is_ended_by number s i table) s i table
-
-  written_case : (b : Bool) (h : Row E) (slot : E) → cond b (record (mapped_row slot_of h) { slot = slot_of slot }) (mapped_row slot_of h) ≡ mapped_row slot_of (cond b (record h { slot = slot }) h)
-  written_case true h slot = refl
-  written_case false h slot = refl
-
-  pub written_mapped : (s i : List ℕ) (slot : E) (table : List (Row E)) → with_slot_of s i (slot_of slot) (with_mapped_slots slot_of table) ≡ with_mapped_slots slot_of (with_slot_of s i slot table)
-  written_mapped s i slot [] = refl
-  written_mapped s i slot (h ∷ table) = λ j. written_case (is_of s i h) h slot j ∷ written_mapped s i slot table j
+      ap (λ b. cond b (without s i (with_mapped_slots slot_of table)) (with_mapped_slots slot_of table))
+      (is_ended_mapped number s i table) ∙ ended_case (is_ended_by number s i table) s i table

@@ -1,5 +1,6 @@
 -- The subscription table (EN 15531-2, subscriptions): what is held of each subscription, in order of first acceptance.
-use Rattle.std.specs.Prelude.{◌≡◌, ℕ, ◌≤◌, ◌==◌, nat_lt, nat_le, List, [], ◌∷◌, length, map, position, find, Bool, false, not, ◌&&◌, if◌then◌else◌, Option, Some, None, option_map, Result, Ok, Err}
+use Rattle.std.specs.Prelude.{◌≡◌, ℕ, ◌≤◌, ◌==◌, nat_lt, nat_le, List, [], ◌∷◌, length, position, find, Bool, false, not, ◌&&◌}
+use Rattle.std.specs.Prelude.{if◌then◌else◌, Option, Some, None, option_map, Result, Ok, Err}
 use Rattle.std.specs.List.{filter, list_any}
 use Rattle.siri_topic.specs.Agreement.{same_name}
 use Rattle.siri_subs.specs.declared.entry.Row.{Row}
@@ -9,8 +10,8 @@ use Rattle.siri_subs.specs.declared.errors.AcceptError.{AcceptError}
 use Rattle.siri_subs.specs.declared.errors.AcceptError.TheVariants as refused_as
 
 -- how many subscriptions a table holds at most
-abbrev pub limit : ℕ
-limit = 200
+abbrev pub most_subscriptions : ℕ
+most_subscriptions = 200
 
 -- the answer to a request for a subscription under a number, by the number under which it is held, if it is: an equal
 -- number is the same request again; then comes the first refusal that fits
@@ -45,8 +46,8 @@ module _ {E : Type 0} where
   -- a table as it is kept: no subscription is held twice, and there is room for as many as may be held
   pub record IsKept (table : List (Row E)) (capacity : ℕ) : Type 0 where
     pub once : EachOnce table
-    pub bound : length table ≤ limit
-    pub room : limit ≤ capacity
+    pub bound : length table ≤ most_subscriptions
+    pub room : most_subscriptions ≤ capacity
 
   -- the number under which a subscription is held
   abbrev pub number_of : List ℕ → List ℕ → List (Row E) → Option ℕ
@@ -63,7 +64,7 @@ module _ {E : Type 0} where
   -- the answer to a SubscriptionRequest at a moment, by the entry that it asks for
   abbrev pub answer : ℕ → Row E → List (Row E) → Result Accepted AcceptError
   answer now h table =
-      answer_of (is_terminated now h) (nat_le limit (length table)) h.number (number_of h.wanted.subscriber h.wanted.identifier table)
+      answer_of (is_terminated now h) (nat_le most_subscriptions (length table)) h.number (number_of h.wanted.subscriber h.wanted.identifier table)
 
   -- the table with an entry in the place of its subscription's, or at the end where there is none
   abbrev pub put : Row E → List (Row E) → List (Row E)
@@ -97,8 +98,3 @@ module _ {E : Type 0} where
   -- the table at a moment: subscriptions that are terminated have left it
   abbrev pub expired : ℕ → List (Row E) → List (Row E)
   expired now table = filter (λ h. not (is_terminated now h)) table
-
-  -- the table with another slot of a subscription, and all else as it was
-  abbrev pub with_slot_of : List ℕ → List ℕ → E → List (Row E) → List (Row E)
-  with_slot_of subscriber identifier slot table =
-      map (λ h. if is_of subscriber identifier h then record h { slot = slot } else h) table

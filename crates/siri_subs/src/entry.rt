@@ -1,6 +1,7 @@
-// An entry of the table.
+//! An entry of the table.
+
 ghost use Rattle.std.specs.Prelude.{◌≡◌};
-ghost use Rattle.siri_subs.specs.Table as definition;
+ghost use Rattle.siri_subs.specs.Table.{is_of, is_terminated};
 ghost use Rattle.siri_subs.specs.Lent.{entry_of};
 
 use siri_base::{Moment, Name, Span};
@@ -37,18 +38,21 @@ pub struct Entry<'a, E> {
 }
 
 impl<E> Row<E> {
+    /// Whether it is held of this SubscriberRef and SubscriptionIdentifier.
     pub(crate) fn is_of(&self, subscriber: &Name, identifier: &Name) -> bool
-        ensures { result ≡ definition.is_of subscriber.now identifier.now self.now }
+        ensures { result ≡ is_of subscriber.now identifier.now self.now }
     {
         self.wanted.subscriber == *subscriber && self.wanted.identifier == *identifier
     }
 
+    /// Whether its InitialTerminationTime has come at this moment, be it this very one.
     pub(crate) fn is_terminated(&self, now: Moment) -> bool
-        ensures { result ≡ definition.is_terminated now self.now }
+        ensures { result ≡ is_terminated now self.now }
     {
         self.wanted.termination.ms() <= now.ms()
     }
 
+    /// The row as an entry, which takes no memory.
     pub(crate) fn lent(&self) -> Entry<'_, E>
         ensures { entry_of result ≡ self.now }
     {

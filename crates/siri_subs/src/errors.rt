@@ -1,4 +1,5 @@
-// What the table answers.
+//! What the table answers.
+
 use thiserror::Error;
 
 /// How a request for a subscription was accepted.

@@ -7,12 +7,11 @@
 //!
 //!     a place                    -> at, at_mut    ---> what is held there
 //!     subscriber, identifier     -> place_of      ---> where it is held
-//!     subscriber, identifier     -> set_slot      ---> another slot of it
 //! ```
 //!
 //! A subscription is known by its subscriber and its identifier. Its subscriber numbers its requests, so that a request
-//! that comes again isn't taken for a renewal, and one that comes late doesn't undo a later one. At most 200 subscriptions
-//! are held, and the memory for them is taken when the table is made.
+//! that comes again isn't taken for a renewal, and one that comes late doesn't undo a later one. At most 200
+//! subscriptions are held, and the memory for them is taken when the table is made.
 //!
 //! With each entry the table keeps a slot, which is its owner's own: the table never looks into it.
 //!
@@ -26,5 +25,5 @@ mod table;
 
 pub use entry::{Entry, Row};
 pub use errors::{AcceptError, Accepted, EndError};
-pub use laws::{slots_are_written_by_name, slots_decide_nothing};
-pub use table::{TABLE_LIMIT, Table};
+pub use laws::slots_decide_nothing;
+pub use table::{MOST_SUBSCRIPTIONS, Table};

@@ -1,9 +1,10 @@
-// The table of subscriptions.
+//! The table of subscriptions.
+
 ghost use Rattle.std.specs.Prelude.{◌≡◌, ◌≢◌, ◌↔◌, ◌<◌, ◌≤◌, ℕ, OnErr, Ok, Err, [], length, slice_get, option_map, is_ok, IfOk, Some, None};
 ghost use Rattle.std.specs.Option.{option_copied_mut};
 ghost use Rattle.std.specs.Borrow.{sem};
 ghost use Rattle.siri_subs.specs.Lent.{entry_of};
-ghost use Rattle.siri_subs.specs.Table as definition;
+ghost use Rattle.siri_subs.specs.Table.{EachOnce, accepted, answer, ended, expired, is_ended_by, number_of, place_of, put, most_subscriptions};
 
 use crate::{AcceptError, Accepted, EndError, Entry, Row};
 use siri_base::{Moment, Name, OutOfMemory, Span};
@@ -13,10 +14,10 @@ use std::marker::Model;
 use std::mem::replace;
 
 /// The most subscriptions that a table holds.
-pub const TABLE_LIMIT: usize = 200;
+pub const MOST_SUBSCRIPTIONS: usize = 200;
 
-/// The subscriptions that are held, in order of first acceptance, each with its number, address, heartbeat interval and a
-/// slot. Contracts see the list of the entries.
+/// The subscriptions that are held, in order of first acceptance, each with its number, address, heartbeat interval and
+/// a slot. Contracts see the list of the entries.
 pub struct Table<E> {
     entries: Vec<Row<E>>,
 }
@@ -47,16 +48,16 @@ impl<E> Table<E> {
         ensures { IfOk result (λ table. table ≡ []) }
     {
         Ok(Table {
-            entries: Vec::with_capacity(alloc, TABLE_LIMIT)?,
+            entries: Vec::with_capacity(alloc, MOST_SUBSCRIPTIONS)?,
         })
     }
 
     /// Takes a request for a subscription under a number (SubscriptionRequest, EN 15531-2).
     ///
-    /// Where the subscription is held under this very number it is `Again` and nothing changes. Otherwise it is refused by
-    /// the first of these that fits, and nothing changes: `PastTermination` where it isn't to end after now, `Superseded`
-    /// where it is held under a greater number, `TableFull` where it isn't held and 200 others are. Otherwise it is
-    /// `Renewed` or `New`. It takes no memory.
+    /// Where the subscription is held under this very number it is `Again` and nothing changes. Otherwise it is refused
+    /// by the first of these that fits, and nothing changes: `PastTermination` where it isn't to end after now,
+    /// `Superseded` where it is held under a greater number, `TableFull` where it isn't held and 200 others are.
+    /// Otherwise it is `Renewed` or `New`. It takes no memory.
     pub fn accept(
         &mut self,
         number: u64,
@@ -68,19 +69,19 @@ impl<E> Table<E> {
     ) -> Result<Accepted, AcceptError>
     where
         E: Drop,
-        ensures answer { result ≡ definition.answer now (record { wanted = wanted; number = number; address = address; beat = beat; slot = slot }) self.old }
-        ensures table { self.new ≡ definition.accepted now (record { wanted = wanted; number = number; address = address; beat = beat; slot = slot }) self.old }
+        ensures answer { result ≡ answer now (record { wanted = wanted; number = number; address = address; beat = beat; slot = slot }) self.old }
+        ensures table { self.new ≡ accepted now (record { wanted = wanted; number = number; address = address; beat = beat; slot = slot }) self.old }
 
         // When each of these comes.
-        ensures again { (result ≡ Ok Accepted.Again) ↔ (definition.number_of wanted.subscriber wanted.identifier self.old ≡ Some number) }
+        ensures again { (result ≡ Ok Accepted.Again) ↔ (number_of wanted.subscriber wanted.identifier self.old ≡ Some number) }
         ensures past_termination { (result ≡ Err AcceptError.PastTermination)
-            ↔ ((wanted.termination ≤ now) × (definition.number_of wanted.subscriber wanted.identifier self.old ≢ Some number)) }
+            ↔ ((wanted.termination ≤ now) × (number_of wanted.subscriber wanted.identifier self.old ≢ Some number)) }
         ensures superseded { (held : ℕ) → (result ≡ Err (AcceptError.Superseded held))
-            ↔ ((definition.number_of wanted.subscriber wanted.identifier self.old ≡ Some held) × (number < held) × (now < wanted.termination)) }
+            ↔ ((number_of wanted.subscriber wanted.identifier self.old ≡ Some held) × (number < held) × (now < wanted.termination)) }
         ensures table_full { (result ≡ Err AcceptError.TableFull)
-            ↔ ((definition.number_of wanted.subscriber wanted.identifier self.old ≡ None) × (length self.old ≡ 200) × (now < wanted.termination)) }
+            ↔ ((number_of wanted.subscriber wanted.identifier self.old ≡ None) × (length self.old ≡ most_subscriptions) × (now < wanted.termination)) }
         ensures refused { OnErr result (self.new ≡ self.old) }
-        ensures once { definition.EachOnce self.new }
+        ensures once { EachOnce self.new }
     {
         let entry = Row {
             wanted,
@@ -92,7 +93,7 @@ impl<E> Table<E> {
         let answer = self.answer(&entry, now);
         match answer {
             Ok(Accepted::New) | Ok(Accepted::Renewed) => self.put(entry),
-            Ok(Accepted::Again) | Err(_) => discard(entry),
+            Ok(Accepted::Again) | Err(_) => drop(entry),
         }
         answer
     }
@@ -102,14 +103,14 @@ impl<E> Table<E> {
     pub fn end(&mut self, number: u64, subscriber: &Name, identifier: &Name) -> Result<(), EndError>
     where
         E: Drop,
-        ensures known { is_ok result ≡ definition.is_ended_by number subscriber.now identifier.now self.old }
-        ensures table { self.new ≡ definition.ended number subscriber.now identifier.now self.old }
+        ensures known { is_ok result ≡ is_ended_by number subscriber.now identifier.now self.old }
+        ensures table { self.new ≡ ended number subscriber.now identifier.now self.old }
         ensures refused { OnErr result (self.new ≡ self.old) }
-        ensures once { definition.EachOnce self.new }
+        ensures once { EachOnce self.new }
     {
         match self.place_of(subscriber, identifier) {
             Some(place) if self.entries[place].number < number => {
-                discard(self.entries.remove(place));
+                drop(self.entries.remove(place));
                 Ok(())
             }
             _ => Err(EndError::UnknownSubscription),
@@ -120,8 +121,8 @@ impl<E> Table<E> {
     pub fn expire(&mut self, now: Moment)
     where
         E: Drop,
-        ensures table { self.new ≡ definition.expired now self.old }
-        ensures once { definition.EachOnce self.new }
+        ensures table { self.new ≡ expired now self.old }
+        ensures once { EachOnce self.new }
     {
         self.entries.retain(|entry| !entry.is_terminated(now));
     }
@@ -129,8 +130,8 @@ impl<E> Table<E> {
     /// How many subscriptions are held, at most 200.
     pub fn len(&self) -> usize
         ensures value { result ≡ length self.now }
-        ensures bound { result ≤ 200 }
-        ensures once { definition.EachOnce self.now }
+        ensures bound { result ≤ most_subscriptions }
+        ensures once { EachOnce self.now }
     {
         self.entries.len()
     }
@@ -145,8 +146,8 @@ impl<E> Table<E> {
         }
     }
 
-    /// The slot at a place, counted from 0, to write there: `None` exactly where the place isn't below the length. Once the
-    /// loan is over, the table has what was written as the slot of this place, and all else is as it was.
+    /// The slot at a place, counted from 0, to write there: `None` exactly where the place isn't below the length. Once
+    /// the loan is over, the table has what was written as the slot of this place, and all else is as it was.
     pub fn at_mut(&mut self, place: usize) -> Option<&mut E>
         ensures* writes_back { sem 𝓛 (lends_slot_if E.row self.entry place result) }
         ensures value { option_copied_mut result ≡ option_map (λ h. h.slot) (slice_get self.old place) }
@@ -158,37 +159,17 @@ impl<E> Table<E> {
         }
     }
 
-    /// Writes the slot of a subscription, and says whether it is held: where it isn't, nothing changes. It takes no memory.
-    pub fn set_slot(&mut self, subscriber: &Name, identifier: &Name, slot: E) -> bool
-    where
-        E: Drop,
-        ensures held { result ≡ definition.is_held subscriber.now identifier.now self.old }
-        ensures table { self.new ≡ definition.with_slot_of subscriber.now identifier.now slot self.old }
-        ensures once { definition.EachOnce self.new }
-    {
-        let Some(place) = self.place_of(subscriber, identifier) else {
-            return false;
-        };
-        match self.at_mut(place) {
-            Some(kept) => {
-                *kept = slot;
-                true
-            }
-            None => false,
-        }
-    }
-
     /// The place of a subscription, counted from 0: `None` exactly where it isn't held.
     pub fn place_of(&self, subscriber: &Name, identifier: &Name) -> Option<usize>
-        ensures place { result ≡ definition.place_of subscriber.now identifier.now self.now }
-        ensures once { definition.EachOnce self.now }
+        ensures place { result ≡ place_of subscriber.now identifier.now self.now }
+        ensures once { EachOnce self.now }
     {
         self.entries
             .iter()
             .position(|entry| entry.is_of(subscriber, identifier))
     }
 
-    // The slot at a place.
+    /// The slot at a place.
     fn slot_mut(&mut self, place: usize) -> &mut E
         requires { place < length self.old }
         ensures* writes_back { sem 𝓛 (lends_slot E.row self.entry place result) }
@@ -197,11 +178,11 @@ impl<E> Table<E> {
         &mut self.entries[place].slot
     }
 
-    // What the request for an entry's subscription is answered.
+    /// What the request for an entry's subscription is answered.
     fn answer(&self, entry: &Row<E>, now: Moment) -> Result<Accepted, AcceptError>
-        ensures value { result ≡ definition.answer now entry.now self.now }
-        ensures bound { length self.now ≤ 200 }
-        ensures once { definition.EachOnce self.now }
+        ensures value { result ≡ answer now entry.now self.now }
+        ensures bound { length self.now ≤ most_subscriptions }
+        ensures once { EachOnce self.now }
     {
         let is_terminated = entry.is_terminated(now);
         match self.number_of(&entry.wanted.subscriber, &entry.wanted.identifier) {
@@ -209,14 +190,14 @@ impl<E> Table<E> {
             _ if is_terminated => Err(AcceptError::PastTermination),
             Some(held) if held > entry.number => Err(AcceptError::Superseded { held }),
             Some(_) => Ok(Accepted::Renewed),
-            None if self.entries.len() >= TABLE_LIMIT => Err(AcceptError::TableFull),
+            None if self.entries.len() >= MOST_SUBSCRIPTIONS => Err(AcceptError::TableFull),
             None => Ok(Accepted::New),
         }
     }
 
-    // The number under which a subscription is held.
+    /// The number under which a subscription is held.
     fn number_of(&self, subscriber: &Name, identifier: &Name) -> Option<u64>
-        ensures { result ≡ definition.number_of subscriber.now identifier.now self.now }
+        ensures { result ≡ number_of subscriber.now identifier.now self.now }
     {
         self.entries
             .iter()
@@ -224,19 +205,17 @@ impl<E> Table<E> {
             .map(|entry| entry.number)
     }
 
-    // Puts an entry in the place of its subscription's, or at the end where it isn't held and there is room.
+    /// Puts an entry in the place of its subscription's, or at the end where it isn't held and there is room.
     fn put(&mut self, entry: Row<E>)
     where
         E: Drop,
-        requires { definition.number_of entry.wanted.subscriber entry.wanted.identifier self.old ≡ None → length self.old < 200 }
-        ensures table { self.new ≡ definition.put entry self.old }
-        ensures once { definition.EachOnce self.new }
+        requires { number_of entry.wanted.subscriber entry.wanted.identifier self.old ≡ None → length self.old < most_subscriptions }
+        ensures table { self.new ≡ put entry self.old }
+        ensures once { EachOnce self.new }
     {
         match self.place_of(&entry.wanted.subscriber, &entry.wanted.identifier) {
-            Some(place) => discard(replace(&mut self.entries[place], entry)),
+            Some(place) => drop(replace(&mut self.entries[place], entry)),
             None => self.entries.push_reserved(entry),
         }
     }
 }
-
-fn discard<E: Drop>(_entry: Row<E>) {}

@@ -1,4 +1,5 @@
-// The system's clock.
+//! The system's clock.
+
 ghost use Rattle.std.specs.Prelude.{None, ◌≡◌};
 
 use siri_base::{Clock, Failed, Moment};

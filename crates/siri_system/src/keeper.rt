@@ -1,4 +1,5 @@
-// The start number in a file.
+//! The start number in a file.
+
 ghost use Rattle.std.specs.Prelude.{◌≡◌, ◌≤◌, None, IfOk};
 
 use siri_base::{Keeper, OutsideError};
@@ -12,17 +13,17 @@ const KEPT: &str = "siri-start";
 /// The file that is written first and then put in its place.
 const NEXT: &str = "siri-start.next";
 
-/// The file that is locked meanwhile. It stays, and is empty; the system lets go of the lock when a program ends, in whatever
-/// way.
+/// The file that is locked meanwhile. It stays, and is empty; the system lets go of the lock when a program ends, in
+/// whatever way.
 const LOCK: &str = "siri-start.lock";
 
 /// The greatest number that a keeper gives.
-const GREATEST: u64 = 99_999_999_999;
+const GREATEST_START: u64 = 99_999_999_999;
 
 /// The start number in the file `siri-start`, which is absent before the first start. The next number is written beside
-/// it and then takes its name, so a stop in between keeps the old one; of starts at once in one folder each waits until the
-/// one before it has its number. It fails where the file holds anything but decimal digits and a line feed or the greatest
-/// number, and where the system fails.
+/// it and then takes its name, so a stop in between keeps the old one; of starts at once in one folder each waits until
+/// the one before it has its number. It fails where the file holds anything but decimal digits and a line feed or the
+/// greatest number, and where the system fails.
 #[derive(Drop)]
 pub struct FileKeeper {
     rt: HostRuntime,
@@ -90,7 +91,7 @@ fn next(rt: &HostRuntime) -> io::Result<u64>
     ensures { IfOk result (λ n. (1 ≤ n) × (n ≤ 99999999999)) }
 {
     let number = kept(rt)?;
-    if number >= GREATEST {
+    if number >= GREATEST_START {
         return Err(no_number());
     }
     keep(rt, number + 1)?;

@@ -7,8 +7,8 @@
 //! ```
 //!
 //! These are the trusted edge: a few lines over the standard library each, which raise a count at each failure and tell
-//! nothing of what a socket, a clock or a file holds; a wire and a keeper keep the last error, for whoever tells it in the
-//! system's words. Standard input, output and error have their adapters in `siri_base`.
+//! nothing of what a socket, a clock or a file holds; a wire and a keeper keep the last error, for whoever tells it in
+//! the system's words. Standard input, output and error have their adapters in `siri_base`.
 //!
 //! Stands on `siri_base` alone. It knows no message and no HTTP.
 #![tactic(auto)]

@@ -1,4 +1,5 @@
-// Connections over TCP.
+//! Connections over TCP.
+
 ghost use Rattle.std.specs.Prelude.{◌≡◌, ◌≤◌, None, IsSome};
 ghost use Rattle.siri_base.specs.Causes.{Rose};
 
@@ -9,26 +10,26 @@ use std::net::{TcpListener, TcpStream, ToSocketAddrs};
 use std::time::Duration;
 use std::{io, thread};
 
-/// How long it may take to make a connection, in seconds, which the addresses of a name share alike. A host that is there
-/// answers at once, or to the second packet, which the system sends after a second; of one that swallows packets the system
-/// itself waits for two minutes, and everybody else with it.
-const MAKING: u64 = 2;
+/// How long it may take to make a connection, in seconds, which the addresses of a name share alike. A host that is
+/// there answers at once, or to the second packet, which the system sends after a second; of one that swallows packets
+/// the system itself waits for two minutes, and everybody else with it.
+const DIAL_SECONDS: u64 = 2;
 
 /// How often it is tried to accept a connection where that fails for no fault of the listener.
-const TRIES: u32 = 600;
+const MOST_TRIES: u32 = 600;
 
 /// How long it is waited for descriptors before the next try, in milliseconds: with all tries, for a minute.
-const PAUSE: u64 = 100;
+const PAUSE_MILLISECONDS: u64 = 100;
 
-/// What the system tells of a connection that came and was given up before it was accepted: ENONET, EPROTO, ENOPROTOOPT,
-/// ENETDOWN, ENETUNREACH, ECONNABORTED, ECONNRESET, EHOSTDOWN and EHOSTUNREACH.
+/// What the system tells of a connection that came and was given up before it was accepted: ENONET, EPROTO,
+/// ENOPROTOOPT, ENETDOWN, ENETUNREACH, ECONNABORTED, ECONNRESET, EHOSTDOWN and EHOSTUNREACH.
 const GIVEN_UP: [i32; 9] = [64, 71, 92, 100, 101, 103, 104, 112, 113];
 
 /// What the system tells where descriptors or buffers are short: ENFILE, EMFILE and ENOBUFS.
 const SHORT: [i32; 3] = [23, 24, 105];
 
-/// One connection at a time over TCP. To make one takes at most two seconds, but for the look-up of a host's name. What a
-/// connection may take is said in `connection`; to accept waits for as long as none comes.
+/// One connection at a time over TCP. To make one takes at most two seconds, but for the look-up of a host's name. What
+/// a connection may take is said in `connection`; to accept waits for as long as none comes.
 #[derive(Drop)]
 pub struct TcpWire {
     rt: HostRuntime,
@@ -81,13 +82,13 @@ fn is_among(error: &io::Error, codes: &[i32]) -> bool {
 /// Accepts a connection. One that was given up is passed over, and where descriptors are short it is tried again.
 fn accepted(rt: &HostRuntime, listener: &TcpListener) -> io::Result<Connection> {
     let mut last = io::Error::from(ErrorKind::ConnectionAborted);
-    for _ in 0..TRIES {
+    for _ in 0..MOST_TRIES {
         match listener.accept() {
             Ok((stream, _)) => return Connection::new(rt, stream),
             Err(error) => last = error,
         }
         if is_among(&last, &SHORT) {
-            thread::sleep(rt, Duration::from_millis(PAUSE));
+            thread::sleep(rt, Duration::from_millis(PAUSE_MILLISECONDS));
         } else if !is_among(&last, &GIVEN_UP) {
             break;
         }
@@ -98,7 +99,7 @@ fn accepted(rt: &HostRuntime, listener: &TcpListener) -> io::Result<Connection> 
 /// Dials the addresses of a name in turn.
 fn dialled(rt: &HostRuntime, address: &str) -> io::Result<Connection> {
     let addresses = address.to_socket_addrs(rt)?;
-    let each = Duration::from_secs(MAKING) / (addresses.len() as u32).max(1);
+    let each = Duration::from_secs(DIAL_SECONDS) / (addresses.len() as u32).max(1);
     let mut last = io::Error::from(ErrorKind::NotFound);
     for address in addresses {
         match TcpStream::connect_timeout(rt, &address, each) {

@@ -21,7 +21,8 @@ row_is name None old new is = absurd is
 row_is name (Some d) old new is = is
 
 -- one entry more
-pub entry_appended : (w : Option Data) (ds : List Data) (old new : List Token) → Appends w old new → new ++ entries_tokens ds ≡ old ++ entries_tokens (cons_option w ds)
+pub entry_appended : (w : Option Data) (ds : List Data) (old new : List Token) → Appends w old new
+    → new ++ entries_tokens ds ≡ old ++ entries_tokens (cons_option w ds)
 entry_appended None ds old new is = absurd is
 entry_appended (Some d) ds old new is = rw is (append_assoc old (tokens_of d) (entries_tokens ds))
 
@@ -37,7 +38,8 @@ pub list_appended : (name : List ℕ) (w : Option Data) (ds : List Data) (old fi
     → AppendsRow name (array_unless_empty (cons_option w ds)) old ((first ++ entries_tokens ds) ++ end_array ∷ [])
 list_appended name None ds old first is = absurd is
 list_appended name (Some d) ds old first is =
-    rw is (regroup old (tokens_of d) (entries_tokens ds) (end_array ∷ []) (key name) begin_array ∙ ap (λ ts. old ++ key name ∷ begin_array ∷ (tokens_of d ++ ts)) (sym (entries_close ds)))
+    rw is (regroup old (tokens_of d) (entries_tokens ds) (end_array ∷ []) (key name) begin_array
+    ∙ ap (λ ts. old ++ key name ∷ begin_array ∷ (tokens_of d ++ ts)) (sym (entries_close ds)))
 
 -- an object of one row that is written
 regroup_object : (old a : List Token) (b n c : Token) → ((old ++ b ∷ []) ++ n ∷ a) ++ c ∷ [] ≡ old ++ b ∷ n ∷ (a ++ c ∷ [])
@@ -48,5 +50,7 @@ pub object_appended : (name : List ℕ) (w : Option Data) (old new : List Token)
 object_appended name None old new is = absurd is
 object_appended name (Some d) old new is = rw is (regroup_object old (tokens_of d) begin_object (key name) end_object)
 
-pub name_in_order : (old : List Token) (inner name : List ℕ) → ((old ++ begin_object ∷ []) ++ row_tokens inner (written_text name)) ++ end_object ∷ [] ≡ old ++ begin_object ∷ key inner ∷ string name ∷ end_object ∷ []
+pub name_in_order : (old : List Token) (inner name : List ℕ)
+    → ((old ++ begin_object ∷ []) ++ row_tokens inner (written_text name)) ++ end_object ∷ [] ≡ old
+    ++ begin_object ∷ key inner ∷ string name ∷ end_object ∷ []
 name_in_order old inner name = simp append_assoc

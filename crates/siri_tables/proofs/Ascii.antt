@@ -23,7 +23,9 @@ joined {front} {back} f b = record { is = IsAscii-append front back f.is b.is }
 
 digits : (f : ℕ) → f < 10000000 → Low (seven_wide f)
 digits f small =
-    before _ (omega (arith, small)) (before _ (omega arith) (before _ (omega arith) (before _ (omega arith) (before _ (omega arith) (before _ (omega arith) (before _ (omega arith) none))))))
+    before _ (omega (arith, small)) (before _ (omega arith)
+    (before _ (omega arith) (before _ (omega arith)
+    (before _ (omega arith) (before _ (omega arith) (before _ (omega arith) none))))))
 
 fraction : (f : ℕ) → f < 10000000 → Low (fraction_text f)
 unfolding fraction_text

@@ -1,5 +1,6 @@
 -- What was written is spelled again: the members of an object that rows wrote.
-use Rattle.std.proofs.Common.{◌≡◌, ℕ, Bool, true, false, cond, List, [], ◌∷◌, Option, Some, None, option_map, Result, Ok, Ordering, Less, Equal, Greater, nat_cmp, bytes_eq, refl, ap, ◌∙◌, subst}
+use Rattle.std.proofs.Common.{◌≡◌, ℕ, Bool, true, false, cond, List, [], ◌∷◌, Option, Some, None, option_map, Result, Ok, Ordering, Less}
+use Rattle.std.proofs.Common.{Equal, Greater, nat_cmp, bytes_eq, refl, ap, ◌∙◌, subst}
 use Rattle.std.specs.Cmp.Lexicographic.{slice_cmp}
 use Rattle.std.specs.Ordering.{match_ordering}
 use Rattle.std.proofs.lemmas.Slice.Eq.{bytes_eq-Decides}
@@ -21,7 +22,9 @@ found_again written = unless_null (option_map as_texts written)
 abbrev pub GivesBack : {A : Type 0} → (Data → Result (Option A) Refusal) → Option Data → Option A → Type 0
 GivesBack rule written value = maybe rule (found_again written) ≡ Ok value
 
-choice-as_texts : (o : Ordering) (a : Option Data) (e : Data) → match_ordering o (option_map as_texts a) (Some (as_texts e)) (option_map as_texts a) ≡ option_map as_texts (match_ordering o a (Some e) a)
+choice-as_texts : (o : Ordering) (a : Option Data) (e : Data)
+    → match_ordering o (option_map as_texts a) (Some (as_texts e)) (option_map as_texts a) ≡ option_map as_texts
+    (match_ordering o a (Some e) a)
 choice-as_texts Less a e = refl
 choice-as_texts Equal a e = refl
 choice-as_texts Greater a e = refl
@@ -45,7 +48,8 @@ chosen : (found : Option Data) (d : Data) → Some d ≡ or_else found (Some d)
 chosen None d = refl
 chosen (Some e) d = refl
 
-found_put : (k l : List ℕ) (d : Data) (ms : Members) (b : Bool) → bytes_eq k l ≡ b → get_member k (put l d ms) ≡ cond b (or_else (get_member k ms) (Some d)) (get_member k ms)
+found_put : (k l : List ℕ) (d : Data) (ms : Members) (b : Bool) → bytes_eq k l ≡ b
+    → get_member k (put l d ms) ≡ cond b (or_else (get_member k ms) (Some d)) (get_member k ms)
 found_put k l d ms true e =
     let same : k ≡ l = (bytes_eq-Decides k l).0 e in
     let required : get_member k (put k d ms) ≡ Some d = get_member-put k d ms in
@@ -57,7 +61,8 @@ put_none true None = refl
 put_none true (Some d) = refl
 put_none false found = refl
 
-found_put_row : (k l : List ℕ) (o : Option Data) (ms : Members) → get_member k (put_row l o ms) ≡ cond (bytes_eq k l) (or_else (get_member k ms) o) (get_member k ms)
+found_put_row : (k l : List ℕ) (o : Option Data) (ms : Members)
+    → get_member k (put_row l o ms) ≡ cond (bytes_eq k l) (or_else (get_member k ms) o) (get_member k ms)
 found_put_row k l None ms = put_none (bytes_eq k l) (get_member k ms)
 found_put_row k l (Some d) ms = found_put k l d ms (bytes_eq k l) refl
 
@@ -66,7 +71,8 @@ found_with_rows k ms [] = refl
 found_with_rows k ms (r ∷ rs) = found_with_rows k (put_row r.0 r.1 ms) rs ∙ ap (λ (found : Option Data). in_rows k found rs) (found_put_row k r.0 r.1 ms)
 
 -- the member of a name in an object that rows wrote
-pub member_again : (key : List ℕ) (rs : List Row) (written : Option Data) → in_rows key None rs ≡ written → member_of key (as_texts (row_object rs)) ≡ found_again written
+pub member_again : (key : List ℕ) (rs : List Row) (written : Option Data) → in_rows key None rs ≡ written
+    → member_of key (as_texts (row_object rs)) ≡ found_again written
 unfolding member_of
 member_again key rs written at_key = rw (get_member-as_texts key (with_rows no_members rs), found_with_rows key no_members rs, at_key) refl
 

@@ -1,5 +1,6 @@
 -- What was written is spelled again: objects that are left out where they would be empty, and lists.
-use Rattle.std.proofs.Common.{◌≡◌, ℕ, ◌+◌, ◌≤◌, ◌⊎◌, inl, inr, Bool, true, false, cond, not, nat_le, List, [], ◌∷◌, length, bytes_eq, Option, Some, None, Result, Ok, refl, sym, ap, ◌∙◌, arith}
+use Rattle.std.proofs.Common.{◌≡◌, ℕ, ◌+◌, ◌≤◌, ◌⊎◌, inl, inr, Bool, true, false, cond, not, nat_le, List, [], ◌∷◌, length, bytes_eq}
+use Rattle.std.proofs.Common.{Option, Some, None, Result, Ok, refl, sym, ap, ◌∙◌, arith}
 use Rattle.std.specs.Prelude.{count_by}
 use Rattle.std.specs.List.{filter_map, AllByRecursion}
 use Rattle.std.proofs.lemmas.Bool.{le-leb}
@@ -10,7 +11,8 @@ use Rattle.serde_json.specs.View.{items_of}
 use Rattle.siri_json.specs.Canonical.{as_texts, items_as_texts}
 use Rattle.siri_json.specs.Values.{object_in, member_of, items_list, entries_of}
 use Rattle.siri_tables.specs.Refusals.{Refusal}
-use Rattle.siri_tables.specs.Rules.{name, inside, table, table_unless_blank, required_value, is_null, entry_count, entries_from, found_from, at_most, list_of, names_of, or_empty, list, not_empty, nonempty_list, names, list_inside}
+use Rattle.siri_tables.specs.Rules.{name, inside, table, table_unless_blank, required_value, is_null, entry_count, entries_from, found_from}
+use Rattle.siri_tables.specs.Rules.{at_most, list_of, names_of, or_empty, list, not_empty, nonempty_list, names, list_inside}
 use Rattle.siri_tables.specs.Writing.{Row, with_rows, row_object, object_unless_empty, array_unless_empty, written_list, written_text, written_name}
 use Rattle.siri_tables.specs.Proper.{IsName}
 use Rattle.siri_tables.proofs.Back.{found_again, GivesBack, in_rows, member_again, row_again}
@@ -74,7 +76,8 @@ count_back : {A : Type 0} (rule : Data → Result (Option A) Refusal) (writing :
     → AllByRecursion (EntryBack rule writing) xs → count_by (λ e. not (is_null e)) (read_again writing xs) ≡ length xs
 count_back rule writing [] all = refl
 count_back rule writing (x ∷ xs) all =
-    rw (all.0.is) (sum_by-cons (λ e. cond (not (is_null e)) 1 0) (as_texts all.0.written) (read_again writing xs) ∙ rw (all.0.not_null, count_back rule writing xs all.1) (omega arith))
+    rw (all.0.is) (sum_by-cons (λ e. cond (not (is_null e)) 1 0) (as_texts all.0.written) (read_again writing xs)
+    ∙ rw (all.0.not_null, count_back rule writing xs all.1) (omega arith))
 
 -- ---- lists
 
@@ -127,13 +130,15 @@ some_entry key (x ∷ xs) some = refl
 
 -- the same, where there has to be an entry
 pub nonempty_list_back : {A : Type 0} (rule : Data → Result (Option A) Refusal) (writing : A → Option Data) (most : ℕ) (key : List ℕ) (d : Data) (xs : List A)
-    → AllByRecursion (EntryBack rule writing) xs → 1 ≤ length xs → length xs ≤ most → member_of key d ≡ found_again (written_list writing xs) → nonempty_list rule most key d ≡ Ok xs
+    → AllByRecursion (EntryBack rule writing) xs → 1 ≤ length xs → length xs ≤ most
+    → member_of key d ≡ found_again (written_list writing xs) → nonempty_list rule most key d ≡ Ok xs
 unfolding nonempty_list
 nonempty_list_back rule writing most key d xs all some le at_key = rw (list_back rule writing most key d xs all le at_key) (some_entry key xs some)
 
 -- the same, of the names that its entries have
 pub names_back : (inner : List ℕ) (writing : List ℕ → Option Data) (most : ℕ) (key : List ℕ) (d : Data) (xs : List (List ℕ))
-    → AllByRecursion (EntryBack (inside name inner) writing) xs → length xs ≤ most → member_of key d ≡ found_again (written_list writing xs) → names inner most key d ≡ Ok xs
+    → AllByRecursion (EntryBack (inside name inner) writing) xs → length xs ≤ most
+    → member_of key d ≡ found_again (written_list writing xs) → names inner most key d ≡ Ok xs
 unfolding names written_list
 names_back inner writing most key d xs all le at_key =
     let few : entry_count (list_again (filter_map writing xs)) ≤ most = omega (arith, entry_count_back (inside name inner) writing xs all) in
@@ -154,7 +159,8 @@ only_member key written = member_again key ((key, written) ∷ []) written (only
 
 -- what is read inside an object that may have been left out
 pub inside_back : {A : Type 0} (outer : List ℕ) (read : Data → Result (List A) Refusal) (d : Data) (ms : Members) (xs : List A)
-    → read (object no_members) ≡ Ok [] → read (as_texts (object ms)) ≡ Ok xs → member_of outer d ≡ found_again (object_unless_empty ms) → list_inside outer read d ≡ Ok xs
+    → read (object no_members) ≡ Ok [] → read (as_texts (object ms)) ≡ Ok xs
+    → member_of outer d ≡ found_again (object_unless_empty ms) → list_inside outer read d ≡ Ok xs
 unfolding list_inside object_in
 inside_back outer read d no_members xs at_empty is at_outer =
     let same : [] ≡ xs = same_as_empty (read (object no_members)) xs [] at_empty is in
@@ -173,7 +179,8 @@ names_at_none inner most key = refl
 abbrev pub list_members : {A : Type 0} → List ℕ → (A → Option Data) → List A → Members
 list_members key writing xs = with_rows no_members ((key, written_list writing xs) ∷ [])
 
-pub list_inside_back : {A : Type 0} (rule : Data → Result (Option A) Refusal) (writing : A → Option Data) (most : ℕ) (outer key : List ℕ) (d : Data) (xs : List A)
+pub list_inside_back : {A : Type 0} (rule : Data → Result (Option A) Refusal) (writing : A → Option Data) (most : ℕ)
+    (outer key : List ℕ) (d : Data) (xs : List A)
     → AllByRecursion (EntryBack rule writing) xs → length xs ≤ most → member_of outer d ≡ found_again (object_unless_empty (list_members key writing xs))
     → list_inside outer (list rule most key) d ≡ Ok xs
 list_inside_back rule writing most outer key d xs all le at_outer =
@@ -181,7 +188,8 @@ list_inside_back rule writing most outer key d xs all le at_outer =
     inside_back outer (list rule most key) d (list_members key writing xs) xs (list_at_none rule most key) is at_outer
 
 pub names_inside_back : (inner : List ℕ) (writing : List ℕ → Option Data) (most : ℕ) (outer key : List ℕ) (d : Data) (xs : List (List ℕ))
-    → AllByRecursion (EntryBack (inside name inner) writing) xs → length xs ≤ most → member_of outer d ≡ found_again (object_unless_empty (list_members key writing xs))
+    → AllByRecursion (EntryBack (inside name inner) writing) xs → length xs ≤ most
+    → member_of outer d ≡ found_again (object_unless_empty (list_members key writing xs))
     → list_inside outer (names inner most key) d ≡ Ok xs
 names_inside_back inner writing most outer key d xs all le at_outer =
     let is = names_back inner writing most key (as_texts (object (list_members key writing xs))) xs all le (only_member key (written_list writing xs)) in
@@ -193,7 +201,8 @@ pub name_entry : (inner t : List ℕ) → IsName t → EntryBack (inside name in
 unfolding written_name inside object_in
 name_entry inner t is =
     let rs : List Row = (inner, written_text t) ∷ [] in
-    let again = row_ok name inner (as_texts (row_object rs)) (Some t) (row_again name inner rs (written_text t) (Some t) (only_row inner (written_text t)) (name_back t is)) in
+    let again = row_ok name inner (as_texts (row_object rs)) (Some t)
+    (row_again name inner rs (written_text t) (Some t) (only_row inner (written_text t)) (name_back t is)) in
     record { written = row_object rs; is = refl; not_null = refl; again = again }
 
 pub name_entries : (inner : List ℕ) (ts : List (List ℕ)) → AllByRecursion IsName ts → AllByRecursion (EntryBack (inside name inner) (written_name inner)) ts

@@ -1,5 +1,6 @@
 -- What was written is spelled again: a lemma a rule.
-use Rattle.std.proofs.Common.{◌≡◌, ℕ, ◌<◌, ◌≤◌, ◌^◌, Bool, true, false, nat_le, List, [], ◌∷◌, length, ℤ, pos, Option, Some, None, Result, Ok, refl, ap, ◌∙◌, arith}
+use Rattle.std.proofs.Common.{◌≡◌, ℕ, ◌<◌, ◌≤◌, ◌^◌, Bool, true, false, nat_le, List, [], ◌∷◌, length, ℤ, pos, Option, Some, None, Result}
+use Rattle.std.proofs.Common.{Ok, refl, ap, ◌∙◌, arith}
 use Rattle.std.specs.Prelude.{IfSome, option_and_then}
 use Rattle.std.specs.List.{list_all}
 use Rattle.std.specs.Char.{is_ascii_digit}
@@ -19,8 +20,10 @@ use Rattle.siri_time.specs.SpanText.{span_text}
 use Rattle.siri_time.proofs.MomentRead.{moment_of-moment_text}
 use Rattle.siri_time.proofs.SpanRead.{span_of-span_text}
 use Rattle.siri_tables.specs.Refusals.{Refusal}
-use Rattle.siri_tables.specs.Rules.{read_from_text, bounded, name, text, moment, moment_or, span, span_or, non_negative_span, number, decimal, or_refused, flag, table, table_unless_blank}
-use Rattle.siri_tables.specs.Scalars.{number_of, decimal_of}
+use Rattle.siri_tables.specs.Rules.{read_from_text, bounded, name, text, moment, moment_or, span, span_or, non_negative_span, number}
+use Rattle.siri_tables.specs.Rules.{decimal, or_refused, flag, table, table_unless_blank}
+use Rattle.siri_base.specs.Numbers.{number_of}
+use Rattle.siri_tables.specs.Scalars.{decimal_of}
 use Rattle.siri_tables.specs.Writing.{written_text, written_number, written_moment, written_span, written_decimal, written_flag, decimal_text}
 use Rattle.siri_tables.specs.Proper.{IsTextWithin, IsName, IsText, IsMoment, IsSpan, IsNumber, IsDecimal}
 use Rattle.siri_tables.proofs.Back.{GivesBack}
@@ -34,7 +37,8 @@ kept [] h = absurd (omega arith)
 kept (b ∷ bs) h = refl
 
 -- a text that isn't empty is read on
-pub text_again : {A : Type 0} (read : List ℕ → Result A Refusal) (t : List ℕ) (x : A) → 1 ≤ length t → read t ≡ Ok x → read_from_text read (string t) ≡ Ok (Some x)
+pub text_again : {A : Type 0} (read : List ℕ → Result A Refusal) (t : List ℕ) (x : A) → 1 ≤ length t → read t ≡ Ok x
+    → read_from_text read (string t) ≡ Ok (Some x)
 unfolding read_from_text text_in
 text_again read t x some is = rw (kept t some, is) refl
 
@@ -97,16 +101,19 @@ pub non_negative_span_back : (n : ℕ) → IsSpan (pos n) → GivesBack non_nega
 non_negative_span_back n is = text_again _ (span_text (pos n)) (pos n) (span_text_nonempty (pos n)) (rw (span_of-span_text (pos n) is) refl)
 
 pub decimal_back : (z : ℤ) → IsDecimal z → GivesBack decimal (written_decimal z) (Some z)
-decimal_back z is = text_again (λ t. or_refused _ (decimal_of t)) (decimal_text z) z (decimal_text_nonempty z is) (ap (or_refused _) (decimal_of-decimal_text z is))
+decimal_back z is = text_again (λ t. or_refused _ (decimal_of t)) (decimal_text z) z (decimal_text_nonempty z is)
+    (ap (or_refused _) (decimal_of-decimal_text z is))
 
 -- ---- objects of a table
 
-pub table_back : {A : Type 0} (rows : Data → Result A Refusal) (ms : Members) (x : A) → rows (as_texts (object ms)) ≡ Ok x → GivesBack (table rows) (Some (object ms)) (Some x)
+pub table_back : {A : Type 0} (rows : Data → Result A Refusal) (ms : Members) (x : A)
+    → rows (as_texts (object ms)) ≡ Ok x → GivesBack (table rows) (Some (object ms)) (Some x)
 unfolding table object_in
 table_back rows ms x is = rw is refl
 
 -- one that need not be there, and has a row
-pub table_unless_blank_back : {A : Type 0} (blank : A → Bool) (rows : Data → Result A Refusal) (ms : Members) (x : A) → rows (as_texts (object ms)) ≡ Ok x → blank x ≡ false
+pub table_unless_blank_back : {A : Type 0} (blank : A → Bool) (rows : Data → Result A Refusal) (ms : Members) (x : A)
+    → rows (as_texts (object ms)) ≡ Ok x → blank x ≡ false
     → GivesBack (table_unless_blank blank rows) (Some (object ms)) (Some x)
 unfolding table_unless_blank
 table_unless_blank_back blank rows ms x is shown =

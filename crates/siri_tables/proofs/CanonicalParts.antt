@@ -14,7 +14,9 @@ use Rattle.siri_json.proofs.Order.{canonical_put}
 use Rattle.siri_time.proofs.Ascii.{IsAscii-moment_text, IsAscii-span_text}
 use Rattle.siri_time.specs.MomentText.{moment_text}
 use Rattle.siri_time.specs.SpanText.{span_text}
-use Rattle.siri_tables.specs.Writing.{Row, put_row, with_rows, row_object, object_unless_empty, array_unless_empty, written_list, written_text, written_flag, written_number, written_moment, written_span, written_decimal, decimal_text}
+use Rattle.siri_tables.specs.Writing.{Row, put_row, with_rows, row_object, object_unless_empty, array_unless_empty, written_list}
+use Rattle.siri_tables.specs.Writing.{written_text, written_flag, written_number, written_moment, written_span, written_decimal}
+use Rattle.siri_tables.specs.Writing.{decimal_text}
 use Rattle.siri_tables.specs.Proper.{IsTextWithin, IsMoment, IsSpan, IsNumber, IsDecimal}
 use Rattle.siri_tables.proofs.Ascii.{IsAscii-decimal_text}
 
@@ -71,7 +73,8 @@ decimal_within most z is = text_within most (decimal_text z) (IsUtf8-from_ascii 
 
 -- ---- objects
 
-depth_put_at : (most : ℕ) (k l : List ℕ) (d e : Data) (ms : Members) (o : Ordering) → depth d ≤ most → members_depth (one_member l e ms) ≤ most → members_depth (put k d ms) ≤ most
+depth_put_at : (most : ℕ) (k l : List ℕ) (d e : Data) (ms : Members) (o : Ordering) → depth d ≤ most
+    → members_depth (one_member l e ms) ≤ most → members_depth (put k d ms) ≤ most
     → members_depth (match_ordering o (one_member k d (one_member l e ms)) (one_member l d ms) (one_member l e (put k d ms))) ≤ most
 depth_put_at most k l d e ms Less new old later = omega (arith, new, old)
 depth_put_at most k l d e ms Equal new old later = omega (arith, new, old)
@@ -82,7 +85,8 @@ rest_depth most l e ms old = omega (arith, old)
 
 depth_put : (most : ℕ) (k : List ℕ) (d : Data) (ms : Members) → depth d ≤ most → members_depth ms ≤ most → members_depth (put k d ms) ≤ most
 depth_put most k d no_members new old = omega (arith, new)
-depth_put most k d (one_member l e ms) new old = depth_put_at most k l d e ms (slice_cmp nat_cmp k l) new old (depth_put most k d ms new (rest_depth most l e ms old))
+depth_put most k d (one_member l e ms) new old = depth_put_at most k l d e ms (slice_cmp nat_cmp k l) new old
+    (depth_put most k d ms new (rest_depth most l e ms old))
 
 -- each byte is below 128, as a test that computes
 abbrev pub are_ascii : List ℕ → Bool
@@ -107,12 +111,17 @@ infixr 5 ◌then◌
 pub ◌then◌ : {A B : Type 0} → A → B → A × B
 row then rows = (row, rows)
 
-put_row_within : (most : ℕ) (k : List ℕ) (o : Option Data) (ms : Members) → IsUtf8 k → MayBeWithin most o → IsCanonicalWithin (suc most) (object ms) → IsCanonicalWithin (suc most) (object (put_row k o ms))
+put_row_within : (most : ℕ) (k : List ℕ) (o : Option Data) (ms : Members) → IsUtf8 k → MayBeWithin most o
+    → IsCanonicalWithin (suc most) (object ms) → IsCanonicalWithin (suc most) (object (put_row k o ms))
 put_row_within most k None ms text is before = before
 put_row_within most k (Some d) ms text is before =
-    record { canonical = canonical_put k d ms text is.canonical before.canonical; shallow = omega (arith, depth_put most k d ms is.shallow (omega (arith, before.shallow))) }
+    record {
+      canonical = canonical_put k d ms text is.canonical before.canonical;
+      shallow = omega (arith, depth_put most k d ms is.shallow (omega (arith, before.shallow)));
+    }
 
-pub rows_within : (most : ℕ) (ms : Members) (rs : List Row) → AllByRecursion (IsRowWithin most) rs → IsCanonicalWithin (suc most) (object ms) → IsCanonicalWithin (suc most) (object (with_rows ms rs))
+pub rows_within : (most : ℕ) (ms : Members) (rs : List Row) → AllByRecursion (IsRowWithin most) rs
+    → IsCanonicalWithin (suc most) (object ms) → IsCanonicalWithin (suc most) (object (with_rows ms rs))
 rows_within most ms [] all before = before
 rows_within most ms (r ∷ rs) all before = rows_within most (put_row r.0 r.1 ms) rs all.1 (put_row_within most r.0 r.1 ms all.0.name all.0.value before)
 
@@ -131,11 +140,13 @@ pub record AreCanonicalWithin (most : ℕ) (ds : Items) : Type 0 where
   pub canonical : ItemsAreCanonical ds
   pub shallow : items_depth ds ≤ most
 
-cons_within : (most : ℕ) (o : Option Data) (ds : List Data) → MayBeWithin most o → AreCanonicalWithin most (items_of ds) → AreCanonicalWithin most (items_of (cons_option o ds))
+cons_within : (most : ℕ) (o : Option Data) (ds : List Data) → MayBeWithin most o → AreCanonicalWithin most (items_of ds)
+    → AreCanonicalWithin most (items_of (cons_option o ds))
 cons_within most None ds is all = all
 cons_within most (Some d) ds is all = record { canonical = (is.canonical, all.canonical); shallow = omega (arith, is.shallow, all.shallow) }
 
-pub entries_within : {A : Type 0} (most : ℕ) (writing : A → Option Data) (xs : List A) → AllByRecursion (λ x. MayBeWithin most (writing x)) xs → AreCanonicalWithin most (items_of (filter_map writing xs))
+pub entries_within : {A : Type 0} (most : ℕ) (writing : A → Option Data) (xs : List A)
+    → AllByRecursion (λ x. MayBeWithin most (writing x)) xs → AreCanonicalWithin most (items_of (filter_map writing xs))
 entries_within most writing [] all = record { canonical = tt; shallow = omega arith }
 entries_within most writing (x ∷ xs) all = cons_within most (writing x) (filter_map writing xs) all.0 (entries_within most writing xs all.1)
 
@@ -143,6 +154,7 @@ pub array_unless_empty_within : (most : ℕ) (ds : List Data) → AreCanonicalWi
 array_unless_empty_within most [] is = tt
 array_unless_empty_within most (d ∷ ds) is = record { canonical = is.canonical; shallow = omega (arith, is.shallow) }
 
-pub list_within : {A : Type 0} (most : ℕ) (writing : A → Option Data) (xs : List A) → AllByRecursion (λ x. MayBeWithin most (writing x)) xs → MayBeWithin (suc most) (written_list writing xs)
+pub list_within : {A : Type 0} (most : ℕ) (writing : A → Option Data) (xs : List A)
+    → AllByRecursion (λ x. MayBeWithin most (writing x)) xs → MayBeWithin (suc most) (written_list writing xs)
 unfolding written_list
 list_within most writing xs all = array_unless_empty_within most (filter_map writing xs) (entries_within most writing xs all)

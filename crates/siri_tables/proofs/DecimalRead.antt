@@ -1,5 +1,6 @@
 -- A written decimal is read as itself.
-use Rattle.std.proofs.Common.{◌≡◌, ℕ, zero, suc, ◌+◌, ◌-◌, ◌*◌, ◌/◌, ◌%◌, ◌≤◌, ◌<◌, ◌⊎◌, inl, inr, true, false, leb, ltb, eqb, List, [], ◌∷◌, ◌++◌, length, length-append, take, Some, ℤ, pos, negsuc, unsigned_abs, refl, ◌∙◌, arith, rules, fold}
+use Rattle.std.proofs.Common.{◌≡◌, ℕ, zero, suc, ◌+◌, ◌-◌, ◌*◌, ◌/◌, ◌%◌, ◌≤◌, ◌<◌, ◌⊎◌, inl, inr, true, false, leb, ltb, eqb, List, []}
+use Rattle.std.proofs.Common.{◌∷◌, ◌++◌, length, length-append, take, Some, ℤ, pos, negsuc, unsigned_abs, refl, ◌∙◌, arith, rules, fold}
 use Rattle.std.proofs.lemmas.Bool.{cases_lt, and_parts, le-leb}
 use Rattle.std.proofs.lemmas.Bool.Decides.{nat_tests}
 use Rattle.std.proofs.lemmas.Fmt.{decimal_nonempty, length-decimal-le, digits_decimal, digits_value-decimal}
@@ -37,7 +38,8 @@ split (d ∷ ds) all some = record { first = d; rest = ds; is = refl; first_is =
 whole_digits : (n : ℕ) → n ≤ 180 → Digits (decimal n)
 whole_digits n small = split (decimal n) (digits_decimal own n (omega arith)) (decimal_nonempty n (omega arith))
 
-run : (digits : List ℕ) (b : ℕ) (rest : List ℕ) → all_ascii_digits digits ≡ true → is_ascii_digit b ≡ false → prefix_len is_ascii_digit (digits ++ b ∷ rest) ≡ length digits
+run : (digits : List ℕ) (b : ℕ) (rest : List ℕ) → all_ascii_digits digits ≡ true → is_ascii_digit b ≡ false
+    → prefix_len is_ascii_digit (digits ++ b ∷ rest) ≡ length digits
 run [] b rest each ends = rw ends refl
 run (digit ∷ digits) b rest each ends =
     let parts = and_parts (is_ascii_digit digit) (all_ascii_digits digits) each in
@@ -113,7 +115,8 @@ value_wide w f small = omega arith
 
 -- ---- a magnitude
 
-within : (whole : List ℕ) (fraction : List ℕ) (units : ℕ) → units ≤ 1800000000 → number_on (number_on 0 whole) (seven_digits fraction) ≡ units → units_of whole fraction ≡ Some units
+within : (whole : List ℕ) (fraction : List ℕ) (units : ℕ) → units ≤ 1800000000
+    → number_on (number_on 0 whole) (seven_digits fraction) ≡ units → units_of whole fraction ≡ Some units
 within whole fraction units small is =
     let known : leb units 1800000000 ≡ true = le-leb _ _ small in
     rw (is, known) refl
@@ -145,7 +148,8 @@ magnitude_read units small =
     elim (cases_lt 0 f) [
       | inl some ↦
           let required : eqb f 0 ≡ false = grind (arith, nat_tests) in
-          let zeros = pads (48 + f / 1000000) (48 + f / 100000 % 10) (48 + f / 10000 % 10) (48 + f / 1000 % 10) (48 + f / 100 % 10) (48 + f / 10 % 10) (48 + f % 10) in
+          let zeros = pads (48 + f / 1000000) (48 + f / 100000 % 10) (48 + f / 10000 % 10) (48 + f / 1000 % 10)
+          (48 + f / 100 % 10) (48 + f / 10 % 10) (48 + f % 10) in
           let all = all_taken _ (seven_wide f) (all_wide f (omega arith)) in
           let value : number_on (number_on 0 (decimal w)) (seven_digits (without_zeros (seven_wide f))) ≡ units =
           rw (whole_value w (omega arith), zeros, value_wide w f (omega arith)) (omega arith) in

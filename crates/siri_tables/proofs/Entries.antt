@@ -1,5 +1,6 @@
 -- The entries of a list.
-use Rattle.std.proofs.Common.{◌≡◌, ℕ, ◌+◌, ◌<◌, ◌≤◌, true, false, List, [], ◌∷◌, ◌++◌, length, get_or, drop, map, Option, Global, Result, Ok, Err, refl, ap, sym, ◌∙◌, append_assoc, add-one, drop-cons}
+use Rattle.std.proofs.Common.{◌≡◌, ℕ, ◌+◌, ◌<◌, ◌≤◌, true, false, List, [], ◌∷◌, ◌++◌, length, get_or, drop, map, Option, Global, Result}
+use Rattle.std.proofs.Common.{Ok, Err, refl, ap, sym, ◌∙◌, append_assoc, add-one, drop-cons}
 use Rattle.std.specs.Prelude.{option_to_list}
 use Rattle.std.proofs.lemmas.List.{append-nil, drop_all}
 use Rattle.serde_json.specs.Data.{Data}
@@ -19,10 +20,12 @@ after front read = read >>= λ xs. Ok (front ++ xs)
 abbrev pub rest_from : ℕ → List (Value Global) → List Data
 rest_from place vs = map shown (drop place vs)
 
-pub rest_from-cons : (place : ℕ) (vs : List (Value Global)) (d : Value Global) → place < length vs → rest_from place vs ≡ shown (get_or vs place d) ∷ rest_from (place + 1) vs
+pub rest_from-cons : (place : ℕ) (vs : List (Value Global)) (d : Value Global) → place < length vs
+    → rest_from place vs ≡ shown (get_or vs place d) ∷ rest_from (place + 1) vs
 rest_from-cons place vs d lt = ap (map shown) (drop-cons vs place d lt) ∙ rw (add-one) refl
 
-pub rest_from-here : (place : ℕ) (vs : List (Value Global)) (v : Value Global) → place < length vs → v ≡ get_or vs place v → rest_from place vs ≡ shown v ∷ rest_from (place + 1) vs
+pub rest_from-here : (place : ℕ) (vs : List (Value Global)) (v : Value Global) → place < length vs
+    → v ≡ get_or vs place v → rest_from place vs ≡ shown v ∷ rest_from (place + 1) vs
 rest_from-here place vs v lt here = rest_from-cons place vs v lt ∙ ap (λ (x : Value Global). shown x ∷ rest_from (place + 1) vs) (sym here)
 
 pub rest_from-all : (place : ℕ) (vs : List (Value Global)) → length vs ≤ place → rest_from place vs ≡ []
@@ -33,16 +36,22 @@ pub passes : {A : Type 0} (rule : Data → Result (Option A) Refusal) (front : L
 unfolding entries_from
 passes rule front place v rest total null so_far = rw null at so_far
 
-regroup : {A : Type 0} (front : List A) (x : A) (read : Result (List A) Refusal) → after front (read >>= λ others. Ok (x ∷ others)) ≡ after (front ++ x ∷ []) read
+regroup : {A : Type 0} (front : List A) (x : A) (read : Result (List A) Refusal)
+    → after front (read >>= λ others. Ok (x ∷ others)) ≡ after (front ++ x ∷ []) read
 regroup front x (Ok xs) = ap (λ (all : List _). Ok all) (sym (append_assoc front (x ∷ []) xs))
 regroup front x (Err r) = refl
 
-pub takes : {A : Type 0} (rule : Data → Result (Option A) Refusal) (front : List A) (place : ℕ) (v : Data) (rest : List Data) (x : A) (total : Result (List A) Refusal)
-    → is_null v ≡ false → below (Place place) (required_value rule v) ≡ Ok x → after front (entries_from rule place (v ∷ rest)) ≡ total → after (front ++ x ∷ []) (entries_from rule (place + 1) rest) ≡ total
+pub takes : {A : Type 0} (rule : Data → Result (Option A) Refusal) (front : List A) (place : ℕ) (v : Data)
+    (rest : List Data) (x : A) (total : Result (List A) Refusal)
+    → is_null v ≡ false → below (Place place) (required_value rule v) ≡ Ok x
+    → after front (entries_from rule place (v ∷ rest)) ≡ total
+    → after (front ++ x ∷ []) (entries_from rule (place + 1) rest) ≡ total
 unfolding entries_from
-takes rule front place v rest x total required_value_is read so_far = sym (regroup front x (entries_from rule (place + 1) rest)) ∙ (rw (required_value_is, read) at so_far)
+takes rule front place v rest x total required_value_is read so_far =
+    sym (regroup front x (entries_from rule (place + 1) rest)) ∙ (rw (required_value_is, read) at so_far)
 
-pub fails : {A : Type 0} (rule : Data → Result (Option A) Refusal) (front : List A) (place : ℕ) (v : Data) (rest : List Data) (e : TableError) (total : Result (List A) Refusal)
+pub fails : {A : Type 0} (rule : Data → Result (Option A) Refusal) (front : List A) (place : ℕ) (v : Data)
+    (rest : List Data) (e : TableError) (total : Result (List A) Refusal)
     → is_null v ≡ false → Fails e (below (Place place) (required_value rule v)) → after front (entries_from rule place (v ∷ rest)) ≡ total → Fails e total
 unfolding entries_from
 fails rule front place v rest errors.OutOfMemory total required_value_is read so_far = tt
@@ -55,21 +64,27 @@ done rule front place rest total none so_far = sym so_far ∙ rw (none) (ap (λ 
 
 -- ---- the same, where what counts as absent is passed over
 
-pub found_passes : {A : Type 0} (rule : Data → Result (Option A) Refusal) (front : List A) (place : ℕ) (v : Data) (rest : List Data) (total : Result (List A) Refusal)
+pub found_passes : {A : Type 0} (rule : Data → Result (Option A) Refusal) (front : List A) (place : ℕ) (v : Data)
+    (rest : List Data) (total : Result (List A) Refusal)
     → is_null v ≡ true → after front (found_from rule place (v ∷ rest)) ≡ total → after front (found_from rule (place + 1) rest) ≡ total
 unfolding found_from
 found_passes rule front place v rest total null so_far = rw null at so_far
 
-join : {A : Type 0} (front : List A) (o : Option A) (read : Result (List A) Refusal) → after front (read >>= λ others. Ok (option_to_list o ++ others)) ≡ after (front ++ option_to_list o) read
+join : {A : Type 0} (front : List A) (o : Option A) (read : Result (List A) Refusal)
+    → after front (read >>= λ others. Ok (option_to_list o ++ others)) ≡ after (front ++ option_to_list o) read
 join front o (Ok xs) = ap (λ (all : List _). Ok all) (sym (append_assoc front (option_to_list o) xs))
 join front o (Err r) = refl
 
-pub found_takes : {A : Type 0} (rule : Data → Result (Option A) Refusal) (front : List A) (place : ℕ) (v : Data) (rest : List Data) (o : Option A) (total : Result (List A) Refusal)
-    → is_null v ≡ false → below (Place place) (rule v) ≡ Ok o → after front (found_from rule place (v ∷ rest)) ≡ total → after (front ++ option_to_list o) (found_from rule (place + 1) rest) ≡ total
+pub found_takes : {A : Type 0} (rule : Data → Result (Option A) Refusal) (front : List A) (place : ℕ) (v : Data)
+    (rest : List Data) (o : Option A) (total : Result (List A) Refusal)
+    → is_null v ≡ false → below (Place place) (rule v) ≡ Ok o → after front (found_from rule place (v ∷ rest)) ≡ total
+    → after (front ++ option_to_list o) (found_from rule (place + 1) rest) ≡ total
 unfolding found_from
-found_takes rule front place v rest o total required_value_is read so_far = sym (join front o (found_from rule (place + 1) rest)) ∙ (rw (required_value_is, read) at so_far)
+found_takes rule front place v rest o total required_value_is read so_far =
+    sym (join front o (found_from rule (place + 1) rest)) ∙ (rw (required_value_is, read) at so_far)
 
-pub found_fails : {A : Type 0} (rule : Data → Result (Option A) Refusal) (front : List A) (place : ℕ) (v : Data) (rest : List Data) (e : TableError) (total : Result (List A) Refusal)
+pub found_fails : {A : Type 0} (rule : Data → Result (Option A) Refusal) (front : List A) (place : ℕ) (v : Data)
+    (rest : List Data) (e : TableError) (total : Result (List A) Refusal)
     → is_null v ≡ false → Fails e (below (Place place) (rule v)) → after front (found_from rule place (v ∷ rest)) ≡ total → Fails e total
 unfolding found_from
 found_fails rule front place v rest errors.OutOfMemory total required_value_is read so_far = tt

@@ -1,5 +1,7 @@
 -- What is read is proper where the texts of its tree are UTF-8: values, rows and lists.
-use Rattle.std.proofs.Common.{◌≡◌, ℕ, zero, suc, ◌+◌, ◌≤◌, Bool, true, false, cond, not, ◌&&◌, nat_le, List, [], ◌∷◌, ◌++◌, length, ℤ, Option, Some, None, option_map, Result, Ok, Err, Ordering, Less, Equal, Greater, nat_cmp, refl, sym, subst, ◌∙◌, arith}
+use Rattle.std.proofs.Common.{◌≡◌, ℕ, zero, suc, ◌+◌, ◌≤◌, Bool, true, false, cond, not, ◌&&◌, nat_le, List, [], ◌∷◌, ◌++◌, length, ℤ}
+use Rattle.std.proofs.Common.{Option, Some, None, option_map, Result, Ok, Err, Ordering, Less, Equal, Greater, nat_cmp, refl, sym, subst}
+use Rattle.std.proofs.Common.{◌∙◌, arith}
 use Rattle.std.specs.Prelude.{IfSome, IsUtf8, ⊤, count_by, option_to_list}
 use Rattle.std.specs.List.{list_all, AllByRecursion}
 use Rattle.std.specs.Char.{is_ascii_digit}
@@ -13,7 +15,8 @@ use Rattle.std.proofs.lemmas.Str.Parse.{IsNumeralModel, numerals_by_value, tells
 use Rattle.serde_json.specs.Data.{Data, null, boolean, number as number_data, string, array, object, Items, no_items, item, Members, no_members, member}
 use Rattle.serde_json.specs.Find.{get, get_member}
 use Rattle.siri_base.specs.declared.reason.Reason.TheVariants.{BadName, BadNumber, BadDecimal, TooMany}
-use Rattle.siri_json.specs.Values.{Found, found, absent, wrong, unless_null, member_of, string_found, value_found, single_text, text_in, object_in, items_list, entries_of}
+use Rattle.siri_json.specs.Values.{Found, found, absent, wrong, unless_null, member_of, string_found, value_found, single_text, text_in}
+use Rattle.siri_json.specs.Values.{object_in, items_list, entries_of}
 use Rattle.siri_json.specs.declared.path.Step.{Step}
 use Rattle.siri_json.specs.declared.path.Step.TheVariants.{Member, Place}
 use Rattle.siri_time.specs.Moment.{moment_of}
@@ -23,8 +26,12 @@ use Rattle.siri_time.specs.declared.errors.TimeError.TheVariants as time
 use Rattle.siri_time.specs.declared.errors.SpanError.{SpanError}
 use Rattle.siri_time.proofs.Bounds.{moment_of-bound, span_of-bound}
 use Rattle.siri_tables.specs.Refusals.{Refusal, ◌>>=◌, refused, below, each}
-use Rattle.siri_tables.specs.Rules.{unless_wrong, read_from_text, bounded, moment_or, span_or, or_refused, name, text, moment, span, number, decimal, table, table_unless_blank, unless_blank, maybe, required, row, required_value, inside, is_null, entry_count, entries_from, found_from, at_most, list_of, names_of, or_empty, list, not_empty, nonempty_list, names, list_inside}
-use Rattle.siri_tables.specs.Scalars.{number_of, within_degrees, units_of, units_after, magnitude_of, sign_at, signed, decimal_of}
+use Rattle.siri_tables.specs.Rules.{unless_wrong, read_from_text, bounded, moment_or, span_or, or_refused, name, text, moment, span, number}
+use Rattle.siri_tables.specs.Rules.{decimal, table, table_unless_blank, unless_blank, maybe, required, row, required_value, inside, is_null}
+use Rattle.siri_tables.specs.Rules.{entry_count, entries_from, found_from, at_most, list_of, names_of, or_empty, list, not_empty}
+use Rattle.siri_tables.specs.Rules.{nonempty_list, names, list_inside}
+use Rattle.siri_base.specs.Numbers.{number_of}
+use Rattle.siri_tables.specs.Scalars.{within_degrees, units_of, units_after, magnitude_of, sign_at, signed, decimal_of}
 use Rattle.siri_tables.specs.Spelling.{Spells}
 use Rattle.siri_tables.specs.Proper.{IsTextWithin, IsName, IsText, IsMoment, IsSpan, IsNumber, IsDecimal, IsListWithin}
 use Rattle.siri_json.specs.TextsOfTrees.{TextsAreUtf8, ItemTextsAreUtf8, MemberTextsAreUtf8}
@@ -55,7 +62,8 @@ pub on_map : {A : Type 0} (P Q : A → Type 0) (r : Result A Refusal) → OnRead
 on_map P Q (Ok x) is h = h x is
 on_map P Q (Err e) is h = tt
 
-pub on_bind : {A B : Type 0} (Q : A → Type 0) (P : B → Type 0) (r : Result A Refusal) (f : A → Result B Refusal) → OnRead r Q → ((x : A) → Q x → OnRead (f x) P) → OnRead (r >>= f) P
+pub on_bind : {A B : Type 0} (Q : A → Type 0) (P : B → Type 0) (r : Result A Refusal) (f : A → Result B Refusal)
+    → OnRead r Q → ((x : A) → Q x → OnRead (f x) P) → OnRead (r >>= f) P
 on_bind Q P (Ok x) f is h = h x is
 on_bind Q P (Err e) f is h = tt
 
@@ -156,7 +164,8 @@ found_read Q P read (found x) h is = some_read P (read x) (h x is)
 found_read Q P read absent h is = tt
 found_read Q P read wrong h is = tt
 
-read_from_text_yields : {A : Type 0} (P : A → Type 0) (read : List ℕ → Result A Refusal) → ((t : List ℕ) → IsSomeText t → OnRead (read t) P) → Yields (read_from_text read) P
+read_from_text_yields : {A : Type 0} (P : A → Type 0) (read : List ℕ → Result A Refusal)
+    → ((t : List ℕ) → IsSomeText t → OnRead (read t) P) → Yields (read_from_text read) P
 unfolding read_from_text
 read_from_text_yields P read h = λ d u. found_read IsSomeText P read (text_in d) h (text_is d u)
 
@@ -191,7 +200,8 @@ span_yields = read_from_text_yields IsSpan (λ t. span_or (span_of t)) (λ t is.
 own : IsNumeralModel (λ ds. all_ascii_digits ds ≡ true) (digits_value 10)
 own = numerals_by_value _ tells_all_ascii_digits
 
-number_by : (t : List ℕ) (b : Bool) → nat_le 1 (length t) && (nat_le (length t) 18 && list_all is_ascii_digit t) ≡ b → OnRead (or_refused BadNumber (cond b (Some (digits_value 10 t)) None)) IsNumber
+number_by : (t : List ℕ) (b : Bool) → nat_le 1 (length t) && (nat_le (length t) 18 && list_all is_ascii_digit t) ≡ b
+    → OnRead (or_refused BadNumber (cond b (Some (digits_value 10 t)) None)) IsNumber
 number_by t true passes =
     let all_parts = and_parts (nat_le 1 (length t)) (nat_le (length t) 18 && list_all is_ascii_digit t) passes in
     let parts = and_parts (nat_le (length t) 18) (list_all is_ascii_digit t) all_parts.1 in
@@ -251,7 +261,8 @@ long_by false o is = is
 
 decimal_is : (t : List ℕ) → OnRead (or_refused BadDecimal (decimal_of t)) IsDecimal
 unfolding decimal_of
-decimal_is t = long_by _ (option_map (signed (sign_at t).0) (magnitude_of (sign_at t).1)) (signed_by (sign_at t).0 (magnitude_of (sign_at t).1) (magnitude_is (sign_at t).1))
+decimal_is t = long_by _ (option_map (signed (sign_at t).0) (magnitude_of (sign_at t).1))
+    (signed_by (sign_at t).0 (magnitude_of (sign_at t).1) (magnitude_is (sign_at t).1))
 
 pub decimal_yields : Yields decimal IsDecimal
 decimal_yields = read_from_text_yields IsDecimal (λ t. or_refused BadDecimal (decimal_of t)) (λ t is. decimal_is t)
@@ -262,7 +273,8 @@ pub table_yields : {A : Type 0} (rows : Data → Result A Refusal) (P : A → Ty
 unfolding table
 table_yields rows P h = λ d u. found_read TextsAreUtf8 P rows (object_in d) h (object_is d u)
 
-shown_by : {A : Type 0} (blank : A → Bool) (P : A → Type 0) (x : A) (b : Bool) → blank x ≡ b → P x → IfSome (cond b None (Some x)) (λ y. P y × (blank y ≡ false))
+shown_by : {A : Type 0} (blank : A → Bool) (P : A → Type 0) (x : A) (b : Bool) → blank x ≡ b → P x
+    → IfSome (cond b None (Some x)) (λ y. P y × (blank y ≡ false))
 shown_by blank P x true is h = tt
 shown_by blank P x false is h = (h, is)
 
@@ -272,41 +284,49 @@ blank_read blank P (Ok None) is = tt
 blank_read blank P (Ok (Some x)) is = shown_by blank P x (blank x) refl is
 blank_read blank P (Err e) is = tt
 
-pub table_unless_blank_yields : {A : Type 0} (blank : A → Bool) (rows : Data → Result A Refusal) (P : A → Type 0) → ((d : Data) → TextsAreUtf8 d → OnRead (rows d) P)
+pub table_unless_blank_yields : {A : Type 0} (blank : A → Bool) (rows : Data → Result A Refusal) (P : A → Type 0)
+    → ((d : Data) → TextsAreUtf8 d → OnRead (rows d) P)
     → Yields (table_unless_blank blank rows) (λ x. P x × (blank x ≡ false))
 unfolding table_unless_blank
 table_unless_blank_yields blank rows P h = λ d u. blank_read blank P (table rows d) (table_yields rows P h d u)
 
 -- ---- rows
 
-maybe_on : {A : Type 0} (rule : Data → Result (Option A) Refusal) (P : A → Type 0) → Yields rule P → (o : Option Data) → IfSome o TextsAreUtf8 → OnRead (maybe rule o) (λ value. IfSome value P)
+maybe_on : {A : Type 0} (rule : Data → Result (Option A) Refusal) (P : A → Type 0) → Yields rule P → (o : Option Data)
+    → IfSome o TextsAreUtf8 → OnRead (maybe rule o) (λ value. IfSome value P)
 maybe_on rule P y None u = tt
 maybe_on rule P y (Some d) u = y d u
 
-pub row_on : {A : Type 0} (rule : Data → Result (Option A) Refusal) (P : A → Type 0) → Yields rule P → (key : List ℕ) (d : Data) → TextsAreUtf8 d → OnRead (row rule key d) (λ value. IfSome value P)
+pub row_on : {A : Type 0} (rule : Data → Result (Option A) Refusal) (P : A → Type 0) → Yields rule P
+    → (key : List ℕ) (d : Data) → TextsAreUtf8 d → OnRead (row rule key d) (λ value. IfSome value P)
 unfolding row
 row_on rule P y key d u = on_below (λ value. IfSome value P) (Member key) _ (maybe_on rule P y (member_of key d) (member_is key d u))
 
 -- a row that is spelled
-pub row_is : {A : Type 0} (rule : Data → Result (Option A) Refusal) (P : A → Type 0) → Yields rule P → (key : List ℕ) (d : Data) (value : Option A) → TextsAreUtf8 d → Spells rule key d value → IfSome value P
-row_is rule P y key d value u spells = on_ok (λ v. IfSome v P) (maybe rule (member_of key d)) value (maybe_on rule P y (member_of key d) (member_is key d u)) spells
+pub row_is : {A : Type 0} (rule : Data → Result (Option A) Refusal) (P : A → Type 0) → Yields rule P
+    → (key : List ℕ) (d : Data) (value : Option A) → TextsAreUtf8 d → Spells rule key d value → IfSome value P
+row_is rule P y key d value u spells = on_ok (λ v. IfSome v P) (maybe rule (member_of key d)) value
+    (maybe_on rule P y (member_of key d) (member_is key d u)) spells
 
 pub required_on : {A : Type 0} (P : A → Type 0) (path : List Step) (o : Option A) → IfSome o P → OnRead (required path o) P
 required_on P path None is = tt
 required_on P path (Some x) is = is
 
-pub required_value_on : {A : Type 0} (rule : Data → Result (Option A) Refusal) (P : A → Type 0) → Yields rule P → (d : Data) → TextsAreUtf8 d → OnRead (required_value rule d) P
+pub required_value_on : {A : Type 0} (rule : Data → Result (Option A) Refusal) (P : A → Type 0) → Yields rule P
+    → (d : Data) → TextsAreUtf8 d → OnRead (required_value rule d) P
 unfolding required_value
 required_value_on rule P y d u = on_bind (λ o. IfSome o P) P (rule d) (required []) (y d u) (λ o is. required_on P [] o is)
 
-found_maybe : {A : Type 0} (P : A → Type 0) (rule : Data → Result (Option A) Refusal) (f : Found Data) → ((d : Data) → TextsAreUtf8 d → OnRead (rule d) (λ o. IfSome o P)) → OnFound f TextsAreUtf8
+found_maybe : {A : Type 0} (P : A → Type 0) (rule : Data → Result (Option A) Refusal) (f : Found Data)
+    → ((d : Data) → TextsAreUtf8 d → OnRead (rule d) (λ o. IfSome o P)) → OnFound f TextsAreUtf8
     → OnRead (unless_wrong f >>= maybe rule) (λ o. IfSome o P)
 found_maybe P rule (found d) h is = h d is
 found_maybe P rule absent h is = tt
 found_maybe P rule wrong h is = tt
 
 -- a rule of the members of an object that a value stands for
-pub inside_on : {A : Type 0} (P : A → Type 0) (rule : Data → Result (Option A) Refusal) → Yields rule P → (d : Data) → TextsAreUtf8 d → OnRead (unless_wrong (object_in d) >>= maybe rule) (λ o. IfSome o P)
+pub inside_on : {A : Type 0} (P : A → Type 0) (rule : Data → Result (Option A) Refusal) → Yields rule P → (d : Data)
+    → TextsAreUtf8 d → OnRead (unless_wrong (object_in d) >>= maybe rule) (λ o. IfSome o P)
 inside_on P rule y d u = found_maybe P rule (object_in d) y (object_is d u)
 
 inside_name : (inner : List ℕ) → Yields (inside name inner) IsName
@@ -329,37 +349,47 @@ filled_cons d ds = sum_by-cons (λ e. cond (not (is_null e)) 1 0) d ds
 more : {A : Type 0} (P : A → Type 0) (d : Data) (ds : List Data) (xs : List A) → AreRead P ds xs → AreRead P (d ∷ ds) xs
 more P d ds xs is = record { each = is.each; few = omega (arith, is.few, filled_cons d ds) }
 
-one_more : {A : Type 0} (P : A → Type 0) (d : Data) (ds : List Data) (x : A) (xs : List A) → is_null d ≡ false → P x → AreRead P ds xs → AreRead P (d ∷ ds) (x ∷ xs)
+one_more : {A : Type 0} (P : A → Type 0) (d : Data) (ds : List Data) (x : A) (xs : List A) → is_null d ≡ false → P x
+    → AreRead P ds xs → AreRead P (d ∷ ds) (x ∷ xs)
 one_more P d ds x xs required h is =
     let counted : filled (d ∷ ds) ≡ 1 + filled ds = filled_cons d ds ∙ rw required refl in
     record { each = (h, is.each); few = omega (arith, is.few, counted) }
 
-entries_by : {A : Type 0} (rule : Data → Result (Option A) Refusal) (P : A → Type 0) (place : ℕ) (d : Data) (ds : List Data) (b : Bool) → is_null d ≡ b → OnRead (required_value rule d) P
+entries_by : {A : Type 0} (rule : Data → Result (Option A) Refusal) (P : A → Type 0) (place : ℕ) (d : Data)
+    (ds : List Data) (b : Bool) → is_null d ≡ b → OnRead (required_value rule d) P
     → OnRead (entries_from rule (place + 1) ds) (AreRead P ds)
-    → OnRead (cond b (entries_from rule (place + 1) ds) (below (Place place) (required_value rule d) >>= λ first. entries_from rule (place + 1) ds >>= λ others. Ok (first ∷ others))) (AreRead P (d ∷ ds))
+    → OnRead (cond b (entries_from rule (place + 1) ds)
+    (below (Place place) (required_value rule d) >>= λ first. entries_from rule (place + 1) ds >>= λ others.
+    Ok (first ∷ others))) (AreRead P (d ∷ ds))
 entries_by rule P place d ds true required first rest = on_map (AreRead P ds) (AreRead P (d ∷ ds)) _ rest (more P d ds)
 entries_by rule P place d ds false required first rest =
     on_bind P (AreRead P (d ∷ ds)) (below (Place place) (required_value rule d)) _ (on_below P (Place place) (required_value rule d) first)
     (λ x h. on_bind (AreRead P ds) (AreRead P (d ∷ ds)) (entries_from rule (place + 1) ds) _ rest (λ xs is. one_more P d ds x xs required h is))
 
-entries_on : {A : Type 0} (rule : Data → Result (Option A) Refusal) (P : A → Type 0) → Yields rule P → (place : ℕ) (ds : List Data) → AllByRecursion TextsAreUtf8 ds → OnRead (entries_from rule place ds) (AreRead P ds)
+entries_on : {A : Type 0} (rule : Data → Result (Option A) Refusal) (P : A → Type 0) → Yields rule P
+    → (place : ℕ) (ds : List Data) → AllByRecursion TextsAreUtf8 ds → OnRead (entries_from rule place ds) (AreRead P ds)
 unfolding entries_from
 entries_on rule P y place [] u = record { each = tt; few = omega arith }
 entries_on rule P y place (d ∷ ds) u = entries_by rule P place d ds (is_null d) refl (required_value_on rule P y d u.0) (entries_on rule P y (place + 1) ds u.1)
 
-maybe_more : {A : Type 0} (P : A → Type 0) (d : Data) (ds : List Data) (o : Option A) (xs : List A) → is_null d ≡ false → IfSome o P → AreRead P ds xs → AreRead P (d ∷ ds) (option_to_list o ++ xs)
+maybe_more : {A : Type 0} (P : A → Type 0) (d : Data) (ds : List Data) (o : Option A) (xs : List A) → is_null d ≡ false
+    → IfSome o P → AreRead P ds xs → AreRead P (d ∷ ds) (option_to_list o ++ xs)
 maybe_more P d ds None xs required h is = more P d ds xs is
 maybe_more P d ds (Some x) xs required h is = one_more P d ds x xs required h is
 
-found_by : {A : Type 0} (rule : Data → Result (Option A) Refusal) (P : A → Type 0) (place : ℕ) (d : Data) (ds : List Data) (b : Bool) → is_null d ≡ b → OnRead (rule d) (λ o. IfSome o P)
+found_by : {A : Type 0} (rule : Data → Result (Option A) Refusal) (P : A → Type 0) (place : ℕ) (d : Data)
+    (ds : List Data) (b : Bool) → is_null d ≡ b → OnRead (rule d) (λ o. IfSome o P)
     → OnRead (found_from rule (place + 1) ds) (AreRead P ds)
-    → OnRead (cond b (found_from rule (place + 1) ds) (below (Place place) (rule d) >>= λ first. found_from rule (place + 1) ds >>= λ others. Ok (option_to_list first ++ others))) (AreRead P (d ∷ ds))
+    → OnRead (cond b (found_from rule (place + 1) ds)
+    (below (Place place) (rule d) >>= λ first. found_from rule (place + 1) ds >>= λ others.
+    Ok (option_to_list first ++ others))) (AreRead P (d ∷ ds))
 found_by rule P place d ds true required first rest = on_map (AreRead P ds) (AreRead P (d ∷ ds)) _ rest (more P d ds)
 found_by rule P place d ds false required first rest =
     on_bind (λ o. IfSome o P) (AreRead P (d ∷ ds)) (below (Place place) (rule d)) _ (on_below (λ o. IfSome o P) (Place place) (rule d) first)
     (λ o h. on_bind (AreRead P ds) (AreRead P (d ∷ ds)) (found_from rule (place + 1) ds) _ rest (λ xs is. maybe_more P d ds o xs required h is))
 
-found_on : {A : Type 0} (rule : Data → Result (Option A) Refusal) (P : A → Type 0) → Yields rule P → (place : ℕ) (ds : List Data) → AllByRecursion TextsAreUtf8 ds → OnRead (found_from rule place ds) (AreRead P ds)
+found_on : {A : Type 0} (rule : Data → Result (Option A) Refusal) (P : A → Type 0) → Yields rule P
+    → (place : ℕ) (ds : List Data) → AllByRecursion TextsAreUtf8 ds → OnRead (found_from rule place ds) (AreRead P ds)
 unfolding found_from
 found_on rule P y place [] u = record { each = tt; few = omega arith }
 found_on rule P y place (d ∷ ds) u = found_by rule P place d ds (is_null d) refl (y d u.0) (found_on rule P y (place + 1) ds u.1)
@@ -379,7 +409,8 @@ entries_are (string s) u = (u, tt)
 entries_are (array ds) u = items_are ds u
 entries_are (object ms) u = (u, tt)
 
-pub list_of_on : {A : Type 0} (rule : Data → Result (Option A) Refusal) (P : A → Type 0) → Yields rule P → (d : Data) → TextsAreUtf8 d → OnRead (list_of rule d) (AreRead P (entries_of d))
+pub list_of_on : {A : Type 0} (rule : Data → Result (Option A) Refusal) (P : A → Type 0) → Yields rule P → (d : Data)
+    → TextsAreUtf8 d → OnRead (list_of rule d) (AreRead P (entries_of d))
 unfolding list_of
 list_of_on rule P y d u = entries_on rule P y 0 (entries_of d) (entries_are d u)
 
@@ -387,7 +418,8 @@ pub names_of_on : (inner : List ℕ) (d : Data) → TextsAreUtf8 d → OnRead (n
 unfolding names_of
 names_of_on inner d u = found_on (inside name inner) IsName (inside_name inner) 0 (entries_of d) (entries_are d u)
 
-few_by : {A : Type 0} (P : A → Type 0) (most : ℕ) (read : Data → Result (List A) Refusal) (d : Data) (b : Bool) → nat_le (entry_count d) most ≡ b → OnRead (read d) (AreRead P (entries_of d))
+few_by : {A : Type 0} (P : A → Type 0) (most : ℕ) (read : Data → Result (List A) Refusal) (d : Data) (b : Bool)
+    → nat_le (entry_count d) most ≡ b → OnRead (read d) (AreRead P (entries_of d))
     → OnRead (cond b (read d) (refused TooMany)) (IsListWithin most P)
 few_by P most read d true fits is =
     let le : filled (entries_of d) ≤ most = leb-true (entry_count d) most fits in
@@ -397,54 +429,70 @@ few_by P most read d false fits is = tt
 none_within : {A : Type 0} (P : A → Type 0) (most : ℕ) → IsListWithin most P []
 none_within P most = record { bound = omega arith; each = tt }
 
-or_empty_on : {A : Type 0} (L : List A → Type 0) (read : Data → Result (List A) Refusal) → L [] → ((d : Data) → TextsAreUtf8 d → OnRead (read d) L) → (o : Option Data) → IfSome o TextsAreUtf8 → OnRead (or_empty read o) L
+or_empty_on : {A : Type 0} (L : List A → Type 0) (read : Data → Result (List A) Refusal) → L []
+    → ((d : Data) → TextsAreUtf8 d → OnRead (read d) L) → (o : Option Data) → IfSome o TextsAreUtf8
+    → OnRead (or_empty read o) L
 or_empty_on L read none h None u = none
 or_empty_on L read none h (Some d) u = h d u
 
 -- what is read of the value at a name
-pub at_name : {A : Type 0} (L : List A → Type 0) (read : Data → Result (List A) Refusal) → L [] → ((d : Data) → TextsAreUtf8 d → OnRead (read d) L) → (key : List ℕ) (d : Data) → TextsAreUtf8 d
+pub at_name : {A : Type 0} (L : List A → Type 0) (read : Data → Result (List A) Refusal) → L []
+    → ((d : Data) → TextsAreUtf8 d → OnRead (read d) L) → (key : List ℕ) (d : Data) → TextsAreUtf8 d
     → OnRead (below (Member key) (or_empty read (member_of key d))) L
 at_name L read none h key d u = on_below L (Member key) _ (or_empty_on L read none h (member_of key d) (member_is key d u))
 
-pub list_on : {A : Type 0} (rule : Data → Result (Option A) Refusal) (P : A → Type 0) → Yields rule P → (most : ℕ) (key : List ℕ) (d : Data) → TextsAreUtf8 d → OnRead (list rule most key d) (IsListWithin most P)
+pub list_on : {A : Type 0} (rule : Data → Result (Option A) Refusal) (P : A → Type 0) → Yields rule P
+    → (most : ℕ) (key : List ℕ) (d : Data) → TextsAreUtf8 d → OnRead (list rule most key d) (IsListWithin most P)
 unfolding list
 list_on rule P y most key d u =
-    at_name (IsListWithin most P) (at_most most (list_of rule)) (none_within P most) (λ e v. few_by P most (list_of rule) e (nat_le (entry_count e) most) refl (list_of_on rule P y e v)) key d u
+    at_name (IsListWithin most P) (at_most most (list_of rule)) (none_within P most)
+    (λ e v. few_by P most (list_of rule) e (nat_le (entry_count e) most) refl (list_of_on rule P y e v)) key d u
 
 pub names_on : (inner : List ℕ) (most : ℕ) (key : List ℕ) (d : Data) → TextsAreUtf8 d → OnRead (names inner most key d) (IsListWithin most IsName)
 unfolding names
 names_on inner most key d u =
-    at_name (IsListWithin most IsName) (at_most most (names_of inner)) (none_within IsName most) (λ e v. few_by IsName most (names_of inner) e (nat_le (entry_count e) most) refl (names_of_on inner e v)) key d u
+    at_name (IsListWithin most IsName) (at_most most (names_of inner)) (none_within IsName most)
+    (λ e v. few_by IsName most (names_of inner) e (nat_le (entry_count e) most) refl (names_of_on inner e v)) key d
+    u
 
 not_empty_on : {A : Type 0} (L : List A → Type 0) (key : List ℕ) (xs : List A) → L xs → OnRead (not_empty key xs) (λ ys. L ys × (1 ≤ length ys))
 not_empty_on L key [] is = tt
 not_empty_on L key (x ∷ xs) is = (is, omega arith)
 
-pub nonempty_list_on : {A : Type 0} (rule : Data → Result (Option A) Refusal) (P : A → Type 0) → Yields rule P → (most : ℕ) (key : List ℕ) (d : Data) → TextsAreUtf8 d
+pub nonempty_list_on : {A : Type 0} (rule : Data → Result (Option A) Refusal) (P : A → Type 0) → Yields rule P
+    → (most : ℕ) (key : List ℕ) (d : Data) → TextsAreUtf8 d
     → OnRead (nonempty_list rule most key d) (λ xs. IsListWithin most P xs × (1 ≤ length xs))
 unfolding nonempty_list
 nonempty_list_on rule P y most key d u =
-    on_bind (IsListWithin most P) (λ xs. IsListWithin most P xs × (1 ≤ length xs)) (list rule most key d) (not_empty key) (list_on rule P y most key d u) (λ xs is. not_empty_on (IsListWithin most P) key xs is)
+    on_bind (IsListWithin most P) (λ xs. IsListWithin most P xs × (1 ≤ length xs)) (list rule most key d)
+    (not_empty key) (list_on rule P y most key d u) (λ xs is. not_empty_on (IsListWithin most P) key xs is)
 
-found_list : {A : Type 0} (L : List A → Type 0) (read : Data → Result (List A) Refusal) → L [] → ((d : Data) → TextsAreUtf8 d → OnRead (read d) L) → (f : Found Data) → OnFound f TextsAreUtf8
+found_list : {A : Type 0} (L : List A → Type 0) (read : Data → Result (List A) Refusal) → L []
+    → ((d : Data) → TextsAreUtf8 d → OnRead (read d) L) → (f : Found Data) → OnFound f TextsAreUtf8
     → OnRead (unless_wrong f >>= or_empty read) L
 found_list L read none h (found d) u = h d u
 found_list L read none h absent u = none
 found_list L read none h wrong u = tt
 
-inner_list : {A : Type 0} (L : List A → Type 0) (read : Data → Result (List A) Refusal) → L [] → ((d : Data) → TextsAreUtf8 d → OnRead (read d) L) → (o : Option Data) → IfSome o TextsAreUtf8
+inner_list : {A : Type 0} (L : List A → Type 0) (read : Data → Result (List A) Refusal) → L []
+    → ((d : Data) → TextsAreUtf8 d → OnRead (read d) L) → (o : Option Data) → IfSome o TextsAreUtf8
     → OnRead (maybe (λ v. unless_wrong (object_in v)) o >>= or_empty read) L
 inner_list L read none h None u = none
 inner_list L read none h (Some v) u = found_list L read none h (object_in v) (object_is v u)
 
-pub list_inside_on : {A : Type 0} (L : List A → Type 0) (read : Data → Result (List A) Refusal) → L [] → ((d : Data) → TextsAreUtf8 d → OnRead (read d) L) → (outer : List ℕ) (d : Data) → TextsAreUtf8 d
+pub list_inside_on : {A : Type 0} (L : List A → Type 0) (read : Data → Result (List A) Refusal) → L []
+    → ((d : Data) → TextsAreUtf8 d → OnRead (read d) L) → (outer : List ℕ) (d : Data) → TextsAreUtf8 d
     → OnRead (list_inside outer read d) L
 unfolding list_inside
 list_inside_on L read none h outer d u = on_below L (Member outer) _ (inner_list L read none h (member_of outer d) (member_is outer d u))
 
-pub lists_inside_on : {A : Type 0} (rule : Data → Result (Option A) Refusal) (P : A → Type 0) → Yields rule P → (most : ℕ) (outer key : List ℕ) (d : Data) → TextsAreUtf8 d
+pub lists_inside_on : {A : Type 0} (rule : Data → Result (Option A) Refusal) (P : A → Type 0) → Yields rule P
+    → (most : ℕ) (outer key : List ℕ) (d : Data) → TextsAreUtf8 d
     → OnRead (list_inside outer (list rule most key) d) (IsListWithin most P)
-lists_inside_on rule P y most outer key d u = list_inside_on (IsListWithin most P) (list rule most key) (none_within P most) (λ e v. list_on rule P y most key e v) outer d u
+lists_inside_on rule P y most outer key d u = list_inside_on (IsListWithin most P) (list rule most key)
+    (none_within P most) (λ e v. list_on rule P y most key e v) outer d u
 
-pub names_inside_on : (inner : List ℕ) (most : ℕ) (outer key : List ℕ) (d : Data) → TextsAreUtf8 d → OnRead (list_inside outer (names inner most key) d) (IsListWithin most IsName)
-names_inside_on inner most outer key d u = list_inside_on (IsListWithin most IsName) (names inner most key) (none_within IsName most) (λ e v. names_on inner most key e v) outer d u
+pub names_inside_on : (inner : List ℕ) (most : ℕ) (outer key : List ℕ) (d : Data) → TextsAreUtf8 d
+    → OnRead (list_inside outer (names inner most key) d) (IsListWithin most IsName)
+names_inside_on inner most outer key d u = list_inside_on (IsListWithin most IsName) (names inner most key)
+    (none_within IsName most) (λ e v. names_on inner most key e v) outer d u

@@ -1,5 +1,6 @@
 -- Rows that are written in byte order of their names make the members that putting them in any order makes.
-use Rattle.std.proofs.Common.{◌≡◌, ℕ, Bool, true, false, List, [], ◌∷◌, ◌++◌, Option, Some, None, Ordering, Less, Equal, Greater, refl, sym, ap, ◌∙◌, subst, append_assoc, append-nil}
+use Rattle.std.proofs.Common.{◌≡◌, ℕ, Bool, true, false, List, [], ◌∷◌, ◌++◌, Option, Some, None, Ordering, Less, Equal, Greater, refl, sym}
+use Rattle.std.proofs.Common.{ap, ◌∙◌, subst, append_assoc, append-nil}
 use Rattle.std.proofs.lemmas.Map.Lookups.{exact_bytes}
 use Rattle.std.specs.Prelude.{⊤, ◌||◌, is_some}
 use Rattle.std.specs.Ordering.{nat_cmp, match_ordering}
@@ -48,7 +49,8 @@ RowsAscend (r ∷ rs) = IsBelow r.0 (members_as_they_stand rs) × RowsAscend rs
 -- ---- a row that isn't written changes nothing
 
 none_at : (k l : List ℕ) (o : Option Data) (ss : List Row) (c : Ordering) → members_as_they_stand ss ≡ members_as_they_stand (insert (k, None) ss)
-    → add_row l o (members_as_they_stand ss) ≡ members_as_they_stand (match_ordering c ((k, None) ∷ (l, o) ∷ ss) ((l, later o None) ∷ ss) ((l, o) ∷ insert (k, None) ss))
+    → add_row l o (members_as_they_stand ss) ≡ members_as_they_stand
+    (match_ordering c ((k, None) ∷ (l, o) ∷ ss) ((l, later o None) ∷ ss) ((l, o) ∷ insert (k, None) ss))
 none_at k l o ss Less rest = refl
 none_at k l o ss Equal rest = refl
 none_at k l o ss Greater rest = ap (add_row l o) rest
@@ -68,10 +70,12 @@ same_name k l is = exact_bytes k l is
 
 put_at : (k l : List ℕ) (d : Data) (o : Option Data) (ss : List Row) (c : Ordering) → slice_cmp nat_cmp k l ≡ c → IsBelow l (members_as_they_stand ss)
     → put k d (members_as_they_stand ss) ≡ members_as_they_stand (insert (k, Some d) ss)
-    → put k d (add_row l o (members_as_they_stand ss)) ≡ members_as_they_stand (match_ordering c ((k, Some d) ∷ (l, o) ∷ ss) ((l, Some d) ∷ ss) ((l, o) ∷ insert (k, Some d) ss))
+    → put k d (add_row l o (members_as_they_stand ss)) ≡ members_as_they_stand
+    (match_ordering c ((k, Some d) ∷ (l, o) ∷ ss) ((l, Some d) ∷ ss) ((l, o) ∷ insert (k, Some d) ss))
 put_at k l d None ss Less is first rest = put_first k d (members_as_they_stand ss) (below_all k l (members_as_they_stand ss) is first)
 put_at k l d None ss Equal is first rest =
-    subst (λ (x : List ℕ). put x d (members_as_they_stand ss) ≡ member l d (members_as_they_stand ss)) (sym (same_name k l is)) (put_first l d (members_as_they_stand ss) first)
+    subst (λ (x : List ℕ). put x d (members_as_they_stand ss) ≡ member l d (members_as_they_stand ss))
+    (sym (same_name k l is)) (put_first l d (members_as_they_stand ss) first)
 put_at k l d None ss Greater is first rest = rest
 put_at k l d (Some e) ss Less is first rest = rw is
 put_at k l d (Some e) ss Equal is first rest = rw is
@@ -95,7 +99,8 @@ below_put_row : (j k : List ℕ) (o : Option Data) (ms : Members) → slice_cmp 
 below_put_row j k None ms is first = first
 below_put_row j k (Some d) ms is first = below_put j k d ms is first
 
-ascend_at : (k l : List ℕ) (o p : Option Data) (ss : List Row) (c : Ordering) → slice_cmp nat_cmp k l ≡ c → IsBelow l (members_as_they_stand ss) → RowsAscend ss → RowsAscend (insert (k, o) ss)
+ascend_at : (k l : List ℕ) (o p : Option Data) (ss : List Row) (c : Ordering) → slice_cmp nat_cmp k l ≡ c
+    → IsBelow l (members_as_they_stand ss) → RowsAscend ss → RowsAscend (insert (k, o) ss)
     → RowsAscend (match_ordering c ((k, o) ∷ (l, p) ∷ ss) ((l, later p o) ∷ ss) ((l, p) ∷ insert (k, o) ss))
 ascend_at k l o p ss Less is first up more = (below_row k l p (members_as_they_stand ss) is first, (first, up))
 ascend_at k l o p ss Equal is first up more = (first, up)
@@ -130,13 +135,17 @@ rows_close ts [] = refl
 rows_close ts (r ∷ rs) = rows_close (ts ++ row_tokens r.0 r.1) rs ∙ close_at ts r.0 r.1 (members_as_they_stand rs)
 
 -- an object of these rows, which were written in order
-pub object_in_order : (old : List Token) (rs : List Row) → rows_onto (old ++ begin_object ∷ []) (sorted rs) ++ end_object ∷ [] ≡ old ++ tokens_of (row_object rs)
+pub object_in_order : (old : List Token) (rs : List Row)
+    → rows_onto (old ++ begin_object ∷ []) (sorted rs) ++ end_object ∷ [] ≡ old ++ tokens_of (row_object rs)
 object_in_order old rs =
-    rows_close (old ++ begin_object ∷ []) (sorted rs) ∙ append_assoc old (begin_object ∷ []) (members_tokens (members_outline (members_as_they_stand (sorted rs))))
+    rows_close (old ++ begin_object ∷ []) (sorted rs) ∙ append_assoc old (begin_object ∷ [])
+    (members_tokens (members_outline (members_as_they_stand (sorted rs))))
     ∙ ap (λ ms. old ++ tokens_of (object ms)) (sym (with_rows_sorted rs))
 
 -- the same in a row
-pub row_in_order : (old : List Token) (name : List ℕ) (rs : List Row) → rows_onto ((old ++ key name ∷ []) ++ begin_object ∷ []) (sorted rs) ++ end_object ∷ [] ≡ old ++ key name ∷ tokens_of (row_object rs)
+pub row_in_order : (old : List Token) (name : List ℕ) (rs : List Row)
+    → rows_onto ((old ++ key name ∷ []) ++ begin_object ∷ []) (sorted rs) ++ end_object ∷ [] ≡ old
+    ++ key name ∷ tokens_of (row_object rs)
 row_in_order old name rs = object_in_order (old ++ key name ∷ []) rs ∙ append_assoc old (key name ∷ []) (tokens_of (row_object rs))
 
 -- ---- objects that are left out where they would be empty
@@ -150,7 +159,8 @@ is_there : Members → Bool
 is_there no_members = false
 is_there (member k d ms) = true
 
-there_at : (k l : List ℕ) (d e : Data) (ms more : Members) (o : Ordering) → is_there (match_ordering o (member k d (member l e ms)) (member l d ms) (member l e more)) ≡ true
+there_at : (k l : List ℕ) (d e : Data) (ms more : Members) (o : Ordering)
+    → is_there (match_ordering o (member k d (member l e ms)) (member l d ms) (member l e more)) ≡ true
 unfolding is_there
 there_at k l d e ms more Less = refl
 there_at k l d e ms more Equal = refl
@@ -169,7 +179,8 @@ all_there : (ms : Members) (rs : List Row) → is_there ms ≡ true → is_there
 all_there ms [] is = is
 all_there ms (r ∷ rs) is = all_there (put_row r.0 r.1 ms) rs (stays_there r.0 r.1 ms is)
 
-some_there : (k : List ℕ) (o : Option Data) (rs : List Row) → (any_written rs ≡ true → is_there (with_rows no_members rs) ≡ true) → is_some o || any_written rs ≡ true
+some_there : (k : List ℕ) (o : Option Data) (rs : List Row)
+    → (any_written rs ≡ true → is_there (with_rows no_members rs) ≡ true) → is_some o || any_written rs ≡ true
     → is_there (with_rows (put_row k o no_members) rs) ≡ true
 unfolding is_there
 some_there k None rs rest is = rest is
@@ -188,7 +199,8 @@ object_there (member k d ms) is = refl
 pub written_object : (rs : List Row) → any_written rs ≡ true → object_unless_empty (with_rows no_members rs) ≡ Some (row_object rs)
 written_object rs is = object_there (with_rows no_members rs) (rows_there rs is)
 
-none_written : (k : List ℕ) (o : Option Data) (rs : List Row) → (any_written rs ≡ false → with_rows no_members rs ≡ no_members) → is_some o || any_written rs ≡ false
+none_written : (k : List ℕ) (o : Option Data) (rs : List Row)
+    → (any_written rs ≡ false → with_rows no_members rs ≡ no_members) → is_some o || any_written rs ≡ false
     → with_rows (put_row k o no_members) rs ≡ no_members
 none_written k None rs rest is = rest is
 none_written k (Some d) rs rest is = absurd cc

@@ -1,5 +1,6 @@
 -- The laws of tables, by induction over a table, of the laws of its rows.
-use Rattle.std.proofs.Common.{◌≡◌, ℕ, suc, ◌≤◌, Bool, true, false, not, ◌&&◌, nat_le, List, [], ◌∷◌, ◌++◌, length, Option, Some, None, Result, Ok, refl, sym, ap, ◌∙◌, subst, bytes_eq}
+use Rattle.std.proofs.Common.{◌≡◌, ℕ, suc, ◌≤◌, Bool, true, false, not, ◌&&◌, nat_le, List, [], ◌∷◌, ◌++◌, length, Option, Some, None}
+use Rattle.std.proofs.Common.{Result, Ok, refl, sym, ap, ◌∙◌, subst, bytes_eq}
 use Rattle.std.specs.Prelude.{IfSome, option_and_then, ◌↔◌, ⊤}
 use Rattle.std.specs.List.{AllByRecursion}
 use Rattle.std.proofs.lemmas.Bool.{and_parts, leb-true}
@@ -13,12 +14,14 @@ use Rattle.siri_tables.specs.Rules.{table, table_unless_blank}
 use Rattle.siri_tables.specs.Spelling.{Spells}
 use Rattle.siri_tables.specs.Proper.{IsListWithin}
 use Rattle.siri_tables.specs.Writing.{Row as Member, row_object, with_rows, object_unless_empty, written_list}
-use Rattle.siri_tables.specs.Tables.{Kind, Row, optional, mandatory, some_entries, entries_inside, Table, Maker, read_all, AllSpelled, AllProper, all_written, together}
+use Rattle.siri_tables.specs.Tables.{Kind, Row, optional, mandatory, some_entries, entries_inside, Table, Maker, read_all, AllSpelled}
+use Rattle.siri_tables.specs.Tables.{AllProper, all_written, together}
 use Rattle.siri_tables.proofs.Back.{found_again, GivesBack, in_rows, member_again}
 use Rattle.siri_tables.proofs.BackLists.{EntryBack, table_entry, list_inside_back, nonempty_list_back, object_unless_empty_back}
 use Rattle.siri_tables.proofs.BackValues.{table_back, table_unless_blank_back}
 use Rattle.siri_tables.proofs.RowSpells.{bind_ok, ok_is, row_spelled, required_row_spelled, row_ok, required_row_ok}
-use Rattle.siri_tables.proofs.CanonicalParts.{are_ascii, IsCanonicalWithin, MayBeWithin, IsRowWithin, deeper, row_within, object_within, list_within, object_unless_empty_within}
+use Rattle.siri_tables.proofs.CanonicalParts.{are_ascii, IsCanonicalWithin, MayBeWithin, IsRowWithin, deeper, row_within, object_within}
+use Rattle.siri_tables.proofs.CanonicalParts.{list_within, object_unless_empty_within}
 use Rattle.siri_tables.proofs.ProperParts.{Yields, reads_to, on_ok, row_is, table_yields, table_unless_blank_yields, nonempty_list_on, lists_inside_on}
 
 -- ---- kinds and rows
@@ -46,11 +49,13 @@ pub record RowLaws {S : Type 0} (most : ℕ) (r : Row S) : Type 0 where
   pub within : (x : r.Of) → r.Is x → AllByRecursion (IsRowWithin most) (r.write x)
   pub proper : (d : Data) (x : r.Of) → TextsAreUtf8 d → r.Spelled d x → r.Is x
 
-some_back : {A : Type 0} (least : ℕ) (kind : Kind A) → KindLaws least kind → (o : Option A) → IfSome o kind.Is → GivesBack kind.rule (option_and_then kind.writing o) o
+some_back : {A : Type 0} (least : ℕ) (kind : Kind A) → KindLaws least kind → (o : Option A) → IfSome o kind.Is
+    → GivesBack kind.rule (option_and_then kind.writing o) o
 some_back least kind laws None is = refl
 some_back least kind laws (Some x) is = laws.back x is
 
-some_within : {A : Type 0} (least : ℕ) (kind : Kind A) → KindLaws least kind → (o : Option A) → IfSome o kind.Is → MayBeWithin least (option_and_then kind.writing o)
+some_within : {A : Type 0} (least : ℕ) (kind : Kind A) → KindLaws least kind → (o : Option A) → IfSome o kind.Is
+    → MayBeWithin least (option_and_then kind.writing o)
 some_within least kind laws None is = tt
 some_within least kind laws (Some x) is = laws.within x is
 
@@ -58,10 +63,12 @@ pub at_key : {A : Type 0} (rule : Data → Result (Option A) Refusal) (key : Lis
     → member_of key d ≡ found_again written → GivesBack rule written value → Spells rule key d value
 at_key rule key d written value there again = rw there again
 
-pub at_depth : (least most : ℕ) (key : List ℕ) (written : Option Data) → are_ascii key ≡ true → nat_le least most ≡ true → MayBeWithin least written → IsRowWithin most (key, written)
+pub at_depth : (least most : ℕ) (key : List ℕ) (written : Option Data) → are_ascii key ≡ true → nat_le least most ≡ true
+    → MayBeWithin least written → IsRowWithin most (key, written)
 at_depth least most key written ascii le is = row_within most key written ascii (deeper least most written (leb-true _ _ le) is)
 
-pub optional_laws : {A S : Type 0} {least most : ℕ} {kind : Kind A} {key : List ℕ} {of : S → Option A} → KindLaws least kind → are_ascii key ≡ true → nat_le least most ≡ true → RowLaws most (optional kind key of)
+pub optional_laws : {A S : Type 0} {least most : ℕ} {kind : Kind A} {key : List ℕ} {of : S → Option A}
+    → KindLaws least kind → are_ascii key ≡ true → nat_le least most ≡ true → RowLaws most (optional kind key of)
 optional_laws {least = least} {most = most} {kind = kind} {key = key} laws ascii le = record {
   spelled = λ d x. row_spelled kind.rule key d x;
   reads = λ d x. row_ok kind.rule key d x;
@@ -70,7 +77,8 @@ optional_laws {least = least} {most = most} {kind = kind} {key = key} laws ascii
   proper = λ d x u spells. row_is kind.rule kind.Is laws.yields key d x u spells;
 }
 
-pub mandatory_laws : {A S : Type 0} {least most : ℕ} {kind : Kind A} {key : List ℕ} {of : S → A} → KindLaws least kind → are_ascii key ≡ true → nat_le least most ≡ true → RowLaws most (mandatory kind key of)
+pub mandatory_laws : {A S : Type 0} {least most : ℕ} {kind : Kind A} {key : List ℕ} {of : S → A} → KindLaws least kind
+    → are_ascii key ≡ true → nat_le least most ≡ true → RowLaws most (mandatory kind key of)
 mandatory_laws {least = least} {most = most} {kind = kind} {key = key} laws ascii le = record {
   spelled = λ d x. required_row_spelled kind.rule key d x;
   reads = λ d x. required_row_ok kind.rule key d x;
@@ -79,18 +87,22 @@ mandatory_laws {least = least} {most = most} {kind = kind} {key = key} laws asci
   proper = λ d x u spells. row_is kind.rule kind.Is laws.yields key d (Some x) u spells;
 }
 
-all_entries : {A : Type 0} (least : ℕ) (kind : Kind A) → EntryLaws least kind → (xs : List A) → AllByRecursion kind.Is xs → AllByRecursion (EntryBack kind.rule kind.writing) xs
+all_entries : {A : Type 0} (least : ℕ) (kind : Kind A) → EntryLaws least kind → (xs : List A)
+    → AllByRecursion kind.Is xs → AllByRecursion (EntryBack kind.rule kind.writing) xs
 all_entries least kind laws [] all = tt
 all_entries least kind laws (x ∷ xs) all = (laws.entry x all.0, all_entries least kind laws xs all.1)
 
-all_entries_within : {A : Type 0} (least : ℕ) (kind : Kind A) → EntryLaws least kind → (xs : List A) → AllByRecursion kind.Is xs → AllByRecursion (λ x. MayBeWithin least (kind.writing x)) xs
+all_entries_within : {A : Type 0} (least : ℕ) (kind : Kind A) → EntryLaws least kind → (xs : List A)
+    → AllByRecursion kind.Is xs → AllByRecursion (λ x. MayBeWithin least (kind.writing x)) xs
 all_entries_within least kind laws [] all = tt
 all_entries_within least kind laws (x ∷ xs) all = (laws.within x all.0, all_entries_within least kind laws xs all.1)
 
-entries_within : {A : Type 0} (least : ℕ) (kind : Kind A) → EntryLaws least kind → (xs : List A) → AllByRecursion kind.Is xs → MayBeWithin (suc least) (written_list kind.writing xs)
+entries_within : {A : Type 0} (least : ℕ) (kind : Kind A) → EntryLaws least kind → (xs : List A)
+    → AllByRecursion kind.Is xs → MayBeWithin (suc least) (written_list kind.writing xs)
 entries_within least kind laws xs all = list_within least kind.writing xs (all_entries_within least kind laws xs all)
 
-pub some_entries_laws : {A S : Type 0} {least most : ℕ} {kind : Kind A} {bound : ℕ} {key : List ℕ} {of : S → List A} → EntryLaws least kind → are_ascii key ≡ true → nat_le (suc least) most ≡ true
+pub some_entries_laws : {A S : Type 0} {least most : ℕ} {kind : Kind A} {bound : ℕ} {key : List ℕ} {of : S → List A}
+    → EntryLaws least kind → are_ascii key ≡ true → nat_le (suc least) most ≡ true
     → RowLaws most (some_entries kind bound key of)
 some_entries_laws {least = least} {most = most} {kind = kind} {bound = bound} {key = key} laws ascii le = record {
   spelled = λ d xs e. e;
@@ -103,9 +115,13 @@ some_entries_laws {least = least} {most = most} {kind = kind} {bound = bound} {k
 inner_within : {A : Type 0} (least : ℕ) (kind : Kind A) (key : List ℕ) → EntryLaws least kind → are_ascii key ≡ true → (xs : List A) → AllByRecursion kind.Is xs
     → MayBeWithin (suc (suc least)) (object_unless_empty (with_rows no_members ((key, written_list kind.writing xs) ∷ [])))
 inner_within least kind key laws ascii xs all =
-    object_unless_empty_within (suc (suc least)) _ (object_within (suc least) ((key, written_list kind.writing xs) ∷ []) (row_within (suc least) key _ ascii (entries_within least kind laws xs all), tt))
+    object_unless_empty_within (suc (suc least)) _
+    (object_within (suc least) ((key, written_list kind.writing xs) ∷ [])
+    (row_within (suc least) key _ ascii (entries_within least kind laws xs all), tt))
 
-pub entries_inside_laws : {A S : Type 0} {least most : ℕ} {kind : Kind A} {bound : ℕ} {outer : List ℕ} {of : S → List A} (key : List ℕ) → EntryLaws least kind → are_ascii outer ≡ true → are_ascii key ≡ true → nat_le (suc (suc least)) most ≡ true
+pub entries_inside_laws : {A S : Type 0} {least most : ℕ} {kind : Kind A} {bound : ℕ} {outer : List ℕ} {of : S → List A}
+    (key : List ℕ) → EntryLaws least kind → are_ascii outer ≡ true → are_ascii key ≡ true
+    → nat_le (suc (suc least)) most ≡ true
     → RowLaws most (entries_inside kind bound outer key of)
 entries_inside_laws {least = least} {most = most} {kind = kind} {bound = bound} {outer = outer} key laws outer_ascii ascii le = record {
   spelled = λ d xs e. e;
@@ -132,12 +148,14 @@ Holds [] made P = P made
 Holds (r ∷ t) make P = (x : r.Of) → Holds t (make x) (λ s. (r.of s ≡ x) × P s)
 
 -- what is spelled is read
-all_read : {S : Type 0} (most : ℕ) (t : Table S) (make : Maker t) → AllLaws most t → (d : Data) (s : S) → AllSpelled t d s → read_all t make d ≡ Ok (made_of t make s)
+all_read : {S : Type 0} (most : ℕ) (t : Table S) (make : Maker t) → AllLaws most t → (d : Data) (s : S)
+    → AllSpelled t d s → read_all t make d ≡ Ok (made_of t make s)
 all_read most [] made laws d s is = refl
 all_read most (r ∷ t) make laws d s is = rw (laws.0.reads d (r.of s) is.0) (all_read most t (make (r.of s)) laws.1 d s is.1)
 
 -- what is read is spelled, and all that holds of what is made holds of it
-spelled_and : {S : Type 0} (most : ℕ) (t : Table S) (make : Maker t) → AllLaws most t → (d : Data) (s : S) → read_all t make d ≡ Ok s → (P : S → Type 0) → Holds t make P → AllSpelled t d s × P s
+spelled_and : {S : Type 0} (most : ℕ) (t : Table S) (make : Maker t) → AllLaws most t → (d : Data) (s : S)
+    → read_all t make d ≡ Ok s → (P : S → Type 0) → Holds t make P → AllSpelled t d s × P s
 spelled_and most [] made laws d s e P holds = (tt, subst P (ok_is made s e) holds)
 spelled_and {S = S} most (r ∷ t) make laws d s e P holds =
     let b = bind_ok (r.read d) (λ x. read_all t (make x) d) s e in
@@ -161,7 +179,8 @@ joined P (x ∷ xs) ys left right = (left.0, joined P xs ys left.1 right)
 
 all_within : {S : Type 0} (most : ℕ) (t : Table S) → AllLaws most t → (s : S) → AllProper t s → AllByRecursion (IsRowWithin most) (all_written t s)
 all_within most [] laws s is = tt
-all_within most (r ∷ t) laws s is = joined (IsRowWithin most) (r.write (r.of s)) (all_written t s) (laws.0.within (r.of s) is.0) (all_within most t laws.1 s is.1)
+all_within most (r ∷ t) laws s is = joined (IsRowWithin most) (r.write (r.of s)) (all_written t s)
+    (laws.0.within (r.of s) is.0) (all_within most t laws.1 s is.1)
 
 all_back : {S : Type 0} (most : ℕ) (t : Table S) → AllLaws most t → (d : Data) (s : S) → AllProper t s → FoundAgain d (all_written t s) → AllSpelled t d s
 all_back most [] laws d s is there = tt
@@ -197,7 +216,8 @@ passes : (k : List ℕ) (found : Option Data) (ms : List Member) → is_fresh k 
 passes k found [] e = refl
 passes k found (m ∷ ms) e = let parts = fresh_parts k m ms e in rw parts.here (passes k found ms parts.rest)
 
-tail_at : (k : List ℕ) (o : Option Data) (ms vs : List Member) → is_fresh k vs ≡ true → AllByRecursion (λ m. in_rows m.0 None ms ≡ m.1) vs → AllByRecursion (λ m. in_rows m.0 None ((k, o) ∷ ms) ≡ m.1) vs
+tail_at : (k : List ℕ) (o : Option Data) (ms vs : List Member) → is_fresh k vs ≡ true
+    → AllByRecursion (λ m. in_rows m.0 None ms ≡ m.1) vs → AllByRecursion (λ m. in_rows m.0 None ((k, o) ∷ ms) ≡ m.1) vs
 tail_at k o ms [] e all = tt
 tail_at k o ms (v ∷ vs) e all = let parts = fresh_parts k v vs e in (rw parts.there all.0, tail_at k o ms vs parts.rest all.1)
 
@@ -224,32 +244,40 @@ pub record TableLaws {S : Type 0} (most : ℕ) (t : Table S) (make : Maker t) : 
   pub holds : Holds t make (λ s. ⊤)
   pub distinct : (s : S) → are_distinct (all_written t s) ≡ true
 
-pub read_spelled : {S : Type 0} {most : ℕ} {t : Table S} {make : Maker t} → TableLaws most t make → (d : Data) (s : S) → read_all t make d ≡ Ok s → AllSpelled t d s
+pub read_spelled : {S : Type 0} {most : ℕ} {t : Table S} {make : Maker t} → TableLaws most t make → (d : Data) (s : S)
+    → read_all t make d ≡ Ok s → AllSpelled t d s
 read_spelled {most = most} {t = t} {make = make} laws d s e = (spelled_and most t make laws.rows d s e (λ s. ⊤) laws.holds).0
 
-pub spelled_read : {S : Type 0} {most : ℕ} {t : Table S} {make : Maker t} → TableLaws most t make → (d : Data) (s : S) → AllSpelled t d s → read_all t make d ≡ Ok s
+pub spelled_read : {S : Type 0} {most : ℕ} {t : Table S} {make : Maker t} → TableLaws most t make → (d : Data) (s : S)
+    → AllSpelled t d s → read_all t make d ≡ Ok s
 spelled_read {most = most} {t = t} {make = make} laws d s is = all_read most t make laws.rows d s is ∙ ap Ok (laws.whole s)
 
-pub is_spelled : {S : Type 0} {most : ℕ} {t : Table S} {make : Maker t} → TableLaws most t make → (d : Data) (s : S) → (read_all t make d ≡ Ok s) ↔ AllSpelled t d s
+pub is_spelled : {S : Type 0} {most : ℕ} {t : Table S} {make : Maker t} → TableLaws most t make → (d : Data) (s : S)
+    → (read_all t make d ≡ Ok s) ↔ AllSpelled t d s
 is_spelled laws d s = (read_spelled laws d s, spelled_read laws d s)
 
-pub spelled_proper : {S : Type 0} {most : ℕ} {t : Table S} {make : Maker t} → TableLaws most t make → (d : Data) (s : S) → TextsAreUtf8 d → AllSpelled t d s → AllProper t s
+pub spelled_proper : {S : Type 0} {most : ℕ} {t : Table S} {make : Maker t} → TableLaws most t make → (d : Data) (s : S)
+    → TextsAreUtf8 d → AllSpelled t d s → AllProper t s
 spelled_proper {most = most} {t = t} laws d s u is = all_proper most t laws.rows d s u is
 
-pub written_read : {S : Type 0} {most : ℕ} {t : Table S} {make : Maker t} → TableLaws most t make → (s : S) → AllProper t s → read_all t make (as_texts (row_object (all_written t s))) ≡ Ok s
+pub written_read : {S : Type 0} {most : ℕ} {t : Table S} {make : Maker t} → TableLaws most t make → (s : S)
+    → AllProper t s → read_all t make (as_texts (row_object (all_written t s))) ≡ Ok s
 written_read {most = most} {t = t} laws s is =
     let rs = all_written t s in
     spelled_read laws _ s (all_back most t laws.rows (as_texts (row_object rs)) s is (found_each rs rs (each_at rs (laws.distinct s))))
 
-pub read_proper : {S : Type 0} {most : ℕ} {t : Table S} {make : Maker t} → TableLaws most t make → (d : Data) (s : S) → TextsAreUtf8 d → read_all t make d ≡ Ok s → AllProper t s
+pub read_proper : {S : Type 0} {most : ℕ} {t : Table S} {make : Maker t} → TableLaws most t make → (d : Data) (s : S)
+    → TextsAreUtf8 d → read_all t make d ≡ Ok s → AllProper t s
 read_proper laws d s u e = spelled_proper laws d s u (read_spelled laws d s e)
 
-pub table_within : {S : Type 0} {most : ℕ} {t : Table S} {make : Maker t} → TableLaws most t make → (s : S) → AllProper t s → IsCanonicalWithin (suc most) (row_object (all_written t s))
+pub table_within : {S : Type 0} {most : ℕ} {t : Table S} {make : Maker t} → TableLaws most t make → (s : S)
+    → AllProper t s → IsCanonicalWithin (suc most) (row_object (all_written t s))
 table_within {most = most} {t = t} laws s is = object_within most (all_written t s) (all_within most t laws.rows s is)
 
 -- ---- a table inside another
 
-pub together_laws : {S T : Type 0} {most : ℕ} {t : Table T} {make : Maker t} {of : S → T} → TableLaws most t make → RowLaws most (together t (read_all t make) of)
+pub together_laws : {S T : Type 0} {most : ℕ} {t : Table T} {make : Maker t} {of : S → T} → TableLaws most t make
+    → RowLaws most (together t (read_all t make) of)
 together_laws {most = most} {t = t} laws = record {
   spelled = λ d x. read_spelled laws d x;
   reads = λ d x. spelled_read laws d x;
@@ -260,16 +288,27 @@ together_laws {most = most} {t = t} laws = record {
 
 -- ---- objects of a table as values
 
-pub table_kind : {S : Type 0} {most : ℕ} {t : Table S} {make : Maker t} → TableLaws most t make → KindLaws (suc most) (record { rule = table (read_all t make); writing = λ s. Some (row_object (all_written t s)); Is = AllProper t })
+pub table_kind : {S : Type 0} {most : ℕ} {t : Table S} {make : Maker t} → TableLaws most t make
+    → KindLaws (suc most) (record {
+      rule = table (read_all t make);
+      writing = λ s. Some (row_object (all_written t s));
+      Is = AllProper t;
+    })
 table_kind {t = t} {make = make} laws = record {
   back = λ s is. table_back (read_all t make) (with_rows no_members (all_written t s)) s (written_read laws s is);
   within = λ s is. table_within laws s is;
   yields = table_yields (read_all t make) (AllProper t) (λ d u. reads_to (AllProper t) (read_all t make d) (λ s e. read_proper laws d s u e));
 }
 
-pub table_entries : {S : Type 0} {most : ℕ} {t : Table S} {make : Maker t} → TableLaws most t make → EntryLaws (suc most) (record { rule = table (read_all t make); writing = λ s. Some (row_object (all_written t s)); Is = AllProper t })
+pub table_entries : {S : Type 0} {most : ℕ} {t : Table S} {make : Maker t} → TableLaws most t make
+    → EntryLaws (suc most) (record {
+      rule = table (read_all t make);
+      writing = λ s. Some (row_object (all_written t s));
+      Is = AllProper t;
+    })
 table_entries {t = t} {make = make} laws = record {
-  entry = λ s is. table_entry (read_all t make) (λ s. Some (row_object (all_written t s))) (with_rows no_members (all_written t s)) s refl (written_read laws s is);
+  entry = λ s is. table_entry (read_all t make) (λ s. Some (row_object (all_written t s)))
+      (with_rows no_members (all_written t s)) s refl (written_read laws s is);
   within = λ s is. table_within laws s is;
   yields = (table_kind laws).yields;
 }
@@ -278,11 +317,17 @@ table_entries {t = t} {make = make} laws = record {
 abbrev IsShown : {S : Type 0} → Table S → (S → Bool) → S → Type 0
 IsShown t blank s = AllProper t s × (blank s ≡ false)
 
-shown_yields : {S : Type 0} {most : ℕ} {t : Table S} {make : Maker t} → TableLaws most t make → (blank : S → Bool) → Yields (table_unless_blank blank (read_all t make)) (IsShown t blank)
-shown_yields {t = t} {make = make} laws blank = table_unless_blank_yields blank (read_all t make) (AllProper t) (λ d u. reads_to (AllProper t) (read_all t make d) (λ s e. read_proper laws d s u e))
+shown_yields : {S : Type 0} {most : ℕ} {t : Table S} {make : Maker t} → TableLaws most t make → (blank : S → Bool)
+    → Yields (table_unless_blank blank (read_all t make)) (IsShown t blank)
+shown_yields {t = t} {make = make} laws blank = table_unless_blank_yields blank (read_all t make) (AllProper t)
+    (λ d u. reads_to (AllProper t) (read_all t make d) (λ s e. read_proper laws d s u e))
 
 pub shown_table_kind : {S : Type 0} {most : ℕ} {t : Table S} {make : Maker t} → TableLaws most t make → (blank : S → Bool)
-    → KindLaws (suc most) (record { rule = table_unless_blank blank (read_all t make); writing = λ s. Some (row_object (all_written t s)); Is = IsShown t blank })
+    → KindLaws (suc most) (record {
+      rule = table_unless_blank blank (read_all t make);
+      writing = λ s. Some (row_object (all_written t s));
+      Is = IsShown t blank;
+    })
 shown_table_kind {t = t} {make = make} laws blank = record {
   back = λ s is. table_unless_blank_back blank (read_all t make) (with_rows no_members (all_written t s)) s (written_read laws s is.0) is.1;
   within = λ s is. table_within laws s is.0;
@@ -290,10 +335,16 @@ shown_table_kind {t = t} {make = make} laws blank = record {
 }
 
 -- and it isn't written where it would be empty
-pub left_out_table_kind : {S : Type 0} {most : ℕ} {t : Table S} {make : Maker t} → TableLaws most t make → (blank : S → Bool) (empty : S) → read_all t make (object no_members) ≡ Ok empty → blank empty ≡ true
-    → KindLaws (suc most) (record { rule = table_unless_blank blank (read_all t make); writing = λ s. object_unless_empty (with_rows no_members (all_written t s)); Is = IsShown t blank })
+pub left_out_table_kind : {S : Type 0} {most : ℕ} {t : Table S} {make : Maker t} → TableLaws most t make
+    → (blank : S → Bool) (empty : S) → read_all t make (object no_members) ≡ Ok empty → blank empty ≡ true
+    → KindLaws (suc most) (record {
+      rule = table_unless_blank blank (read_all t make);
+      writing = λ s. object_unless_empty (with_rows no_members (all_written t s));
+      Is = IsShown t blank;
+    })
 left_out_table_kind {most = most} {t = t} {make = make} laws blank empty none is_blank = record {
-  back = λ s is. object_unless_empty_back blank (read_all t make) (with_rows no_members (all_written t s)) s empty none is_blank (written_read laws s is.0) is.1;
+  back = λ s is. object_unless_empty_back blank (read_all t make)
+      (with_rows no_members (all_written t s)) s empty none is_blank (written_read laws s is.0) is.1;
   within = λ s is. object_unless_empty_within (suc most) _ (table_within laws s is.0);
   yields = shown_yields laws blank;
 }

@@ -1,5 +1,6 @@
 -- The rules of rows: what a value is read as, nothing where it counts as absent, or the first refusal.
-use Rattle.std.specs.Prelude.{ℕ, ◌+◌, ◌++◌, ℤ, pos, negsuc, count_by, not, is_some, option_to_list, List, [], ◌∷◌, length, nat_le, Bool, if◌then◌else◌, Option, Some, None, Result, Ok, Err}
+use Rattle.std.specs.Prelude.{ℕ, ◌+◌, ◌++◌, ℤ, pos, negsuc, count_by, not, is_some, option_to_list, List, [], ◌∷◌, length, nat_le, Bool}
+use Rattle.std.specs.Prelude.{if◌then◌else◌, Option, Some, None, Result, Ok, Err}
 use Rattle.serde_json.specs.Data.{Data}
 use Rattle.serde_json.specs.Find.{as_null}
 use Rattle.siri_base.specs.declared.reason.Reason.{Reason}
@@ -13,7 +14,8 @@ use Rattle.siri_time.specs.declared.errors.TimeError.{TimeError}
 use Rattle.siri_time.specs.declared.errors.TimeError.TheVariants as time
 use Rattle.siri_time.specs.declared.errors.SpanError.{SpanError}
 use Rattle.siri_tables.specs.Refusals.{Refusal, ◌>>=◌, refused, below, each}
-use Rattle.siri_tables.specs.Scalars.{number_of, decimal_of}
+use Rattle.siri_base.specs.Numbers.{number_of}
+use Rattle.siri_tables.specs.Scalars.{decimal_of}
 
 -- ---- texts that are read further
 

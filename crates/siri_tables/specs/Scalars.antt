@@ -1,12 +1,8 @@
 -- Numbers and decimals as texts.
-use Rattle.std.specs.Prelude.{ℕ, ◌+◌, ◌*◌, ◌-◌, ℤ, pos, neg_ℤ, List, [], ◌∷◌, ◌++◌, length, take, drop, fold, codes, nat_lt, nat_le, ◌&&◌, ◌==◌, Bool, true, false, if◌then◌else◌, Option, Some, None, option_map}
+use Rattle.std.specs.Prelude.{ℕ, ◌+◌, ◌*◌, ◌-◌, ℤ, pos, neg_ℤ, List, [], ◌∷◌, ◌++◌, length, take, drop, fold, codes, nat_lt, nat_le, ◌&&◌}
+use Rattle.std.specs.Prelude.{◌==◌, Bool, true, false, if◌then◌else◌, Option, Some, None, option_map}
 use Rattle.std.specs.List.{list_all, prefix_len}
 use Rattle.std.specs.Char.{is_ascii_digit}
-use Rattle.std.specs.Str.Parse.{digits_value}
-
--- a number: 1 to 18 digits
-unfoldable pub number_of : List ℕ → Option ℕ
-number_of t = if nat_le 1 (length t) && (nat_le (length t) 18 && list_all is_ascii_digit t) then Some (digits_value 10 t) else None
 
 -- ---- decimals
 

@@ -1,12 +1,14 @@
 -- Tables of rows, as data: of each row how it is read, what spells it, how it is written, and which of its values are proper.
 -- What holds of every table is said once, over any of them.
-use Rattle.std.specs.Prelude.{◌≡◌, ◌≤◌, ℕ, List, [], ◌∷◌, ◌++◌, length, Bool, true, false, ◌&&◌, is_none, ℤ, Option, Some, IfSome, option_and_then, Result, Ok, ⊤}
+use Rattle.std.specs.Prelude.{◌≡◌, ◌≤◌, ℕ, List, [], ◌∷◌, ◌++◌, length, Bool, true, false, ◌&&◌, is_none, ℤ, Option, Some, IfSome}
+use Rattle.std.specs.Prelude.{option_and_then, Result, Ok, ⊤}
 use Rattle.serde_json.specs.Data.{Data, no_members}
 use Rattle.siri_tables.specs.Refusals.{Refusal, ◌>>=◌}
 use Rattle.siri_tables.specs.Rules.{name, text, moment, span, number, decimal, flag, row, required_row, list, nonempty_list, list_inside}
 use Rattle.siri_tables.specs.Spelling.{Spells}
 use Rattle.siri_tables.specs.Proper.{IsName, IsText, IsMoment, IsSpan, IsNumber, IsDecimal, IsListWithin}
-use Rattle.siri_tables.specs.Writing.{Row as Member, with_rows, object_unless_empty, written_list, written_text, written_flag, written_number, written_moment, written_span, written_decimal}
+use Rattle.siri_tables.specs.Writing.{Row as Member, with_rows, object_unless_empty, written_list, written_text, written_flag}
+use Rattle.siri_tables.specs.Writing.{written_number, written_moment, written_span, written_decimal}
 
 -- ---- kinds of values
 

@@ -66,6 +66,7 @@ pub fn refuse_at<T>(alloc: Global, key: &str, reason: Reason) -> Result<T, Table
     Err(TableError::Refused { path, reason })
 }
 
+/// The step of a path to a member, whose name has 1 to 255 bytes.
 fn step_to(alloc: Global, key: &str) -> Result<Step, TableError>
     requires { IsTrue (is_key key.now) }
     ensures { Gives result (Ok (Member key.now)) }

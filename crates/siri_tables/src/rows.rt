@@ -1,4 +1,5 @@
-//! Rows of tables: what a member of an object is read as under a rule, where it may be absent, has to be there, or is a list.
+//! Rows of tables: what a member of an object is read as under a rule, where it may be absent, has to be there, or is a
+//! list.
 
 ghost use Rattle.std.specs.Prelude.{◌≡◌, ◌++◌, Result, Option, Ok, IsTrue, map, count_by, not, option_to_list, OnOk};
 ghost use Rattle.siri_json.specs.Shown.{shown};
@@ -11,8 +12,8 @@ use siri_base::{List, Name, OutOfMemory, Reason};
 use siri_json::{ObjectOf, Tree, entry_list, is_null, member, object_of};
 use std::alloc::Global;
 
-/// What the member of that name is read as under a rule: nothing where there is none, or where its value counts as absent
-/// under the rule. What the rule refuses is refused below that name.
+/// What the member of that name is read as under a rule: nothing where there is none, or where its value counts as
+/// absent under the rule. What the rule refuses is refused below that name.
 #[tactic(auto, unfolding(crate::specs::Rules::row))]
 pub fn row<R: Rule>(alloc: Global, tree: &Tree<'_>, key: &str) -> Result<Option<R::Out>, TableError>
     requires { IsTrue (is_key key.now) }
@@ -47,6 +48,7 @@ pub fn required_value<R: Rule>(alloc: Global, value: &Tree<'_>) -> Result<R::Out
     required_value_in::<R>(alloc, &(), value)
 }
 
+/// [`required_value`], under a rule that needs `with` to be known.
 #[tactic(auto, unfolding(crate::specs::Rules::required_value))]
 fn required_value_in<R: RuleIn>(
     alloc: Global,
@@ -104,12 +106,14 @@ pub fn entry_count(value: &Tree<'_>) -> usize
     count_in(entry_list(value))
 }
 
+/// How many of these values aren't null.
 fn count_in(values: &[Tree<'_>]) -> usize
     ensures { result ≡ count_by (λ e. not (is_null e)) (map shown values.now) }
 {
     values.iter().filter(|entry| !is_null(entry)).count()
 }
 
+/// The values under a rule, refused at their places: null is passed over, any other absent one is `Missing`.
 fn entries_from<R: RuleIn>(
     alloc: Global,
     with: &R::With,
@@ -135,6 +139,7 @@ pub fn list_of<R: Rule>(alloc: Global, value: &Tree<'_>) -> Result<List<R::Out>,
     entries_from::<R>(alloc, &(), entry_list(value))
 }
 
+/// [`list_of`] under a rule that needs `with`; `TooMany`, before any is read, above `most` that aren't null.
 #[tactic(auto, unfolding(crate::specs::Rules::list_of))]
 fn few_of<R: RuleIn>(
     alloc: Global,
@@ -150,8 +155,8 @@ fn few_of<R: RuleIn>(
     entries_from::<R>(alloc, with, entry_list(value))
 }
 
-/// The entries of the member of that name under a rule, as [`list_of`] reads them, and none where it is absent. `TooMany` at
-/// that name where more than `most` entries aren't null, before any is read.
+/// The entries of the member of that name under a rule, as [`list_of`] reads them, and none where it is absent.
+/// `TooMany` at that name where more than `most` entries aren't null, before any is read.
 pub fn list<R: Rule>(
     alloc: Global,
     tree: &Tree<'_>,
@@ -200,6 +205,7 @@ pub fn nonempty_list<R: Rule>(
     Ok(found)
 }
 
+/// Puts a name at the end where there is one.
 fn push_some(found: &mut Vec<Name>, value: Option<Name>) -> Result<(), OutOfMemory>
     ensures { OnOk result (found.new.items ≡ found.old.items ++ option_to_list value) }
 {
@@ -209,6 +215,7 @@ fn push_some(found: &mut Vec<Name>, value: Option<Name>) -> Result<(), OutOfMemo
     Ok(())
 }
 
+/// The names that values have at `inner`, refused at their places; null and values without one are passed over.
 fn names_from(alloc: Global, values: &[Tree<'_>], inner: &str) -> Result<List<Name>, TableError>
     requires { IsTrue (is_key inner.now) }
     ensures { Gives result (found_from (inside name inner.now) 0 (map shown values.now)) }
@@ -234,6 +241,7 @@ pub fn names_of(alloc: Global, value: &Tree<'_>, inner: &str) -> Result<List<Nam
     names_from(alloc, entry_list(value), inner)
 }
 
+/// [`names_of`]; `TooMany`, before any is read, where more than `most` entries aren't null.
 fn few_names(
     alloc: Global,
     value: &Tree<'_>,
@@ -249,8 +257,8 @@ fn few_names(
     names_of(alloc, value, inner)
 }
 
-/// The names that the entries of the member `key` have at `inner`; entries without one are passed over. `TooMany` at `key`
-/// where more than `most` entries aren't null, before any is read.
+/// The names that the entries of the member `key` have at `inner`; entries without one are passed over. `TooMany` at
+/// `key` where more than `most` entries aren't null, before any is read.
 #[tactic(auto, unfolding(crate::specs::Rules::names))]
 pub fn names(
     alloc: Global,
@@ -269,8 +277,8 @@ pub fn names(
     }
 }
 
-/// [`list`] of the member `key` of the object at `outer`: no entries where that counts as absent, `WrongKind` at `outer`
-/// where it is no object.
+/// [`list`] of the member `key` of the object at `outer`: no entries where that counts as absent, `WrongKind` at
+/// `outer` where it is no object.
 #[tactic(auto, unfolding(crate::specs::Rules::list_inside))]
 pub fn list_inside<R: Rule>(
     alloc: Global,
@@ -293,8 +301,8 @@ pub fn list_inside<R: Rule>(
     }
 }
 
-/// [`names`] of the member `key` of the object at `outer`: none where that counts as absent, `WrongKind` at `outer` where it
-/// is no object.
+/// [`names`] of the member `key` of the object at `outer`: none where that counts as absent, `WrongKind` at `outer`
+/// where it is no object.
 #[tactic(auto, unfolding(crate::specs::Rules::list_inside))]
 pub fn names_inside(
     alloc: Global,

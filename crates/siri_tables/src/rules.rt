@@ -1,5 +1,5 @@
-//! The rules of rows: what a value in a tree is read as. A rule is a type, so that one type of values may have several rules
-//! and tables of other crates may be rules too.
+//! The rules of rows: what a value in a tree is read as. A rule is a type, so that one type of values may have several
+//! rules and tables of other crates may be rules too.
 
 ghost use Rattle.std.specs.Prelude.{Result, Option};
 ghost use Rattle.serde_json.specs.Data.{Data};
@@ -9,18 +9,20 @@ ghost use Rattle.siri_tables.specs.Rules.{name, text, moment, span, non_negative
 
 use crate::refusal::{TableError, refuse};
 use crate::scalars;
-use siri_base::{Moment, Name, Reason, Span, Text, TextError};
+use siri_base::{Moment, Name, Reason, Span, Text, TextError, number_of};
 use siri_json::{ObjectOf, TextOf, Tree, flag_of, object_of, text_of};
 use siri_time::{TimeError, read_moment, read_span};
 use std::alloc::Global;
 
 /// How a value is read.
 pub trait Rule {
+    /// What values are read as.
     type Out: Drop;
 
     /// What a value is read as, nothing where it counts as absent, or the first refusal.
     ghost rule: { Data → Result (Option Self.Out) Refusal };
 
+    /// What `rule` gives of a value; want of memory is told as `OutOfMemory`.
     fn read(alloc: Global, value: &Tree<'_>) -> Result<Option<Self::Out>, TableError>
         ensures { Gives result (rule (shown value.now)) };
 }
@@ -30,11 +32,13 @@ pub trait RuleIn {
     /// What is known.
     type With;
 
+    /// What values are read as.
     type Out: Drop;
 
     /// What a value is read as where this is known, nothing where it counts as absent, or the first refusal.
     ghost rule_in: { Self.With → Data → Result (Option Self.Out) Refusal };
 
+    /// What `rule_in` gives of a value where `with` is known; want of memory is told as `OutOfMemory`.
     fn read_in(
         alloc: Global,
         with: &Self::With,
@@ -45,11 +49,13 @@ pub trait RuleIn {
 
 /// How an object is read, row by row.
 pub trait Table {
+    /// What objects are read as.
     type Out: Drop;
 
     /// What the rows of an object spell, or the first refusal.
     ghost rows: { Data → Result Self.Out Refusal };
 
+    /// What `rows` gives of an object; want of memory is told as `OutOfMemory`.
     fn read_rows(alloc: Global, tree: &Tree<'_>) -> Result<Self::Out, TableError>
         ensures { Gives result (rows (shown tree.now)) };
 }
@@ -181,7 +187,7 @@ impl Rule for NumberRule {
     #[tactic(auto, unfolding(crate::specs::Rules::read_from_text))]
     fn read(alloc: Global, value: &Tree<'_>) -> Result<Option<u64>, TableError> {
         match text_of(value) {
-            TextOf::Is(text) => match scalars::number_of(text) {
+            TextOf::Is(text) => match number_of(text) {
                 Some(number) => Ok(Some(number)),
                 None => refuse(alloc, Reason::BadNumber),
             },
@@ -223,6 +229,7 @@ impl Rule for FlagRule {
     }
 }
 
+/// What a table reads the object as that a value stands for: nothing where absent, `WrongKind` where it is none.
 #[tactic(auto, unfolding(crate::specs::Rules::table))]
 fn from_object<T: Table>(alloc: Global, value: &Tree<'_>) -> Result<Option<T::Out>, TableError>
     ensures { Gives result (table T.rows (shown value.now)) }

@@ -3,39 +3,28 @@
 ghost use Rattle.std.specs.Prelude.{◌≡◌, ◌<◌, ◌≤◌, ◌-◌, length, min, IfSome, IfOk, OnOk, ◌++◌, ◌==◌};
 ghost use Rattle.std.specs.List.{list_all, prefix_len, suffix_len};
 ghost use Rattle.std.specs.Char.{is_ascii_digit};
-ghost use Rattle.siri_tables.specs.Scalars as Spec;
-ghost use Rattle.siri_tables.specs.Writing as Written;
+ghost use Rattle.siri_tables.specs.Scalars.{decimal_of, magnitude_of, number_on, seven_digits, sign_at, units_after, units_of};
+ghost use Rattle.siri_tables.specs.Writing.{decimal_text, fraction_text, seven_wide, without_zeros};
 
 use siri_base::{OutOfMemory, append, append_number};
 use std::alloc::Global;
 
-// One more than the units of 180 degrees: the greatest number that is told apart.
+/// One more than the units of 180 degrees: the greatest number that is told apart.
 const BEYOND: u64 = 1_800_000_001;
 
+/// Whether a text has only digits `0` to `9`; the empty text has.
 fn is_all_digits(text: &[u8]) -> bool
     ensures { result ≡ list_all is_ascii_digit text.now }
 {
     text.iter().all(|byte| byte.is_ascii_digit())
 }
 
-/// The number of 1 to 18 digits; `None` exactly where the text isn't of this form.
-#[tactic(auto, unfolding(crate::specs::Scalars::number_of))]
-pub fn number_of(text: &str) -> Option<u64>
-    ensures { result ≡ Spec.number_of text.now }
-{
-    if text.len() >= 1 && text.len() <= 18 && is_all_digits(text.as_bytes()) {
-        text.parse().ok()
-    } else {
-        None
-    }
-}
-
 /// The decimal of a text, in 10^-7 degrees: an optional `+` or `-`, digits, optionally `.` and digits, one
 /// digit in all at least, at most 64 bytes, at most 180 degrees; digits past the seventh of the fraction are cut.
 /// `None` exactly where the text isn't of this form.
 #[tactic(auto, unfolding(crate::specs::Scalars::decimal_of))]
-pub fn decimal_of(text: &[u8]) -> Option<i64>
-    ensures { result ≡ Spec.decimal_of text.now }
+pub(crate) fn decimal_of(text: &[u8]) -> Option<i64>
+    ensures { result ≡ decimal_of text.now }
 {
     if text.len() > 64 {
         return None;
@@ -45,8 +34,9 @@ pub fn decimal_of(text: &[u8]) -> Option<i64>
     Some(if negative { -units } else { units })
 }
 
+/// Whether a decimal begins with `-`, and what follows its `-` or `+`; without either that is all of it.
 fn sign(text: &[u8]) -> (bool, &[u8])
-    ensures { (result.0, result.1.now) ≡ Spec.sign_at text.now }
+    ensures { (result.0, result.1.now) ≡ sign_at text.now }
 {
     match text {
         [b'-', rest @ ..] => (true, rest),
@@ -55,6 +45,7 @@ fn sign(text: &[u8]) -> (bool, &[u8])
     }
 }
 
+/// How many digits a text begins with: those of a decimal's whole part.
 fn whole_len(text: &[u8]) -> usize
     ensures len { result ≡ prefix_len is_ascii_digit text.now }
     ensures within { result ≤ length text.now }
@@ -62,18 +53,20 @@ fn whole_len(text: &[u8]) -> usize
     text.iter().take_while(|byte| byte.is_ascii_digit()).count()
 }
 
+/// A decimal without its sign, in 10^-7 degrees; nothing where it isn't of the form or passes 180 degrees.
 #[tactic(auto, unfolding(crate::specs::Scalars::magnitude_of))]
 fn magnitude(text: &[u8]) -> Option<u64>
-    ensures value { result ≡ Spec.magnitude_of text.now }
+    ensures value { result ≡ magnitude_of text.now }
     ensures small { IfSome result (λ units. units ≤ 1800000000) }
 {
     let (whole, rest) = text.split_at(whole_len(text));
     units_after(whole, rest)
 }
 
+/// The units of a whole part and the rest: nothing, or `.` and digits alone; one digit is needed in all.
 #[tactic(auto, unfolding(crate::specs::Scalars::units_after))]
 fn units_after(whole: &[u8], rest: &[u8]) -> Option<u64>
-    ensures value { result ≡ Spec.units_after whole.now rest.now }
+    ensures value { result ≡ units_after whole.now rest.now }
     ensures small { IfSome result (λ units. units ≤ 1800000000) }
 {
     match rest {
@@ -86,9 +79,10 @@ fn units_after(whole: &[u8], rest: &[u8]) -> Option<u64>
     }
 }
 
+/// What the digits before and after the `.` spell, in 10^-7 degrees; nothing above 180 degrees.
 #[tactic(auto, using(crate::proofs::Capped::capped_twice))]
 fn units(whole: &[u8], fraction: &[u8]) -> Option<u64>
-    ensures value { result ≡ Spec.units_of whole.now fraction.now }
+    ensures value { result ≡ units_of whole.now fraction.now }
     ensures small { IfSome result (λ units. units ≤ 1800000000) }
 {
     let degrees = number_on(0, whole);
@@ -96,8 +90,9 @@ fn units(whole: &[u8], fraction: &[u8]) -> Option<u64>
     if units < BEYOND { Some(units) } else { None }
 }
 
+/// The first seven digits of a fraction, later ones cut and missing ones `0`.
 fn seven_digits(fraction: &[u8]) -> [u8; 7]
-    ensures { result ≡ Spec.seven_digits fraction.now }
+    ensures { result ≡ seven_digits fraction.now }
 {
     let mut digits = [b'0'; 7];
     let count = fraction.len().min(7);
@@ -105,11 +100,11 @@ fn seven_digits(fraction: &[u8]) -> [u8; 7]
     digits
 }
 
-// The number that these digits make behind others. All numbers from `BEYOND` on are told as one.
+/// The number that these digits make behind others. All numbers from `BEYOND` on are told as one.
 #[tactic(auto)]
 fn number_on(before: u64, digits: &[u8]) -> u64
     requires { before ≤ 1800000001 }
-    ensures { result ≡ min 1800000001 (Spec.number_on before digits.now) }
+    ensures { result ≡ min 1800000001 (number_on before digits.now) }
 {
     let mut number = before;
     for byte in digits {
@@ -121,8 +116,8 @@ fn number_on(before: u64, digits: &[u8]) -> u64
 /// The text of so many 10^-7 degrees, in degrees: `-` where negative, the whole part, and `.` with the fraction without
 /// the zeros at its end where it isn't zero.
 #[tactic(auto, unfolding(crate::specs::Writing::decimal_text, crate::specs::Writing::magnitude_text))]
-pub fn decimal_text(alloc: Global, units: i64) -> Result<Vec<u8>, OutOfMemory>
-    ensures { IfOk result (λ text. text.items ≡ Written.decimal_text units) }
+pub(crate) fn decimal_text(alloc: Global, units: i64) -> Result<Vec<u8>, OutOfMemory>
+    ensures { IfOk result (λ text. text.items ≡ decimal_text units) }
 {
     let mut text = Vec::new(alloc);
     if units < 0 {
@@ -134,10 +129,11 @@ pub fn decimal_text(alloc: Global, units: i64) -> Result<Vec<u8>, OutOfMemory>
     Ok(text)
 }
 
+/// Puts `.` and a fraction in 10^-7 at the end, without the zeros it ends with; nothing where it is 0.
 #[tactic(auto, unfolding(crate::specs::Writing::fraction_text))]
 fn append_fraction(into: &mut Vec<u8>, fraction: u64) -> Result<(), OutOfMemory>
     requires { fraction < 10000000 }
-    ensures { OnOk result (into.new.items ≡ into.old.items ++ Written.fraction_text fraction) }
+    ensures { OnOk result (into.new.items ≡ into.old.items ++ fraction_text fraction) }
 {
     if fraction == 0 {
         return Ok(());
@@ -147,9 +143,10 @@ fn append_fraction(into: &mut Vec<u8>, fraction: u64) -> Result<(), OutOfMemory>
     append(into, without_zeros(&digits))
 }
 
+/// A fraction below 1, in 10^-7, as seven digits with zeros in front.
 fn seven_wide(fraction: u64) -> [u8; 7]
     requires { fraction < 10000000 }
-    ensures { result ≡ Written.seven_wide fraction }
+    ensures { result ≡ seven_wide fraction }
 {
     [
         b'0' + (fraction / 1_000_000) as u8,
@@ -162,6 +159,7 @@ fn seven_wide(fraction: u64) -> [u8; 7]
     ]
 }
 
+/// How many `0` these digits end with.
 fn zeros_at_end(digits: &[u8]) -> usize
     ensures zeros { result ≡ suffix_len (λ digit. digit == 48) digits.now }
     ensures within { result ≤ length digits.now }
@@ -173,8 +171,9 @@ fn zeros_at_end(digits: &[u8]) -> usize
         .count()
 }
 
+/// The digits of a fraction without the `0` that they end with.
 fn without_zeros(digits: &[u8; 7]) -> &[u8]
-    ensures { result.now ≡ Written.without_zeros digits.now }
+    ensures { result.now ≡ without_zeros digits.now }
 {
     &digits[..7 - zeros_at_end(digits)]
 }

@@ -1,5 +1,6 @@
-//! How values and rows are written: the rules of [`crate::rules`], the other way round. What is written stands behind what was
-//! written before. The rows of an object are written in byte order of their names, which is seldom the order of its table.
+//! How values and rows are written: the rules of [`crate::rules`], the other way round. What is written stands behind
+//! what was written before. The rows of an object are written in byte order of their names, which is seldom the order
+//! of its table.
 
 ghost use Rattle.std.specs.Prelude.{◌≡◌, [], ◌∷◌, ◌++◌, Option, OnOk, option_and_then};
 ghost use Rattle.std.specs.List.{filter_map};
@@ -16,11 +17,13 @@ use siri_time::{write_moment, write_span, written_moment_is_ascii, written_span_
 
 /// How a value is written that is never left out.
 pub trait Written {
+    /// The values that are written.
     type Of;
 
     /// What a value is written as. It is something of every value.
     ghost writing: { Self.Of → Option Data };
 
+    /// Writes what `writing` gives of a value, behind what was written before.
     fn write(out: &mut Output, value: &Self::Of) -> Result<(), OutOfMemory>
         ensures { OnOk result (Appends (writing value.now) out.old out.new) };
 }
@@ -96,6 +99,7 @@ pub fn object_of_list<R: Written>(
     out.end_object()
 }
 
+/// Writes the row of a list that has entries, entry by entry.
 #[tactic(auto, using(crate::proofs::Appended::list_appended), unfolding(crate::specs::Writing::written_list))]
 fn filled_list<R: Written>(
     out: &mut Output,
@@ -112,6 +116,7 @@ fn filled_list<R: Written>(
     out.end_list()
 }
 
+/// Writes these values as the further entries of a list that is begun.
 #[tactic(auto, using(crate::proofs::Appended::entry_appended))]
 fn entries<R: Written>(out: &mut Output, values: &[R::Of]) -> Result<(), OutOfMemory>
     ensures { OnOk result (out.new ≡ out.old ++ entries_tokens (filter_map R.writing values.now)) }
@@ -214,6 +219,7 @@ impl Written for DecimalRule {
     }
 }
 
+/// Writes so many 10^-7 degrees as a string, in degrees.
 fn decimal(out: &mut Output, units: i64) -> Result<(), OutOfMemory>
     ensures { OnOk result (out.new ≡ out.old ++ string (decimal_text units) ∷ []) }
 {

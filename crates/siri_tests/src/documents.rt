@@ -1,4 +1,5 @@
-// Documents, each with what `check` and `convert` write of it and the number of the status, and copies of messages.
+//! Documents, each with what `check` and `convert` write of it and the number of the status, and copies of messages.
+
 use crate::running::brings;
 use siri_base::{Copies, OutOfMemory};
 use siri_wire::{decode, encode};
@@ -6,7 +7,7 @@ use std::alloc::Global;
 use std::rc::Rc;
 use std::test::Fail;
 
-// A document, and what is written of it.
+/// A document, and what is written of it.
 struct Case {
     document: &'static str,
     check: &'static str,
@@ -137,7 +138,7 @@ static CASES: [Case; 20] = [
     },
 ];
 
-// A document of each kind of message in its canonical text, and its kind.
+/// A document of each kind of message in its canonical text, and its kind.
 static KINDS: [(&str, &str); 13] = [
     (
         "ok ServiceRequest\n",
@@ -193,7 +194,7 @@ static KINDS: [(&str, &str); 13] = [
     ),
 ];
 
-// Whether `check` and `convert` write this of a document, and end with the status of this number.
+/// Whether `check` and `convert` write this of a document, and end with the status of this number.
 fn is_told(
     alloc: Global,
     document: &str,
@@ -231,8 +232,8 @@ fn canonical_texts_of_every_kind_stay(rt: HostRuntime) -> Result<(), Fail> {
     Ok(())
 }
 
-// Whether a copy of the message that a canonical text says, a line, is said by the same text. Messages are shared before they are
-// let go, since a message itself is dear to let go.
+/// Whether a copy of the message that a canonical text says, a line, is said by the same text. Messages are shared
+/// before they are let go, since a message itself is dear to let go.
 fn has_equal_copy(alloc: Global, line: &str) -> Result<bool, Fail> {
     let message = Rc::new(alloc, decode(alloc, line.as_bytes())?)?;
     let copy = Rc::new(alloc, message.copy()?)?;

@@ -1,34 +1,11 @@
-// Runs of `serve` and `consume` over an outside of which calls fail.
+//! Runs of `serve` and `consume` over an outside of which calls fail.
+
+use crate::harness::{Comes, NO_CALLS, Run, UNFAILING, comes_of};
 use crate::network::{
-    ACKNOWLEDGED_UP, CHECK, CHECKED, CONSUMER, Comes, EIGHT, FED, FEED, LISTEN, NOTIFIED, READY,
-    REQUEST, SEVEN, SUBSCRIBE, SUBSCRIBED, SUPPLIED, SUPPLY, TAKEN, WANTED, are_named, moments_of,
+    ACKNOWLEDGED_UP, CHECK, CHECKED, CONSUMER, EIGHT, FED, FEED, LISTEN, NOTIFIED, READY, REQUEST,
+    SEVEN, SUBSCRIBE, SUBSCRIBED, SUPPLIED, SUPPLY, TAKEN, WANTED,
 };
-use crate::running::end_over;
-use siri_base::{
-    FailingCalls, FailingClock, FailingConnection, FailingKeeper, FailingWire, InMemorySink,
-    InMemorySource,
-};
-use std::alloc::Global;
-
-/// What is run: the words, the moments to come, what the source has, and the connections to come and to be dialled, each with its
-/// failures; and the calls that fail, each by how many of that name come before it.
-#[derive(Clone, Copy)]
-struct Run {
-    words: &'static [&'static str],
-    moments: &'static [i64],
-    input: &'static str,
-    to_accept: &'static [FailingConnection<'static>],
-    to_dial: &'static [FailingConnection<'static>],
-    calls: FailingCalls<'static>,
-    now: &'static [usize],
-    raise: &'static [usize],
-}
-
-const NO_CALLS: FailingCalls<'static> = FailingCalls {
-    listen: &[],
-    accept: &[],
-    dial: &[],
-};
+use siri_base::{FailingCalls, FailingConnection};
 
 /// A connection that asks for the producer's status.
 const ASKS: FailingConnection<'static> = FailingConnection {
@@ -38,24 +15,20 @@ const ASKS: FailingConnection<'static> = FailingConnection {
 };
 
 /// `serve` for one connection, where two come.
-const SERVE: Run = Run {
+const SERVE: Run<'static> = Run {
     words: &["serve", "p", LISTEN, "1"],
     moments: &[SEVEN, EIGHT, EIGHT],
-    input: "",
     to_accept: &[ASKS, ASKS],
-    to_dial: &[],
-    calls: NO_CALLS,
-    now: &[],
-    raise: &[],
+    ..UNFAILING
 };
 
-const SERVE_TWO: Run = Run {
+const SERVE_TWO: Run<'static> = Run {
     words: &["serve", "p", LISTEN, "2"],
     ..SERVE
 };
 
 /// `consume` for one connection, by which a part is notified.
-const CONSUME: Run = Run {
+const CONSUME: Run<'static> = Run {
     words: &["consume", "c", CONSUMER, "http://127.0.0.1:7001/", "1"],
     moments: &[EIGHT, EIGHT],
     input: WANTED,
@@ -66,8 +39,8 @@ const CONSUME: Run = Run {
     ..SERVE
 };
 
-// What is run, and what comes of it.
-static ROWS: [(Run, Comes<'static>); 9] = [
+/// What is run, and what comes of it.
+static ROWS: [(Run<'static>, Comes<'static>); 9] = [
     (
         Run {
             raise: &[0],
@@ -241,43 +214,9 @@ static ROWS: [(Run, Comes<'static>); 9] = [
     ),
 ];
 
-/// Whether a wire was written to and named its addresses so.
-fn was_used(wire: &FailingWire<'_>, comes: &Comes<'_>) -> bool {
-    let mut place = 0usize;
-    for answered in comes.answered {
-        if wire.written(place) != Some(answered.as_bytes()) {
-            return false;
-        }
-        place = place.saturating_add(1);
-    }
-    wire.written(place).is_none() && are_named(wire.addresses(), comes.named)
-}
-
-/// Whether this comes of a run.
-fn comes_of(alloc: Global, run: &Run, comes: &Comes<'_>) -> Option<bool> {
-    let moments = moments_of(alloc, run.moments)?;
-    let mut wire = FailingWire::new(alloc, run.to_accept, run.to_dial, run.calls);
-    let mut sink = InMemorySink::new(alloc);
-    let ended = end_over(
-        alloc,
-        run.words,
-        &mut InMemorySource::new(run.input.as_bytes()),
-        &mut sink,
-        &mut wire,
-        &mut FailingClock::new(&moments, run.now),
-        &mut FailingKeeper::new(0, run.raise),
-    )
-    .ok()?;
-    Some(
-        ended.is(comes.number, comes.text)
-            && sink.bytes() == comes.output.as_bytes()
-            && was_used(&wire, comes),
-    )
-}
-
 #[test]
 fn failing_calls_end_a_run_or_leave_a_connection_or_a_message(rt: HostRuntime) {
     for (place, (run, comes)) in ROWS.iter().enumerate() {
-        assert_eq!(rt; comes_of(rt.alloc(), run, comes), Some(true), "row {place}");
+        assert!(rt; comes_of(rt.alloc(), run, comes), "row {place}");
     }
 }

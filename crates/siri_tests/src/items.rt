@@ -1,11 +1,13 @@
-// Items, each as the one entry of a delivery, with what `convert` writes of it: the item, or where and why it is refused.
+//! Items, each as the one entry of a delivery, with what `convert` writes of it: the item, or where and why it is
+//! refused.
+
 use crate::running::brings;
 use siri_base::OutOfMemory;
 use std::alloc::{AllocError, Global};
 use std::test::Fail;
 
-// The entries of a service: what stands around an entry in a document and in its canonical text, the entry's path, and
-// cases, each an entry and what is written of it, or where below its path it is refused, and why.
+/// The entries of a service: what stands around an entry in a document and in its canonical text, the entry's path, and
+/// cases, each an entry and what is written of it, or where below its path it is refused, and why.
 struct Entries {
     front: &'static str,
     back: &'static str,
@@ -148,7 +150,7 @@ static SITUATIONS: Entries = Entries {
     ],
 };
 
-// What `convert` writes of an entry of which this is told.
+/// What `convert` writes of an entry of which this is told.
 fn written(alloc: Global, entries: &Entries, told: &str) -> Result<String, AllocError> {
     if told.starts_with("{") {
         format!(in alloc; "{}{told}{}\n", entries.written_front, entries.written_back)
@@ -157,7 +159,7 @@ fn written(alloc: Global, entries: &Entries, told: &str) -> Result<String, Alloc
     }
 }
 
-// Whether this is told of an entry, by what is written and by the status.
+/// Whether this is told of an entry, by what is written and by the status.
 fn is_converted(
     alloc: Global,
     entries: &Entries,
@@ -177,7 +179,7 @@ fn is_converted(
     )
 }
 
-// The first entry of which something else is told.
+/// The first entry of which something else is told.
 fn first_wrong(alloc: Global, entries: &Entries) -> Result<Option<&'static str>, OutOfMemory> {
     for (entry, told) in entries.cases {
         if !is_converted(alloc, entries, entry, told)? {

@@ -5,17 +5,19 @@
 //!     words, connections, moments, ..   --run--> what is answered and sent, a summary, and a status
 //! ```
 //!
-//! A call that takes memory is proved also where its body gives up for want of it; these runs see that it doesn't where memory is
-//! there. What no command brings stands in `times`, `trees`, `refusals`, `views` and `system`.
+//! A call that takes memory is proved also where its body gives up for want of it; these runs see that it doesn't where
+//! memory is there. What no command brings stands in `times`, `trees`, `refusals`, `views` and `system`.
 //!
-//! Stands on `siri_cli`, and for those on the crates of their calls. It has no code of its own outside of tests, so that no
-//! crate is proved a second time for them.
+//! Stands on `siri_cli`, and for those on the crates of their calls. It has no code of its own outside of tests, so
+//! that no crate is proved a second time for them.
 #![tactic(auto)]
 
 #[cfg(test)]
 mod documents;
 #[cfg(test)]
 mod failing;
+#[cfg(test)]
+mod harness;
 #[cfg(test)]
 mod items;
 #[cfg(test)]

@@ -1,11 +1,12 @@
-// Long documents, each with what `convert` writes of it: as long as a document or a list may be, and one beyond.
+//! Long documents, each with what `convert` writes of it: as long as a document or a list may be, and one beyond.
+
 use crate::running::brings;
 use siri_base::OutOfMemory;
 use std::alloc::Global;
 use std::test::Fail;
 
-// A document, in which a piece is repeated and which ends with a line's end; and what is written of it, or nothing where it is its
-// own canonical text.
+/// A document, in which a piece is repeated and which ends with a line's end; and what is written of it, or nothing
+/// where it is its own canonical text.
 struct Long {
     front: &'static str,
     piece: &'static str,
@@ -103,7 +104,7 @@ static LISTS: [Long; 9] = [
     },
 ];
 
-// Whether `convert` writes this of it.
+/// Whether `convert` writes this of it.
 fn is_converted(alloc: Global, long: &Long) -> Result<bool, OutOfMemory> {
     let middle = long.piece.repeat(alloc, long.count)?;
     let line = format!(in alloc; "{}{middle}{}\n", long.front, long.back)?;
@@ -116,7 +117,7 @@ fn is_converted(alloc: Global, long: &Long) -> Result<bool, OutOfMemory> {
     brings(alloc, &["convert"], line.as_bytes(), written, number, "")
 }
 
-// The first place at which something else is written.
+/// The first place at which something else is written.
 fn first_wrong(alloc: Global, rows: &[Long]) -> Result<Option<usize>, OutOfMemory> {
     for (place, long) in rows.iter().enumerate() {
         if !is_converted(alloc, long)? {

@@ -1,9 +1,10 @@
-// The commands over the network: `serve` and `consume` over forms in memory.
+//! The commands over the network: `serve` and `consume` over forms in memory.
+
+use crate::harness::{Comes, Run, UNFAILING, are_named, comes_of_bytes, moments_of};
 use crate::running::{Ended, end_over};
-use siri_base::{
-    InMemoryClock, InMemoryKeeper, InMemorySink, InMemorySource, InMemoryWire, Moment, Name,
-};
+use siri_base::{InMemoryClock, InMemoryKeeper, InMemorySink, InMemorySource, InMemoryWire};
 use std::alloc::Global;
+use std::test::Fail;
 
 /// 2024-05-01T07:00:00Z, and an hour after it.
 pub const SEVEN: i64 = 1_714_546_800_000;
@@ -34,97 +35,9 @@ const NOT_POST: &str =
 const MISSING: &str =
     "HTTP/1.1 400 Bad Request\r\nContent-Type: text/plain\r\nContent-Length: 14\r\nConnection: close\r\n\r\nSiri: Missing\n";
 
-/// What is handed to a run beside its words: the number that is kept, the moments to come, the connections to come and to be
-/// dialled, and what the source has.
-#[derive(Clone, Copy)]
-struct Handed<'a> {
-    kept: u64,
-    moments: &'a [i64],
-    to_accept: &'a [&'a [u8]],
-    to_dial: &'a [&'a [u8]],
-    input: &'a [u8],
-}
-
-/// What comes of it: what is written to the connections, in the order in which they came, where it is listened and dialled, what is
-/// written at the end, and the status with its text.
-#[derive(Clone, Copy)]
-pub struct Comes<'a> {
-    pub answered: &'a [&'a str],
-    pub named: &'a [&'a str],
-    pub output: &'a str,
-    pub number: u8,
-    pub text: &'a str,
-}
-
-pub fn moments_of(alloc: Global, moments: &[i64]) -> Option<Vec<Moment>> {
-    let mut all = Vec::new(alloc);
-    for moment in moments {
-        all.push(Moment::new(*moment)?).ok()?;
-    }
-    Some(all)
-}
-
-/// Whether these are the addresses.
-pub fn are_named(addresses: &[Name], named: &[&str]) -> bool {
-    let mut same = addresses.len() == named.len();
-    for (address, name) in addresses.iter().zip(named) {
-        same = same && address.text() == *name;
-    }
-    same
-}
-
-/// Whether a wire was written to and named its addresses so.
-fn was_used(wire: &InMemoryWire<'_>, comes: &Comes<'_>) -> bool {
-    let mut same = are_named(wire.addresses(), comes.named);
-    let mut place = 0usize;
-    for answered in comes.answered {
-        same = same && wire.written(place) == Some(answered.as_bytes());
-        place = place.saturating_add(1);
-    }
-    same && wire.written(place).is_none()
-}
-
-/// How a run of these words ends over a wire and a sink.
-fn end_of(
-    alloc: Global,
-    words: &[&str],
-    handed: &Handed<'_>,
-    wire: &mut InMemoryWire<'_>,
-    sink: &mut InMemorySink,
-) -> Option<Ended> {
-    let moments = moments_of(alloc, handed.moments)?;
-    let mut clock = InMemoryClock::new(&moments);
-    let mut source = InMemorySource::new(handed.input);
-    let mut keeper = InMemoryKeeper::new(handed.kept);
-    end_over(
-        alloc,
-        words,
-        &mut source,
-        sink,
-        wire,
-        &mut clock,
-        &mut keeper,
-    )
-    .ok()
-}
-
-/// Whether this comes of these words.
-fn comes_of(alloc: Global, words: &[&str], handed: &Handed<'_>, comes: &Comes<'_>) -> bool {
-    let mut wire = InMemoryWire::new(alloc, handed.to_accept, handed.to_dial);
-    let mut sink = InMemorySink::new(alloc);
-    match end_of(alloc, words, handed, &mut wire, &mut sink) {
-        Some(ended) => {
-            ended.is(comes.number, comes.text)
-                && sink.bytes() == comes.output.as_bytes()
-                && was_used(&wire, comes)
-        }
-        None => false,
-    }
-}
-
 pub const LISTEN: &str = "127.0.0.1:7001";
 
-// COUNT, the number that is kept, the moments and the connections to come, and what comes of it.
+/// COUNT, the number that is kept, the moments and the connections to come, and what comes of it.
 static SERVED: [(&str, u64, &[i64], &[&[u8]], Comes<'static>); 7] = [
     (
         "1",
@@ -222,15 +135,13 @@ static SERVED: [(&str, u64, &[i64], &[&[u8]], Comes<'static>); 7] = [
 #[test]
 fn a_producer_serves_connections(rt: HostRuntime) {
     for (count, kept, moments, to_accept, comes) in &SERVED {
-        let handed = Handed {
+        let run = Run {
+            words: &["serve", "p", LISTEN, *count],
             kept: *kept,
             moments: *moments,
-            to_accept: *to_accept,
-            to_dial: &[],
-            input: b"",
+            ..UNFAILING
         };
-        let words = ["serve", "p", LISTEN, *count];
-        assert!(rt; comes_of(rt.alloc(), &words, &handed, comes));
+        assert!(rt; comes_of_bytes(rt.alloc(), &run, *to_accept, &[], comes));
     }
 }
 
@@ -271,12 +182,10 @@ static REFUSED: [(&[u8], &str); 9] = [
 #[test]
 fn refused_requests_are_told_why(rt: HostRuntime) {
     for (input, answer) in &REFUSED {
-        let handed = Handed {
-            kept: 0,
+        let run = Run {
+            words: &["serve", "p", LISTEN, "1"],
             moments: &[SEVEN, EIGHT],
-            to_accept: &[*input],
-            to_dial: &[],
-            input: b"",
+            ..UNFAILING
         };
         let comes = Comes {
             answered: &[*answer],
@@ -285,7 +194,7 @@ fn refused_requests_are_told_why(rt: HostRuntime) {
             number: 0,
             text: "",
         };
-        assert!(rt; comes_of(rt.alloc(), &["serve", "p", LISTEN, "1"], &handed, &comes));
+        assert!(rt; comes_of_bytes(rt.alloc(), &run, &[*input], &[], &comes));
     }
 }
 
@@ -313,8 +222,8 @@ const RECEIVED: &[u8] =
 const SECOND: &str =
     "POST / HTTP/1.1\r\nHost: 127.0.0.1:7002\r\nContent-Type: application/json\r\nContent-Length: 476\r\nConnection: close\r\n\r\n{\"Siri\":{\"ServiceDelivery\":{\"ProducerRef\":\"p\",\"RequestMessageRef\":\"1\",\"ResponseTimestamp\":\"2024-05-01T08:00:00Z\",\"Status\":true,\"StopMonitoringDelivery\":[{\"Extensions\":{\"Part\":1,\"Round\":2,\"Start\":1},\"MonitoredStopVisit\":[{\"ItemIdentifier\":\"a\",\"MonitoredVehicleJourney\":{\"LineRef\":\"L1\",\"MonitoredCall\":{\"ExpectedDepartureTime\":\"2024-05-01T08:10:00Z\"}},\"MonitoringRef\":\"S1\"}],\"ResponseTimestamp\":\"2024-05-01T08:00:00Z\",\"Status\":true,\"SubscriberRef\":\"c\",\"SubscriptionRef\":\"S\"}]}}}";
 
-// The connections to be dialled, and what comes of a subscription and a feed behind it: the second round is sent where the first was
-// acknowledged.
+/// The connections to be dialled, and what comes of a subscription and a feed behind it: the second round is sent where
+/// the first was acknowledged.
 static SENT_OUT: [(&[&[u8]], Comes<'static>); 2] = [
     (
         &[RECEIVED, b"HTTP/1.1 200 OK\r\nContent-Length: 0\r\n\r\n"],
@@ -341,15 +250,38 @@ static SENT_OUT: [(&[&[u8]], Comes<'static>); 2] = [
 #[test]
 fn rounds_are_sent_out(rt: HostRuntime) {
     for (to_dial, comes) in &SENT_OUT {
-        let handed = Handed {
-            kept: 0,
+        let run = Run {
+            words: &["serve", "p", LISTEN, "2"],
             moments: &[SEVEN, EIGHT, EIGHT],
-            to_accept: &[SUBSCRIBE, FEED],
-            to_dial: *to_dial,
-            input: b"",
+            ..UNFAILING
         };
-        assert!(rt; comes_of(rt.alloc(), &["serve", "p", LISTEN, "2"], &handed, comes));
+        assert!(rt; comes_of_bytes(rt.alloc(), &run, &[SUBSCRIBE, FEED], *to_dial, comes));
     }
+}
+
+/// How the run of the first row ends over forms in memory that can't name a failure.
+fn end_of_plain(alloc: Global, wire: &mut InMemoryWire<'_>) -> Option<Ended> {
+    let moments = moments_of(alloc, &[SEVEN, EIGHT, EIGHT])?;
+    end_over(
+        alloc,
+        &["serve", "p", LISTEN, "2"],
+        &mut InMemorySource::new(b""),
+        &mut InMemorySink::new(alloc),
+        wire,
+        &mut InMemoryClock::new(&moments),
+        &mut InMemoryKeeper::new(0),
+    )
+    .ok()
+}
+
+#[test]
+fn plain_forms_send_the_same(rt: HostRuntime) -> Result<(), Fail> {
+    let mut wire = InMemoryWire::new(rt.alloc(), &[SUBSCRIBE, FEED], &[RECEIVED, TAKEN]);
+    let ended = end_of_plain(rt.alloc(), &mut wire).ok_or("an end")?;
+    assert!(rt; ended.is(0, ""));
+    assert!(rt; are_named(wire.addresses(), &[LISTEN, CONSUMER, CONSUMER]));
+    assert!(rt; wire.written(3) == Some(SECOND.as_bytes()));
+    Ok(())
 }
 
 /// What a consumer wants.
@@ -368,8 +300,8 @@ const ROUND: &[u8] =
 const ACKNOWLEDGED: &str =
     "HTTP/1.1 200 OK\r\nContent-Type: application/json\r\nContent-Length: 200\r\nConnection: close\r\n\r\n{\"Siri\":{\"DataReceivedAcknowledgement\":{\"ConsumerRef\":\"c\",\"Extensions\":{\"Number\":1000000,\"Part\":1,\"Round\":1,\"Start\":1,\"SubscriptionRef\":\"S\"},\"ResponseTimestamp\":\"2024-05-01T08:00:00Z\",\"Status\":true}}}";
 
-/// The same part, notified, the answer to that, the request for the part, its response, and the acknowledgement of the part as it
-/// is sent up.
+/// The same part, notified, the answer to that, the request for the part, its response, and the acknowledgement of the
+/// part as it is sent up.
 pub const NOTIFIED: &[u8] =
     b"POST / HTTP/1.1\r\nContent-Length: 186\r\n\r\n{\"Siri\":{\"DataReadyNotification\":{\"Extensions\":{\"Number\":1000000,\"Part\":1,\"Round\":1,\"Start\":1,\"SubscriptionRef\":\"S\"},\"ProducerRef\":\"producer\",\"RequestTimestamp\":\"2024-05-01T08:00:00Z\"}}}";
 
@@ -389,7 +321,7 @@ pub const TAKEN: &[u8] = b"HTTP/1.1 200 OK\r\nContent-Length: 0\r\n\r\n";
 
 pub const CONSUMER: &str = "127.0.0.1:7002";
 
-// What the source has, the connection to come, those to be dialled, and what comes of it.
+/// What the source has, the connection to come, those to be dialled, and what comes of it.
 static ASKED: [(&str, &[u8], &[&[u8]], Comes<'static>); 8] = [
     (
         WANTED,
@@ -492,14 +424,12 @@ static ASKED: [(&str, &[u8], &[&[u8]], Comes<'static>); 8] = [
 #[test]
 fn a_consumer_asks_and_answers(rt: HostRuntime) {
     for (input, to_accept, to_dial, comes) in &ASKED {
-        let handed = Handed {
-            kept: 0,
+        let run = Run {
+            words: &["consume", "c", CONSUMER, "http://127.0.0.1:7001/", "1"],
             moments: &[EIGHT, EIGHT],
-            to_accept: &[*to_accept],
-            to_dial: *to_dial,
-            input: input.as_bytes(),
+            input: *input,
+            ..UNFAILING
         };
-        let words = ["consume", "c", CONSUMER, "http://127.0.0.1:7001/", "1"];
-        assert!(rt; comes_of(rt.alloc(), &words, &handed, comes));
+        assert!(rt; comes_of_bytes(rt.alloc(), &run, &[*to_accept], *to_dial, comes));
     }
 }

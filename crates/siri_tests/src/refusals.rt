@@ -1,9 +1,10 @@
-// The texts that say why something about a subscription, a supply or a feed is refused.
+//! The texts that say why something about a subscription, a supply or a feed is refused.
+
 use siri_base::Place;
 use siri_replies::Refusal;
 use std::test::Fail;
 
-// A refusal, and its ErrorText.
+/// A refusal, and its ErrorText.
 static REFUSALS: [(Refusal, &str); 7] = [
     (Refusal::PastTermination, "PastTermination"),
     (Refusal::Superseded { held: 5 }, "Superseded 5"),

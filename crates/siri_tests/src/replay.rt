@@ -1,4 +1,5 @@
-// Scripts, each with the report, the number and the text of the status that it brings.
+//! Scripts, each with the report, the number and the text of the status that it brings.
+
 ghost use Rattle.std.specs.Prelude.{Some, []};
 
 use crate::running::{brings, brings_from, end_of};
@@ -9,33 +10,33 @@ use siri_base::{
 use std::alloc::{AllocError, Global};
 use std::test::Fail;
 
-// A line that starts a producer at 08:00.
+/// A line that starts a producer at 08:00.
 const EIGHT: &str = "start 2024-05-01T08:00:00Z\n";
 
-// Visits at both edges of the half hour from 08:00, and one a millisecond before the later edge.
+/// Visits at both edges of the half hour from 08:00, and one a millisecond before the later edge.
 const EDGES: &str =
     "feed {\"Siri\":{\"ServiceDelivery\":{\"StopMonitoringDelivery\":[{\"MonitoredStopVisit\":[{\"ItemIdentifier\":\"a\",\"MonitoredVehicleJourney\":{\"LineRef\":\"L1\",\"MonitoredCall\":{\"ExpectedDepartureTime\":\"2024-05-01T08:00:00Z\"}},\"MonitoringRef\":\"S1\"},{\"ItemIdentifier\":\"b\",\"MonitoredVehicleJourney\":{\"LineRef\":\"L1\",\"MonitoredCall\":{\"ExpectedDepartureTime\":\"2024-05-01T08:30:00Z\"}},\"MonitoringRef\":\"S1\"},{\"ItemIdentifier\":\"c\",\"MonitoredVehicleJourney\":{\"LineRef\":\"L1\",\"MonitoredCall\":{\"ExpectedDepartureTime\":\"2024-05-01T08:29:59.999Z\"}},\"MonitoringRef\":\"S1\"}]}]}}}\n";
 
-// A request for the visits of a time ahead, up to that time and from it on.
+/// A request for the visits of a time ahead, up to that time and from it on.
 const ASK: &str =
     "ask {\"Siri\":{\"ServiceRequest\":{\"StopMonitoringRequest\":[{\"MonitoringRef\":\"S1\",\"PreviewInterval\":\"";
 
 const END: &str = "\"}]}}}\n";
 
-// What is told of them where half an hour is asked for.
+/// What is told of them where half an hour is asked for.
 const SHOWN: &str = concat!(
     "started 1\n",
     "fed 3 0 0\n",
     "answer {\"Siri\":{\"ServiceDelivery\":{\"ProducerRef\":\"producer\",\"ResponseTimestamp\":\"2024-05-01T08:00:00Z\",\"Status\":true,\"StopMonitoringDelivery\":[{\"MonitoredStopVisit\":[{\"ItemIdentifier\":\"a\",\"MonitoredVehicleJourney\":{\"LineRef\":\"L1\",\"MonitoredCall\":{\"ExpectedDepartureTime\":\"2024-05-01T08:00:00Z\"}},\"MonitoringRef\":\"S1\"},{\"ItemIdentifier\":\"c\",\"MonitoredVehicleJourney\":{\"LineRef\":\"L1\",\"MonitoredCall\":{\"ExpectedDepartureTime\":\"2024-05-01T08:29:59.999Z\"}},\"MonitoringRef\":\"S1\"}],\"ResponseTimestamp\":\"2024-05-01T08:00:00Z\",\"Status\":true}]}}}\n",
 );
 
-// Two feeds of one visit, of which the later was recorded earlier.
+/// Two feeds of one visit, of which the later was recorded earlier.
 const TWICE: &str = concat!(
     "feed {\"Siri\":{\"ServiceDelivery\":{\"StopMonitoringDelivery\":[{\"MonitoredStopVisit\":[{\"ItemIdentifier\":\"a\",\"MonitoredVehicleJourney\":{\"LineRef\":\"L1\",\"MonitoredCall\":{\"ExpectedDepartureTime\":\"2024-05-01T08:10:00Z\"}},\"MonitoringRef\":\"S1\",\"RecordedAtTime\":\"2024-05-01T07:59:00Z\"}]}]}}}\n",
     "feed {\"Siri\":{\"ServiceDelivery\":{\"StopMonitoringDelivery\":[{\"MonitoredStopVisit\":[{\"ItemIdentifier\":\"a\",\"MonitoredVehicleJourney\":{\"LineRef\":\"L1\",\"MonitoredCall\":{\"ExpectedDepartureTime\":\"2024-05-01T08:20:00Z\"}},\"MonitoringRef\":\"S1\",\"RecordedAtTime\":\"2024-05-01T07:50:00Z\"}]}]}}}\n",
 );
 
-// What is told of them.
+/// What is told of them.
 const LATER: &str = concat!(
     "started 1\n",
     "fed 1 0 0\n",
@@ -43,21 +44,21 @@ const LATER: &str = concat!(
     "answer {\"Siri\":{\"ServiceDelivery\":{\"ProducerRef\":\"producer\",\"ResponseTimestamp\":\"2024-05-01T08:00:00Z\",\"Status\":true,\"StopMonitoringDelivery\":[{\"MonitoredStopVisit\":[{\"ItemIdentifier\":\"a\",\"MonitoredVehicleJourney\":{\"LineRef\":\"L1\",\"MonitoredCall\":{\"ExpectedDepartureTime\":\"2024-05-01T08:20:00Z\"}},\"MonitoringRef\":\"S1\",\"RecordedAtTime\":\"2024-05-01T07:50:00Z\"}],\"ResponseTimestamp\":\"2024-05-01T08:00:00Z\",\"Status\":true}]}}}\n",
 );
 
-// A delivery of all four services as it may come from elsewhere, and a request for all of it.
+/// A delivery of all four services as it may come from elsewhere, and a request for all of it.
 const SERVICES: &str = concat!(
     "start 2024-05-01T08:00:00Z\n",
     "feed {\"Siri\":{\"ServiceDelivery\":{\"ResponseTimestamp\":\"2024-05-01T10:00:00.000+02:00\",\"ProducerRef\":{\"value\":\"AGENCY\"},\"ResponseMessageIdentifier\":\"r-1\",\"Version\":\"2.0\",\"StopMonitoringDelivery\":[{\"ResponseTimestamp\":\"2024-05-01T08:00:00Z\",\"Version\":\"2.0\",\"Status\":\"true\",\"MonitoredStopVisit\":[{\"RecordedAtTime\":\"2024-05-01T07:59:30.123456Z\",\"ItemIdentifier\":\"v1\",\"MonitoringRef\":{\"value\":\"S1\"},\"MonitoredVehicleJourney\":{\"LineRef\":{\"value\":\"L1\"},\"FramedVehicleJourneyRef\":{\"DataFrameRef\":{\"value\":\"any\"},\"DatedVehicleJourneyRef\":\"J1\"},\"DestinationName\":[{\"value\":\"Nord\"}],\"JourneyNote\":[],\"MonitoredCall\":{\"StopPointName\":[{\"value\":\"Gare\"}],\"VehicleAtStop\":false,\"ExpectedDepartureTime\":\"2024-05-01T10:05:00+02:00\"}}}]}],\"EstimatedTimetableDelivery\":[{\"EstimatedJourneyVersionFrame\":[{\"RecordedAtTime\":\"2024-05-01T07:58:00Z\",\"EstimatedVehicleJourney\":[{\"LineRef\":\"L1\",\"DirectionRef\":\"out\",\"DatedVehicleJourneyRef\":{\"value\":\"J1\"},\"RecordedCalls\":{\"RecordedCall\":[{\"StopPointRef\":\"S0\",\"Order\":1,\"ActualDepartureTime\":\"2024-05-01T07:50:00Z\"}]},\"EstimatedCalls\":{\"EstimatedCall\":[{\"StopPointRef\":\"S1\",\"Order\":2,\"AimedArrivalTime\":\"2024-05-01T08:04:00Z\",\"ExpectedArrivalTime\":\"2024-05-01T08:04:30Z\"}]}}]}]}],\"VehicleMonitoringDelivery\":[{\"VehicleActivity\":[{\"ValidUntilTime\":\"2024-05-01T08:10:00Z\",\"MonitoredVehicleJourney\":{\"LineRef\":\"L1\",\"VehicleRef\":\"7\",\"Delay\":\"-PT90S\",\"VehicleLocation\":{\"Longitude\":2.35219999999,\"Latitude\":48.85}}}]}],\"SituationExchangeDelivery\":[{\"Situations\":{\"PtSituationElement\":[{\"CreationTime\":\"2023-11-02T12:00:00Z\",\"ParticipantRef\":\"AGENCY\",\"SituationNumber\":\"12\",\"ValidityPeriod\":[{\"StartTime\":\"2023-11-03T00:00:00Z\"}],\"Severity\":\"slight\",\"Summary\":[{\"value\":\"Works\",\"lang\":\"EN\"}],\"Affects\":{\"Networks\":{\"AffectedNetwork\":[{\"AffectedLine\":[{\"LineRef\":\"L1\"}]}]}}}]}}]}}}\n",
     "ask {\"Siri\":{\"ServiceRequest\":{\"StopMonitoringRequest\":{\"MonitoringRef\":\"S1\",\"PreviewInterval\":\"PT1H\"},\"EstimatedTimetableRequest\":{\"PreviewInterval\":\"PT1H\"},\"VehicleMonitoringRequest\":{\"LineRef\":\"L1\"},\"SituationExchangeRequest\":{\"LineRef\":\"L1\"}}}}\n",
 );
 
-// What is told of them.
+/// What is told of them.
 const SERVED: &str = concat!(
     "started 1\n",
     "fed 4 0 0\n",
     "answer {\"Siri\":{\"ServiceDelivery\":{\"EstimatedTimetableDelivery\":[{\"EstimatedJourneyVersionFrame\":[{\"EstimatedVehicleJourney\":[{\"DatedVehicleJourneyRef\":\"J1\",\"DirectionRef\":\"out\",\"EstimatedCalls\":{\"EstimatedCall\":[{\"AimedArrivalTime\":\"2024-05-01T08:04:00Z\",\"ExpectedArrivalTime\":\"2024-05-01T08:04:30Z\",\"Order\":2,\"StopPointRef\":\"S1\"}]},\"LineRef\":\"L1\",\"RecordedCalls\":{\"RecordedCall\":[{\"ActualDepartureTime\":\"2024-05-01T07:50:00Z\",\"Order\":1,\"StopPointRef\":\"S0\"}]}}],\"RecordedAtTime\":\"2024-05-01T07:58:00Z\"}],\"ResponseTimestamp\":\"2024-05-01T08:00:00Z\",\"Status\":true}],\"ProducerRef\":\"producer\",\"ResponseTimestamp\":\"2024-05-01T08:00:00Z\",\"SituationExchangeDelivery\":[{\"ResponseTimestamp\":\"2024-05-01T08:00:00Z\",\"Situations\":{\"PtSituationElement\":[{\"Affects\":{\"Networks\":{\"AffectedNetwork\":[{\"AffectedLine\":[{\"LineRef\":\"L1\"}]}]}},\"CreationTime\":\"2023-11-02T12:00:00Z\",\"ParticipantRef\":\"AGENCY\",\"Severity\":\"slight\",\"SituationNumber\":\"12\",\"Summary\":\"Works\",\"ValidityPeriod\":[{\"StartTime\":\"2023-11-03T00:00:00Z\"}]}]},\"Status\":true}],\"Status\":true,\"StopMonitoringDelivery\":[{\"MonitoredStopVisit\":[{\"ItemIdentifier\":\"v1\",\"MonitoredVehicleJourney\":{\"DestinationName\":\"Nord\",\"FramedVehicleJourneyRef\":{\"DataFrameRef\":\"any\",\"DatedVehicleJourneyRef\":\"J1\"},\"LineRef\":\"L1\",\"MonitoredCall\":{\"ExpectedDepartureTime\":\"2024-05-01T08:05:00Z\",\"StopPointName\":\"Gare\",\"VehicleAtStop\":false}},\"MonitoringRef\":\"S1\",\"RecordedAtTime\":\"2024-05-01T07:59:30.123Z\"}],\"ResponseTimestamp\":\"2024-05-01T08:00:00Z\",\"Status\":true}],\"VehicleMonitoringDelivery\":[{\"ResponseTimestamp\":\"2024-05-01T08:00:00Z\",\"Status\":true,\"VehicleActivity\":[{\"MonitoredVehicleJourney\":{\"Delay\":\"-PT1M30S\",\"LineRef\":\"L1\",\"VehicleLocation\":{\"Latitude\":\"48.85\",\"Longitude\":\"2.3521999\"},\"VehicleRef\":\"7\"},\"ValidUntilTime\":\"2024-05-01T08:10:00Z\"}]}]}}}\n",
 );
 
-// Requests for the two visits that come first, and for none.
+/// Requests for the two visits that come first, and for none.
 const SOONEST: &str = concat!(
     "start 2024-05-01T08:00:00Z\n",
     "feed {\"Siri\":{\"ServiceDelivery\":{\"StopMonitoringDelivery\":[{\"MonitoredStopVisit\":[{\"ItemIdentifier\":\"a\",\"MonitoredVehicleJourney\":{\"LineRef\":\"L1\",\"MonitoredCall\":{\"ExpectedDepartureTime\":\"2024-05-01T08:30:00Z\"}},\"MonitoringRef\":\"S1\"},{\"ItemIdentifier\":\"b\",\"MonitoredVehicleJourney\":{\"LineRef\":\"L1\",\"MonitoredCall\":{\"ExpectedDepartureTime\":\"2024-05-01T08:10:00Z\"}},\"MonitoringRef\":\"S1\"},{\"ItemIdentifier\":\"c\",\"MonitoredVehicleJourney\":{\"LineRef\":\"L1\",\"MonitoredCall\":{\"ExpectedDepartureTime\":\"2024-05-01T08:20:00Z\"}},\"MonitoringRef\":\"S1\"}]}]}}}\n",
@@ -65,7 +66,7 @@ const SOONEST: &str = concat!(
     "ask {\"Siri\":{\"ServiceRequest\":{\"StopMonitoringRequest\":[{\"MaximumStopVisits\":0,\"MonitoringRef\":\"S1\"}]}}}\n",
 );
 
-// What is told of them.
+/// What is told of them.
 const SOONEST_TOLD: &str = concat!(
     "started 1\n",
     "fed 3 0 0\n",
@@ -73,15 +74,15 @@ const SOONEST_TOLD: &str = concat!(
     "answer {\"Siri\":{\"ServiceDelivery\":{\"ProducerRef\":\"producer\",\"ResponseTimestamp\":\"2024-05-01T08:00:00Z\",\"Status\":true,\"StopMonitoringDelivery\":[{\"ResponseTimestamp\":\"2024-05-01T08:00:00Z\",\"Status\":true}]}}}\n",
 );
 
-// A delivery of which one part belongs to a round.
+/// A delivery of which one part belongs to a round.
 const IN_A_ROUND: &str =
     "feed {\"Siri\":{\"ServiceDelivery\":{\"VehicleMonitoringDelivery\":[{}],\"StopMonitoringDelivery\":[{},{\"Extensions\":{\"Start\":1,\"Round\":1,\"Part\":1}}]}}}\n";
 
-// A visit, and cancellations of one that is there and of one that isn't.
+/// A visit, and cancellations of one that is there and of one that isn't.
 const CANCELLED: &str =
     "feed {\"Siri\":{\"ServiceDelivery\":{\"StopMonitoringDelivery\":[{\"MonitoredStopVisitCancellation\":[{\"ItemRef\":\"a\",\"MonitoringRef\":\"S1\"},{\"ItemRef\":\"z\",\"MonitoringRef\":\"S1\"}],\"MonitoredStopVisit\":[{\"ItemIdentifier\":\"d\",\"MonitoredVehicleJourney\":{\"LineRef\":\"L1\",\"MonitoredCall\":{\"ExpectedDepartureTime\":\"2024-05-01T08:20:00Z\"}},\"MonitoringRef\":\"S1\"}]}]}}}\n";
 
-// What is told of them after the visits at the edges.
+/// What is told of them after the visits at the edges.
 const CANCELLED_TOLD: &str = concat!(
     "started 1\n",
     "fed 3 0 0\n",
@@ -89,7 +90,7 @@ const CANCELLED_TOLD: &str = concat!(
     "answer {\"Siri\":{\"ServiceDelivery\":{\"ProducerRef\":\"producer\",\"ResponseTimestamp\":\"2024-05-01T08:00:00Z\",\"Status\":true,\"StopMonitoringDelivery\":[{\"MonitoredStopVisit\":[{\"ItemIdentifier\":\"c\",\"MonitoredVehicleJourney\":{\"LineRef\":\"L1\",\"MonitoredCall\":{\"ExpectedDepartureTime\":\"2024-05-01T08:29:59.999Z\"}},\"MonitoringRef\":\"S1\"},{\"ItemIdentifier\":\"d\",\"MonitoredVehicleJourney\":{\"LineRef\":\"L1\",\"MonitoredCall\":{\"ExpectedDepartureTime\":\"2024-05-01T08:20:00Z\"}},\"MonitoringRef\":\"S1\"}],\"ResponseTimestamp\":\"2024-05-01T08:00:00Z\",\"Status\":true}]}}}\n",
 );
 
-// Scripts that are whole, and their reports.
+/// Scripts that are whole, and their reports.
 static WHOLE: [(&[&str], &str); 10] = [
     (&[], ""),
     (&[EIGHT, EDGES, ASK, "PT30M", END], SHOWN),
@@ -124,7 +125,7 @@ static WHOLE: [(&[&str], &str); 10] = [
     (&[EIGHT, EDGES, ASK, "P0DT30M", END], SHOWN),
 ];
 
-// Scripts in which a line is refused, the reports before it, and what is told of it.
+/// Scripts in which a line is refused, the reports before it, and what is told of it.
 static REFUSED: [(&[&str], &str, &str); 18] = [
     (
         &["# nothing\n", "\n", EIGHT, "clok 2024-05-01T08:01:00Z\n"],
@@ -218,12 +219,12 @@ fn joined(alloc: Global, pieces: &[&str]) -> Result<Vec<u8>, AllocError> {
     Ok(text)
 }
 
-// The script of the window's edges.
+/// The script of the window's edges.
 fn edges(alloc: Global) -> Result<Vec<u8>, AllocError> {
     joined(alloc, &[EIGHT, EDGES, ASK, "PT30M", END])
 }
 
-// Whether a script brings this report, and ends with the status of this number and text.
+/// Whether a script brings this report, and ends with the status of this number and text.
 fn replays(
     alloc: Global,
     script: &[&str],
@@ -291,7 +292,7 @@ fn words_of_no_command_are_a_usage(rt: HostRuntime) -> Result<(), Fail> {
     Ok(())
 }
 
-// A source that gives one byte at a time.
+/// A source that gives one byte at a time.
 #[derive(Drop)]
 struct ByteSource<'a> {
     bytes: &'a [u8],
@@ -321,8 +322,8 @@ fn pieces_of_one_byte_bring_the_same(rt: HostRuntime) -> Result<(), Fail> {
     Ok(())
 }
 
-// Whether a read that fails at a place of the script ends the run with this report. The one failure is over then: the
-// rest comes.
+/// Whether a read that fails at a place of the script ends the run with this report. The one failure is over then: the
+/// rest comes.
 fn ends_at_read(alloc: Global, script: &[u8], place: usize, report: &str) -> Result<bool, Fail> {
     let places = [place];
     let mut source = FailingSource::new(script, &places);
@@ -359,8 +360,8 @@ fn a_failed_read_ends_the_run(rt: HostRuntime) -> Result<(), Fail> {
     Ok(())
 }
 
-// Whether a write that fails at a place of the report ends the run with the report up to there. The one failure is over
-// then: the next write is taken.
+/// Whether a write that fails at a place of the report ends the run with the report up to there. The one failure is
+/// over then: the next write is taken.
 fn ends_at_write(alloc: Global, script: &[u8], place: usize) -> Result<bool, Fail> {
     let places = [place];
     let mut source = InMemorySource::new(script);
@@ -381,13 +382,13 @@ fn a_failed_write_ends_the_run(rt: HostRuntime) -> Result<(), Fail> {
     Ok(())
 }
 
-// A line that feeds visits, before and after them.
+/// A line that feeds visits, before and after them.
 const FEED: &str =
     "feed {\"Siri\":{\"ServiceDelivery\":{\"StopMonitoringDelivery\":[{\"MonitoredStopVisit\":[";
 
 const FED: &str = "]}]}}}\n";
 
-// A visit, before its name, between its name and its time, and after that.
+/// A visit, before its name, between its name and its time, and after that.
 const NAMED: &str = "{\"ItemIdentifier\":\"";
 
 const AT: &str =
@@ -395,14 +396,14 @@ const AT: &str =
 
 const STOP: &str = "Z\"}},\"MonitoringRef\":\"S1\"}";
 
-// What is told of the feeds, and of those that come after them.
+/// What is told of the feeds, and of those that come after them.
 const MANY_TOLD: &str = concat!(
     "started 1\nfed 5000 0 0\nfed 5000 0 0\nfed 5000 0 0\nfed 5000 0 0\n",
     "fed 0 0 1\nfed 1 0 0\nfed 1 0 0\nfed 1 0 0\n",
 );
 
-// Feeds of a new visit, for which there is no room, of a later one of a held key, of one that is over, and, once the held ones are
-// over, of a new one.
+/// Feeds of a new visit, for which there is no room, of a later one of a held key, of one that is over, and, once the
+/// held ones are over, of a new one.
 const AT_THE_LIMIT: &[&str] = &[
     FEED,
     NAMED,
@@ -442,7 +443,7 @@ fn add(script: &mut Vec<u8>, pieces: &[&str]) -> Result<(), AllocError> {
     Ok(())
 }
 
-// A feed of 5,000 visits at half past eight, whose names begin with its own number.
+/// A feed of 5,000 visits at half past eight, whose names begin with its own number.
 fn add_many(alloc: Global, script: &mut Vec<u8>, feed: u64) -> Result<(), OutOfMemory> {
     add(script, &[FEED])?;
     for number in 0..5_000u64 {
@@ -470,7 +471,7 @@ fn as_many_items_are_live_as_may_be(rt: HostRuntime) -> Result<(), Fail> {
     Ok(())
 }
 
-// A line that is no UTF-8 is refused for it before its word is looked at.
+/// A line that is no UTF-8 is refused for it before its word is looked at.
 #[test]
 fn a_line_is_text(rt: HostRuntime) -> Result<(), Fail> {
     assert!(rt;

@@ -1,8 +1,9 @@
-// Scripts of a producer, its consumers and a network that loses, repeats and delays, each with its report.
+//! Scripts of a producer, its consumers and a network that loses, repeats and delays, each with its report.
+
 use crate::running::brings;
 use std::test::Fail;
 
-// A change while a round is outstanding, which the next round brings.
+/// A change while a round is outstanding, which the next round brings.
 const CHANGED_MEANWHILE: &str = concat!(
     "start 2024-05-01T08:00:00Z\n",
     "feed {\"Siri\":{\"ServiceDelivery\":{\"StopMonitoringDelivery\":[{\"MonitoredStopVisit\":[{\"ItemIdentifier\":\"a\",\"MonitoredVehicleJourney\":{\"LineRef\":\"L1\",\"MonitoredCall\":{\"ExpectedDepartureTime\":\"2024-05-01T08:10:00Z\"}},\"MonitoringRef\":\"S1\"}]}]}}}\n",
@@ -15,7 +16,7 @@ const CHANGED_MEANWHILE: &str = concat!(
     "deliver 4\n",
 );
 
-// What is told of it.
+/// What is told of it.
 const CHANGED_MEANWHILE_TOLD: &str = concat!(
     "started 1\n",
     "fed 1 0 0\n",
@@ -33,7 +34,7 @@ const CHANGED_MEANWHILE_TOLD: &str = concat!(
     "packet 5 to c1 {\"Siri\":{\"ServiceDelivery\":{\"ProducerRef\":\"producer\",\"RequestMessageRef\":\"1\",\"ResponseTimestamp\":\"2024-05-01T08:00:00Z\",\"Status\":true,\"StopMonitoringDelivery\":[{\"Extensions\":{\"Part\":1,\"Round\":2,\"Start\":1},\"MonitoredStopVisit\":[{\"ItemIdentifier\":\"a\",\"MonitoredVehicleJourney\":{\"LineRef\":\"L1\",\"MonitoredCall\":{\"ExpectedDepartureTime\":\"2024-05-01T08:20:00Z\"}},\"MonitoringRef\":\"S1\"}],\"ResponseTimestamp\":\"2024-05-01T08:00:00Z\",\"Status\":true,\"SubscriberRef\":\"c1\",\"SubscriptionRef\":\"S\"}]}}}\n",
 );
 
-// Changes are those since the acknowledged view.
+/// Changes are those since the acknowledged view.
 const SINCE_ACKNOWLEDGED: &str = concat!(
     "start 2024-05-01T08:00:00Z\n",
     "feed {\"Siri\":{\"ServiceDelivery\":{\"StopMonitoringDelivery\":[{\"MonitoredStopVisit\":[{\"ItemIdentifier\":\"a\",\"MonitoredVehicleJourney\":{\"LineRef\":\"L1\",\"MonitoredCall\":{\"ExpectedDepartureTime\":\"2024-05-01T08:10:00Z\"}},\"MonitoringRef\":\"S1\"}]}]}}}\n",
@@ -47,7 +48,7 @@ const SINCE_ACKNOWLEDGED: &str = concat!(
     "feed {\"Siri\":{\"ServiceDelivery\":{\"StopMonitoringDelivery\":[{\"MonitoredStopVisit\":[{\"ItemIdentifier\":\"a\",\"MonitoredVehicleJourney\":{\"LineRef\":\"L1\",\"MonitoredCall\":{\"ExpectedDepartureTime\":\"2024-05-01T08:11:00Z\"}},\"MonitoringRef\":\"S1\"}]}]}}}\n",
 );
 
-// What is told of it.
+/// What is told of it.
 const SINCE_ACKNOWLEDGED_TOLD: &str = concat!(
     "started 1\n",
     "fed 1 0 0\n",
@@ -66,7 +67,7 @@ const SINCE_ACKNOWLEDGED_TOLD: &str = concat!(
     "packet 5 to c1 {\"Siri\":{\"ServiceDelivery\":{\"ProducerRef\":\"producer\",\"RequestMessageRef\":\"1\",\"ResponseTimestamp\":\"2024-05-01T08:00:00Z\",\"Status\":true,\"StopMonitoringDelivery\":[{\"Extensions\":{\"Part\":1,\"Round\":2,\"Start\":1},\"MonitoredStopVisit\":[{\"ItemIdentifier\":\"a\",\"MonitoredVehicleJourney\":{\"LineRef\":\"L1\",\"MonitoredCall\":{\"ExpectedDepartureTime\":\"2024-05-01T08:11:00Z\"}},\"MonitoringRef\":\"S1\"}],\"ResponseTimestamp\":\"2024-05-01T08:00:00Z\",\"Status\":true,\"SubscriberRef\":\"c1\",\"SubscriptionRef\":\"S\"}]}}}\n",
 );
 
-// Updates that are not incremental: each round brings all that is shown.
+/// Updates that are not incremental: each round brings all that is shown.
 const COMPLETE_SETS: &str = concat!(
     "start 2024-05-01T08:00:00Z\n",
     "feed {\"Siri\":{\"ServiceDelivery\":{\"StopMonitoringDelivery\":[{\"MonitoredStopVisit\":[{\"ItemIdentifier\":\"a\",\"MonitoredVehicleJourney\":{\"LineRef\":\"L1\",\"MonitoredCall\":{\"ExpectedDepartureTime\":\"2024-05-01T08:10:00Z\"}},\"MonitoringRef\":\"S1\"},{\"ItemIdentifier\":\"b\",\"MonitoredVehicleJourney\":{\"LineRef\":\"L1\",\"MonitoredCall\":{\"ExpectedDepartureTime\":\"2024-05-01T08:20:00Z\"}},\"MonitoringRef\":\"S1\"},{\"ItemIdentifier\":\"c\",\"MonitoredVehicleJourney\":{\"LineRef\":\"L1\",\"MonitoredCall\":{\"ExpectedDepartureTime\":\"2024-05-01T08:30:00Z\"}},\"MonitoringRef\":\"S1\"}]}]}}}\n",
@@ -78,7 +79,7 @@ const COMPLETE_SETS: &str = concat!(
     "feed {\"Siri\":{\"ServiceDelivery\":{\"StopMonitoringDelivery\":[{\"MonitoredStopVisit\":[{\"ItemIdentifier\":\"a\",\"MonitoredVehicleJourney\":{\"LineRef\":\"L1\",\"MonitoredCall\":{\"ExpectedDepartureTime\":\"2024-05-01T08:11:00Z\"}},\"MonitoringRef\":\"S1\"}]}]}}}\n",
 );
 
-// What is told of it.
+/// What is told of it.
 const COMPLETE_SETS_TOLD: &str = concat!(
     "started 1\n",
     "fed 3 0 0\n",
@@ -94,7 +95,7 @@ const COMPLETE_SETS_TOLD: &str = concat!(
     "packet 5 to c1 {\"Siri\":{\"ServiceDelivery\":{\"ProducerRef\":\"producer\",\"RequestMessageRef\":\"1\",\"ResponseTimestamp\":\"2024-05-01T08:00:00Z\",\"Status\":true,\"StopMonitoringDelivery\":[{\"Extensions\":{\"Part\":1,\"Round\":2,\"Start\":1},\"MonitoredStopVisit\":[{\"ItemIdentifier\":\"a\",\"MonitoredVehicleJourney\":{\"LineRef\":\"L1\",\"MonitoredCall\":{\"ExpectedDepartureTime\":\"2024-05-01T08:11:00Z\"}},\"MonitoringRef\":\"S1\"},{\"ItemIdentifier\":\"b\",\"MonitoredVehicleJourney\":{\"LineRef\":\"L1\",\"MonitoredCall\":{\"ExpectedDepartureTime\":\"2024-05-01T08:20:20Z\"}},\"MonitoringRef\":\"S1\"},{\"ItemIdentifier\":\"c\",\"MonitoredVehicleJourney\":{\"LineRef\":\"L1\",\"MonitoredCall\":{\"ExpectedDepartureTime\":\"2024-05-01T08:30:00Z\"}},\"MonitoringRef\":\"S1\"}],\"ResponseTimestamp\":\"2024-05-01T08:00:00Z\",\"Status\":true,\"SubscriberRef\":\"c1\",\"SubscriptionRef\":\"S\"}]}}}\n",
 );
 
-// A departure that is late by a minute, where a minute is to be told.
+/// A departure that is late by a minute, where a minute is to be told.
 const DRIFT: &str = concat!(
     "start 2024-05-01T08:00:00Z\n",
     "feed {\"Siri\":{\"ServiceDelivery\":{\"StopMonitoringDelivery\":[{\"MonitoredStopVisit\":[{\"ItemIdentifier\":\"a\",\"MonitoredVehicleJourney\":{\"LineRef\":\"L1\",\"MonitoredCall\":{\"ExpectedDepartureTime\":\"2024-05-01T08:10:00Z\"}},\"MonitoringRef\":\"S1\"}]}]}}}\n",
@@ -105,7 +106,7 @@ const DRIFT: &str = concat!(
     "feed {\"Siri\":{\"ServiceDelivery\":{\"StopMonitoringDelivery\":[{\"MonitoredStopVisit\":[{\"ItemIdentifier\":\"a\",\"MonitoredVehicleJourney\":{\"LineRef\":\"L1\",\"MonitoredCall\":{\"ExpectedDepartureTime\":\"2024-05-01T08:11:00Z\"}},\"MonitoringRef\":\"S1\"}]}]}}}\n",
 );
 
-// What is told of it.
+/// What is told of it.
 const DRIFT_TOLD: &str = concat!(
     "started 1\n",
     "fed 1 0 0\n",
@@ -120,7 +121,7 @@ const DRIFT_TOLD: &str = concat!(
     "packet 5 to c1 {\"Siri\":{\"ServiceDelivery\":{\"ProducerRef\":\"producer\",\"RequestMessageRef\":\"1\",\"ResponseTimestamp\":\"2024-05-01T08:00:00Z\",\"Status\":true,\"StopMonitoringDelivery\":[{\"Extensions\":{\"Part\":1,\"Round\":2,\"Start\":1},\"MonitoredStopVisit\":[{\"ItemIdentifier\":\"a\",\"MonitoredVehicleJourney\":{\"LineRef\":\"L1\",\"MonitoredCall\":{\"ExpectedDepartureTime\":\"2024-05-01T08:11:00Z\"}},\"MonitoringRef\":\"S1\"}],\"ResponseTimestamp\":\"2024-05-01T08:00:00Z\",\"Status\":true,\"SubscriberRef\":\"c1\",\"SubscriptionRef\":\"S\"}]}}}\n",
 );
 
-// A packet that was never sent, and a consumer that is unknown.
+/// A packet that was never sent, and a consumer that is unknown.
 const UNKNOWN: &str = concat!(
     "start 2024-05-01T08:00:00Z\n",
     "feed {\"Siri\":{\"ServiceDelivery\":{\"StopMonitoringDelivery\":[{\"MonitoredStopVisit\":[{\"ItemIdentifier\":\"a\",\"MonitoredVehicleJourney\":{\"LineRef\":\"L1\",\"MonitoredCall\":{\"ExpectedDepartureTime\":\"2024-05-01T08:10:00Z\"}},\"MonitoringRef\":\"S1\"}]}]}}}\n",
@@ -130,7 +131,7 @@ const UNKNOWN: &str = concat!(
     "view c2 S\n",
 );
 
-// What is told of it.
+/// What is told of it.
 const UNKNOWN_TOLD: &str = concat!(
     "started 1\n",
     "fed 1 0 0\n",
@@ -142,7 +143,7 @@ const UNKNOWN_TOLD: &str = concat!(
     "unknown c2 S\n",
 );
 
-// The numbers of requests, rounds and packets.
+/// The numbers of requests, rounds and packets.
 const NUMBERS: &str = concat!(
     "start 2024-05-01T08:00:00Z\n",
     "subscribe c1 {\"StopMonitoringSubscriptionRequest\":{\"ChangeBeforeUpdates\":\"PT0S\",\"InitialTerminationTime\":\"2024-05-01T20:00:00Z\",\"StopMonitoringRequest\":{\"MonitoringRef\":\"S1\",\"PreviewInterval\":\"PT1H\"},\"SubscriptionIdentifier\":\"S\"}}\n",
@@ -152,7 +153,7 @@ const NUMBERS: &str = concat!(
     "deliver 1\n",
 );
 
-// What is told of it.
+/// What is told of it.
 const NUMBERS_TOLD: &str = concat!(
     "started 1\n",
     "packet 1 to producer {\"Siri\":{\"SubscriptionRequest\":{\"MessageIdentifier\":\"1\",\"RequestTimestamp\":\"2024-05-01T08:00:00Z\",\"RequestorRef\":\"c1\",\"StopMonitoringSubscriptionRequest\":[{\"ChangeBeforeUpdates\":\"PT0S\",\"IncrementalUpdates\":true,\"InitialTerminationTime\":\"2024-05-01T20:00:00Z\",\"StopMonitoringRequest\":{\"MonitoringRef\":\"S1\",\"PreviewInterval\":\"PT1H\"},\"SubscriberRef\":\"c1\",\"SubscriptionIdentifier\":\"S\"}]}}}\n",
@@ -166,7 +167,7 @@ const NUMBERS_TOLD: &str = concat!(
     "packet 6 to c1 {\"Siri\":{\"SubscriptionResponse\":{\"RequestMessageRef\":\"1\",\"ResponseStatus\":[{\"ErrorCondition\":{\"OtherError\":{\"ErrorText\":\"Superseded 2\"}},\"Status\":false,\"SubscriberRef\":\"c1\",\"SubscriptionRef\":\"S\"}],\"ResponseTimestamp\":\"2024-05-01T08:00:00Z\"}}}\n",
 );
 
-// A visit that leaves the window before its round is acknowledged.
+/// A visit that leaves the window before its round is acknowledged.
 const PASSES_BEFORE: &str = concat!(
     "start 2024-05-01T08:00:00Z\n",
     "feed {\"Siri\":{\"ServiceDelivery\":{\"StopMonitoringDelivery\":[{\"MonitoredStopVisit\":[{\"ItemIdentifier\":\"a\",\"MonitoredVehicleJourney\":{\"LineRef\":\"L1\",\"MonitoredCall\":{\"ExpectedDepartureTime\":\"2024-05-01T08:10:00Z\"}},\"MonitoringRef\":\"S1\"}]}]}}}\n",
@@ -177,7 +178,7 @@ const PASSES_BEFORE: &str = concat!(
     "deliver 5\n",
 );
 
-// What is told of it.
+/// What is told of it.
 const PASSES_BEFORE_TOLD: &str = concat!(
     "started 1\n",
     "fed 1 0 0\n",
@@ -192,7 +193,7 @@ const PASSES_BEFORE_TOLD: &str = concat!(
     "packet 6 to c1 {\"Siri\":{\"ServiceDelivery\":{\"ProducerRef\":\"producer\",\"RequestMessageRef\":\"1\",\"ResponseTimestamp\":\"2024-05-01T08:10:00.001Z\",\"Status\":true,\"StopMonitoringDelivery\":[{\"Extensions\":{\"Part\":1,\"Round\":2,\"Start\":1},\"MonitoredStopVisitCancellation\":[{\"ItemRef\":\"a\",\"MonitoringRef\":\"S1\"}],\"ResponseTimestamp\":\"2024-05-01T08:10:00.001Z\",\"Status\":true,\"SubscriberRef\":\"c1\",\"SubscriptionRef\":\"S\"}]}}}\n",
 );
 
-// Packets that are delivered again.
+/// Packets that are delivered again.
 const REPEATS: &str = concat!(
     "start 2024-05-01T08:00:00Z\n",
     "feed {\"Siri\":{\"ServiceDelivery\":{\"StopMonitoringDelivery\":[{\"MonitoredStopVisit\":[{\"ItemIdentifier\":\"a\",\"MonitoredVehicleJourney\":{\"LineRef\":\"L1\",\"MonitoredCall\":{\"ExpectedDepartureTime\":\"2024-05-01T08:10:00Z\"}},\"MonitoringRef\":\"S1\"}]}]}}}\n",
@@ -206,7 +207,7 @@ const REPEATS: &str = concat!(
     "view c1 S\n",
 );
 
-// What is told of it.
+/// What is told of it.
 const REPEATS_TOLD: &str = concat!(
     "started 1\n",
     "fed 1 0 0\n",
@@ -228,7 +229,7 @@ const REPEATS_TOLD: &str = concat!(
     "item {\"MonitoredStopVisit\":{\"ItemIdentifier\":\"a\",\"MonitoredVehicleJourney\":{\"LineRef\":\"L1\",\"MonitoredCall\":{\"ExpectedDepartureTime\":\"2024-05-01T08:10:00Z\"}},\"MonitoringRef\":\"S1\"}}\n",
 );
 
-// Subscriptions whose termination time has come.
+/// Subscriptions whose termination time has come.
 const TERMINATION: &str = concat!(
     "start 2024-05-01T08:00:00Z\n",
     "subscribe c1 {\"StopMonitoringSubscriptionRequest\":{\"ChangeBeforeUpdates\":\"PT0S\",\"InitialTerminationTime\":\"2024-05-01T08:00:00Z\",\"StopMonitoringRequest\":{\"MonitoringRef\":\"S1\",\"PreviewInterval\":\"PT1H\"},\"SubscriptionIdentifier\":\"S\"}}\n",
@@ -241,7 +242,7 @@ const TERMINATION: &str = concat!(
     "view c1 S\n",
 );
 
-// What is told of it.
+/// What is told of it.
 const TERMINATION_TOLD: &str = concat!(
     "started 1\n",
     "packet 1 to producer {\"Siri\":{\"SubscriptionRequest\":{\"MessageIdentifier\":\"1\",\"RequestTimestamp\":\"2024-05-01T08:00:00Z\",\"RequestorRef\":\"c1\",\"StopMonitoringSubscriptionRequest\":[{\"ChangeBeforeUpdates\":\"PT0S\",\"IncrementalUpdates\":true,\"InitialTerminationTime\":\"2024-05-01T08:00:00Z\",\"StopMonitoringRequest\":{\"MonitoringRef\":\"S1\",\"PreviewInterval\":\"PT1H\"},\"SubscriberRef\":\"c1\",\"SubscriptionIdentifier\":\"S\"}]}}}\n",
@@ -257,7 +258,7 @@ const TERMINATION_TOLD: &str = concat!(
     "view c1 S number 2 start 1 round 1 items 0 moving\n",
 );
 
-// Two subscriptions over one store.
+/// Two subscriptions over one store.
 const TWO: &str = concat!(
     "start 2024-05-01T08:00:00Z\n",
     "feed {\"Siri\":{\"ServiceDelivery\":{\"StopMonitoringDelivery\":[{\"MonitoredStopVisit\":[{\"ItemIdentifier\":\"a\",\"MonitoredVehicleJourney\":{\"LineRef\":\"L1\",\"MonitoredCall\":{\"ExpectedDepartureTime\":\"2024-05-01T08:10:00Z\"}},\"MonitoringRef\":\"S1\"}]}]}}}\n",
@@ -274,7 +275,7 @@ const TWO: &str = concat!(
     "deliver 10\n",
 );
 
-// What is told of it.
+/// What is told of it.
 const TWO_TOLD: &str = concat!(
     "started 1\n",
     "fed 1 0 0\n",
@@ -299,7 +300,7 @@ const TWO_TOLD: &str = concat!(
     "packet 11 to c1 {\"Siri\":{\"TerminateSubscriptionResponse\":{\"RequestMessageRef\":\"3\",\"ResponseTimestamp\":\"2024-05-01T08:00:00Z\",\"TerminationResponseStatus\":[{\"Status\":true,\"SubscriberRef\":\"c1\",\"SubscriptionRef\":\"B\"}]}}}\n",
 );
 
-// A heartbeat at a minute, and none a millisecond before.
+/// A heartbeat at a minute, and none a millisecond before.
 const HEARTBEAT: &str = concat!(
     "start 2024-05-01T08:00:00Z\n",
     "subscribe c1 {\"SubscriptionContext\":{\"HeartbeatInterval\":\"PT1M\"},\"StopMonitoringSubscriptionRequest\":{\"ChangeBeforeUpdates\":\"PT0S\",\"InitialTerminationTime\":\"2024-05-01T20:00:00Z\",\"StopMonitoringRequest\":{\"MonitoringRef\":\"S1\",\"PreviewInterval\":\"PT1H\"},\"SubscriptionIdentifier\":\"S\"}}\n",
@@ -310,7 +311,7 @@ const HEARTBEAT: &str = concat!(
     "clock 2024-05-01T08:01:00Z\n",
 );
 
-// What is told of it.
+/// What is told of it.
 const HEARTBEAT_TOLD: &str = concat!(
     "started 1\n",
     "packet 1 to producer {\"Siri\":{\"SubscriptionRequest\":{\"MessageIdentifier\":\"1\",\"RequestTimestamp\":\"2024-05-01T08:00:00Z\",\"RequestorRef\":\"c1\",\"StopMonitoringSubscriptionRequest\":[{\"ChangeBeforeUpdates\":\"PT0S\",\"IncrementalUpdates\":true,\"InitialTerminationTime\":\"2024-05-01T20:00:00Z\",\"StopMonitoringRequest\":{\"MonitoringRef\":\"S1\",\"PreviewInterval\":\"PT1H\"},\"SubscriberRef\":\"c1\",\"SubscriptionIdentifier\":\"S\"}],\"SubscriptionContext\":{\"HeartbeatInterval\":\"PT1M\"}}}}\n",
@@ -323,7 +324,7 @@ const HEARTBEAT_TOLD: &str = concat!(
     "packet 5 to c1 {\"Siri\":{\"HeartbeatNotification\":{\"ProducerRef\":\"producer\",\"RequestTimestamp\":\"2024-05-01T08:01:00Z\",\"ServiceStartedTime\":\"2024-05-01T08:00:00Z\",\"Status\":true}}}\n",
 );
 
-// A producer that starts anew.
+/// A producer that starts anew.
 const RESTART: &str = concat!(
     "start 2024-05-01T08:00:00Z\n",
     "feed {\"Siri\":{\"ServiceDelivery\":{\"StopMonitoringDelivery\":[{\"MonitoredStopVisit\":[{\"ItemIdentifier\":\"a\",\"MonitoredVehicleJourney\":{\"LineRef\":\"L1\",\"MonitoredCall\":{\"ExpectedDepartureTime\":\"2024-05-01T08:50:00Z\"}},\"MonitoringRef\":\"S1\"}]}]}}}\n",
@@ -344,7 +345,7 @@ const RESTART: &str = concat!(
     "view c1 S\n",
 );
 
-// What is told of it.
+/// What is told of it.
 const RESTART_TOLD: &str = concat!(
     "started 1\n",
     "fed 1 0 0\n",
@@ -372,7 +373,7 @@ const RESTART_TOLD: &str = concat!(
     "view c1 S number 1 start 2 round 1 items 0 moving\n",
 );
 
-// Consumers that ask whether the producer is there.
+/// Consumers that ask whether the producer is there.
 const STATUS: &str = concat!(
     "start 2024-05-01T08:00:00Z\n",
     "subscribe c1 {\"StopMonitoringSubscriptionRequest\":{\"ChangeBeforeUpdates\":\"PT0S\",\"InitialTerminationTime\":\"2024-05-01T20:00:00Z\",\"StopMonitoringRequest\":{\"MonitoringRef\":\"S1\",\"PreviewInterval\":\"PT1H\"},\"SubscriptionIdentifier\":\"S\"}}\n",
@@ -382,7 +383,7 @@ const STATUS: &str = concat!(
     "status c2\n",
 );
 
-// What is told of it.
+/// What is told of it.
 const STATUS_TOLD: &str = concat!(
     "started 1\n",
     "packet 1 to producer {\"Siri\":{\"SubscriptionRequest\":{\"MessageIdentifier\":\"1\",\"RequestTimestamp\":\"2024-05-01T08:00:00Z\",\"RequestorRef\":\"c1\",\"StopMonitoringSubscriptionRequest\":[{\"ChangeBeforeUpdates\":\"PT0S\",\"IncrementalUpdates\":true,\"InitialTerminationTime\":\"2024-05-01T20:00:00Z\",\"StopMonitoringRequest\":{\"MonitoringRef\":\"S1\",\"PreviewInterval\":\"PT1H\"},\"SubscriberRef\":\"c1\",\"SubscriptionIdentifier\":\"S\"}]}}}\n",
@@ -393,7 +394,7 @@ const STATUS_TOLD: &str = concat!(
     "unknown c2\n",
 );
 
-// Seventeen consumers, of which the last is one too many.
+/// Seventeen consumers, of which the last is one too many.
 const SEVENTEEN: &str = concat!(
     "start 2024-05-01T08:00:00Z\n",
     "subscribe c1 {\"StopMonitoringSubscriptionRequest\":{\"ChangeBeforeUpdates\":\"PT0S\",\"InitialTerminationTime\":\"2024-05-01T20:00:00Z\",\"StopMonitoringRequest\":{\"MonitoringRef\":\"S1\",\"PreviewInterval\":\"PT1H\"},\"SubscriptionIdentifier\":\"S\"}}\n",
@@ -415,7 +416,7 @@ const SEVENTEEN: &str = concat!(
     "subscribe c17 {\"StopMonitoringSubscriptionRequest\":{\"ChangeBeforeUpdates\":\"PT0S\",\"InitialTerminationTime\":\"2024-05-01T20:00:00Z\",\"StopMonitoringRequest\":{\"MonitoringRef\":\"S1\",\"PreviewInterval\":\"PT1H\"},\"SubscriptionIdentifier\":\"S\"}}\n",
 );
 
-// What is told of it.
+/// What is told of it.
 const SEVENTEEN_TOLD: &str = concat!(
     "started 1\n",
     "packet 1 to producer {\"Siri\":{\"SubscriptionRequest\":{\"MessageIdentifier\":\"1\",\"RequestTimestamp\":\"2024-05-01T08:00:00Z\",\"RequestorRef\":\"c1\",\"StopMonitoringSubscriptionRequest\":[{\"ChangeBeforeUpdates\":\"PT0S\",\"IncrementalUpdates\":true,\"InitialTerminationTime\":\"2024-05-01T20:00:00Z\",\"StopMonitoringRequest\":{\"MonitoringRef\":\"S1\",\"PreviewInterval\":\"PT1H\"},\"SubscriberRef\":\"c1\",\"SubscriptionIdentifier\":\"S\"}]}}}\n",
@@ -436,7 +437,7 @@ const SEVENTEEN_TOLD: &str = concat!(
     "packet 16 to producer {\"Siri\":{\"SubscriptionRequest\":{\"MessageIdentifier\":\"1\",\"RequestTimestamp\":\"2024-05-01T08:00:00Z\",\"RequestorRef\":\"c16\",\"StopMonitoringSubscriptionRequest\":[{\"ChangeBeforeUpdates\":\"PT0S\",\"IncrementalUpdates\":true,\"InitialTerminationTime\":\"2024-05-01T20:00:00Z\",\"StopMonitoringRequest\":{\"MonitoringRef\":\"S1\",\"PreviewInterval\":\"PT1H\"},\"SubscriberRef\":\"c16\",\"SubscriptionIdentifier\":\"S\"}]}}}\n",
 );
 
-// Each script with its report.
+/// Each script with its report.
 const WHOLE: [(&str, &str); 13] = [
     (CHANGED_MEANWHILE, CHANGED_MEANWHILE_TOLD),
     (SINCE_ACKNOWLEDGED, SINCE_ACKNOWLEDGED_TOLD),

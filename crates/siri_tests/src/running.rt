@@ -1,4 +1,5 @@
-// Runs of the top call over forms in memory.
+//! Runs of the top call over forms in memory.
+
 use siri_base::{
     Clock, InMemoryClock, InMemoryKeeper, InMemorySink, InMemorySource, InMemoryWire, Keeper, List,
     OutOfMemory, Sink, Source, Status, Wire,
@@ -30,7 +31,7 @@ impl Ended {
     }
 }
 
-// In a function of its own, which lets the status go and does nothing else.
+/// In a function of its own, which lets the status go and does nothing else.
 fn told_of(alloc: Global, status: Status) -> Result<Ended, OutOfMemory> {
     let number = status.number();
     Ok(Ended {
@@ -53,7 +54,8 @@ pub fn end_over<S: Source, K: Sink, W: Wire, C: Clock, E: Keeper>(
     told_of(alloc, run(alloc, &words, source, sink, wire, clock, keeper))
 }
 
-/// How the command of these words ends over a source and a sink, with nothing to come from a wire, a clock and a keeper.
+/// How the command of these words ends over a source and a sink, with nothing to come from a wire, a clock and a
+/// keeper.
 pub fn end_of<S: Source, K: Sink>(
     alloc: Global,
     words: &[&str],

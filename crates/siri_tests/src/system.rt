@@ -1,4 +1,5 @@
-// The adapters over TCP, the system's clock and the file of the start number.
+//! The adapters over TCP, the system's clock and the file of the start number.
+
 use siri_base::{Clock, Keeper, Moment, Name, Wire};
 use siri_ends::{Tally, serve_one};
 use siri_producer::Producer;

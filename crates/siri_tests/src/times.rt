@@ -1,9 +1,10 @@
-// Texts of moments and spans, and the milliseconds that they stand for: of the standard (W3C XML Schema, part 2) and of
-// another calendar's arithmetic.
+//! Texts of moments and spans, and the milliseconds that they stand for: of the standard (W3C XML Schema, part 2) and
+//! of another calendar's arithmetic.
+
 use siri_base::{Moment, Span};
 use siri_time::{SpanError, TimeError, read_moment, read_span, write_moment, write_span};
 
-// Fractions are cut, and offsets are taken to their ends. The last has 64 bytes.
+/// Fractions are cut, and offsets are taken to their ends. The last has 64 bytes.
 static MOMENTS: [(&str, i64); 27] = [
     ("1970-01-01T00:00:00Z", 0),
     ("1970-12-31T00:00:00Z", 31_449_600_000),
@@ -37,7 +38,7 @@ static MOMENTS: [(&str, i64); 27] = [
     ),
 ];
 
-// Texts of no moment. The last have 65 bytes, or would have with an offset.
+/// Texts of no moment. The last have 65 bytes, or would have with an offset.
 static NO_MOMENTS: [&str; 35] = [
     "",
     "Z",
@@ -76,7 +77,7 @@ static NO_MOMENTS: [&str; 35] = [
     "2024-05-01T08:00:00.00000000000000000000000000000000000000000000",
 ];
 
-// Texts of moments but for their offsets.
+/// Texts of moments but for their offsets.
 static NO_OFFSETS: [&str; 4] = [
     "2024-02-29T00:00:00",
     "2024-02-29T00:00:00.25",
@@ -84,7 +85,7 @@ static NO_OFFSETS: [&str; 4] = [
     "2024-05-01T08:00:00.0000000000000000000000000000000000000000000",
 ];
 
-// Lengths of time. The last has 64 bytes.
+/// Lengths of time. The last has 64 bytes.
 static SPANS: [(&str, i64); 13] = [
     ("P1DT90S", 86_490_000),
     ("-PT0.5S", -500),
@@ -104,7 +105,7 @@ static SPANS: [(&str, i64); 13] = [
     ),
 ];
 
-// Texts of no length. The last has 65 bytes.
+/// Texts of no length. The last has 65 bytes.
 static NO_SPANS: [&str; 26] = [
     "P0000000000000001D",
     "P1000000DT0.001S",
@@ -134,7 +135,7 @@ static NO_SPANS: [&str; 26] = [
     "PT1.000000000000000000000000000000000000000000000000000000000000S",
 ];
 
-// Lengths with years or months.
+/// Lengths with years or months.
 static CALENDAR_SPANS: [&str; 7] = [
     "P1Y2M3DT10H30M",
     "P1347Y",
@@ -145,7 +146,7 @@ static CALENDAR_SPANS: [&str; 7] = [
     "P1Y1000001D",
 ];
 
-// Moments as they are written.
+/// Moments as they are written.
 static WRITTEN_MOMENTS: [(i64, &str); 9] = [
     (0, "1970-01-01T00:00:00Z"),
     (31_535_999_999, "1970-12-31T23:59:59.999Z"),
@@ -158,7 +159,7 @@ static WRITTEN_MOMENTS: [(i64, &str); 9] = [
     (253_402_300_799_999, "9999-12-31T23:59:59.999Z"),
 ];
 
-// Lengths as they are written.
+/// Lengths as they are written.
 static WRITTEN_SPANS: [(i64, &str); 10] = [
     (0, "PT0S"),
     (90_000, "PT1M30S"),

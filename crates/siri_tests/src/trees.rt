@@ -1,14 +1,15 @@
-// Documents and what is found in their trees, numbers, and the texts of paths.
+//! Documents and what is found in their trees, numbers, and the texts of paths.
+
 use siri_base::{Copies, Name};
 use siri_json::{
-    MAX_DOCUMENT, Path, Scratch, Step, TextOf, Tree, TreeError, Value, entry_at, entry_list,
+    LONGEST_DOCUMENT, Path, Scratch, Step, TextOf, Tree, TreeError, Value, entry_at, entry_list,
     member, quote_numbers, read_tree, text_of, write_tree,
 };
 use std::alloc::{AllocError, Global};
 use std::test::Fail;
 
-// A row: a document, the names of a member and of one inside it, and the texts of what stands there, or why there is no tree. The
-// last three are of RFC 8259, section 13.
+/// A row: a document, the names of a member and of one inside it, and the texts of what stands there, or why there is
+/// no tree. The last three are of RFC 8259, section 13.
 static DOCUMENTS: [(&str, (&str, &str), &str); 13] = [
     ("[01]", ("", ""), "NotJson"),
     ("{1:2}", ("", ""), "NotJson"),
@@ -33,7 +34,7 @@ static DOCUMENTS: [(&str, (&str, &str), &str); 13] = [
     ),
 ];
 
-// The member of that name, in a list's first entry; without a name the value itself.
+/// The member of that name, in a list's first entry; without a name the value itself.
 fn below<'v, 'a>(value: &'v Tree<'a>, name: &str) -> Option<&'v Tree<'a>> {
     if name.is_empty() {
         return Some(value);
@@ -41,12 +42,12 @@ fn below<'v, 'a>(value: &'v Tree<'a>, name: &str) -> Option<&'v Tree<'a>> {
     member(entry_at(value, 0)?, name)
 }
 
-// The member `inner` of the member `outer`.
+/// The member `inner` of the member `outer`.
 fn found<'v, 'a>(tree: &'v Tree<'a>, outer: &str, inner: &str) -> Option<&'v Tree<'a>> {
     below(below(tree, outer)?, inner)
 }
 
-// The texts of its entries, each with a space after it.
+/// The texts of its entries, each with a space after it.
 fn texts(alloc: Global, value: &Tree<'_>) -> Result<String, AllocError> {
     let mut told = String::new(alloc);
     for entry in entry_list(value) {
@@ -60,7 +61,7 @@ fn texts(alloc: Global, value: &Tree<'_>) -> Result<String, AllocError> {
     Ok(told)
 }
 
-// What stands below these names in a document's tree, or the name of what was answered in its place.
+/// What stands below these names in a document's tree, or the name of what was answered in its place.
 fn told(alloc: Global, document: &[u8], names: (&str, &str)) -> Result<String, AllocError> {
     let mut scratch = Scratch::new(alloc);
     let name = match read_tree(alloc, document, &mut scratch) {
@@ -81,13 +82,13 @@ fn documents_are_read_with_their_numbers_as_texts(rt: HostRuntime) -> Result<(),
         let text = told(rt.alloc(), document.as_bytes(), *names)?;
         assert!(rt; text.as_str() == *want, "{document}");
     }
-    let spaces = vec![in rt.alloc(); b' '; MAX_DOCUMENT + 1]?;
+    let spaces = vec![in rt.alloc(); b' '; LONGEST_DOCUMENT + 1]?;
     assert!(rt; told(rt.alloc(), &spaces, ("", ""))?.as_str() == "TooLong");
     assert!(rt; told(rt.alloc(), b"\"\xff\"", ("", ""))?.as_str() == "NotJson");
     Ok(())
 }
 
-// The text of a list of a number and a text.
+/// The text of a list of a number and a text.
 fn written(alloc: Global) -> Option<Vec<u8>> {
     let mut entries = Vec::new(alloc);
     entries.push(Value::from(1u64)).ok()?;
@@ -109,7 +110,7 @@ fn numbers_are_quoted_outside_of_strings(rt: HostRuntime) -> Result<(), Fail> {
     Ok(())
 }
 
-// The path `Calls[12].Order`, by each call that makes one longer.
+/// The path `Calls[12].Order`, by each call that makes one longer.
 fn long_path(alloc: Global) -> Option<Path> {
     let mut later = Path::new(alloc);
     later

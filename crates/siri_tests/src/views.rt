@@ -1,4 +1,5 @@
-// Views of vehicles, and the changes that lead from one to another.
+//! Views of vehicles, and the changes that lead from one to another.
+
 use siri_base::Name;
 use siri_change::{Change, View, changes, patch};
 use siri_records::{Item, Key, Vehicle, VehicleJourney};
@@ -11,22 +12,7 @@ fn vehicle_of(name: Name) -> Item {
         recorded_at_time: None,
         item_identifier: None,
         valid_until_time: None,
-        monitored_vehicle_journey: VehicleJourney {
-            line_ref: None,
-            direction_ref: None,
-            data_frame_ref: None,
-            dated_vehicle_journey_ref: None,
-            published_line_name: None,
-            operator_ref: None,
-            destination_ref: None,
-            destination_name: None,
-            vehicle_ref: name,
-            monitored: None,
-            occupancy: None,
-            delay: None,
-            vehicle_location: None,
-            monitored_call: None,
-        },
+        monitored_vehicle_journey: VehicleJourney::blank(name),
     })
 }
 
@@ -48,7 +34,7 @@ fn view(alloc: Global, names: &[&str]) -> Result<View, Fail> {
     Ok(view)
 }
 
-// The names of its vehicles, each with a space before it.
+/// The names of its vehicles, each with a space before it.
 fn told(alloc: Global, view: &View) -> Result<String, AllocError> {
     let mut text = String::new(alloc);
     for place in 0..view.len() {
@@ -60,7 +46,7 @@ fn told(alloc: Global, view: &View) -> Result<String, AllocError> {
     Ok(text)
 }
 
-// The first view with the changes that lead to the second.
+/// The first view with the changes that lead to the second.
 fn patched(alloc: Global, before: &[&str], after: &[&str]) -> Result<String, Fail> {
     let mut view_before = view(alloc, before)?;
     let list = changes(&view_before, &view(alloc, after)?)?;

@@ -1,7 +1,7 @@
 //! Topics: what a consumer asks to be told of, and which items are shown to it at a moment.
 //!
-//! A topic is the body of a functional request (EN 15531-3; CEN/TS 15531-5 for situations). An item is *shown* to it where
-//! its names agree with the topic, it isn't closed, and it is in the topic's window:
+//! A topic is the body of a functional request (EN 15531-3; CEN/TS 15531-5 for situations). An item is *shown* to it
+//! where its names agree with the topic, it isn't closed, and it is in the topic's window:
 //!
 //! ```text
 //!     topic, item      -> matches  ---+

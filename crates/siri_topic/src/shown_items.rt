@@ -1,6 +1,7 @@
-// The items that are shown to a topic.
+//! The items that are shown to a topic.
+
 ghost use Rattle.std.specs.Prelude.{◌≡◌};
-ghost use Rattle.siri_topic.specs.Shown as definition;
+ghost use Rattle.siri_topic.specs.Shown.{DeadAreNeverShown, ends_before, has_period_in, is_before, is_from, is_in, is_period_in, is_shown, preview_of, start_of, window_of};
 
 use crate::{Topic, Window, matches};
 use siri_base::{Moment, Span};
@@ -9,7 +10,7 @@ use siri_records::{Item, Period, Situation, closed, end_of, entry_of};
 /// The window of a topic at a moment: from the later of its StartTime and now, for its PreviewInterval. It has no far
 /// edge where there is no PreviewInterval.
 pub fn window(topic: &Topic, now: Moment) -> Window
-    ensures { result ≡ definition.window_of topic.now now }
+    ensures { result ≡ window_of topic.now now }
 {
     let from = match start_of(topic) {
         Some(start) => start.max(now).ms(),
@@ -22,25 +23,26 @@ pub fn window(topic: &Topic, now: Moment) -> Window
     Window { from, to }
 }
 
-/// Whether an item is shown to a topic at a moment: it agrees with the topic, isn't closed, and is in the topic's window
-/// at that moment. It takes no memory.
+/// Whether an item is shown to a topic at a moment: it agrees with the topic, isn't closed, and is in the topic's
+/// window at that moment. It takes no memory.
 ///
 /// A visit or a journey is in a window where its end isn't before the near edge and its entry is before the far edge. A
 /// vehicle is in it where its ValidUntilTime isn't before the moment, or absent. A situation is in it where some one of
 /// its periods begins before the far edge and doesn't end before the near edge.
 pub fn shown(topic: &Topic, item: &Item, now: Moment) -> bool
-    ensures { result ≡ definition.is_shown topic.now item.now now }
+    ensures { result ≡ is_shown topic.now item.now now }
 {
     matches(topic, item) && !closed(item) && is_in(&window(topic, now), now, item)
 }
 
 /// The law that an item that is dead at a moment is shown to no topic at that moment.
 pub fn dead_items_are_never_shown()
-    ensures { definition.DeadAreNeverShown }
+    ensures { DeadAreNeverShown }
 {}
 
+/// The StartTime of a topic; timetables and vehicles have none.
 fn start_of(topic: &Topic) -> Option<Moment>
-    ensures { result ≡ definition.start_of topic.now }
+    ensures { result ≡ start_of topic.now }
 {
     match topic {
         Topic::Stop(topic) => topic.start_time,
@@ -49,8 +51,9 @@ fn start_of(topic: &Topic) -> Option<Moment>
     }
 }
 
+/// The PreviewInterval of a topic; vehicles have none.
 fn preview_of(topic: &Topic) -> Option<Span>
-    ensures { result ≡ definition.preview_of topic.now }
+    ensures { result ≡ preview_of topic.now }
 {
     match topic {
         Topic::Stop(topic) => topic.preview_interval,
@@ -60,8 +63,9 @@ fn preview_of(topic: &Topic) -> Option<Span>
     }
 }
 
+/// Whether an item is in a window at a moment, as [`shown`] says for each service.
 fn is_in(window: &Window, now: Moment, item: &Item) -> bool
-    ensures { result ≡ definition.is_in window.now now item.now }
+    ensures { result ≡ is_in window.now now item.now }
 {
     match item {
         Item::Visit(_) | Item::Journey(_) => {
@@ -72,9 +76,9 @@ fn is_in(window: &Window, now: Moment, item: &Item) -> bool
     }
 }
 
-// Some one of its periods begins before the far edge and doesn't end before the near edge.
+/// Some one of its periods begins before the far edge and doesn't end before the near edge.
 fn has_period_in(window: &Window, situation: &Situation) -> bool
-    ensures { result ≡ definition.has_period_in window.now situation.now }
+    ensures { result ≡ has_period_in window.now situation.now }
 {
     situation
         .validity_period
@@ -83,14 +87,16 @@ fn has_period_in(window: &Window, situation: &Situation) -> bool
         .any(|period| is_period_in(window, period))
 }
 
+/// It begins before the far edge, and doesn't end before the near edge or has no EndTime.
 fn is_period_in(window: &Window, period: &Period) -> bool
-    ensures { result ≡ definition.is_period_in window.now period.now }
+    ensures { result ≡ is_period_in window.now period.now }
 {
     is_before(window.to, Some(period.start_time)) && !ends_before(window.from, period.end_time)
 }
 
+/// There is a moment, and it isn't before this one in milliseconds.
 fn is_from(from: i64, moment: Option<Moment>) -> bool
-    ensures { result ≡ definition.is_from from moment }
+    ensures { result ≡ is_from from moment }
 {
     match moment {
         Some(moment) => moment.ms() >= from,
@@ -98,8 +104,9 @@ fn is_from(from: i64, moment: Option<Moment>) -> bool
     }
 }
 
+/// There is a moment, and it is before the far edge in milliseconds, where there is such an edge.
 fn is_before(to: Option<i64>, moment: Option<Moment>) -> bool
-    ensures { result ≡ definition.is_before to moment }
+    ensures { result ≡ is_before to moment }
 {
     match (to, moment) {
         (Some(to), Some(moment)) => moment.ms() < to,
@@ -108,9 +115,9 @@ fn is_before(to: Option<i64>, moment: Option<Moment>) -> bool
     }
 }
 
-// There is an end, and it is before this moment.
+/// There is an end, and it is before this moment.
 fn ends_before(from: i64, end: Option<Moment>) -> bool
-    ensures { result ≡ definition.ends_before from end }
+    ensures { result ≡ ends_before from end }
 {
     match end {
         Some(end) => end.ms() < from,

@@ -1,4 +1,5 @@
-// Subscriptions to topics.
+//! Subscriptions to topics.
+
 ghost use Rattle.std.specs.Prelude.{◌≡◌};
 
 use crate::Topic;

@@ -1,4 +1,5 @@
-// What is asked of each of the four services.
+//! What is asked of each of the four services.
+
 ghost use Rattle.std.specs.Prelude.{◌≡◌};
 
 use siri_base::{Copies, List, Moment, Name, OutOfMemory, Span};

@@ -1,4 +1,4 @@
-// The moments between two edges.
+//! The moments between two edges.
 
 /// The moments that a topic asks for, in milliseconds since 1970 in UTC: from one on, and up to another, which is out,
 /// where there is one.

@@ -1,5 +1,5 @@
 -- What is kept under keys in order, by the place at which a key stands.
-use Rattle.std.proofs.Common.{◌≡◌, ℕ, suc, zero, ◌<◌, ◌≤◌, List, [], ◌∷◌, length, get_or, set, Some, Bool, refl, ap, ◌∙◌, arith}
+use Rattle.std.proofs.Common.{◌≡◌, ℕ, suc, zero, ◌<◌, List, [], ◌∷◌, length, get_or, set, Some, Bool, refl, ap, arith}
 use Rattle.std.specs.List.{insert, remove, AllByRecursion}
 use Rattle.std.specs.List.Sorted.{IsStrictlySortedBy}
 use Rattle.std.specs.Cmp.{IsTotalOrder}
@@ -48,15 +48,23 @@ all_mapped P Q [] f a = tt
 all_mapped P Q (y ∷ ks) f a = (f y a.0, all_mapped P Q ks f a.1)
 
 -- below the first key none is held
-pub none_here : {K X : Type 0} {cmp : K → K → Ordering} (total : IsTotalOrder cmp) (k : K) (e : K × X) (es : List (K × X)) → IsStrictlySortedBy cmp (keys_of (e ∷ es)) → cmp k e.0 ≡ Less → NonePasses (is_at (cmp k)) es
+pub none_here : {K X : Type 0} {cmp : K → K → Ordering} (total : IsTotalOrder cmp) (k : K) (e : K × X)
+    (es : List (K × X)) → IsStrictlySortedBy cmp (keys_of (e ∷ es)) → cmp k e.0 ≡ Less → NonePasses (is_at (cmp k)) es
 unfolding IsStrictlySortedBy
-none_here {cmp = cmp} total k e es ordered less = none_later cmp k es (all_mapped (λ y. cmp e.0 y ≡ Less) (λ y. cmp k y ≡ Less) (keys_of es) (λ y more. total.trans k e.0 y less more) ordered.0)
+none_here {cmp = cmp} total k e es ordered less = none_later cmp k es
+    (all_mapped (λ y. cmp e.0 y ≡ Less) (λ y. cmp k y ≡ Less) (keys_of es)
+    (λ y more. total.trans k e.0 y less more) ordered.0)
 
 -- a key that has a gap is not held
-pub none_at : {K X : Type 0} {cmp : K → K → Ordering} (total : IsTotalOrder cmp) (k : K) (es : List (K × X)) (i : ℕ) → IsStrictlySortedBy cmp (keys_of es) → IsGap (cmp k) es i → NonePasses (is_at (cmp k)) es
+pub none_at : {K X : Type 0} {cmp : K → K → Ordering} (total : IsTotalOrder cmp) (k : K) (es : List (K × X)) (i : ℕ)
+    → IsStrictlySortedBy cmp (keys_of es) → IsGap (cmp k) es i → NonePasses (is_at (cmp k)) es
 unfolding IsStrictlySortedBy
 none_at total k [] i s gap = tt
-none_at {cmp = cmp} total k (e ∷ es) zero s gap = (ap is_eq gap, none_later cmp k es (all_mapped (λ y. cmp e.0 y ≡ Less) (λ y. cmp k y ≡ Less) (keys_of es) (λ y h. total.trans k e.0 y gap h) s.0))
+none_at {cmp = cmp} total k (e ∷ es) zero s gap = (
+  ap is_eq gap,
+  none_later cmp k es (all_mapped (λ y. cmp e.0 y ≡ Less) (λ y. cmp k y ≡ Less) (keys_of es)
+      (λ y h. total.trans k e.0 y gap h) s.0),
+)
 none_at total k (e ∷ es) (suc i) s gap = (ap is_eq gap.0, none_at total k es i s.1 gap.1)
 
 pub remove_none : {K X : Type 0} (test : K → Bool) (es : List (K × X)) → NonePasses test es → remove_entry test es ≡ es

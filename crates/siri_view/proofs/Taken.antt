@@ -1,5 +1,6 @@
 -- What is kept of a subscription after a wanted part.
-use Rattle.std.proofs.Common.{◌≡◌, ◌⊎◌, ℕ, suc, ◌<◌, ◌≤◌, Bool, true, false, cond, not, ◌||◌, List, [], ◌∷◌, ◌++◌, length, refl, sym, ap, ◌∙◌, subst, ⊎_elim, arith}
+use Rattle.std.proofs.Common.{◌≡◌, ◌⊎◌, ℕ, suc, ◌<◌, ◌≤◌, Bool, true, false, cond, not, ◌||◌, List, [], ◌∷◌, ◌++◌, length, refl, sym, ap}
+use Rattle.std.proofs.Common.{◌∙◌, subst, ⊎_elim, arith}
 use Rattle.std.specs.Prelude.{nat_lt, ◌==◌, flat_map, fold}
 use Rattle.std.proofs.lemmas.Bool.{lt-ltb, le-ltb, eqb-true, eqb-false, eq-eqb, ne_eqb}
 use Rattle.std.proofs.lemmas.Grind.{flat_map-append, fold-append}
@@ -55,7 +56,15 @@ module _ (h : KeptSubscription) (m : Mark) (x : Carried) (wanted : life.outcome 
   }
   applied_on le =
       taken_is false false (le-ltb _ _ le)
-      ∙ ap (λ view. record h { round = suc h.round; parts = []; view = view; origin = record { number = h.number; start = h.start; round = suc h.round } }) (parts_at_once (base_of meaning h) (h.parts ++ x ∷ []) ∙ ap (apply (base_of meaning h)) (flat_map-append changes_in h.parts (x ∷ []) ∙ ap (λ l. flat_map changes_in h.parts ++ l) last_alone))
+      ∙ ap (λ view. record h {
+        round = suc h.round;
+        parts = [];
+        view = view;
+        origin = record { number = h.number; start = h.start; round = suc h.round };
+      })
+      (parts_at_once (base_of meaning h) (h.parts ++ x ∷ [])
+      ∙ ap (apply (base_of meaning h)) (flat_map-append changes_in h.parts (x ∷ [])
+      ∙ ap (λ l. flat_map changes_in h.parts ++ l) last_alone))
     where
       last_alone : flat_map changes_in (x ∷ []) ≡ changes_in x
       last_alone = append-nil (changes_in x)
@@ -91,7 +100,8 @@ module _ (h : KeptSubscription) (m : Mark) (x : Carried) (wanted : life.outcome 
     start = m.start;
     round = m.round;
     parts = [];
-    view = apply (cond (m.round == 1 || not h.wanted.subscription.incremental) [] h.view) (flat_map changes_in (cond (nat_lt h.start m.start) [] h.parts) ++ changes_in x);
+    view = apply (cond (m.round == 1 || not h.wanted.subscription.incremental) [] h.view)
+        (flat_map changes_in (cond (nat_lt h.start m.start) [] h.parts) ++ changes_in x);
     origin = record { number = h.number; start = m.start; round = m.round };
   }
   applied =
@@ -100,35 +110,63 @@ module _ (h : KeptSubscription) (m : Mark) (x : Carried) (wanted : life.outcome 
       (λ (a : (m.start ≡ h.start) × IsAt h.round (length h.parts) m × (¬ (IsTooGreat m))). on a.0 a.1)
       (comes_only h.number h.start h.round (length h.parts) m life.Wanted wanted).1
     where
-      anew : h.start < m.start → IsFirst m → taken meaning h m false x ≡ at m.round (m.round == 1 || not h.wanted.subscription.incremental) (nat_lt h.start m.start)
+      anew : h.start < m.start → IsFirst m → taken meaning h m false x ≡ at m.round
+          (m.round == 1 || not h.wanted.subscription.incremental) (nat_lt h.start m.start)
       anew less first =
           let t : nat_lt h.start m.start ≡ true = lt-ltb _ _ less in
           let e : m.round ≡ 1 = first.0 in
-          subst (λ b. taken meaning h m false x ≡ at m.round (m.round == 1 || not h.wanted.subscription.incremental) b) (sym t) (subst (λ r. taken meaning h m false x ≡ at r (r == 1 || not h.wanted.subscription.incremental) true) (sym e) (applied_anew less))
+          subst (λ b. taken meaning h m false x ≡ at m.round (m.round == 1 || not h.wanted.subscription.incremental) b)
+          (sym t) (subst (λ r. taken meaning h m false x ≡ at r
+          (r == 1 || not h.wanted.subscription.incremental) true) (sym e) (applied_anew less))
 
-      on : m.start ≡ h.start → IsAt h.round (length h.parts) m → taken meaning h m false x ≡ at m.round (m.round == 1 || not h.wanted.subscription.incremental) (nat_lt h.start m.start)
+      on : m.start ≡ h.start → IsAt h.round (length h.parts) m
+          → taken meaning h m false x ≡ at m.round (m.round == 1 || not h.wanted.subscription.incremental)
+          (nat_lt h.start m.start)
       on same place =
           let t : nat_lt h.start m.start ≡ false = le-ltb _ _ (omega arith) in
           let e : m.round ≡ suc h.round = place.0 in
-          let one : (h.round == 0 || not h.wanted.subscription.incremental) ≡ (suc h.round == 1 || not h.wanted.subscription.incremental) = ap (λ z. z || not h.wanted.subscription.incremental) (sym (suc_is_one h.round)) in
+          let one : (h.round == 0 || not h.wanted.subscription.incremental) ≡ (suc h.round == 1
+          || not h.wanted.subscription.incremental) = ap (λ z. z || not h.wanted.subscription.incremental)
+          (sym (suc_is_one h.round)) in
           let b = base_as (h.round == 0) h.wanted.subscription.incremental in
           let known : taken meaning h m false x ≡ at_kept h.start (suc h.round) (h.round == 0 || not h.wanted.subscription.incremental) =
           applied_on (omega arith) ∙ ap (λ v. with_view h.start (suc h.round) v) (ap (λ v. apply v (flat_map changes_in h.parts ++ changes_in x)) b) in
           subst (λ g. taken meaning h m false x ≡ at m.round (m.round == 1 || not h.wanted.subscription.incremental) g) (sym t)
           (subst (λ r. taken meaning h m false x ≡ at_kept m.start r (r == 1 || not h.wanted.subscription.incremental)) (sym e)
-          (subst (λ s. taken meaning h m false x ≡ at_kept s (suc h.round) (suc h.round == 1 || not h.wanted.subscription.incremental)) (sym same) (subst (λ z. taken meaning h m false x ≡ at_kept h.start (suc h.round) z) one known)))
+          (subst (λ s. taken meaning h m false x ≡ at_kept s (suc h.round)
+          (suc h.round == 1 || not h.wanted.subscription.incremental)) (sym same)
+          (subst (λ z. taken meaning h m false x ≡ at_kept h.start (suc h.round) z) one known)))
 
   -- the same of what is kept by another name, with its changes and its view
   pub applied_to : (g : KeptSubscription) → g ≡ h → (view : Items) (changes : List KeyChange) (is_anew : Bool)
       → changes ≡ flat_map changes_in (cond (nat_lt h.start m.start) [] h.parts) ++ changes_in x
       → is_anew ≡ (m.round == 1 || not h.wanted.subscription.incremental)
       → view ≡ apply (cond is_anew [] g.view) changes
-      → record g { start = m.start; round = m.round; parts = []; view = view; origin = record { number = g.number; start = m.start; round = m.round } } ≡ taken meaning h m false x
+      → record g {
+        start = m.start;
+        round = m.round;
+        parts = [];
+        view = view;
+        origin = record { number = g.number; start = m.start; round = m.round };
+      } ≡ taken meaning h m false x
   applied_to g e view changes is_anew p q r =
-      subst (λ k. record k { start = m.start; round = m.round; parts = []; view = view; origin = record { number = k.number; start = m.start; round = m.round } } ≡ taken meaning h m false x) (sym e)
-      (ap (λ v. record h { start = m.start; round = m.round; parts = []; view = v; origin = record { number = h.number; start = m.start; round = m.round } }) is_view ∙ sym applied)
+      subst (λ k. record k {
+        start = m.start;
+        round = m.round;
+        parts = [];
+        view = view;
+        origin = record { number = k.number; start = m.start; round = m.round };
+      } ≡ taken meaning h m false x) (sym e)
+      (ap (λ v. record h {
+        start = m.start;
+        round = m.round;
+        parts = [];
+        view = v;
+        origin = record { number = h.number; start = m.start; round = m.round };
+      }) is_view ∙ sym applied)
     where
-      is_view : view ≡ apply (cond (m.round == 1 || not h.wanted.subscription.incremental) [] h.view) (flat_map changes_in (cond (nat_lt h.start m.start) [] h.parts) ++ changes_in x)
+      is_view : view ≡ apply (cond (m.round == 1 || not h.wanted.subscription.incremental) [] h.view)
+          (flat_map changes_in (cond (nat_lt h.start m.start) [] h.parts) ++ changes_in x)
       is_view =
           r ∙ (ap (λ (k : KeptSubscription). apply (cond is_anew [] k.view) changes) e
           ∙ (ap (λ b. apply (cond b [] h.view) changes) q ∙ ap (apply (cond (m.round == 1 || not h.wanted.subscription.incremental) [] h.view)) p))

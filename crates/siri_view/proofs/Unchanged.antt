@@ -13,17 +13,19 @@ use Rattle.siri_change.specs.Parts.{Carried}
 use Rattle.siri_messages.specs.declared.message.Message.{Message}
 use Rattle.siri_life.specs.Life.{Mark}
 use Rattle.siri_life.specs.Link as life
-use Rattle.siri_life.specs.Link.{taken, taken_as}
+use Rattle.siri_life.specs.Link.{taken_as}
 use Rattle.siri_life.specs.Named.{Name}
 use Rattle.siri_topic.specs.Agreement.{same_name}
 use Rattle.siri_view.specs.Changing.{IsOrdered, TakesNothing}
-use Rattle.siri_view.specs.Consuming.{Consuming, after_delivery, after_heard, after_message, kept_for, seen_by, seen_in_delivery, seen_of, told_of, told_of_part}
+use Rattle.siri_view.specs.Consuming.{Consuming, after_delivery, after_heard, after_message, kept_for, seen_by, seen_in_delivery, seen_of}
+use Rattle.siri_view.specs.Consuming.{told_of, told_of_part}
 use Rattle.siri_view.specs.Hearing.{Heard, Delivered, Notified, Noted, Foreign, heard}
 use Rattle.siri_view.specs.Kept.{meaning, KeptSubscription, kept_of, with_kept}
 use Rattle.siri_view.proofs.Keyed.{none_here}
 
 -- to put under a key what is found there changes nothing
-put_found : {K X : Type 0} {cmp : K → K → Ordering} (total : IsTotalOrder cmp) (k : K) (es : List (K × X)) (x : X) → IsStrictlySortedBy cmp (keys_of es) → lookup (is_at (cmp k)) es ≡ Some x → insert_entry cmp es k x ≡ es
+put_found : {K X : Type 0} {cmp : K → K → Ordering} (total : IsTotalOrder cmp) (k : K) (es : List (K × X)) (x : X)
+    → IsStrictlySortedBy cmp (keys_of es) → lookup (is_at (cmp k)) es ≡ Some x → insert_entry cmp es k x ≡ es
 unfolding IsStrictlySortedBy
 put_found total k [] x ordered found = absurd (cc)
 put_found {K} {X} {cmp} total k (e ∷ es) x ordered found = by (cmp k e.0) refl found (put_found total k es x ordered.1)
@@ -36,7 +38,8 @@ put_found {K} {X} {cmp} total k (e ∷ es) x ordered found = by (cmp k e.0) refl
     by Greater is there rest = ap (λ more. e ∷ more) (rest there)
 
 -- what is kept stays where its part isn't taken
-kept_same : (o : life.Outcome) (h : KeptSubscription) (m : Mark) (more : Bool) (part : Carried) → TakesNothing (told_of o h (told_of_part more m)) → taken_as meaning o h m more part ≡ h
+kept_same : (o : life.Outcome) (h : KeptSubscription) (m : Mark) (more : Bool) (part : Carried)
+    → TakesNothing (told_of o h (told_of_part more m)) → taken_as meaning o h m more part ≡ h
 kept_same life.Wanted h m true part nothing = absurd nothing
 kept_same life.Wanted h m false part nothing = absurd nothing
 kept_same life.Repeat h m more part nothing = refl
@@ -60,7 +63,8 @@ own_kept false found h is = absurd (cc)
 
 heard_same : (c : Consuming) (it : Heard) → IsOrdered c → TakesNothing (seen_by c it).outcome → after_heard c it ≡ c
 heard_same c (Delivered subscriber identifier m more part) ordered nothing =
-    delivery_same c identifier (kept_for c subscriber identifier) m more part ordered (own_kept (same_name subscriber c.name) (kept_of identifier c.held)) nothing
+    delivery_same c identifier (kept_for c subscriber identifier) m more part ordered
+    (own_kept (same_name subscriber c.name) (kept_of identifier c.held)) nothing
 heard_same c (Notified identifier m) ordered nothing = refl
 heard_same c Noted ordered nothing = refl
 heard_same c Foreign ordered nothing = refl

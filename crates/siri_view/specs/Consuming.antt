@@ -10,7 +10,7 @@ use Rattle.siri_messages.specs.Asked.{Asked}
 use Rattle.siri_messages.specs.declared.message.Message.{Message}
 use Rattle.siri_life.specs.Life.{Mark, Packet, Subscribe, Terminate, Supply, Acknowledge, Notify, Delivery}
 use Rattle.siri_life.specs.Link as life
-use Rattle.siri_life.specs.Link.{Origin, asked, taken, replies, asks_for}
+use Rattle.siri_life.specs.Link.{asked, taken, replies, asks_for}
 use Rattle.siri_life.specs.Named.{Name}
 use Rattle.siri_view.specs.declared.outcome.Outcome.{Outcome}
 use Rattle.siri_view.specs.declared.outcome.Outcome.TheVariants as outcome
@@ -28,10 +28,6 @@ pub record Consuming : Type 0 where
   pub next_number : ℕ
   pub moment : ℕ
   pub held : Holdings
-
--- the greatest number of a request
-abbrev pub greatest_number : ℕ
-greatest_number = 999999999999999999
 
 -- how many subscriptions a consumer holds at most
 abbrev pub most_held : ℕ

@@ -1,6 +1,5 @@
 -- Inner words: cited by private functions alone. What the code hears in a message, as what the message says.
-use Rattle.std.specs.Prelude.{◌≡◌, Bool, true, false, ◌&&◌, Option, Some, None}
-use Rattle.siri_life.specs.Life.{Mark}
+use Rattle.std.specs.Prelude.{◌≡◌, Bool, ◌&&◌, Option, Some, None}
 use Rattle.siri_life.specs.Link as life
 use Rattle.siri_view.specs.declared.outcome.Seen.{Seen}
 use Rattle.siri_view.specs.declared.hearing.Heard.{Heard as Lent}

@@ -1,22 +1,16 @@
 -- What a message says to a consumer (EN 15531-2; MessageIdentifier, RequestMessageRef and the marks of parts are those of
 -- this profile).
-use Rattle.std.specs.Prelude.{ℕ, Bool, true, false, List, [], ◌∷◌, ◌++◌, length, nat_le, ◌&&◌, Option, Some, None, option_and_then, if◌then◌else◌}
-use Rattle.std.specs.List.{list_all}
-use Rattle.std.specs.Char.{is_ascii_digit}
-use Rattle.std.specs.Str.Parse.{digits_value}
+use Rattle.std.specs.Prelude.{ℕ, Bool, List, [], ◌∷◌, Option, Some, None, option_and_then}
+use Rattle.siri_base.specs.Numbers.{number_of}
 use Rattle.siri_change.specs.Parts.{Carried}
 use Rattle.siri_messages.specs.declared.deliveries.ServiceDelivery.{ServiceDelivery}
 use Rattle.siri_messages.specs.declared.deliveries.FunctionalDelivery.{FunctionalDelivery}
 use Rattle.siri_messages.specs.declared.supplies.Mark as sent
+use Rattle.siri_messages.specs.Rounds.{functional_deliveries}
 use Rattle.siri_messages.specs.declared.message.Message.{Message}
 use Rattle.siri_messages.specs.declared.message.Message.TheVariants as message
 use Rattle.siri_life.specs.Life.{Mark}
 use Rattle.siri_life.specs.Named.{Name}
-
--- a number as a text: 1 to 18 digits
-unfoldable pub number_of : List ℕ → Option ℕ
-number_of text =
-    if nat_le 1 (length text) && (nat_le (length text) 18 && list_all is_ascii_digit text) then Some (digits_value 10 text) else None
 
 -- what a message says to a consumer
 pub data Heard : Type 0 where
@@ -24,11 +18,6 @@ pub data Heard : Type 0 where
   Notified : (identifier : Name) → Mark → Heard  -- a part can be fetched
   Noted : Heard  -- it says nothing of a part: a response, a heartbeat, a delivery that has no place in a round
   Foreign : Heard  -- it is none for a consumer
-
--- the functional deliveries of all four services
-abbrev pub functional_deliveries : ServiceDelivery → List FunctionalDelivery
-functional_deliveries d =
-    d.stop_monitoring_delivery ++ (d.estimated_timetable_delivery ++ (d.vehicle_monitoring_delivery ++ d.situation_exchange_delivery))
 
 -- the element of a list of one
 abbrev pub only : {A : Type 0} → List A → Option A

@@ -1,5 +1,5 @@
 -- Inner words: cited by private functions alone. Marks and what they say, as the code has them.
-use Rattle.std.specs.Prelude.{ℕ, ◌==◌, cond, ◌&&◌}
+use Rattle.std.specs.Prelude.{◌==◌, cond, ◌&&◌}
 use Rattle.siri_life.specs.Life.{Mark}
 use Rattle.siri_life.specs.Link as life
 use Rattle.siri_view.specs.declared.marks.Numbers.{Numbers}

@@ -1,5 +1,5 @@
 -- Inner words: cited by private functions alone. A part taken of a subscription among others.
-use Rattle.std.specs.Prelude.{◌≡◌, ℕ, zero, suc, Bool, List, [], ◌∷◌, Option, Some, None}
+use Rattle.std.specs.Prelude.{◌≡◌, ℕ, zero, suc, Bool, [], ◌∷◌, Option, Some, None}
 use Rattle.siri_change.specs.Parts.{Carried}
 use Rattle.siri_messages.specs.Asked.{Asked}
 use Rattle.siri_life.specs.Life.{Mark}

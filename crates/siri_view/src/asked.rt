@@ -1,4 +1,5 @@
-// What is asked for with a subscription.
+//! What is asked for with a subscription.
+
 ghost use Rattle.std.specs.Prelude.{◌≡◌, IfOk};
 ghost use Rattle.siri_view.specs.Consuming.{requests_for};
 
@@ -7,8 +8,8 @@ use siri_topic::Subscription;
 use std::alloc::Global;
 use std::marker::Model;
 
-// A subscription, where its messages are to be sent (ConsumerAddress), and how often a heartbeat is, in milliseconds
-// (HeartbeatInterval); zero is never.
+/// A subscription, where its messages are to be sent (ConsumerAddress), and how often a heartbeat is, in milliseconds
+/// (HeartbeatInterval); zero is never.
 pub(crate) struct AskedFor {
     pub subscription: Subscription,
     pub address: Option<Name>,
@@ -33,7 +34,7 @@ impl Model for AskedFor {
     ghost view = { λ a. record { subscription = a.subscription; address = a.address; beat = a.beat } };
 }
 
-// All that is asked for with each of these subscriptions, by its identifier.
+/// All that is asked for with each of these subscriptions, by its identifier.
 pub(crate) fn requests_for(
     alloc: Global,
     address: &Option<Name>,
@@ -49,6 +50,7 @@ pub(crate) fn requests_for(
     Ok(requests)
 }
 
+/// All that is asked for with one subscription; address and heartbeat are its whole request's.
 fn request_for(
     address: &Option<Name>,
     beat: Span,

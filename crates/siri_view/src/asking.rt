@@ -1,7 +1,8 @@
-// Requests for subscriptions.
+//! Requests for subscriptions.
+
 ghost use Rattle.std.specs.Prelude.{◌≡◌, map, IfOk};
 ghost use Rattle.std.specs.List.{list_any};
-ghost use Rattle.siri_view.specs.Sending as definition;
+ghost use Rattle.siri_view.specs.Sending.{first_of_each, interval, is_identified, is_topic_of, of_service, own, subscription_request};
 
 use siri_base::{Copies, List, Moment, Name, OutOfMemory, Span};
 use siri_messages::{Message, SubscriptionRequest};
@@ -9,13 +10,13 @@ use siri_records::Service;
 use siri_topic::{Subscription, Topic};
 use std::alloc::Global;
 
-// Of each identifier the first subscription, with this subscriber.
+/// Of each identifier the first subscription, with this subscriber.
 pub(crate) fn first_of_each(
     alloc: Global,
     name: &Name,
     wanted: &[Subscription],
 ) -> Result<List<Subscription>, OutOfMemory>
-    ensures { IfOk result (λ firsts. firsts ≡ definition.first_of_each (map (definition.own name.now) wanted.now)) }
+    ensures { IfOk result (λ firsts. firsts ≡ first_of_each (map (own name.now) wanted.now)) }
 {
     let mut firsts = List::new(alloc);
     for subscription in wanted {
@@ -26,18 +27,18 @@ pub(crate) fn first_of_each(
     Ok(firsts)
 }
 
-// Whether one of the subscriptions has this identifier.
+/// Whether one of the subscriptions has this identifier.
 fn has(subscriptions: &[Subscription], identifier: &Name) -> bool
-    ensures { result ≡ list_any (definition.is_identified identifier.now) subscriptions.now }
+    ensures { result ≡ list_any (is_identified identifier.now) subscriptions.now }
 {
     subscriptions
         .iter()
         .any(|subscription| subscription.identifier == *identifier)
 }
 
-// A copy of a subscription with this subscriber.
+/// A copy of a subscription with this subscriber.
 fn own(name: &Name, subscription: &Subscription) -> Result<Subscription, OutOfMemory>
-    ensures { IfOk result (λ own. own ≡ definition.own name.now subscription.now) }
+    ensures { IfOk result (λ copy. copy ≡ own name.now subscription.now) }
 {
     Ok(Subscription {
         subscriber: name.copy()?,
@@ -50,13 +51,13 @@ fn own(name: &Name, subscription: &Subscription) -> Result<Subscription, OutOfMe
     })
 }
 
-// The subscriptions to topics of one service.
+/// The subscriptions to topics of one service.
 fn of_service(
     alloc: Global,
     service: Service,
     wanted: &[Subscription],
 ) -> Result<List<Subscription>, OutOfMemory>
-    ensures { IfOk result (λ these. these ≡ definition.of_service service wanted.now) }
+    ensures { IfOk result (λ these. these ≡ of_service service wanted.now) }
 {
     let mut these = List::new(alloc);
     for subscription in wanted {
@@ -67,8 +68,9 @@ fn of_service(
     Ok(these)
 }
 
+/// Whether a subscription to a topic stands in a request's list for that service.
 fn is_topic_of(service: Service, topic: &Topic) -> bool
-    ensures { result ≡ definition.is_topic_of service topic.now }
+    ensures { result ≡ is_topic_of service topic.now }
 {
     match (service, topic) {
         (Service::Stop, Topic::Stop(_)) => true,
@@ -79,7 +81,7 @@ fn is_topic_of(service: Service, topic: &Topic) -> bool
     }
 }
 
-// A request for some subscriptions under a number.
+/// A request for some subscriptions under a number.
 pub(crate) fn subscription_request(
     alloc: Global,
     name: &Name,
@@ -89,7 +91,7 @@ pub(crate) fn subscription_request(
     wanted: &[Subscription],
     beat: Span,
 ) -> Result<Message, OutOfMemory>
-    ensures { IfOk result (λ made. made ≡ definition.subscription_request name.now address.now now number wanted.now beat) }
+    ensures { IfOk result (λ made. made ≡ subscription_request name.now address.now now number wanted.now beat) }
 {
     Ok(Message::SubscriptionRequest(SubscriptionRequest {
         request_timestamp: Some(now),
@@ -104,9 +106,9 @@ pub(crate) fn subscription_request(
     }))
 }
 
-// The interval of heartbeats, where it isn't zero.
+/// The interval of heartbeats, where it isn't zero.
 fn interval(beat: Span) -> Option<Span>
-    ensures { result ≡ definition.interval beat }
+    ensures { result ≡ interval beat }
 {
     if beat.ms() == 0 { None } else { Some(beat) }
 }

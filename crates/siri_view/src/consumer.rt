@@ -1,17 +1,19 @@
-// The consumer.
-ghost use Rattle.std.specs.Prelude.{◌≡◌, ◌≢◌, ◌↔◌, ◌<◌, ◌≤◌, ◌+◌, [], length, suc, fold, Some, None, is_none, option_map, slice_get, Ok, IfOk, OnOk, OnErr, IsErr, IsErrOf};
+//! The consumer.
+
+ghost use Rattle.std.specs.Prelude.{◌≡◌, ◌≢◌, ◌↔◌, ◌<◌, ◌≤◌, ◌+◌, [], length, suc, fold, Some, None, is_none, option_map, slice_get, Ok, IfOk, OnOk, OnErr, IsErrOf};
 ghost use Rattle.std.specs.List.Sorted.{IsStrictlySortedBy};
 ghost use Rattle.std.specs.Map.{keys_of};
-ghost use Rattle.siri_view.specs.Consuming.{with_request, requests_for, count_after, after_subscribe, after_terminate, request_for, termination_of, clocked, held_by};
+ghost use Rattle.siri_view.specs.Consuming.{with_request, requests_for, count_after, after_subscribe, after_terminate, request_for, termination_of, clocked, held_by, most_held};
 ghost use Rattle.siri_view.specs.Kept.{kept_of, name_cmp};
 ghost use Rattle.siri_view.specs.Sending.{check_request};
+ghost use Rattle.siri_base.specs.Numbers.{greatest_number};
 
 use crate::asked::requests_for;
 use crate::asking::{first_of_each, subscription_request};
 use crate::holdings::Holdings;
 use crate::messages::{check_request, termination_request};
 use crate::{AskError, Held};
-use siri_base::{List, Moment, Name, OutOfMemory, Span};
+use siri_base::{GREATEST_NUMBER, List, Moment, Name, OutOfMemory, Span, beside};
 use siri_change::View;
 use siri_messages::Message;
 use siri_topic::Subscription;
@@ -21,11 +23,8 @@ use std::marker::Model;
 /// The most subscriptions that a consumer holds.
 pub const MOST_HELD: usize = 200;
 
-/// The greatest number of a request.
-pub const GREATEST_NUMBER: u64 = 999_999_999_999_999_999;
-
-/// A consumer, with a name and the address at which deliveries reach it. It has a moment, which is the greatest that it was
-/// given, numbers its requests, and keeps what it holds of each subscription. Contracts see a record of these, the
+/// A consumer, with a name and the address at which deliveries reach it. It has a moment, which is the greatest that it
+/// was given, numbers its requests, and keeps what it holds of each subscription. Contracts see a record of these, the
 /// subscriptions by their identifiers in order of the bytes.
 pub struct Consumer {
     pub(crate) name: Name,
@@ -59,8 +58,8 @@ impl Model for Consumer {
 }
 
 impl Consumer {
-    /// A consumer that holds nothing. Its first request has a number from 1 to 999,999,999,999,999,999; its moment is the
-    /// first of 1970.
+    /// A consumer that holds nothing. Its first request has a number from 1 to 999,999,999,999,999,999; its moment is
+    /// the first of 1970.
     pub fn new(
         alloc: Global,
         name: Name,
@@ -68,14 +67,14 @@ impl Consumer {
         first: u64,
     ) -> Result<Consumer, OutOfMemory>
         requires from_one { 1 ≤ first }
-        requires to_eighteen_digits { first ≤ 999999999999999999 }
+        requires to_eighteen_digits { first ≤ greatest_number }
         ensures { IfOk result (λ consumer. consumer ≡ record { name = name; address = address; next_number = first; moment = 0; held = [] }) }
     {
         Ok(Consumer {
             name,
             address,
             next_number: first,
-            moment: the_first_moment(),
+            moment: Moment::first(),
             held: Holdings::new(alloc),
         })
     }
@@ -87,9 +86,10 @@ impl Consumer {
         self.moment = self.moment.max(now);
     }
 
-    /// Asks for subscriptions under the next number (SubscriptionRequest, EN 15531-2), as their subscriber, with an interval
-    /// of heartbeats in milliseconds (HeartbeatInterval; zero isn't written). A later element of the same identifier is left
-    /// out. Each is then held under that number, with no start and no round; a view that is held stays.
+    /// Asks for subscriptions under the next number (SubscriptionRequest, EN 15531-2), as their subscriber, with an
+    /// interval of heartbeats in milliseconds (HeartbeatInterval; zero isn't written). A later element of the same
+    /// identifier is left out. Each is then held under that number, with no start and no round; a view that is held
+    /// stays.
     ///
     /// `Spent` exactly where the number would pass 999,999,999,999,999,999, and otherwise `TooMany` where more than 200
     /// would be held. After a refusal or want of memory the consumer is as before.
@@ -102,9 +102,9 @@ impl Consumer {
         ensures request { IfOk result (λ message. message ≡ request_for self.old wanted.now beat) }
         ensures ok { OnOk result (self.new ≡ after_subscribe self.old wanted.now beat) }
         // When each of these comes. Want of memory may come before `TooMany` is found.
-        ensures spent { IsErrOf result AskError.Spent ↔ (999999999999999999 < self.old.next_number) }
-        ensures too_many { IsErrOf result AskError.TooMany → (self.old.next_number ≤ 999999999999999999) × (200 < count_after self.old wanted.now) }
-        ensures at_most { OnOk result (count_after self.old wanted.now ≤ 200) }
+        ensures spent { IsErrOf result AskError.Spent ↔ (greatest_number < self.old.next_number) }
+        ensures too_many { IsErrOf result AskError.TooMany → (self.old.next_number ≤ greatest_number) × (most_held < count_after self.old wanted.now) }
+        ensures at_most { OnOk result (count_after self.old wanted.now ≤ most_held) }
         ensures not_not_held { IsErrOf result AskError.NotHeld → ⊥ }
         ensures refused { OnErr result (self.new ≡ self.old) }
     {
@@ -130,9 +130,9 @@ impl Consumer {
         Ok(request)
     }
 
-    // Subscriptions are held under the next number, which is used.
+    /// Subscriptions are held under the next number, which is used.
     fn hold(&mut self, asked: List<Subscription>, beat: Span) -> Result<(), OutOfMemory>
-        requires { self.old.next_number ≤ 999999999999999999 }
+        requires { self.old.next_number ≤ greatest_number }
         ensures ok { OnOk result (self.new ≡ record self.old { next_number = suc self.old.next_number; held = fold (with_request self.old.next_number) self.old.held (requests_for self.old.address beat asked) }) }
         ensures err { OnErr result (self.new ≡ self.old) }
     {
@@ -142,8 +142,8 @@ impl Consumer {
         Ok(())
     }
 
-    /// Ends a subscription that is held, under the next number (TerminateSubscriptionRequest, EN 15531-2). It is no longer
-    /// held.
+    /// Ends a subscription that is held, under the next number (TerminateSubscriptionRequest, EN 15531-2). It is no
+    /// longer held.
     ///
     /// `NotHeld` exactly where it isn't held, and otherwise `Spent` exactly where the number would pass
     /// 999,999,999,999,999,999. After a refusal or want of memory the consumer is as before.
@@ -152,7 +152,7 @@ impl Consumer {
         ensures ok { OnOk result (self.new ≡ after_terminate self.old identifier.now) }
         // When each of these comes.
         ensures not_held { IsErrOf result AskError.NotHeld ↔ (kept_of identifier.now self.old.held ≡ None) }
-        ensures spent { IsErrOf result AskError.Spent ↔ ((kept_of identifier.now self.old.held ≢ None) × (999999999999999999 < self.old.next_number)) }
+        ensures spent { IsErrOf result AskError.Spent ↔ ((kept_of identifier.now self.old.held ≢ None) × (greatest_number < self.old.next_number)) }
         ensures not_too_many { IsErrOf result AskError.TooMany → ⊥ }
         ensures refused { OnErr result (self.new ≡ self.old) }
     {
@@ -226,29 +226,11 @@ impl Consumer {
         self.held.len()
     }
 
-    /// The identifier at a place, in order of the bytes of the identifiers that are held, counted from 0, or `None` exactly
-    /// where the place isn't below their number.
+    /// The identifier at a place, in order of the bytes of the identifiers that are held, counted from 0, or `None`
+    /// exactly where the place isn't below their number.
     pub fn identifier(&self, place: usize) -> Option<&Name>
         ensures { option_map (λ name. name.now) result ≡ option_map (λ entry. entry.0) (slice_get self.now.held place) }
     {
         self.held.identifier(place)
     }
-}
-
-fn the_first_moment() -> Moment
-    ensures { result ≡ 0 }
-{
-    match Moment::new(0) {
-        Some(moment) => moment,
-        None => unreachable!(),
-    }
-}
-
-// What was made, and a value beside it. Where nothing could be made, the value is let go here, in a proof for all types.
-fn beside<A: Drop, B: Drop>(made: Result<A, OutOfMemory>, value: B) -> Result<(A, B), OutOfMemory>
-    ensures made { IfOk result (λ both. made ≡ Ok both.0) }
-    ensures value { IfOk result (λ both. value ≡ both.1) }
-    ensures err { OnErr result (IsErr made) }
-{
-    Ok((made?, value))
 }

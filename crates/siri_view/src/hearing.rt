@@ -1,15 +1,15 @@
-// What a message says to a consumer.
+//! What a message says to a consumer.
+
 ghost use Rattle.std.specs.Prelude.{◌≡◌, option_map};
-ghost use Rattle.std.specs.List.{list_all};
-ghost use Rattle.std.specs.Char.{is_ascii_digit};
-ghost use Rattle.siri_view.specs.Hearing.{number_of, only, functional_deliveries, delivery_heard, heard};
+ghost use Rattle.siri_view.specs.Hearing.{only, delivery_heard, heard};
+ghost use Rattle.siri_messages.specs.Rounds.{functional_deliveries};
 ghost use Rattle.siri_view.specs.Heard.{heard_by, heard_if};
 
 use crate::marks::Numbers;
-use siri_base::Name;
+use siri_base::{Name, number_of};
 use siri_messages::{FunctionalDelivery, Mark, Message, ServiceDelivery};
 
-// What a message says of a part, or that it says nothing of one.
+/// What a message says of a part, or that it says nothing of one.
 #[derive(Drop)]
 pub(crate) enum Heard<'a> {
     Delivered(Delivered<'a>),
@@ -18,7 +18,7 @@ pub(crate) enum Heard<'a> {
     Foreign,
 }
 
-// A part of a round that is delivered.
+/// A part of a round that is delivered.
 #[derive(Drop)]
 pub(crate) struct Delivered<'a> {
     pub subscriber: &'a Name,
@@ -29,7 +29,7 @@ pub(crate) struct Delivered<'a> {
     pub delivery: &'a FunctionalDelivery,
 }
 
-// What a message says.
+/// What a message says.
 pub(crate) fn hear(message: &Message) -> Heard<'_>
     ensures { heard_by result ≡ heard message.now }
 {
@@ -50,8 +50,8 @@ pub(crate) fn hear(message: &Message) -> Heard<'_>
     }
 }
 
-// The part that is delivered: a delivery has a place where RequestMessageRef is a number and it has exactly one functional
-// delivery, and that has both names, a start, a round and a part.
+/// The part that is delivered: a delivery has a place where RequestMessageRef is a number and it has exactly one
+/// functional delivery, and that has both names, a start, a round and a part.
 fn part_in(delivery: &ServiceDelivery) -> Option<Delivered<'_>>
     ensures { heard_if result ≡ delivery_heard delivery.now }
 {
@@ -71,7 +71,7 @@ fn part_in(delivery: &ServiceDelivery) -> Option<Delivered<'_>>
     })
 }
 
-// The functional delivery, where there is only one of all four services.
+/// The functional delivery, where there is only one of all four services.
 fn only_delivery(delivery: &ServiceDelivery) -> Option<&FunctionalDelivery>
     ensures { option_map (λ only. only.now) result ≡ only (functional_deliveries delivery.now) }
 {
@@ -89,6 +89,7 @@ fn only_delivery(delivery: &ServiceDelivery) -> Option<&FunctionalDelivery>
     }
 }
 
+/// The four numbers of a mark, without the subscription that it names.
 fn numbers_of(mark: &Mark) -> Numbers
     ensures { result ≡ record { number = mark.now.number; start = mark.now.start; round = mark.now.round; part = mark.now.part } }
 {
@@ -98,22 +99,4 @@ fn numbers_of(mark: &Mark) -> Numbers
         round: mark.round,
         part: mark.part,
     }
-}
-
-// The number of 1 to 18 digits.
-#[tactic(auto, unfolding(crate::specs::Hearing::number_of))]
-fn number_of(text: &str) -> Option<u64>
-    ensures { result ≡ number_of text.now }
-{
-    if text.len() >= 1 && text.len() <= 18 && is_all_digits(text.as_bytes()) {
-        text.parse().ok()
-    } else {
-        None
-    }
-}
-
-fn is_all_digits(text: &[u8]) -> bool
-    ensures { result ≡ list_all is_ascii_digit text.now }
-{
-    text.iter().all(|byte| byte.is_ascii_digit())
 }

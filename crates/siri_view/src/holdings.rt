@@ -1,4 +1,5 @@
-// What is kept of each subscription that is held, in order of identifier.
+//! What is kept of each subscription that is held, in order of identifier.
+
 ghost use Rattle.std.specs.Prelude.{◌≡◌, ◌<◌, ◌≤◌, ◌+◌, [], length, fold, Some, None, option_map, slice_get, IfSome, OnOk, OnErr, IsOk, Ok, vec_len};
 ghost use Rattle.std.specs.Vec.{vec_capacity};
 ghost use Rattle.std.specs.List.{filter};
@@ -20,9 +21,10 @@ use std::alloc::Global;
 use std::cmp::Ordering;
 use std::marker::Model;
 
+/// A SubscriptionIdentifier, and what is kept of its subscription.
 type Entry = (Name, Subscribed);
 
-// The subscriptions that are held by their identifiers, in order of the bytes of these, each once.
+/// The subscriptions that are held by their identifiers, in order of the bytes of these, each once.
 pub(crate) struct Holdings {
     entries: Vec<Entry>,
 }
@@ -46,7 +48,7 @@ impl Model for Holdings {
 }
 
 impl Holdings {
-    // None is held. It takes no memory.
+    /// None is held. It takes no memory.
     pub(crate) fn new(alloc: Global) -> Holdings
         ensures { result ≡ [] }
     {
@@ -55,10 +57,12 @@ impl Holdings {
         }
     }
 
+    /// The allocator of the entries, for what is made beside them.
     pub(crate) fn allocator(&self) -> Global {
         *self.entries.allocator()
     }
 
+    /// How many subscriptions are held.
     pub(crate) fn len(&self) -> usize
         ensures number { result ≡ length self.now }
         ensures ordered { IsStrictlySortedBy name_cmp (keys_of self.now) }
@@ -66,7 +70,7 @@ impl Holdings {
         self.entries.len()
     }
 
-    // The identifier at a place in order.
+    /// The identifier at a place in order.
     pub(crate) fn identifier(&self, place: usize) -> Option<&Name>
         ensures { option_map (λ name. name.now) result ≡ option_map (λ entry. entry.0) (slice_get self.now place) }
     {
@@ -76,7 +80,7 @@ impl Holdings {
         }
     }
 
-    // What is kept under an identifier.
+    /// What is kept under an identifier.
     pub(crate) fn get(&self, identifier: &Name) -> Option<&Subscribed>
         ensures kept { option_map (λ kept. kept.now) result ≡ kept_of identifier.now self.now }
         ensures same { IfSome result (λ kept. with_kept identifier.now kept.now self.now ≡ self.now) }
@@ -87,7 +91,7 @@ impl Holdings {
         }
     }
 
-    // A part of a subscription that wants it is taken. After want of memory all is as before.
+    /// A part of a subscription that wants it is taken. After want of memory all is as before.
     pub(crate) fn take(
         &mut self,
         identifier: &Name,
@@ -109,8 +113,8 @@ impl Holdings {
         }
     }
 
-    // Subscriptions are asked for under a number, one after the other. The memory for all of them is taken before the
-    // first: after want of memory all is as before.
+    /// Subscriptions are asked for under a number, one after the other. The memory for all of them is taken before the
+    /// first: after want of memory all is as before.
     pub(crate) fn ask(
         &mut self,
         number: u64,
@@ -127,7 +131,7 @@ impl Holdings {
         Ok(())
     }
 
-    // How many of these subscriptions aren't held.
+    /// How many of these subscriptions aren't held.
     pub(crate) fn count_new(&self, wanted: &[Subscription]) -> usize
         ensures { result ≡ length (filter (is_new self.now) wanted.now) }
     {
@@ -137,7 +141,7 @@ impl Holdings {
             .count()
     }
 
-    // What is kept under an identifier goes.
+    /// What is kept under an identifier goes.
     pub(crate) fn remove(&mut self, identifier: &Name)
         ensures { self.new ≡ without_kept identifier.now self.old }
     {
@@ -148,7 +152,7 @@ impl Holdings {
     }
 }
 
-// Where an identifier stands, or where it would.
+/// Where an identifier stands, or where it would.
 fn find(entries: &Vec<Entry>, identifier: &Name) -> Result<usize, usize>
     requires { IsStrictlySortedBy name_cmp (keys_of entries.now.items) }
     ensures { Finds (name_cmp identifier.now) entries.now.items result }
@@ -160,7 +164,7 @@ fn find(entries: &Vec<Entry>, identifier: &Name) -> Result<usize, usize>
     )
 }
 
-// A subscription is asked for under a number. It takes no memory where there is room for one more entry.
+/// A subscription is asked for under a number. It takes no memory where there is room for one more entry.
 fn ask_for(
     alloc: Global,
     entries: &mut Vec<Entry>,
@@ -188,7 +192,7 @@ fn ask_for(
     Ok(())
 }
 
-// The subscription at a place is asked for again.
+/// The subscription at a place is asked for again.
 fn ask_at(alloc: Global, entries: &mut Vec<Entry>, at: usize, number: u64, asked: AskedFor)
     requires { at < vec_len entries.old }
     ensures items { entries.new.items ≡ asked_at number asked entries.old.items at }
@@ -200,7 +204,7 @@ fn ask_at(alloc: Global, entries: &mut Vec<Entry>, at: usize, number: u64, asked
     entry.1.ask(alloc, number, asked);
 }
 
-// A part of the subscription at a place is taken.
+/// A part of the subscription at a place is taken.
 fn take_at(
     entries: &mut Vec<Entry>,
     at: usize,

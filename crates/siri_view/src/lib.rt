@@ -12,9 +12,9 @@
 //!     an identifier -> view, held, current --> the view, the round that it is of, the number it is held under
 //! ```
 //!
-//! A consumer numbers its requests, and holds each subscription under the number of the last one that asked for it. Of a
-//! subscription it keeps the greatest start of the producer that a part came of, the last whole round of that start, the parts
-//! that came of the next one, and the view, with the round that it is of. It is in one of these states:
+//! A consumer numbers its requests, and holds each subscription under the number of the last one that asked for it. Of
+//! a subscription it keeps the greatest start of the producer that a part came of, the last whole round of that start,
+//! the parts that came of the next one, and the view, with the round that it is of. It is in one of these states:
 //!
 //! ```text
 //!     asked      no part came since it was asked for: part 1 of round 1 of any start is wanted
@@ -27,11 +27,12 @@
 //!     the kept start: a notification   Ready                      Ready              Repeat      Gap       OldStart
 //! ```
 //!
-//! Of a greater start part 1 of round 1 is wanted, and any other place shows a gap; where it is delivered the greater start is
-//! kept from then on, with no whole round and no part before it. A part past 400, or of a round past
-//! 999,999,999,999,999,999, is Overlong. Only Buffered and Applied change anything. A round is applied whole, all its parts at
-//! once: to the empty view where it is round 1 or the updates aren't incremental, else to the view held. What was taken is
-//! acknowledged, and acknowledged again where it comes again; with fetched delivery the next part is asked for as well.
+//! Of a greater start part 1 of round 1 is wanted, and any other place shows a gap; where it is delivered the greater
+//! start is kept from then on, with no whole round and no part before it. A part past 400, or of a round past
+//! 999,999,999,999,999,999, is Overlong. Only Buffered and Applied change anything. A round is applied whole, all its
+//! parts at once: to the empty view where it is round 1 or the updates aren't incremental, else to the view held. What
+//! was taken is acknowledged, and acknowledged again where it comes again; with fetched delivery the next part is asked
+//! for as well.
 //!
 //! Stands on `siri_base`, `siri_records`, `siri_topic`, `siri_change`, `siri_messages` and `siri_life`, whose words its
 //! contracts cite. It knows no wire, no clock and no text of a document: moments and messages are handed in.
@@ -50,6 +51,6 @@ mod part;
 mod subscribed;
 mod taking;
 
-pub use consumer::{Consumer, GREATEST_NUMBER, MOST_HELD};
+pub use consumer::{Consumer, MOST_HELD};
 pub use laws::{other_outcomes_change_nothing, outcomes_come_by_the_table};
 pub use outcome::{AskError, Held, Outcome, Seen};

@@ -1,7 +1,8 @@
-// The messages that a consumer makes.
+//! The messages that a consumer makes.
+
 ghost use Rattle.std.specs.Prelude.{◌≡◌, Some, None, IfOk};
 ghost use Rattle.siri_view.specs.Marks.{mark_by};
-ghost use Rattle.siri_view.specs.Sending as definition;
+ghost use Rattle.siri_view.specs.Sending.{acknowledgement, check_request, mark_of, ready_acknowledgement, supply_request, termination_request};
 
 use crate::marks::Numbers;
 use siri_base::{Copies, List, Moment, Name, OutOfMemory};
@@ -11,9 +12,9 @@ use siri_messages::{
 };
 use std::alloc::Global;
 
-// The mark of a part of a subscription.
+/// The mark of a part of a subscription.
 fn mark_of(identifier: &Name, mark: Numbers) -> Result<Mark, OutOfMemory>
-    ensures { IfOk result (λ made. made ≡ definition.mark_of identifier.now (mark_by mark)) }
+    ensures { IfOk result (λ made. made ≡ mark_of identifier.now (mark_by mark)) }
 {
     Ok(Mark {
         number: mark.number,
@@ -24,14 +25,14 @@ fn mark_of(identifier: &Name, mark: Numbers) -> Result<Mark, OutOfMemory>
     })
 }
 
-// The part was taken.
+/// The part was taken.
 pub(crate) fn acknowledgement(
     name: &Name,
     now: Moment,
     identifier: &Name,
     mark: Numbers,
 ) -> Result<Message, OutOfMemory>
-    ensures { IfOk result (λ made. made ≡ definition.acknowledgement name.now now identifier.now (mark_by mark)) }
+    ensures { IfOk result (λ made. made ≡ acknowledgement name.now now identifier.now (mark_by mark)) }
 {
     Ok(Message::DataReceivedAcknowledgement(DataReceivedAcknowledgement {
         response_timestamp: Some(now),
@@ -43,14 +44,14 @@ pub(crate) fn acknowledgement(
     }))
 }
 
-// The part is asked for.
+/// The part is asked for.
 pub(crate) fn supply_request(
     name: &Name,
     now: Moment,
     identifier: &Name,
     mark: Numbers,
 ) -> Result<Message, OutOfMemory>
-    ensures { IfOk result (λ made. made ≡ definition.supply_request name.now now identifier.now (mark_by mark)) }
+    ensures { IfOk result (λ made. made ≡ supply_request name.now now identifier.now (mark_by mark)) }
 {
     Ok(Message::DataSupplyRequest(DataSupplyRequest {
         request_timestamp: Some(now),
@@ -60,9 +61,9 @@ pub(crate) fn supply_request(
     }))
 }
 
-// A notification was taken.
+/// A notification was taken.
 pub(crate) fn ready_acknowledgement(name: &Name, now: Moment) -> Result<Message, OutOfMemory>
-    ensures { IfOk result (λ made. made ≡ definition.ready_acknowledgement name.now now) }
+    ensures { IfOk result (λ made. made ≡ ready_acknowledgement name.now now) }
 {
     Ok(Message::DataReadyAcknowledgement(DataReadyAcknowledgement {
         response_timestamp: Some(now),
@@ -71,9 +72,9 @@ pub(crate) fn ready_acknowledgement(name: &Name, now: Moment) -> Result<Message,
     }))
 }
 
-// Whether the producer is there.
+/// Whether the producer is there.
 pub(crate) fn check_request(name: &Name, now: Moment) -> Result<Message, OutOfMemory>
-    ensures { IfOk result (λ made. made ≡ definition.check_request name.now now) }
+    ensures { IfOk result (λ made. made ≡ check_request name.now now) }
 {
     Ok(Message::CheckStatusRequest(CheckStatusRequest {
         request_timestamp: Some(now),
@@ -82,7 +83,7 @@ pub(crate) fn check_request(name: &Name, now: Moment) -> Result<Message, OutOfMe
     }))
 }
 
-// One subscription is to end.
+/// One subscription is to end.
 pub(crate) fn termination_request(
     alloc: Global,
     name: &Name,
@@ -90,7 +91,7 @@ pub(crate) fn termination_request(
     number: u64,
     identifier: &Name,
 ) -> Result<Message, OutOfMemory>
-    ensures { IfOk result (λ made. made ≡ definition.termination_request name.now now number identifier.now) }
+    ensures { IfOk result (λ made. made ≡ termination_request name.now now number identifier.now) }
 {
     let mut subscriptions = List::new(alloc);
     subscriptions.push(identifier.copy()?)?;

@@ -1,4 +1,4 @@
-// What a consumer answers.
+//! What a consumer answers.
 
 ghost use Rattle.std.specs.Prelude.{◌≡◌};
 ghost use Rattle.siri_view.specs.declared.outcome.AskError.TheVariants.{OutOfMemory};

@@ -1,4 +1,5 @@
-// A part of a round, as it is buffered.
+//! A part of a round, as it is buffered.
+
 ghost use Rattle.std.specs.Prelude.{◌≡◌, ◌++◌, flat_map, map, IfOk, OnOk, Some, None};
 ghost use Rattle.siri_records.specs.Keys.{key_of as key_of_item};
 ghost use Rattle.siri_records.specs.Keyed.{unshared};
@@ -13,7 +14,7 @@ use std::alloc::Global;
 use std::marker::Model;
 use std::rc::Rc;
 
-// What a functional delivery carries. Its items are shared from here on.
+/// What a functional delivery carries. Its items are shared from here on.
 pub(crate) struct Part {
     items: Vec<Rc<Item>>,
     removals: List<Key>,
@@ -38,7 +39,7 @@ impl Model for Part {
 }
 
 impl Part {
-    // What a delivery carries, copied.
+    /// What a delivery carries, copied.
     pub(crate) fn of(alloc: Global, delivery: &FunctionalDelivery) -> Result<Part, OutOfMemory>
         ensures { IfOk result (λ part. part ≡ carried_by delivery.now) }
     {
@@ -48,7 +49,7 @@ impl Part {
         })
     }
 
-    // Puts the changes that it carries at the end: its items, each under its own key, and then its removals.
+    /// Puts the changes that it carries at the end: its items, each under its own key, and then its removals.
     pub(crate) fn push_changes(
         &self,
         alloc: Global,
@@ -61,7 +62,7 @@ impl Part {
     }
 }
 
-// Copies of items, to be shared.
+/// Copies of items, to be shared.
 fn shared(alloc: Global, items: &[Item]) -> Result<Vec<Rc<Item>>, OutOfMemory>
     ensures { IfOk result (λ shared. unshared shared.items ≡ items.now) }
 {
@@ -72,14 +73,14 @@ fn shared(alloc: Global, items: &[Item]) -> Result<Vec<Rc<Item>>, OutOfMemory>
     Ok(shared)
 }
 
-// A copy of an item, to be shared.
+/// A copy of an item, to be shared.
 fn share(alloc: Global, item: &Item) -> Result<Rc<Item>, OutOfMemory>
     ensures { IfOk result (λ shared. shared.value ≡ item.now) }
 {
     Ok(Rc::new(alloc, item.copy()?)?)
 }
 
-// Puts items at the end, each under its own key.
+/// Puts items at the end, each under its own key.
 fn push_items(alloc: Global, items: &[Rc<Item>], into: &mut List<Change>) -> Result<(), OutOfMemory>
     ensures { OnOk result (into.new ≡ into.old ++ map (λ item. (key_of_item item, Some item)) (unshared items.now)) }
 {
@@ -89,7 +90,7 @@ fn push_items(alloc: Global, items: &[Rc<Item>], into: &mut List<Change>) -> Res
     Ok(())
 }
 
-// An item as the one of its key.
+/// An item as the one of its key.
 fn change_of(alloc: Global, item: &Rc<Item>) -> Result<Change, OutOfMemory>
     ensures { IfOk result (λ change. change ≡ (key_of_item item.now.value, Some item.now.value)) }
 {
@@ -100,7 +101,7 @@ fn change_of(alloc: Global, item: &Rc<Item>) -> Result<Change, OutOfMemory>
     })
 }
 
-// Puts the removals of keys at the end.
+/// Puts the removals of keys at the end.
 fn push_removals(keys: &[Key], into: &mut List<Change>) -> Result<(), OutOfMemory>
     ensures { OnOk result (into.new ≡ into.old ++ map (λ key. (key, None)) keys.now) }
 {
@@ -113,7 +114,7 @@ fn push_removals(keys: &[Key], into: &mut List<Change>) -> Result<(), OutOfMemor
     Ok(())
 }
 
-// The changes of a round's parts, and of its last one, joined in order.
+/// The changes of a round's parts, and of its last one, joined in order.
 pub(crate) fn joined(
     alloc: Global,
     parts: &[Part],

@@ -1,4 +1,5 @@
-// What is kept of one subscription that is held.
+//! What is kept of one subscription that is held.
+
 ghost use Rattle.std.specs.Prelude.{◌≡◌, ◌≤◌, ◌==◌, ◌||◌, not, [], ◌++◌, length, flat_map, true, false, cond, nat_lt, Some, None, IfOk, OnOk, OnErr};
 ghost use Rattle.siri_records.specs.Keyed.{apply};
 ghost use Rattle.siri_change.specs.Parts.{changes_in};
@@ -7,6 +8,7 @@ ghost use Rattle.siri_life.specs.Link.{taken};
 ghost use Rattle.siri_view.specs.Consuming.{held_by, wanted_place};
 ghost use Rattle.siri_view.specs.Kept.{meaning};
 ghost use Rattle.siri_view.specs.Marks.{mark_by, said};
+ghost use Rattle.siri_life.specs.Meaning.{most_parts};
 
 use crate::Held;
 use crate::asked::AskedFor;
@@ -17,8 +19,9 @@ use siri_change::{Change, View};
 use std::alloc::Global;
 use std::marker::Model;
 
-// What is kept of a subscription: the number of its last request and what that asked for, the greatest start of its producer
-// that a part came of, the last whole round of it, the parts of the next one, and the view with the round that it is of.
+/// What is kept of a subscription: the number of its last request and what that asked for, the greatest start of its
+/// producer that a part came of, the last whole round of it, the parts of the next one, and the view with the round
+/// that it is of.
 pub(crate) struct Subscribed {
     number: u64,
     asked: AskedFor,
@@ -45,6 +48,8 @@ impl Drop for Subscribed {
 
 impl Model for Subscribed {
     ghost use Rattle.std.specs.Prelude.{◌≤◌, length};
+    ghost use Rattle.siri_life.specs.Life.{greatest_round};
+    ghost use Rattle.siri_life.specs.Meaning.{most_parts};
     ghost use Rattle.siri_view.specs.Kept.{KeptSubscription};
 
     ghost Value = { KeptSubscription };
@@ -59,9 +64,10 @@ impl Model for Subscribed {
       origin = record { number = s.origin.number; start = s.origin.start; round = s.origin.round };
     } };
 
-    ghost invariant = { λ s. record { rounds : s.round ≤ 999999999999999999; parts : length s.parts ≤ 400 } };
+    ghost invariant = { λ s. record { rounds : s.round ≤ greatest_round; parts : length s.parts ≤ most_parts } };
 }
 
+/// What a view is of before a whole round came.
 const NO_ROUND: Held = Held {
     number: 0,
     start: 0,
@@ -69,7 +75,7 @@ const NO_ROUND: Held = Held {
 };
 
 impl Subscribed {
-    // A subscription that wasn't held is asked for under a number.
+    /// A subscription that wasn't held is asked for under a number.
     pub(crate) fn new(alloc: Global, number: u64, asked: AskedFor) -> Subscribed
         ensures { result ≡ life.asked meaning number asked None }
     {
@@ -84,7 +90,7 @@ impl Subscribed {
         }
     }
 
-    // It is asked for again. Its view stays.
+    /// It is asked for again. Its view stays.
     pub(crate) fn ask(&mut self, alloc: Global, number: u64, asked: AskedFor)
         ensures { self.new ≡ life.asked meaning number asked (Some self.old) }
     {
@@ -95,31 +101,35 @@ impl Subscribed {
         self.parts = List::new(alloc);
     }
 
+    /// The number of the request that asked for it last.
     pub(crate) fn number(&self) -> u64
         ensures { result ≡ self.now.number }
     {
         self.number
     }
 
+    /// What is shown of it: the target of the last whole round that came, whichever request that was of.
     pub(crate) fn view(&self) -> &View
         ensures { result.now ≡ self.now.view }
     {
         &self.view
     }
 
+    /// The round whose target the view is, all 0 where none has come.
     pub(crate) fn held(&self) -> Held
         ensures { result ≡ held_by self.now }
     {
         self.origin
     }
 
+    /// Whether its parts are fetched (DeliveryMethod), as it was asked for last.
     pub(crate) fn is_fetched(&self) -> bool
         ensures { result ≡ self.now.wanted.subscription.fetched }
     {
         self.asked.subscription.fetched
     }
 
-    // The part that is wanted next.
+    /// The part that is wanted next.
     pub(crate) fn wanted_place(&self) -> Place
         ensures { result ≡ wanted_place self.now }
     {
@@ -129,10 +139,10 @@ impl Subscribed {
         }
     }
 
-    // What the mark of a part says.
+    /// What the mark of a part says.
     pub(crate) fn say(&self, mark: Numbers) -> Saying
         ensures said { said result ≡ life.outcome meaning self.now (mark_by mark) }
-        ensures small { said result ≡ life.Wanted → mark.part ≤ 400 }
+        ensures small { said result ≡ life.Wanted → mark.part ≤ most_parts }
     {
         say(
             self.number,
@@ -143,7 +153,7 @@ impl Subscribed {
         )
     }
 
-    // Takes a wanted part: it is buffered, or its round is applied. After want of memory all is as before.
+    /// Takes a wanted part: it is buffered, or its round is applied. After want of memory all is as before.
     pub(crate) fn take(
         &mut self,
         alloc: Global,
@@ -162,7 +172,7 @@ impl Subscribed {
         }
     }
 
-    // A part is buffered, under a greater start as the first.
+    /// A part is buffered, under a greater start as the first.
     fn buffer(&mut self, alloc: Global, mark: Numbers, part: Part) -> Result<(), OutOfMemory>
         requires wanted { life.outcome meaning self.old (mark_by mark) ≡ life.Wanted }
         ensures ok { OnOk result (self.new ≡ taken meaning self.old (mark_by mark) true part) }
@@ -180,7 +190,7 @@ impl Subscribed {
         Ok(())
     }
 
-    // The last part of a round came: all its parts are applied.
+    /// The last part of a round came: all its parts are applied.
     fn apply(&mut self, alloc: Global, mark: Numbers, last: Part) -> Result<(), OutOfMemory>
         requires wanted { life.outcome meaning self.old (mark_by mark) ≡ life.Wanted }
         ensures ok { OnOk result (self.new ≡ taken meaning self.old (mark_by mark) false last) }
@@ -200,14 +210,14 @@ impl Subscribed {
         Ok(())
     }
 
-    // A round is applied to the empty view, and not to the one that is held.
+    /// A round is applied to the empty view, and not to the one that is held.
     fn is_anew(&self, round: u64) -> bool
         ensures { result ≡ (round == 1 || not self.now.wanted.subscription.incremental) }
     {
         round == 1 || !self.asked.subscription.incremental
     }
 
-    // The changes of all parts of a round: those that are buffered, unless it is of a greater start, and the last.
+    /// The changes of all parts of a round: those that are buffered, unless it is of a greater start, and the last.
     fn changes_of_round(
         &self,
         alloc: Global,
@@ -224,7 +234,8 @@ impl Subscribed {
     }
 }
 
-// The changes of a round are made, to the empty view or to the one that is held. After want of memory all is as before.
+/// The changes of a round are made, to the empty view or to the one that is held. After want of memory all is as
+/// before.
 fn put_round(
     alloc: Global,
     view: &mut View,

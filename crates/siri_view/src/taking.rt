@@ -1,4 +1,5 @@
-// What a consumer does with a message.
+//! What a consumer does with a message.
+
 ghost use Rattle.std.specs.Prelude.{◌≡◌, ◌≤◌, [], ◌∷◌, IfOk, OnOk, OnErr};
 ghost use Rattle.siri_life.specs.Life.{Acknowledge};
 ghost use Rattle.siri_life.specs.Link.{then_supply};
@@ -7,7 +8,8 @@ ghost use Rattle.siri_view.specs.Consuming.{after_message, after_heard, seen_of,
 ghost use Rattle.siri_view.specs.Heard.{delivered_by, after_part, seen_in_part, IsWanted};
 ghost use Rattle.siri_view.specs.Kept.{meaning, kept_of};
 ghost use Rattle.siri_view.specs.Marks.{mark_by, said};
-ghost use Rattle.siri_view.specs.Sending as definition;
+ghost use Rattle.siri_view.specs.Sending.{acknowledgement, ready_acknowledgement, supply_request};
+ghost use Rattle.siri_life.specs.Meaning.{most_parts};
 
 use crate::hearing::{Delivered, Heard, hear};
 use crate::marks::{Numbers, Saying, next};
@@ -19,9 +21,9 @@ use siri_base::{List, Name, OutOfMemory, Place};
 use siri_messages::Message;
 
 impl Consumer {
-    /// Takes a message, and gives what it was to the consumer and the replies to it. Only a part of a round that is wanted
-    /// changes the consumer: it is buffered, or with it its round is applied to the view, all parts at once. After want of
-    /// memory the consumer is as before.
+    /// Takes a message, and gives what it was to the consumer and the replies to it. Only a part of a round that is
+    /// wanted changes the consumer: it is buffered, or with it its round is applied to the view, all parts at once.
+    /// After want of memory the consumer is as before.
     pub fn take(&mut self, message: &Message) -> Result<Seen, OutOfMemory>
         ensures consumer { OnOk result (self.new ≡ after_message self.old message.now) }
         ensures seen { IfOk result (λ seen. seen ≡ seen_of self.old message.now) }
@@ -36,7 +38,7 @@ impl Consumer {
         }
     }
 
-    // A part of a round is delivered.
+    /// A part of a round is delivered.
     fn take_delivery(&mut self, delivered: Delivered<'_>) -> Result<Seen, OutOfMemory>
         ensures consumer { OnOk result (self.new ≡ after_heard self.old (delivered_by delivered.entry)) }
         ensures seen { IfOk result (λ seen. seen ≡ seen_by self.old (delivered_by delivered.entry)) }
@@ -50,7 +52,7 @@ impl Consumer {
         }
     }
 
-    // A part of a round is delivered to this consumer.
+    /// A part of a round is delivered to this consumer.
     fn take_own_delivery(&mut self, delivered: Delivered<'_>) -> Result<Seen, OutOfMemory>
         ensures consumer { OnOk result (self.new ≡ after_part self.old delivered.entry) }
         ensures seen { IfOk result (λ seen. seen ≡ seen_in_part self.old delivered.entry) }
@@ -82,9 +84,9 @@ impl Consumer {
         }
     }
 
-    // The wanted part is taken, acknowledged, and the next one is asked for or not.
+    /// The wanted part is taken, acknowledged, and the next one is asked for or not.
     fn take_part(&mut self, delivered: Delivered<'_>, asks: bool) -> Result<Seen, OutOfMemory>
-        requires small { delivered.mark.part ≤ 400 }
+        requires small { delivered.mark.part ≤ most_parts }
         requires wanted { IsWanted delivered asks (kept_of delivered.identifier.now self.old.held) }
         ensures consumer { OnOk result (self.new ≡ after_part self.old delivered.entry) }
         ensures seen { IfOk result (λ seen. seen ≡ seen_in_part self.old delivered.entry) }
@@ -111,7 +113,7 @@ impl Consumer {
         }
     }
 
-    // A part can be fetched.
+    /// A part can be fetched.
     fn take_notification(&self, identifier: &Name, mark: Numbers) -> Result<Seen, OutOfMemory>
         ensures { IfOk result (λ seen. seen ≡ seen_in_notification self.now identifier.now (kept_of identifier.now self.now.held) (mark_by mark)) }
     {
@@ -135,23 +137,23 @@ impl Consumer {
         }
     }
 
-    // An acknowledgement of a part.
+    /// An acknowledgement of a part.
     fn acknowledged(&self, identifier: &Name, mark: Numbers) -> Result<List<Message>, OutOfMemory>
-        ensures { IfOk result (λ made. made ≡ definition.acknowledgement self.now.name self.now.moment identifier.now (mark_by mark) ∷ []) }
+        ensures { IfOk result (λ made. made ≡ acknowledgement self.now.name self.now.moment identifier.now (mark_by mark) ∷ []) }
     {
         let mut replies = List::new(self.held.allocator());
         replies.push(acknowledgement(&self.name, self.moment, identifier, mark)?)?;
         Ok(replies)
     }
 
-    // An acknowledgement of a part, and a request of the one after it or not.
+    /// An acknowledgement of a part, and a request of the one after it or not.
     fn replies_to_part(
         &self,
         identifier: &Name,
         mark: Numbers,
         asks: bool,
     ) -> Result<List<Message>, OutOfMemory>
-        requires { mark.part ≤ 400 }
+        requires { mark.part ≤ most_parts }
         ensures { IfOk result (λ made. made ≡ replies_by self.now identifier.now (Acknowledge (mark_by mark) ∷ then_supply meaning asks (mark_by mark))) }
     {
         let mut replies = self.acknowledged(identifier, mark)?;
@@ -161,9 +163,9 @@ impl Consumer {
         Ok(replies)
     }
 
-    // A notification is acknowledged, and its part asked for.
+    /// A notification is acknowledged, and its part asked for.
     fn fetching(&self, identifier: &Name, mark: Numbers) -> Result<List<Message>, OutOfMemory>
-        ensures { IfOk result (λ made. made ≡ definition.ready_acknowledgement self.now.name self.now.moment ∷ definition.supply_request self.now.name self.now.moment identifier.now (mark_by mark) ∷ []) }
+        ensures { IfOk result (λ made. made ≡ ready_acknowledgement self.now.name self.now.moment ∷ supply_request self.now.name self.now.moment identifier.now (mark_by mark) ∷ []) }
     {
         let mut replies = List::new(self.held.allocator());
         replies.push(ready_acknowledgement(&self.name, self.moment)?)?;
@@ -171,6 +173,7 @@ impl Consumer {
         Ok(replies)
     }
 
+    /// An outcome of which the producer hears nothing.
     fn without_reply(&self, outcome: Outcome) -> Seen
         ensures { result ≡ record { outcome = outcome; replies = [] } }
     {
@@ -181,7 +184,7 @@ impl Consumer {
     }
 }
 
-// What is told of a part, where this is told of a wanted one.
+/// What is told of a part, where this is told of a wanted one.
 fn told(kept: &Subscribed, saying: Saying, wanted: Outcome) -> Outcome
     ensures { result ≡ told_of (said saying) kept.now wanted }
 {
@@ -197,7 +200,7 @@ fn told(kept: &Subscribed, saying: Saying, wanted: Outcome) -> Outcome
     }
 }
 
-// What is told of a wanted part that is delivered.
+/// What is told of a wanted part that is delivered.
 fn told_of_part(mark: Numbers, more: bool) -> Outcome
     ensures { result ≡ told_of_part more (mark_by mark) }
 {

@@ -1,9 +1,11 @@
 -- The message that a document is read as, or the first refusal: the document's length and tree, its one member Siri with exactly
 -- one of the messages in it, and then that message's table (EN 15531-2).
-use Rattle.std.specs.Prelude.{◌≡◌, ℕ, List, [], ◌∷◌, length, filter, nat_lt, Bool, true, false, if◌then◌else◌, Option, Some, None, Result, Ok, Err}
+use Rattle.std.specs.Prelude.{◌≡◌, ℕ, List, [], ◌∷◌, ◌++◌, codes, length, filter, nat_lt, Bool, true, false, if◌then◌else◌, Option, Some, None, Result, Ok, Err}
 use Rattle.serde_json.specs.Data.{Data, object}
 use Rattle.siri_base.specs.declared.reason.Reason.TheVariants.{TooLong, NotJson, WrongKind, UnknownMessage}
-use Rattle.siri_json.specs.Tree.{tree_of}
+use Rattle.siri_base.specs.Words.{reason_name}
+use Rattle.siri_json.specs.Paths.{path_text}
+use Rattle.siri_json.specs.Tree.{tree_of, longest_document}
 use Rattle.siri_json.specs.Values.{Found, found, absent, wrong, member_of, object_in}
 use Rattle.siri_messages.specs.declared.message.Message.{Message}
 use Rattle.siri_messages.specs.declared.message.Message.TheVariants as message
@@ -21,7 +23,12 @@ use Rattle.siri_wire.specs.declared.kinds.Kind.{Kind}
 use Rattle.siri_wire.specs.declared.kinds.Kind.TheVariants as kind
 use Rattle.siri_wire.specs.declared.document.DecodeError.{DecodeError}
 use Rattle.siri_wire.specs.declared.document.DecodeError.TheVariants as errors
-use Rattle.siri_deliveries.specs.declared.names.TheConstants.{SIRI, SERVICE_REQUEST, SERVICE_DELIVERY, SUBSCRIPTION_REQUEST, SUBSCRIPTION_RESPONSE, TERMINATE_SUBSCRIPTION_REQUEST, TERMINATE_SUBSCRIPTION_RESPONSE, DATA_READY_NOTIFICATION, DATA_READY_ACKNOWLEDGEMENT, DATA_SUPPLY_REQUEST, DATA_RECEIVED_ACKNOWLEDGEMENT, CHECK_STATUS_REQUEST, CHECK_STATUS_RESPONSE, HEARTBEAT_NOTIFICATION}
+use Rattle.siri_deliveries.specs.declared.names.TheConstants.{SIRI, SERVICE_REQUEST, SERVICE_DELIVERY, SUBSCRIPTION_REQUEST}
+use Rattle.siri_deliveries.specs.declared.names.TheConstants.{SUBSCRIPTION_RESPONSE, TERMINATE_SUBSCRIPTION_REQUEST}
+use Rattle.siri_deliveries.specs.declared.names.TheConstants.{TERMINATE_SUBSCRIPTION_RESPONSE, DATA_READY_NOTIFICATION}
+use Rattle.siri_deliveries.specs.declared.names.TheConstants.{DATA_READY_ACKNOWLEDGEMENT, DATA_SUPPLY_REQUEST}
+use Rattle.siri_deliveries.specs.declared.names.TheConstants.{DATA_RECEIVED_ACKNOWLEDGEMENT, CHECK_STATUS_REQUEST, CHECK_STATUS_RESPONSE}
+use Rattle.siri_deliveries.specs.declared.names.TheConstants.{HEARTBEAT_NOTIFICATION}
 
 -- the messages
 abbrev pub kinds : List Kind
@@ -62,12 +69,20 @@ message_at kind.ServiceRequest d = required_row (table service_request) SERVICE_
 message_at kind.ServiceDelivery d = required_row (table service_delivery) SERVICE_DELIVERY.now d >>= λ m. Ok (message.ServiceDelivery m)
 message_at kind.SubscriptionRequest d = required_row (table subscription_request) SUBSCRIPTION_REQUEST.now d >>= λ m. Ok (message.SubscriptionRequest m)
 message_at kind.SubscriptionResponse d = required_row (table subscription_response) SUBSCRIPTION_RESPONSE.now d >>= λ m. Ok (message.SubscriptionResponse m)
-message_at kind.TerminateSubscriptionRequest d = required_row (table termination_request) TERMINATE_SUBSCRIPTION_REQUEST.now d >>= λ m. Ok (message.TerminateSubscriptionRequest m)
-message_at kind.TerminateSubscriptionResponse d = required_row (table termination_response) TERMINATE_SUBSCRIPTION_RESPONSE.now d >>= λ m. Ok (message.TerminateSubscriptionResponse m)
-message_at kind.DataReadyNotification d = required_row (table data_ready_notification) DATA_READY_NOTIFICATION.now d >>= λ m. Ok (message.DataReadyNotification m)
-message_at kind.DataReadyAcknowledgement d = required_row (table data_ready_acknowledgement) DATA_READY_ACKNOWLEDGEMENT.now d >>= λ m. Ok (message.DataReadyAcknowledgement m)
+message_at kind.TerminateSubscriptionRequest d = required_row
+    (table termination_request) TERMINATE_SUBSCRIPTION_REQUEST.now d >>= λ m.
+    Ok (message.TerminateSubscriptionRequest m)
+message_at kind.TerminateSubscriptionResponse d = required_row
+    (table termination_response) TERMINATE_SUBSCRIPTION_RESPONSE.now d >>= λ m.
+    Ok (message.TerminateSubscriptionResponse m)
+message_at kind.DataReadyNotification d = required_row
+    (table data_ready_notification) DATA_READY_NOTIFICATION.now d >>= λ m. Ok (message.DataReadyNotification m)
+message_at kind.DataReadyAcknowledgement d = required_row
+    (table data_ready_acknowledgement) DATA_READY_ACKNOWLEDGEMENT.now d >>= λ m. Ok (message.DataReadyAcknowledgement m)
 message_at kind.DataSupplyRequest d = required_row (table data_supply_request) DATA_SUPPLY_REQUEST.now d >>= λ m. Ok (message.DataSupplyRequest m)
-message_at kind.DataReceivedAcknowledgement d = required_row (table data_received_acknowledgement) DATA_RECEIVED_ACKNOWLEDGEMENT.now d >>= λ m. Ok (message.DataReceivedAcknowledgement m)
+message_at kind.DataReceivedAcknowledgement d = required_row
+    (table data_received_acknowledgement) DATA_RECEIVED_ACKNOWLEDGEMENT.now d >>= λ m.
+    Ok (message.DataReceivedAcknowledgement m)
 message_at kind.CheckStatusRequest d = required_row (table check_status_request) CHECK_STATUS_REQUEST.now d >>= λ m. Ok (message.CheckStatusRequest m)
 message_at kind.CheckStatusResponse d = required_row (table check_status_response) CHECK_STATUS_RESPONSE.now d >>= λ m. Ok (message.CheckStatusResponse m)
 message_at kind.HeartbeatNotification d = required_row (table heartbeat_notification) HEARTBEAT_NOTIFICATION.now d >>= λ m. Ok (message.HeartbeatNotification m)
@@ -121,7 +136,7 @@ message_in (Some d) = root d
 
 -- the message that a document of at most 8,388,608 bytes is read as, or the first refusal
 unfoldable pub message_of : List ℕ → Result Message Refusal
-message_of document = if nat_lt 8388608 (length document) then refused TooLong else message_in (tree_of document)
+message_of document = if nat_lt longest_document (length document) then refused TooLong else message_in (tree_of document)
 
 -- ---- what a call gives
 
@@ -138,3 +153,7 @@ IsRefused (errors.Refused r) read = read ≡ Err (record { path = r.path; reason
 abbrev pub Decodes : Result Message DecodeError → Result Message Refusal → Type 0
 Decodes (Ok m) read = read ≡ Ok m
 Decodes (Err e) read = IsRefused e read
+
+-- `PATH: REASON`, as a refusal is told
+abbrev pub refusal_text : Refusal → List ℕ
+refusal_text refusal = path_text refusal.path ++ (codes ": " ++ reason_name refusal.reason)

@@ -7,7 +7,9 @@ use Rattle.siri_messages.specs.declared.requests.ServiceRequest.{ServiceRequest}
 use Rattle.siri_tables.specs.Refusals.{Refusal, ◌>>=◌, refused}
 use Rattle.siri_tables.specs.Tables.{optional, a_name, a_moment, Table, Maker, read_all, all_written}
 use Rattle.siri_tables.specs.Writing.{row_object}
-use Rattle.siri_deliveries.specs.declared.names.TheConstants.{REQUEST_TIMESTAMP, REQUESTOR_REF, MESSAGE_IDENTIFIER, STOP_MONITORING_REQUEST, ESTIMATED_TIMETABLE_REQUEST, VEHICLE_MONITORING_REQUEST, SITUATION_EXCHANGE_REQUEST}
+use Rattle.siri_deliveries.specs.declared.names.TheConstants.{REQUEST_TIMESTAMP, REQUESTOR_REF, MESSAGE_IDENTIFIER, STOP_MONITORING_REQUEST}
+use Rattle.siri_deliveries.specs.declared.names.TheConstants.{ESTIMATED_TIMETABLE_REQUEST, VEHICLE_MONITORING_REQUEST}
+use Rattle.siri_deliveries.specs.declared.names.TheConstants.{SITUATION_EXCHANGE_REQUEST}
 use Rattle.siri_deliveries.specs.Rows.{entries}
 use Rattle.siri_deliveries.specs.Topics.{a_topic}
 

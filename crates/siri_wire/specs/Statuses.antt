@@ -7,7 +7,8 @@ use Rattle.siri_messages.specs.declared.statuses.HeartbeatNotification.{Heartbea
 use Rattle.siri_tables.specs.Refusals.{Refusal}
 use Rattle.siri_tables.specs.Tables.{optional, a_name, a_moment, a_flag, Table, Maker, read_all, all_written}
 use Rattle.siri_tables.specs.Writing.{row_object}
-use Rattle.siri_deliveries.specs.declared.names.TheConstants.{REQUEST_TIMESTAMP, RESPONSE_TIMESTAMP, REQUESTOR_REF, MESSAGE_IDENTIFIER, PRODUCER_REF, REQUEST_MESSAGE_REF, STATUS, SERVICE_STARTED_TIME}
+use Rattle.siri_deliveries.specs.declared.names.TheConstants.{REQUEST_TIMESTAMP, RESPONSE_TIMESTAMP, REQUESTOR_REF, MESSAGE_IDENTIFIER}
+use Rattle.siri_deliveries.specs.declared.names.TheConstants.{PRODUCER_REF, REQUEST_MESSAGE_REF, STATUS, SERVICE_STARTED_TIME}
 use Rattle.siri_deliveries.specs.Rows.{with_default}
 
 -- CheckStatusRequest: a question whether the producer is there
@@ -18,7 +19,12 @@ check_table =
     optional a_name MESSAGE_IDENTIFIER.now (λ c. c.message_identifier) ∷ []
 
 abbrev pub make_check : Maker check_table
-make_check = λ request_timestamp requestor_ref message_identifier. record { request_timestamp = request_timestamp; requestor_ref = requestor_ref; message_identifier = message_identifier }
+make_check = λ request_timestamp requestor_ref message_identifier.
+    record {
+      request_timestamp = request_timestamp;
+      requestor_ref = requestor_ref;
+      message_identifier = message_identifier;
+    }
 
 unfoldable pub check_status_request : Data → Result CheckStatusRequest Refusal
 check_status_request d = read_all check_table make_check d

@@ -1,5 +1,6 @@
 -- The tables of requests for subscriptions, and of their answers: a line a row.
-use Rattle.std.specs.Prelude.{◌≡◌, ⊤, option_and_then, ℕ, ℤ, pos, List, [], ◌∷◌, length, codes, bytes_eq, ◌==◌, ◌&&◌, Bool, true, false, if◌then◌else◌, Option, Some, None, unwrap_or, Result, Ok}
+use Rattle.std.specs.Prelude.{◌≡◌, ⊤, option_and_then, ℕ, ℤ, pos, List, [], ◌∷◌, length, codes, bytes_eq, ◌==◌, ◌&&◌, Bool, true, false}
+use Rattle.std.specs.Prelude.{if◌then◌else◌, Option, Some, None, unwrap_or, Result, Ok}
 use Rattle.serde_json.specs.Data.{Data, no_members}
 use Rattle.siri_base.specs.declared.reason.Reason.TheVariants.{NotCarried}
 use Rattle.siri_records.specs.declared.item.Service.{Service}
@@ -15,7 +16,18 @@ use Rattle.siri_tables.specs.Spelling.{Spells}
 use Rattle.siri_tables.specs.Proper.{IsNonNegativeSpan}
 use Rattle.siri_tables.specs.Tables.{Kind, Row, optional, mandatory, a_name, a_moment, a_flag, Table, Maker, read_all, AllProper, all_written}
 use Rattle.siri_tables.specs.Writing.{row_object, with_rows, object_unless_empty, written_text, written_span}
-use Rattle.siri_deliveries.specs.declared.names.TheConstants.{REQUEST_TIMESTAMP, REQUESTOR_REF, MESSAGE_IDENTIFIER, CONSUMER_ADDRESS, SUBSCRIPTION_CONTEXT, HEARTBEAT_INTERVAL, STOP_MONITORING_SUBSCRIPTION_REQUEST, ESTIMATED_TIMETABLE_SUBSCRIPTION_REQUEST, VEHICLE_MONITORING_SUBSCRIPTION_REQUEST, SITUATION_EXCHANGE_SUBSCRIPTION_REQUEST, SUBSCRIPTION_IDENTIFIER, INITIAL_TERMINATION_TIME, STOP_MONITORING_REQUEST, ESTIMATED_TIMETABLE_REQUEST, VEHICLE_MONITORING_REQUEST, SITUATION_EXCHANGE_REQUEST, INCREMENTAL_UPDATES, CHANGE_BEFORE_UPDATES, EXTENSIONS, DELIVERY_METHOD, RESPONSE_TIMESTAMP, REQUEST_MESSAGE_REF, RESPONSE_STATUS, SUBSCRIBER_REF, SUBSCRIPTION_REF, STATUS, VALID_UNTIL, ERROR_CONDITION}
+use Rattle.siri_deliveries.specs.declared.names.TheConstants.{REQUEST_TIMESTAMP, REQUESTOR_REF, MESSAGE_IDENTIFIER, CONSUMER_ADDRESS}
+use Rattle.siri_deliveries.specs.declared.names.TheConstants.{SUBSCRIPTION_CONTEXT, HEARTBEAT_INTERVAL}
+use Rattle.siri_deliveries.specs.declared.names.TheConstants.{STOP_MONITORING_SUBSCRIPTION_REQUEST}
+use Rattle.siri_deliveries.specs.declared.names.TheConstants.{ESTIMATED_TIMETABLE_SUBSCRIPTION_REQUEST}
+use Rattle.siri_deliveries.specs.declared.names.TheConstants.{VEHICLE_MONITORING_SUBSCRIPTION_REQUEST}
+use Rattle.siri_deliveries.specs.declared.names.TheConstants.{SITUATION_EXCHANGE_SUBSCRIPTION_REQUEST, SUBSCRIPTION_IDENTIFIER}
+use Rattle.siri_deliveries.specs.declared.names.TheConstants.{INITIAL_TERMINATION_TIME, STOP_MONITORING_REQUEST}
+use Rattle.siri_deliveries.specs.declared.names.TheConstants.{ESTIMATED_TIMETABLE_REQUEST, VEHICLE_MONITORING_REQUEST}
+use Rattle.siri_deliveries.specs.declared.names.TheConstants.{SITUATION_EXCHANGE_REQUEST, INCREMENTAL_UPDATES, CHANGE_BEFORE_UPDATES}
+use Rattle.siri_deliveries.specs.declared.names.TheConstants.{EXTENSIONS, DELIVERY_METHOD, RESPONSE_TIMESTAMP, REQUEST_MESSAGE_REF}
+use Rattle.siri_deliveries.specs.declared.names.TheConstants.{RESPONSE_STATUS, SUBSCRIBER_REF, SUBSCRIPTION_REF, STATUS, VALID_UNTIL}
+use Rattle.siri_deliveries.specs.declared.names.TheConstants.{ERROR_CONDITION}
 use Rattle.siri_wire.specs.declared.read_subscriptions.RequestedSubscriptions.{RequestedSubscriptions}
 use Rattle.siri_deliveries.specs.Rows.{a_whole_span, an_error, SpellsOr, with_default, entries, optional_inside}
 use Rattle.siri_wire.specs.Identifiers.{an_identifier}
@@ -122,7 +134,15 @@ subscription_table s requestor = the_subscriber requestor (λ x. x.subscriber) �
 abbrev pub make_subscription : (s : Service) (requestor : Option (List ℕ)) → Maker (subscription_table s requestor)
 make_subscription s requestor =
     λ subscriber identifier termination topic incremental slack fetched.
-    record { subscriber = subscriber; identifier = identifier; termination = termination; topic = topic; slack = slack; incremental = incremental; fetched = fetched }
+    record {
+      subscriber = subscriber;
+      identifier = identifier;
+      termination = termination;
+      topic = topic;
+      slack = slack;
+      incremental = incremental;
+      fetched = fetched;
+    }
 
 unfoldable pub subscription : Service → Option (List ℕ) → Data → Result Subscription Refusal
 subscription s requestor d = read_all (subscription_table s requestor) (make_subscription s requestor) d
@@ -131,7 +151,11 @@ unfoldable pub written_subscription : Service → Subscription → Data
 written_subscription s x = row_object (all_written (subscription_table s None) x)
 
 abbrev pub a_subscription : Service → Option (List ℕ) → Kind Subscription
-a_subscription s requestor = record { rule = table (subscription s requestor); writing = λ x. Some (written_subscription s x); Is = AllProper (subscription_table s requestor) }
+a_subscription s requestor = record {
+  rule = table (subscription s requestor);
+  writing = λ x. Some (written_subscription s x);
+  Is = AllProper (subscription_table s requestor);
+}
 
 -- StopMonitoringSubscriptionRequest
 abbrev pub written_stop_subscription : Subscription → Option Data
@@ -225,7 +249,8 @@ subscription_request d = do
   message_identifier ← required_row number MESSAGE_IDENTIFIER.now d
   consumer_address ← row name CONSUMER_ADDRESS.now d
   w ← requested requestor_ref d
-  Ok (make_subscription_request requestor_ref request_timestamp requestor_ref message_identifier consumer_address w.heartbeat_interval w.stops w.timetables w.vehicles w.situations)
+  Ok (make_subscription_request requestor_ref request_timestamp requestor_ref message_identifier consumer_address
+      w.heartbeat_interval w.stops w.timetables w.vehicles w.situations)
 
 unfoldable pub written_subscription_request : SubscriptionRequest → Data
 written_subscription_request m = row_object (all_written (subscription_request_table m.requestor_ref) m)
@@ -244,7 +269,13 @@ response_status_table =
 abbrev pub make_response_status : Maker response_status_table
 make_response_status =
     λ subscriber_ref subscription_ref status valid_until error_condition.
-    record { subscriber_ref = subscriber_ref; subscription_ref = subscription_ref; status = status; valid_until = valid_until; error_condition = error_condition }
+    record {
+      subscriber_ref = subscriber_ref;
+      subscription_ref = subscription_ref;
+      status = status;
+      valid_until = valid_until;
+      error_condition = error_condition;
+    }
 
 unfoldable pub response_status : Data → Result ResponseStatus Refusal
 response_status d = read_all response_status_table make_response_status d

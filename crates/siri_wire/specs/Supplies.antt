@@ -16,7 +16,9 @@ use Rattle.siri_tables.specs.Tables.{Kind, optional, mandatory, a_name, a_moment
 use Rattle.siri_tables.specs.Writing.{row_object}
 use Rattle.siri_deliveries.specs.Rows.{an_error, with_default, flag_where_true}
 use Rattle.siri_deliveries.specs.Absence.{lacks}
-use Rattle.siri_deliveries.specs.declared.names.TheConstants.{SUBSCRIPTION_REF, NUMBER, START, ROUND, PART, REQUEST_TIMESTAMP, RESPONSE_TIMESTAMP, PRODUCER_REF, CONSUMER_REF, REQUEST_MESSAGE_REF, STATUS, ERROR_CONDITION, ALL_DATA, EXTENSIONS}
+use Rattle.siri_deliveries.specs.declared.names.TheConstants.{SUBSCRIPTION_REF, NUMBER, START, ROUND, PART, REQUEST_TIMESTAMP}
+use Rattle.siri_deliveries.specs.declared.names.TheConstants.{RESPONSE_TIMESTAMP, PRODUCER_REF, CONSUMER_REF, REQUEST_MESSAGE_REF, STATUS}
+use Rattle.siri_deliveries.specs.declared.names.TheConstants.{ERROR_CONDITION, ALL_DATA, EXTENSIONS}
 
 -- a mark in Extensions: which part of which round of a subscription is meant
 abbrev pub mark_table : Table Mark
@@ -82,7 +84,8 @@ ready_acknowledgement_table =
     with_default a_flag true STATUS.now (λ a. a.status) ∷ []
 
 abbrev pub make_ready_acknowledgement : Maker ready_acknowledgement_table
-make_ready_acknowledgement = λ response_timestamp consumer_ref status. record { response_timestamp = response_timestamp; consumer_ref = consumer_ref; status = status }
+make_ready_acknowledgement = λ response_timestamp consumer_ref status.
+    record { response_timestamp = response_timestamp; consumer_ref = consumer_ref; status = status }
 
 unfoldable pub data_ready_acknowledgement : Data → Result DataReadyAcknowledgement Refusal
 data_ready_acknowledgement d = read_all ready_acknowledgement_table make_ready_acknowledgement d
@@ -99,7 +102,13 @@ supply_table =
     mandatory a_mark EXTENSIONS.now (λ s. s.extensions) ∷ []
 
 abbrev pub make_supply : Maker supply_table
-make_supply = λ request_timestamp consumer_ref all_data extensions. record { request_timestamp = request_timestamp; consumer_ref = consumer_ref; all_data = all_data; extensions = extensions }
+make_supply = λ request_timestamp consumer_ref all_data extensions.
+    record {
+      request_timestamp = request_timestamp;
+      consumer_ref = consumer_ref;
+      all_data = all_data;
+      extensions = extensions;
+    }
 
 unfoldable pub read_supply_rows : Data → Result DataSupplyRequest Refusal
 read_supply_rows d = read_all supply_table make_supply d

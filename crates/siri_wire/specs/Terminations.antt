@@ -10,7 +10,9 @@ use Rattle.siri_tables.specs.Spelling.{Spells}
 use Rattle.siri_tables.specs.Proper.{IsName, IsNumber}
 use Rattle.siri_tables.specs.Tables.{Kind, Row, optional, some_entries, a_name, a_moment, a_flag, Table, Maker, read_all, AllProper, all_written}
 use Rattle.siri_tables.specs.Writing.{row_object, written_text}
-use Rattle.siri_deliveries.specs.declared.names.TheConstants.{REQUEST_TIMESTAMP, REQUESTOR_REF, MESSAGE_IDENTIFIER, SUBSCRIPTION_REF, RESPONSE_TIMESTAMP, REQUEST_MESSAGE_REF, TERMINATION_RESPONSE_STATUS, SUBSCRIBER_REF, STATUS, ERROR_CONDITION}
+use Rattle.siri_deliveries.specs.declared.names.TheConstants.{REQUEST_TIMESTAMP, REQUESTOR_REF, MESSAGE_IDENTIFIER, SUBSCRIPTION_REF}
+use Rattle.siri_deliveries.specs.declared.names.TheConstants.{RESPONSE_TIMESTAMP, REQUEST_MESSAGE_REF, TERMINATION_RESPONSE_STATUS}
+use Rattle.siri_deliveries.specs.declared.names.TheConstants.{SUBSCRIBER_REF, STATUS, ERROR_CONDITION}
 use Rattle.siri_deliveries.specs.Rows.{an_error, with_default, entries}
 use Rattle.siri_wire.specs.Subscribers.{subscriber_or, SpellsSubscriber}
 use Rattle.siri_wire.specs.Identifiers.{written_identifier}
@@ -33,7 +35,10 @@ the_asking of = record {
   of = of;
   read = asking;
   Spelled = λ d a. Spells name REQUESTOR_REF.now d a.0 × Spells number MESSAGE_IDENTIFIER.now d (Some a.1) × SpellsSubscriber a.0 d a.2;
-  write = λ a. (REQUESTOR_REF.now, option_and_then written_text a.0) ∷ (MESSAGE_IDENTIFIER.now, written_identifier a.1) ∷ (SUBSCRIBER_REF.now, written_text a.2) ∷ [];
+  write = λ a. (REQUESTOR_REF.now, option_and_then written_text a.0) ∷ (
+    MESSAGE_IDENTIFIER.now,
+    written_identifier a.1,
+  ) ∷ (SUBSCRIBER_REF.now, written_text a.2) ∷ [];
   Is = λ a. IfSome a.0 IsName × IsNumber a.1 × IsName a.2;
   blank = λ a. false;
 }
@@ -48,7 +53,13 @@ termination_table =
 abbrev pub make_termination : Maker termination_table
 make_termination =
     λ request_timestamp asking subscription_ref.
-    record { request_timestamp = request_timestamp; requestor_ref = asking.0; message_identifier = asking.1; subscriber_ref = asking.2; subscription_ref = subscription_ref }
+    record {
+      request_timestamp = request_timestamp;
+      requestor_ref = asking.0;
+      message_identifier = asking.1;
+      subscriber_ref = asking.2;
+      subscription_ref = subscription_ref;
+    }
 
 unfoldable pub termination_request : Data → Result TerminateSubscriptionRequest Refusal
 termination_request d = read_all termination_table make_termination d

@@ -3,7 +3,7 @@
 use Rattle.std.specs.Prelude.{◌≡◌, ℕ, ℤ, pos, List, [], ◌∷◌, ◌++◌, length, nat_lt, if◌then◌else◌, Option, Some, None, unwrap_or, Result, Ok, Err}
 use Rattle.serde_json.specs.Data.{Data, object}
 use Rattle.siri_base.specs.declared.reason.Reason.TheVariants.{TooLong, NotJson, WrongKind, NotCarried}
-use Rattle.siri_json.specs.Tree.{tree_of}
+use Rattle.siri_json.specs.Tree.{tree_of, longest_document}
 use Rattle.siri_topic.specs.declared.subscription.Subscription.{Subscription}
 use Rattle.siri_tables.specs.Refusals.{Refusal, refused}
 use Rattle.siri_tables.specs.declared.refusal.TableError.{TableError}
@@ -32,7 +32,7 @@ requested_in subscriber (Some d) = requested_root subscriber d
 
 -- what a text of at most 8,388,608 bytes requests in its consumer's name, or the first refusal
 unfoldable pub requested_of : List ℕ → List ℕ → Result RequestedSubscriptions Refusal
-requested_of text subscriber = if nat_lt 8388608 (length text) then refused TooLong else requested_in subscriber (tree_of text)
+requested_of text subscriber = if nat_lt longest_document (length text) then refused TooLong else requested_in subscriber (tree_of text)
 
 -- ---- exactly one subscription
 

@@ -1,9 +1,9 @@
 //! Documents, from their bytes on.
 
-ghost use Rattle.std.specs.Prelude.{◌≡◌};
+ghost use Rattle.std.specs.Prelude.{◌≡◌, IfOk};
 ghost use Rattle.siri_json.specs.Shown.{shown};
 ghost use Rattle.siri_tables.specs.Refusals.{Gives};
-ghost use Rattle.siri_wire.specs.Documents.{message_at, siri, root, message_of, Decodes, decode_error};
+ghost use Rattle.siri_wire.specs.Documents.{message_at, siri, root, message_of, Decodes, decode_error, refusal_text};
 
 use crate::kinds::{Kind, only_held};
 use crate::read_requests::ServiceRequestTable;
@@ -18,7 +18,7 @@ use crate::read_supplies::{
 use crate::read_terminations::{
     TerminateSubscriptionRequestTable, TerminateSubscriptionResponseTable,
 };
-use siri_base::Reason;
+use siri_base::{OutOfMemory, Reason, append};
 use siri_deliveries::{ServiceDeliveryTable, names};
 use siri_json::{Path, Scratch, Tree, TreeError, read_tree};
 use siri_messages::Message;
@@ -35,6 +35,18 @@ pub struct Refusal {
     /// The path from the document's root.
     pub path: Path,
     pub reason: Reason,
+}
+
+impl Refusal {
+    /// Its text: the path, `: ` and the name of the reason.
+    pub fn text(&self) -> Result<Vec<u8>, OutOfMemory>
+        ensures { IfOk result (λ text. text.items ≡ refusal_text (record { path = self.now.path; reason = self.now.reason })) }
+    {
+        let mut text = self.path.text()?.into_vec();
+        append(&mut text, b": ")?;
+        append(&mut text, self.reason.name().as_bytes())?;
+        Ok(text)
+    }
 }
 
 /// Why a document gave no message.
@@ -59,6 +71,7 @@ impl From<TableError> for DecodeError {
     }
 }
 
+/// The message of that kind, read by its table in the member of its name, which has to be there.
 fn message_at(alloc: Global, tree: &Tree<'_>, kind: Kind) -> Result<Message, TableError>
     ensures { Gives result (message_at kind (shown tree.now)) }
 {
@@ -141,6 +154,7 @@ impl Table for SiriTable {
     }
 }
 
+/// The message in Siri of a document's root: `WrongKind` where that is no object, `Missing` where it lacks Siri.
 #[tactic(auto, unfolding(crate::specs::Documents::root))]
 fn root(alloc: Global, tree: &Tree<'_>) -> Result<Message, TableError>
     ensures { Gives result (root (shown tree.now)) }
@@ -151,6 +165,7 @@ fn root(alloc: Global, tree: &Tree<'_>) -> Result<Message, TableError>
     }
 }
 
+/// The message of a document or its first refusal, `TooLong` and `NotJson` before all others.
 #[tactic(auto, unfolding(crate::specs::Documents::message_of))]
 fn message_of(alloc: Global, document: &[u8]) -> Result<Message, TableError>
     ensures { Gives result (message_of document.now) }
@@ -164,9 +179,9 @@ fn message_of(alloc: Global, document: &[u8]) -> Result<Message, TableError>
     }
 }
 
-/// The message that a document is read as (EN 15531-2), or the first refusal: `TooLong` above 8,388,608 bytes, `NotJson`,
-/// `WrongKind` where it is no object, `Missing` and `WrongKind` at Siri, `UnknownMessage` at Siri where it doesn't hold
-/// exactly one message, and then what the message's table is refused for, row by row, depth first.
+/// The message that a document is read as (EN 15531-2), or the first refusal: `TooLong` above 8,388,608 bytes,
+/// `NotJson`, `WrongKind` where it is no object, `Missing` and `WrongKind` at Siri, `UnknownMessage` at Siri where it
+/// doesn't hold exactly one message, and then what the message's table is refused for, row by row, depth first.
 pub fn decode(alloc: Global, bytes: &[u8]) -> Result<Message, DecodeError>
     ensures { Decodes result (message_of bytes.now) }
 {

@@ -4,21 +4,20 @@ ghost use Rattle.std.specs.Prelude.{◌≡◌, ◌++◌, IfOk, OnOk};
 ghost use Rattle.siri_json.specs.Tokens.{tokens_of};
 ghost use Rattle.siri_wire.specs.Canonical.{written_body, written_message, canonical};
 
-use crate::write_requests::{
-    write_data_ready, write_ready_acknowledgement, write_received, write_service_request,
-    write_supply,
-};
+use crate::write_requests::write_service_request;
 use crate::write_statuses::{write_check_status, write_heartbeat, write_status_response};
-use crate::write_subscriptions::{
-    write_subscription_request, write_subscription_response, write_termination,
-    write_termination_response,
+use crate::write_subscriptions::{write_subscription_request, write_subscription_response};
+use crate::write_supplies::{
+    write_data_ready, write_ready_acknowledgement, write_received, write_supply,
 };
+use crate::write_terminations::{write_termination, write_termination_response};
 use siri_base::OutOfMemory;
 use siri_deliveries::{names, write_service_delivery};
 use siri_json::Output;
 use siri_messages::Message;
 use std::alloc::Global;
 
+/// Writes the object of a message, without Siri and the name of its kind around it.
 #[tactic(auto, unfolding(crate::specs::Canonical::written_body))]
 fn write_body(out: &mut Output, message: &Message) -> Result<(), OutOfMemory>
     ensures { OnOk result (out.new ≡ out.old ++ tokens_of (written_body message.now)) }
@@ -40,6 +39,7 @@ fn write_body(out: &mut Output, message: &Message) -> Result<(), OutOfMemory>
     }
 }
 
+/// Writes a whole document: an object with Siri, that with the name of the message's kind, that with the message.
 #[tactic(auto, using(crate::proofs::InOrder::message_in_order))]
 fn write_message(out: &mut Output, message: &Message) -> Result<(), OutOfMemory>
     ensures { OnOk result (out.new ≡ out.old ++ tokens_of (written_message message.now)) }
@@ -54,10 +54,11 @@ fn write_message(out: &mut Output, message: &Message) -> Result<(), OutOfMemory>
 }
 
 /// The document that says a message, in its one text: compact, members in byte order of their names. Texts, moments,
-/// spans and decimals are strings, flags `true` and `false`, numbers JSON numbers, but for a MessageIdentifier, which is
-/// always a string; lists are lists. What is absent isn't written, nor a list or an object that need not be there and
-/// would be empty. Each journey stands in an EstimatedJourneyVersionFrame of its own, which carries its RecordedAtTime.
-/// Topics, items and removals of another service than their list's are written by the tables of their own service.
+/// spans and decimals are strings, flags `true` and `false`, numbers JSON numbers, but for a MessageIdentifier, which
+/// is always a string; lists are lists. What is absent isn't written, nor a list or an object that need not be there
+/// and would be empty. Each journey stands in an EstimatedJourneyVersionFrame of its own, which carries its
+/// RecordedAtTime. Topics, items and removals of another service than their list's are written by the tables of their
+/// own service.
 #[tactic(auto, using(crate::proofs::InOrder::message_said))]
 pub fn encode(alloc: Global, message: &Message) -> Result<Vec<u8>, OutOfMemory>
     ensures { IfOk result (λ text. text.items ≡ canonical message.now) }

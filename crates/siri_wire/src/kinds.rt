@@ -25,6 +25,7 @@ pub enum Kind {
     HeartbeatNotification,
 }
 
+/// All kinds of messages that a Siri may hold.
 const KINDS: [Kind; 13] = [
     Kind::ServiceRequest,
     Kind::ServiceDelivery,
@@ -43,7 +44,7 @@ const KINDS: [Kind; 13] = [
 
 impl Kind {
     /// The name under which a document holds such a message.
-    pub fn name(self) -> &'static str
+    pub(crate) fn name(self) -> &'static str
         ensures { result.now ≡ name_of self }
     {
         match self {
@@ -64,6 +65,7 @@ impl Kind {
     }
 }
 
+/// Whether a member of that name is there and doesn't count as absent; a value that is no object is held too.
 #[tactic(auto, unfolding(crate::specs::Documents::holds))]
 fn holds(tree: &Tree<'_>, key: &str) -> bool
     ensures { result ≡ holds key.now (shown tree.now) }
@@ -77,7 +79,7 @@ fn holds(tree: &Tree<'_>, key: &str) -> bool
     }
 }
 
-// The kind of the only one of these messages that an object holds.
+/// The kind of the only one of these messages that an object holds.
 fn only_among(tree: &Tree<'_>, kinds: &[Kind]) -> Option<Kind>
     ensures { result ≡ only (held (shown tree.now) kinds.now) }
 {
@@ -96,7 +98,7 @@ fn only_among(tree: &Tree<'_>, kinds: &[Kind]) -> Option<Kind>
 /// The kind of the only message that an object holds: `None` exactly where it holds none, or more than one. A member
 /// that is null or an empty list counts as absent.
 #[tactic(auto, unfolding(crate::specs::Documents::only_held))]
-pub fn only_held(tree: &Tree<'_>) -> Option<Kind>
+pub(crate) fn only_held(tree: &Tree<'_>) -> Option<Kind>
     ensures { result ≡ only_held (shown tree.now) }
 {
     only_among(tree, &KINDS)

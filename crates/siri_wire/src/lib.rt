@@ -5,15 +5,15 @@
 //!   bytes <-siri_json::Output <-written--- Message      encode
 //! ```
 //!
-//! Each message is a table (EN 15531-2); subscriptions, statuses and marks are tables inside them, topics and deliveries those of
-//! `siri_deliveries`. The files `read_*` have the tables as they are read, `write_*` as they are written; the definition of each
-//! stands in `specs/`, row beside row. A document is refused at the first place in the order of the tables, depth first; what no
-//! table names is passed over.
+//! Each message is a table (EN 15531-2); subscriptions, statuses and marks are tables inside them, topics and
+//! deliveries those of `siri_deliveries`. The files `read_*` have the tables as they are read, `write_*` as they are
+//! written; the definition of each stands in `specs/`, row beside row. A document is refused at the first place in the
+//! order of the tables, depth first; what no table names is passed over.
 //!
-//! Stands on `siri_tables`, which has the rules of values and rows and the refusals, on `siri_deliveries` for the tables of
-//! topics and deliveries, on `siri_messages`, `siri_topic` and `siri_records` for what is read and written, and on `siri_base`
-//! and `siri_json`. It keeps no state, knows no clock and no connection, and reads and writes whole documents alone. What
-//! holds of documents stands in `siri_wire_laws`.
+//! Stands on `siri_tables`, which has the rules of values and rows and the refusals, on `siri_deliveries` for the
+//! tables of topics and deliveries, on `siri_messages`, `siri_topic` and `siri_records` for what is read and written,
+//! and on `siri_base` and `siri_json`. It keeps no state, knows no clock and no connection, and reads and writes whole
+//! documents alone. What holds of documents stands in `siri_wire_laws`.
 #![tactic(auto)]
 
 mod document;
@@ -29,6 +29,8 @@ mod wanted;
 mod write_requests;
 mod write_statuses;
 mod write_subscriptions;
+mod write_supplies;
+mod write_terminations;
 mod write_values;
 
 pub use document::{DecodeError, Refusal, decode};

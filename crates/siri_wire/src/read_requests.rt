@@ -17,8 +17,10 @@ use siri_tables::rows::{list, row};
 use siri_tables::rules::{MomentRule, NameRule, Table};
 use std::alloc::Global;
 
+/// The most topics of each service in a ServiceRequest; with more their list is `TooMany`.
 const MOST_TOPICS: usize = 100;
 
+/// The rows of a ServiceRequest, none of which is required; it may ask for no topic.
 #[tactic(auto, unfolding(crate::specs::Requests::read_service_request_rows))]
 fn read_service_request_rows(alloc: Global, tree: &Tree<'_>) -> Result<ServiceRequest, TableError>
     ensures { Gives result (read_service_request_rows (shown tree.now)) }
@@ -54,6 +56,7 @@ fn read_service_request_rows(alloc: Global, tree: &Tree<'_>) -> Result<ServiceRe
     })
 }
 
+/// Whether a ServiceRequest has no topic of any service.
 fn asks_nothing(request: &ServiceRequest) -> bool
     ensures { result ≡ asks_nothing request.now }
 {
@@ -65,7 +68,7 @@ fn asks_nothing(request: &ServiceRequest) -> bool
 
 /// A request for what is shown to some topics now, at most 100 of each service (EN 15531-2, ServiceRequest):
 /// `NotCarried` where it asks for no topic.
-pub struct ServiceRequestTable;
+pub(crate) struct ServiceRequestTable;
 
 impl Table for ServiceRequestTable {
     type Out = ServiceRequest;

@@ -11,7 +11,7 @@ use siri_tables::rules::{FlagRule, MomentRule, NameRule, Table};
 use std::alloc::Global;
 
 /// A question whether the producer is there (EN 15531-2, CheckStatusRequest).
-pub struct CheckStatusRequestTable;
+pub(crate) struct CheckStatusRequestTable;
 
 impl Table for CheckStatusRequestTable {
     type Out = CheckStatusRequest;
@@ -29,7 +29,7 @@ impl Table for CheckStatusRequestTable {
 }
 
 /// The producer's answer to such a question (EN 15531-2, CheckStatusResponse). Status is true where it is absent.
-pub struct CheckStatusResponseTable;
+pub(crate) struct CheckStatusResponseTable;
 
 impl Table for CheckStatusResponseTable {
     type Out = CheckStatusResponse;
@@ -49,7 +49,7 @@ impl Table for CheckStatusResponseTable {
 }
 
 /// The producer tells that it is there (EN 15531-2, HeartbeatNotification). Status is true where it is absent.
-pub struct HeartbeatNotificationTable;
+pub(crate) struct HeartbeatNotificationTable;
 
 impl Table for HeartbeatNotificationTable {
     type Out = HeartbeatNotification;

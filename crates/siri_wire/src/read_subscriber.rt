@@ -16,7 +16,7 @@ use std::alloc::Global;
 /// The subscriber that an object names, or the requestor where it names none: `Missing` at SubscriberRef where both are
 /// absent.
 #[tactic(auto, unfolding(crate::specs::Subscribers::subscriber_or))]
-pub fn subscriber_or(
+pub(crate) fn subscriber_or(
     alloc: Global,
     tree: &Tree<'_>,
     requestor: &Option<Name>,

@@ -1,6 +1,6 @@
 //! Reading requests for subscriptions, and their answers.
 
-ghost use Rattle.std.specs.Prelude.{◌≡◌, pos, IsTrue, Option, unwrap_or};
+ghost use Rattle.std.specs.Prelude.{◌≡◌, IsTrue, Option, unwrap_or};
 ghost use Rattle.siri_json.specs.Shown.{shown};
 ghost use Rattle.siri_tables.specs.Refusals.{Gives, is_key};
 ghost use Rattle.siri_tables.specs.Rules.{list, table};
@@ -24,10 +24,13 @@ use siri_tables::rules::{
 use siri_topic::{Subscription, Topic};
 use std::alloc::Global;
 
-const MOST_SUBSCRIPTIONS: usize = 200;
+/// The most subscriptions to a service in one request, and the most that one request ends.
+pub(crate) const MOST_SUBSCRIPTIONS: usize = 200;
 
+/// The most entries of ResponseStatus in an answer: those of 200 subscriptions to each of four services.
 const MOST_STATUSES: usize = 800;
 
+/// The topic of a subscription, at the name of its service's request: `Missing` at it where it is absent.
 #[tactic(auto, unfolding(crate::specs::Subscriptions::topic_of))]
 fn topic_of(alloc: Global, tree: &Tree<'_>, service: Service) -> Result<Topic, TableError>
     ensures { Gives result (topic_of service (shown tree.now)) }
@@ -48,6 +51,7 @@ fn topic_of(alloc: Global, tree: &Tree<'_>, service: Service) -> Result<Topic, T
     }
 }
 
+/// ChangeBeforeUpdates of a subscription, `BadSpan` at it where negative; of situations it isn't looked at.
 #[tactic(auto, unfolding(crate::specs::Subscriptions::slack_of))]
 fn slack_of(alloc: Global, tree: &Tree<'_>, service: Service) -> Result<Option<Span>, TableError>
     ensures { Gives result (slack_of service (shown tree.now)) }
@@ -60,16 +64,7 @@ fn slack_of(alloc: Global, tree: &Tree<'_>, service: Service) -> Result<Option<S
     }
 }
 
-/// A span, or zero where there is none.
-pub fn or_zero(span: Option<Span>) -> Span
-    ensures { result ≡ unwrap_or span (pos 0) }
-{
-    match span.or(Span::new(0)) {
-        Some(span) => span,
-        None => unreachable!(),
-    }
-}
-
+/// Whether DeliveryMethod is `fetched`; without it, and with any other text, delivery is direct.
 fn is_fetched(method: &Option<Text>) -> bool
     ensures { result ≡ is_fetched method.now }
 {
@@ -79,6 +74,7 @@ fn is_fetched(method: &Option<Text>) -> bool
     }
 }
 
+/// The subscription of an element; the requestor subscribes where it names no SubscriberRef.
 #[tactic(auto, unfolding(crate::specs::Subscriptions::subscription))]
 fn subscription(
     alloc: Global,
@@ -100,13 +96,13 @@ fn subscription(
         identifier,
         termination,
         topic,
-        slack: or_zero(slack),
+        slack: slack.unwrap_or(Span::zero()),
         incremental: incremental.unwrap_or(true),
         fetched: is_fetched(&method),
     })
 }
 
-// How the elements of a service are read in a message of this requestor.
+/// How the elements of a service are read in a message of this requestor.
 #[derive(Drop)]
 struct SubscriptionRule<'a> {
     service: Service,
@@ -162,6 +158,7 @@ pub struct RequestedSubscriptions {
     pub situations: List<Subscription>,
 }
 
+/// HeartbeatInterval in SubscriptionContext, nothing where either is absent, `BadSpan` where it is negative.
 #[tactic(auto, unfolding(crate::specs::Subscriptions::heartbeat_interval))]
 fn heartbeat_interval(alloc: Global, tree: &Tree<'_>) -> Result<Option<Span>, TableError>
     ensures { Gives result (heartbeat_interval (shown tree.now)) }
@@ -177,7 +174,7 @@ fn heartbeat_interval(alloc: Global, tree: &Tree<'_>) -> Result<Option<Span>, Ta
 /// What an object asks for in the name of this requestor, who subscribes where an element names no subscriber (EN
 /// 15531-2, SubscriptionRequest); it may be nothing.
 #[tactic(auto, unfolding(crate::specs::Subscriptions::read_requested_rows))]
-pub fn read_requested_rows(
+pub(crate) fn read_requested_rows(
     alloc: Global,
     tree: &Tree<'_>,
     requestor: &Option<Name>,
@@ -217,6 +214,7 @@ pub fn read_requested_rows(
     })
 }
 
+/// Whether no subscription to any service is asked for.
 fn requests_nothing(requested: &RequestedSubscriptions) -> bool
     ensures { result ≡ requests_nothing requested.now }
 {
@@ -226,7 +224,7 @@ fn requests_nothing(requested: &RequestedSubscriptions) -> bool
         && requested.situations.len() == 0
 }
 
-// The same; `NotCarried` where it asks for no subscription.
+/// The same; `NotCarried` where it asks for no subscription.
 #[tactic(auto, unfolding(crate::specs::Subscriptions::requested))]
 fn read_requested(
     alloc: Global,
@@ -244,7 +242,7 @@ fn read_requested(
 
 /// A request for subscriptions, at most 200 to each service (EN 15531-2, SubscriptionRequest): `NotCarried` where it
 /// asks for none.
-pub struct SubscriptionRequestTable;
+pub(crate) struct SubscriptionRequestTable;
 
 impl Table for SubscriptionRequestTable {
     type Out = SubscriptionRequest;
@@ -276,7 +274,8 @@ impl Table for SubscriptionRequestTable {
     }
 }
 
-/// What became of a subscription that was asked for; its Status is true where it is absent (EN 15531-2, ResponseStatus).
+/// What became of a subscription that was asked for; its Status is true where it is absent (EN 15531-2,
+/// ResponseStatus).
 struct ResponseStatusTable;
 
 impl Table for ResponseStatusTable {
@@ -297,7 +296,7 @@ impl Table for ResponseStatusTable {
 }
 
 /// The answer to a request for subscriptions, with at most 800 statuses (EN 15531-2, SubscriptionResponse).
-pub struct SubscriptionResponseTable;
+pub(crate) struct SubscriptionResponseTable;
 
 impl Table for SubscriptionResponseTable {
     type Out = SubscriptionResponse;

@@ -19,7 +19,7 @@ use siri_tables::rules::{FlagRule, MomentRule, NameRule, NumberRule, Rule, Table
 use std::alloc::Global;
 
 /// Which part of which round of a subscription is meant (this profile's own): all five rows have to be there.
-pub struct MarkTable;
+pub(crate) struct MarkTable;
 
 impl Table for MarkTable {
     type Out = Mark;
@@ -39,6 +39,7 @@ impl Table for MarkTable {
     }
 }
 
+/// Whether SubscriptionRef, Number, Start, Round and Part are all absent.
 #[tactic(auto, unfolding(crate::specs::Supplies::lacks_mark))]
 fn lacks_mark(tree: &Tree<'_>) -> bool
     ensures { result ≡ lacks_mark (shown tree.now) }
@@ -50,6 +51,7 @@ fn lacks_mark(tree: &Tree<'_>) -> bool
         && lacks(tree, names::PART)
 }
 
+/// The mark of an object: none where all its rows are absent, `Missing` at the first one where only some are.
 #[tactic(auto, unfolding(crate::specs::Supplies::mark_if_any))]
 fn mark_if_any(alloc: Global, tree: &Tree<'_>) -> Result<Option<Mark>, TableError>
     ensures { Gives result (mark_if_any (shown tree.now)) }
@@ -79,7 +81,7 @@ impl Rule for OptionalMarkRule {
 }
 
 /// A part of a round is ready (EN 15531-2, DataReadyNotification). Its Extensions have to be a mark.
-pub struct DataReadyNotificationTable;
+pub(crate) struct DataReadyNotificationTable;
 
 impl Table for DataReadyNotificationTable {
     type Out = DataReadyNotification;
@@ -97,7 +99,7 @@ impl Table for DataReadyNotificationTable {
 }
 
 /// A notification was taken (EN 15531-2, DataReadyAcknowledgement). Status is true where it is absent.
-pub struct DataReadyAcknowledgementTable;
+pub(crate) struct DataReadyAcknowledgementTable;
 
 impl Table for DataReadyAcknowledgementTable {
     type Out = DataReadyAcknowledgement;
@@ -114,6 +116,7 @@ impl Table for DataReadyAcknowledgementTable {
     }
 }
 
+/// The rows of a DataSupplyRequest: ConsumerRef and the mark are required, AllData is false where it is absent.
 #[tactic(auto, unfolding(crate::specs::Supplies::read_supply_rows))]
 fn read_supply_rows(alloc: Global, tree: &Tree<'_>) -> Result<DataSupplyRequest, TableError>
     ensures { Gives result (read_supply_rows (shown tree.now)) }
@@ -128,7 +131,7 @@ fn read_supply_rows(alloc: Global, tree: &Tree<'_>) -> Result<DataSupplyRequest,
 
 /// A part of a round is fetched (EN 15531-2, DataSupplyRequest). AllData is false where it is absent, and `NotCarried`
 /// where it is true, after the other rows; ConsumerRef and the mark have to be there.
-pub struct DataSupplyRequestTable;
+pub(crate) struct DataSupplyRequestTable;
 
 impl Table for DataSupplyRequestTable {
     type Out = DataSupplyRequest;
@@ -147,7 +150,7 @@ impl Table for DataSupplyRequestTable {
 
 /// A delivery was taken (EN 15531-2, DataReceivedAcknowledgement). Status is true where it is absent; a mark whose rows
 /// are all absent is none.
-pub struct DataReceivedAcknowledgementTable;
+pub(crate) struct DataReceivedAcknowledgementTable;
 
 impl Table for DataReceivedAcknowledgementTable {
     type Out = DataReceivedAcknowledgement;

@@ -3,6 +3,7 @@
 ghost use Rattle.siri_wire.specs.Terminations.{termination_request, termination_status, termination_response};
 
 use crate::read_subscriber::subscriber_or;
+use crate::read_subscriptions::MOST_SUBSCRIPTIONS;
 use siri_deliveries::{error_condition, names};
 use siri_json::Tree;
 use siri_messages::{
@@ -13,11 +14,9 @@ use siri_tables::rows::{list, nonempty_list, required_row, row};
 use siri_tables::rules::{FlagRule, MomentRule, NameRule, NumberRule, Table};
 use std::alloc::Global;
 
-const MOST_SUBSCRIPTIONS: usize = 200;
-
 /// A request to end subscriptions, at least one and at most 200 (EN 15531-2, TerminateSubscriptionRequest). The
 /// subscriber is the requestor where it isn't named.
-pub struct TerminateSubscriptionRequestTable;
+pub(crate) struct TerminateSubscriptionRequestTable;
 
 impl Table for TerminateSubscriptionRequestTable {
     type Out = TerminateSubscriptionRequest;
@@ -73,7 +72,7 @@ impl Table for TerminationResponseStatusTable {
 }
 
 /// The answer to a request to end subscriptions, with at most 200 statuses (EN 15531-2, TerminateSubscriptionResponse).
-pub struct TerminateSubscriptionResponseTable;
+pub(crate) struct TerminateSubscriptionResponseTable;
 
 impl Table for TerminateSubscriptionResponseTable {
     type Out = TerminateSubscriptionResponse;

@@ -6,7 +6,7 @@ ghost use Rattle.siri_tables.specs.Refusals.{Gives};
 ghost use Rattle.siri_wire.specs.Wanted.{only_wanted, requested_root, requested_of, wanted_of, wanted_error, IsWanted};
 
 use crate::Refusal;
-use crate::read_subscriptions::{RequestedSubscriptions, or_zero, read_requested_rows};
+use crate::read_subscriptions::{RequestedSubscriptions, read_requested_rows};
 use siri_base::{Copies, List, Name, OutOfMemory, Reason, Span};
 use siri_json::{Path, Scratch, Tree, TreeError, read_tree};
 use siri_tables::TableError;
@@ -59,6 +59,7 @@ impl From<OutOfMemory> for WantedError {
     }
 }
 
+/// What the root of a text asks for in the name of this subscriber; `WrongKind` where it is no object.
 #[tactic(auto, unfolding(crate::specs::Wanted::requested_root))]
 fn requested_root(
     alloc: Global,
@@ -73,6 +74,7 @@ fn requested_root(
     }
 }
 
+/// What a text asks for in the name of this subscriber; `TooLong` and `NotJson` come before all other refusals.
 #[tactic(auto, unfolding(crate::specs::Wanted::requested_of))]
 fn requested_of(
     alloc: Global,
@@ -90,7 +92,7 @@ fn requested_of(
     }
 }
 
-// The subscriptions of all services.
+/// The subscriptions of all services.
 fn all_of(
     stops: List<Subscription>,
     timetables: List<Subscription>,
@@ -106,7 +108,7 @@ fn all_of(
     Ok(all)
 }
 
-// The only one of these subscriptions, as its subscriber's own.
+/// The only one of these subscriptions, as its subscriber's own.
 fn only_wanted(
     alloc: Global,
     subscriber: Name,
@@ -123,7 +125,7 @@ fn only_wanted(
             subscription.subscriber = subscriber;
             Ok(Wanted {
                 subscription,
-                beat: or_zero(beat),
+                beat: beat.unwrap_or(Span::zero()),
             })
         }
         None => Err(WantedError::Refused(Refusal {
@@ -133,11 +135,11 @@ fn only_wanted(
     }
 }
 
-/// The subscription that a text asks for in the name of this subscriber: an object with exactly one subscription under the
-/// name of its service's list (EN 15531-2, SubscriptionRequest), and with SubscriptionContext or without; other members are
-/// passed over. Its subscriber is this one, whoever it names. Refused as [`decode`](crate::decode) refuses, with paths from
-/// the text's own root, and `NotCarried` there where it has no subscription. `WrongMessage` exactly where nothing is refused
-/// and it has more than one.
+/// The subscription that a text asks for in the name of this subscriber: an object with exactly one subscription under
+/// the name of its service's list (EN 15531-2, SubscriptionRequest), and with SubscriptionContext or without; other
+/// members are passed over. Its subscriber is this one, whoever it names. Refused as [`decode`](crate::decode) refuses,
+/// with paths from the text's own root, and `NotCarried` there where it has no subscription. `WrongMessage` exactly
+/// where nothing is refused and it has more than one.
 #[tactic(auto, unfolding(crate::specs::Wanted::wanted_of))]
 pub fn decode_wanted(alloc: Global, bytes: &[u8], subscriber: &Name) -> Result<Wanted, WantedError>
     ensures { IsWanted result (wanted_of bytes.now subscriber.now) }

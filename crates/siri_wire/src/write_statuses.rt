@@ -13,7 +13,10 @@ use siri_tables::writing::{optional, required};
 
 /// The object of a CheckStatusRequest.
 #[tactic(auto, using(crate::proofs::InOrder::check_status_in_order))]
-pub fn write_check_status(out: &mut Output, check: &CheckStatusRequest) -> Result<(), OutOfMemory>
+pub(crate) fn write_check_status(
+    out: &mut Output,
+    check: &CheckStatusRequest,
+) -> Result<(), OutOfMemory>
     ensures { OnOk result (out.new ≡ out.old ++ tokens_of (written_check_status check.now)) }
 {
     out.begin_object()?;
@@ -25,7 +28,7 @@ pub fn write_check_status(out: &mut Output, check: &CheckStatusRequest) -> Resul
 
 /// The object of a CheckStatusResponse.
 #[tactic(auto, using(crate::proofs::InOrder::status_response_in_order))]
-pub fn write_status_response(
+pub(crate) fn write_status_response(
     out: &mut Output,
     response: &CheckStatusResponse,
 ) -> Result<(), OutOfMemory>
@@ -50,7 +53,7 @@ pub fn write_status_response(
 
 /// The object of a HeartbeatNotification.
 #[tactic(auto, using(crate::proofs::InOrder::heartbeat_in_order))]
-pub fn write_heartbeat(
+pub(crate) fn write_heartbeat(
     out: &mut Output,
     heartbeat: &HeartbeatNotification,
 ) -> Result<(), OutOfMemory>

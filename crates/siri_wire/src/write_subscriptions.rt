@@ -1,24 +1,21 @@
-//! Writing the messages that begin and end subscriptions.
+//! Writing requests for subscriptions, and their responses.
 
 ghost use Rattle.std.specs.Prelude.{◌≡◌, ◌++◌, Option, OnOk};
 ghost use Rattle.siri_json.specs.Tokens.{tokens_of};
 ghost use Rattle.siri_tables.specs.Appended.{row_tokens};
 ghost use Rattle.siri_deliveries.specs.declared.names.TheConstants.{EXTENSIONS, SUBSCRIPTION_CONTEXT};
 ghost use Rattle.siri_wire.specs.Subscriptions.{written_method, written_stop_subscription, written_timetable_subscription, written_vehicle_subscription, written_situation_subscription, written_context, written_subscription_request, written_response_status, written_subscription_response};
-ghost use Rattle.siri_wire.specs.Terminations.{written_termination, written_termination_status, written_termination_response};
 
 use crate::write_values::IdentifierWriting;
 use siri_base::{OutOfMemory, Span};
 use siri_deliveries::{ErrorWriting, TopicWriting, names};
 use siri_json::Output;
-use siri_messages::{
-    ResponseStatus, SubscriptionRequest, SubscriptionResponse, TerminateSubscriptionRequest,
-    TerminateSubscriptionResponse, TerminationResponseStatus,
-};
+use siri_messages::{ResponseStatus, SubscriptionRequest, SubscriptionResponse};
 use siri_tables::rules::{FlagRule, MomentRule, NameRule, SpanRule};
 use siri_tables::writing::{Written, list, optional, required};
 use siri_topic::Subscription;
 
+/// Writes the row Extensions with DeliveryMethod `fetched`, which is left out where delivery is direct.
 #[tactic(auto, using(crate::proofs::InOrder::method_in_order, crate::proofs::InOrder::method_left_out))]
 fn method_row(out: &mut Output, fetched: bool) -> Result<(), OutOfMemory>
     ensures { OnOk result (out.new ≡ out.old ++ row_tokens EXTENSIONS.now (written_method fetched)) }
@@ -33,6 +30,7 @@ fn method_row(out: &mut Output, fetched: bool) -> Result<(), OutOfMemory>
     out.end_object()
 }
 
+/// A StopMonitoringSubscriptionRequest, always with ChangeBeforeUpdates and IncrementalUpdates.
 struct StopSubscriptionWriting;
 
 impl Written for StopSubscriptionWriting {
@@ -54,6 +52,7 @@ impl Written for StopSubscriptionWriting {
     }
 }
 
+/// An EstimatedTimetableSubscriptionRequest, always with ChangeBeforeUpdates and IncrementalUpdates.
 struct TimetableSubscriptionWriting;
 
 impl Written for TimetableSubscriptionWriting {
@@ -75,6 +74,7 @@ impl Written for TimetableSubscriptionWriting {
     }
 }
 
+/// A VehicleMonitoringSubscriptionRequest, always with ChangeBeforeUpdates and IncrementalUpdates.
 struct VehicleSubscriptionWriting;
 
 impl Written for VehicleSubscriptionWriting {
@@ -96,6 +96,7 @@ impl Written for VehicleSubscriptionWriting {
     }
 }
 
+/// A SituationExchangeSubscriptionRequest, without ChangeBeforeUpdates.
 struct SituationSubscriptionWriting;
 
 impl Written for SituationSubscriptionWriting {
@@ -116,6 +117,7 @@ impl Written for SituationSubscriptionWriting {
     }
 }
 
+/// Writes the row SubscriptionContext with its HeartbeatInterval, left out where there is none.
 #[tactic(auto, using(crate::proofs::InOrder::context_in_order), unfolding(crate::specs::Subscriptions::written_context))]
 fn context_row(out: &mut Output, heartbeat: &Option<Span>) -> Result<(), OutOfMemory>
     ensures { OnOk result (out.new ≡ out.old ++ row_tokens SUBSCRIPTION_CONTEXT.now (written_context heartbeat.now)) }
@@ -131,7 +133,7 @@ fn context_row(out: &mut Output, heartbeat: &Option<Span>) -> Result<(), OutOfMe
 
 /// The object of a SubscriptionRequest.
 #[tactic(auto, using(crate::proofs::InOrder::subscription_request_in_order))]
-pub fn write_subscription_request(
+pub(crate) fn write_subscription_request(
     out: &mut Output,
     request: &SubscriptionRequest,
 ) -> Result<(), OutOfMemory>
@@ -166,6 +168,7 @@ pub fn write_subscription_request(
     out.end_object()
 }
 
+/// A ResponseStatus: whether one subscription is held, and until when.
 struct ResponseStatusWriting;
 
 impl Written for ResponseStatusWriting {
@@ -187,7 +190,7 @@ impl Written for ResponseStatusWriting {
 
 /// The object of a SubscriptionResponse.
 #[tactic(auto, using(crate::proofs::InOrder::subscription_response_in_order))]
-pub fn write_subscription_response(
+pub(crate) fn write_subscription_response(
     out: &mut Output,
     response: &SubscriptionResponse,
 ) -> Result<(), OutOfMemory>
@@ -201,63 +204,5 @@ pub fn write_subscription_response(
     )?;
     list::<ResponseStatusWriting>(out, names::RESPONSE_STATUS, &response.response_status)?;
     optional::<MomentRule>(out, names::RESPONSE_TIMESTAMP, &response.response_timestamp)?;
-    out.end_object()
-}
-
-/// The object of a TerminateSubscriptionRequest.
-#[tactic(auto, using(crate::proofs::InOrder::termination_in_order))]
-pub fn write_termination(
-    out: &mut Output,
-    request: &TerminateSubscriptionRequest,
-) -> Result<(), OutOfMemory>
-    ensures { OnOk result (out.new ≡ out.old ++ tokens_of (written_termination request.now)) }
-{
-    out.begin_object()?;
-    required::<IdentifierWriting>(out, names::MESSAGE_IDENTIFIER, &request.message_identifier)?;
-    optional::<MomentRule>(out, names::REQUEST_TIMESTAMP, &request.request_timestamp)?;
-    optional::<NameRule>(out, names::REQUESTOR_REF, &request.requestor_ref)?;
-    required::<NameRule>(out, names::SUBSCRIBER_REF, &request.subscriber_ref)?;
-    list::<NameRule>(out, names::SUBSCRIPTION_REF, &request.subscription_ref)?;
-    out.end_object()
-}
-
-struct TerminationStatusWriting;
-
-impl Written for TerminationStatusWriting {
-    type Of = TerminationResponseStatus;
-
-    ghost writing = { written_termination_status };
-
-    #[tactic(auto, using(crate::proofs::InOrder::termination_status_in_order), unfolding(crate::specs::Terminations::written_termination_status))]
-    fn write(out: &mut Output, status: &TerminationResponseStatus) -> Result<(), OutOfMemory> {
-        out.begin_object()?;
-        optional::<ErrorWriting>(out, names::ERROR_CONDITION, &status.error_condition)?;
-        required::<FlagRule>(out, names::STATUS, &status.status)?;
-        optional::<NameRule>(out, names::SUBSCRIBER_REF, &status.subscriber_ref)?;
-        optional::<NameRule>(out, names::SUBSCRIPTION_REF, &status.subscription_ref)?;
-        out.end_object()
-    }
-}
-
-/// The object of a TerminateSubscriptionResponse.
-#[tactic(auto, using(crate::proofs::InOrder::termination_response_in_order))]
-pub fn write_termination_response(
-    out: &mut Output,
-    response: &TerminateSubscriptionResponse,
-) -> Result<(), OutOfMemory>
-    ensures { OnOk result (out.new ≡ out.old ++ tokens_of (written_termination_response response.now)) }
-{
-    out.begin_object()?;
-    optional::<NameRule>(
-        out,
-        names::REQUEST_MESSAGE_REF,
-        &response.request_message_ref,
-    )?;
-    optional::<MomentRule>(out, names::RESPONSE_TIMESTAMP, &response.response_timestamp)?;
-    list::<TerminationStatusWriting>(
-        out,
-        names::TERMINATION_RESPONSE_STATUS,
-        &response.termination_response_status,
-    )?;
     out.end_object()
 }

@@ -11,7 +11,7 @@ use siri_tables::rules::{NameRule, NumberRule};
 use siri_tables::writing::{Written, required};
 
 /// A MessageIdentifier that is a number, as a string.
-pub struct IdentifierWriting;
+pub(crate) struct IdentifierWriting;
 
 impl Written for IdentifierWriting {
     type Of = u64;
@@ -24,7 +24,7 @@ impl Written for IdentifierWriting {
 }
 
 /// A mark, as Extensions.
-pub struct MarkWriting;
+pub(crate) struct MarkWriting;
 
 impl Written for MarkWriting {
     type Of = Mark;

@@ -44,7 +44,8 @@ pub error_back : (t : List ℕ) → IsText t → GivesBack other_error (written_
 unfolding other_error written_error
 error_back t is =
     let other : List Row = (ERROR_TEXT.now, written_text t) ∷ [] in
-    inside_again (inside text ERROR_TEXT.now) OTHER_ERROR.now (Some (row_object other)) (Some t) (inside_again text ERROR_TEXT.now (written_text t) (Some t) (text_back t is))
+    inside_again (inside text ERROR_TEXT.now) OTHER_ERROR.now (Some (row_object other)) (Some t)
+    (inside_again text ERROR_TEXT.now (written_text t) (Some t) (text_back t is))
 
 pub error_within : (t : List ℕ) → IsText t → MayBeWithin 2 (written_error t)
 unfolding written_error
@@ -52,7 +53,9 @@ error_within t is =
     let inner : List Row = (ERROR_TEXT.now, written_text t) ∷ [] in
     let outer : List Row = (OTHER_ERROR.now, Some (row_object inner)) ∷ [] in
     object_within 1 outer (
-    row_within 1 OTHER_ERROR.now (Some (row_object inner)) refl (object_within 0 inner (row_within 0 ERROR_TEXT.now (written_text t) refl (text_within 0 t is.utf8) then tt)) then
+    row_within 1 OTHER_ERROR.now (Some (row_object inner)) refl
+    (object_within 0 inner (row_within 0 ERROR_TEXT.now (written_text t) refl (text_within 0 t is.utf8) then tt))
+    then
     tt)
 
 -- ---- numbers that are written as texts

@@ -3,7 +3,7 @@ use Rattle.std.proofs.Common.{◌≡◌, ℕ, ◌≤◌, Bool, true, false, nat_
 use Rattle.std.specs.Prelude.{IfSome, IsSomeAnd, if◌then◌else◌}
 use Rattle.serde_json.specs.Data.{Data, object}
 use Rattle.siri_base.specs.declared.reason.Reason.TheVariants.{TooLong}
-use Rattle.siri_json.specs.Tree.{tree_of}
+use Rattle.siri_json.specs.Tree.{tree_of, longest_document}
 use Rattle.siri_json.specs.Values.{Found, found, absent, wrong, member_of, object_in}
 use Rattle.siri_messages.specs.declared.message.Message.{Message}
 use Rattle.siri_messages.specs.declared.message.Message.TheVariants as message
@@ -20,7 +20,8 @@ use Rattle.siri_wire_laws.specs.ProperMessages.{IsProper}
 use Rattle.siri_wire_laws.specs.SpellingDocuments.{HasObject, SpellsBody, SpellsSiri, SpellsRoot}
 use Rattle.siri_tables.proofs.TableLaws.{spelled_proper}
 use Rattle.siri_wire_laws.proofs.DeliveryTables.{service_delivery_laws}
-use Rattle.siri_wire_laws.proofs.SupplyTables.{ready_laws, ready_acknowledgement_laws, supply_laws, received_laws, check_laws, check_response_laws, heartbeat_laws}
+use Rattle.siri_wire_laws.proofs.SupplyTables.{ready_laws, ready_acknowledgement_laws, supply_laws, received_laws, check_laws}
+use Rattle.siri_wire_laws.proofs.SupplyTables.{check_response_laws, heartbeat_laws}
 use Rattle.siri_wire_laws.proofs.BackDocuments.{canonical_read, line_read}
 use Rattle.siri_wire_laws.proofs.SubscriptionTables.{subscription_request_proper, termination_laws}
 use Rattle.siri_wire_laws.proofs.RequestTables.{service_request_proper, subscription_response_laws, termination_response_laws}
@@ -49,7 +50,8 @@ found_then (found d) P u is h = h d u is
 found_then absent P u is h = absurd is
 found_then wrong P u is h = absurd is
 
-some_then : {Q : Type 0} (o : Option Data) (P : Data → Type 0) → IfSome o TextsAreUtf8 → IsSomeAnd o (λ e. IfFound (object_in e) P) → ((d : Data) → TextsAreUtf8 d → P d → Q) → Q
+some_then : {Q : Type 0} (o : Option Data) (P : Data → Type 0) → IfSome o TextsAreUtf8
+    → IsSomeAnd o (λ e. IfFound (object_in e) P) → ((d : Data) → TextsAreUtf8 d → P d → Q) → Q
 some_then None P u is h = absurd is
 some_then (Some d) P u is h = found_then (object_in d) P (object_is d u) is h
 
@@ -79,10 +81,11 @@ document_by document m false e = tree_proper (tree_of document) m (tree_is_utf8 
 
 pub document_proper : (document : List ℕ) (m : Message) → message_of document ≡ Ok m → IsProper m
 unfolding message_of
-document_proper document m e = document_by document m (nat_lt 8388608 (length document)) e
+document_proper document m e = document_by document m (nat_lt longest_document (length document)) e
 
-pub converted_read : (document : List ℕ) (m : Message) → message_of document ≡ Ok m → length (canonical m) ≤ 8388608 → message_of (canonical m) ≡ Ok m
+pub converted_read : (document : List ℕ) (m : Message) → message_of document ≡ Ok m → length (canonical m) ≤ longest_document → message_of (canonical m) ≡ Ok m
 converted_read document m e le = canonical_read m (document_proper document m e) le
 
-pub converted_line_read : (document : List ℕ) (m : Message) → message_of document ≡ Ok m → length (canonical m ++ 10 ∷ []) ≤ 8388608 → message_of (canonical m ++ 10 ∷ []) ≡ Ok m
+pub converted_line_read : (document : List ℕ) (m : Message) → message_of document ≡ Ok m
+    → length (canonical m ++ 10 ∷ []) ≤ longest_document → message_of (canonical m ++ 10 ∷ []) ≡ Ok m
 converted_line_read document m e le = line_read m (document_proper document m e) le

@@ -1,6 +1,7 @@
 -- What is read is spelled and the other way round: rows inside objects, errors, removals, the journeys of frames, and where in a
 -- round a delivery stands.
-use Rattle.std.proofs.Common.{◌≡◌, ℕ, suc, ◌+◌, ◌≤◌, Bool, true, false, not, nat_le, List, [], ◌∷◌, length, filter, map, Option, Some, None, Result, Ok, Err, refl, sym, ap, ap₂, ◌∙◌, subst, arith, if◌then◌else◌}
+use Rattle.std.proofs.Common.{◌≡◌, ℕ, suc, ◌+◌, ◌≤◌, Bool, true, false, not, nat_le, List, [], ◌∷◌, length, filter, map, Option, Some, None}
+use Rattle.std.proofs.Common.{Result, Ok, Err, refl, sym, ap, ap₂, ◌∙◌, subst, arith, if◌then◌else◌}
 use Rattle.std.proofs.lemmas.Bool.{le-leb, leb-true}
 use Rattle.std.proofs.lemmas.List.Sums.{length-filter}
 use Rattle.serde_json.specs.Data.{Data}
@@ -12,42 +13,51 @@ use Rattle.siri_records.specs.declared.item.Service.TheVariants as service
 use Rattle.siri_records.specs.declared.journey.Journey.{Journey}
 use Rattle.siri_records.specs.declared.key.Key.{Key}
 use Rattle.siri_records.specs.declared.key.Key.TheVariants as key
-use Rattle.siri_items.specs.declared.names.TheConstants.{DATA_FRAME_REF, DATED_VEHICLE_JOURNEY_REF, DIRECTION_REF, LINE_REF, MONITORING_REF, PARTICIPANT_REF, SITUATION_NUMBER, RECORDED_AT_TIME}
+use Rattle.siri_items.specs.declared.names.TheConstants.{DATA_FRAME_REF, DATED_VEHICLE_JOURNEY_REF, DIRECTION_REF, LINE_REF, MONITORING_REF}
+use Rattle.siri_items.specs.declared.names.TheConstants.{PARTICIPANT_REF, SITUATION_NUMBER, RECORDED_AT_TIME}
 use Rattle.siri_items.specs.Journeys.{journey}
 use Rattle.siri_tables.specs.Refusals.{Refusal, ◌>>=◌, refused, below, each}
-use Rattle.siri_tables.specs.Rules.{name, text, table, maybe, unless_wrong, required, row, required_row, inside, required_value, is_null, entry_count, entries_from, at_most, list_of, list, or_empty, moment, number, read_from_text}
+use Rattle.siri_tables.specs.Rules.{name, text, table, maybe, unless_wrong, required, row, required_row, inside, required_value, is_null}
+use Rattle.siri_tables.specs.Rules.{entry_count, entries_from, at_most, list_of, list, or_empty, moment, number, read_from_text}
 use Rattle.siri_tables.specs.Spelling.{Spells}
 use Rattle.siri_tables.proofs.RowSpells.{done, ok_is, below_ok, bind_ok, row_spelled, required_row_spelled, row_ok, required_row_ok}
-use Rattle.siri_deliveries.specs.declared.names.TheConstants.{ERROR_TEXT, ESTIMATED_JOURNEY_VERSION_FRAME, ESTIMATED_VEHICLE_JOURNEY, ITEM_REF, OTHER_ERROR, PART, REMOVED, ROUND, START}
+use Rattle.siri_deliveries.specs.declared.names.TheConstants.{ERROR_TEXT, ESTIMATED_JOURNEY_VERSION_FRAME, ESTIMATED_VEHICLE_JOURNEY}
+use Rattle.siri_deliveries.specs.declared.names.TheConstants.{ITEM_REF, OTHER_ERROR, PART, REMOVED, ROUND, START}
 use Rattle.siri_deliveries.specs.Errors.{other_error}
 use Rattle.siri_deliveries.specs.Frames.{journeys, frame, concat_frames, few_in_all, frames_of, journeys_of_frames}
 use Rattle.siri_deliveries.specs.Removals.{visit_cancellation, vehicle_cancellation, removed_journey, removed_situation}
-use Rattle.siri_wire_laws.specs.SpellingDeliveries.{SpellsRemoval, SpellsJourneys, SpellsFrames, SpellsRoundPosition, SpellsDeliveryExtensions, SpellsFrame, SpellsBeside}
+use Rattle.siri_wire_laws.specs.SpellingDeliveries.{SpellsRemoval, SpellsJourneys, SpellsFrames, SpellsRoundPosition}
+use Rattle.siri_wire_laws.specs.SpellingDeliveries.{SpellsDeliveryExtensions, SpellsFrame, SpellsBeside}
 use Rattle.siri_wire_laws.specs.SpellingValues.{SpellsFound, SpellsInside, SpellsErrorCondition, SpellsEntries, SpellsList}
 use Rattle.siri_deliveries.specs.declared.read_parts.DeliveryExtensions.{DeliveryExtensions}
 use Rattle.siri_deliveries.specs.declared.read_parts.RoundPosition.{RoundPosition}
 use Rattle.siri_deliveries.specs.Parts.{no_round, within_round, round_position, delivery_extensions}
 use Rattle.siri_deliveries.specs.Absence.{is_no_text, is_text_absent, lacks}
+use Rattle.siri_deliveries.specs.Limits.{most_entries}
 
 -- ---- rows inside objects
 
-found_spelled : {A : Type 0} (rule : Data → Result (Option A) Refusal) (key : List ℕ) (f : Found Data) (value : Option A) → (unless_wrong f >>= maybe (row rule key)) ≡ Ok value
+found_spelled : {A : Type 0} (rule : Data → Result (Option A) Refusal) (key : List ℕ) (f : Found Data)
+    (value : Option A) → (unless_wrong f >>= maybe (row rule key)) ≡ Ok value
     → SpellsFound f (λ o given. Spells rule key o given) value
 found_spelled rule key (found o) value e = row_spelled rule key o value e
 found_spelled rule key absent value e = sym (ok_is None value e)
 found_spelled rule key wrong value e = absurd cc
 
-found_read : {A : Type 0} (rule : Data → Result (Option A) Refusal) (key : List ℕ) (f : Found Data) (value : Option A) → SpellsFound f (λ o given. Spells rule key o given) value
+found_read : {A : Type 0} (rule : Data → Result (Option A) Refusal) (key : List ℕ) (f : Found Data) (value : Option A)
+    → SpellsFound f (λ o given. Spells rule key o given) value
     → (unless_wrong f >>= maybe (row rule key)) ≡ Ok value
 found_read rule key (found o) value is = row_ok rule key o value is
 found_read rule key absent value is = ap (λ (v : Option _). done v) (sym is)
 found_read rule key wrong value is = absurd is
 
-pub inside_spelled : {A : Type 0} (rule : Data → Result (Option A) Refusal) (key : List ℕ) (d : Data) (value : Option A) → inside rule key d ≡ Ok value → SpellsInside rule key d value
+pub inside_spelled : {A : Type 0} (rule : Data → Result (Option A) Refusal) (key : List ℕ) (d : Data) (value : Option A)
+    → inside rule key d ≡ Ok value → SpellsInside rule key d value
 unfolding inside
 inside_spelled rule key d value e = found_spelled rule key (object_in d) value e
 
-pub inside_read : {A : Type 0} (rule : Data → Result (Option A) Refusal) (key : List ℕ) (d : Data) (value : Option A) → SpellsInside rule key d value → inside rule key d ≡ Ok value
+pub inside_read : {A : Type 0} (rule : Data → Result (Option A) Refusal) (key : List ℕ) (d : Data) (value : Option A)
+    → SpellsInside rule key d value → inside rule key d ≡ Ok value
 unfolding inside
 inside_read rule key d value is = found_read rule key (object_in d) value is
 
@@ -140,8 +150,11 @@ value_is : {A : Type 0} (rule : Data → Result (Option A) Refusal) (d : Data) (
 unfolding required_value
 value_is rule d x e = required_is (rule d) x e
 
-entry_spelled : {A : Type 0} (rule : Data → Result (Option A) Refusal) (place : ℕ) (d : Data) (ds : List Data) (xs : List A) (null : Bool) → ((ys : List A) → entries_from rule (place + 1) ds ≡ Ok ys → EachSpells rule ds ys)
-    → (if null then entries_from rule (place + 1) ds else (below (Place place) (required_value rule d) >>= λ first. entries_from rule (place + 1) ds >>= λ others. done (first ∷ others))) ≡ Ok xs
+entry_spelled : {A : Type 0} (rule : Data → Result (Option A) Refusal) (place : ℕ) (d : Data) (ds : List Data)
+    (xs : List A) (null : Bool) → ((ys : List A) → entries_from rule (place + 1) ds ≡ Ok ys → EachSpells rule ds ys)
+    → (if null then entries_from rule (place + 1) ds
+    else (below (Place place) (required_value rule d) >>= λ first. entries_from rule (place + 1) ds >>= λ others.
+    done (first ∷ others))) ≡ Ok xs
     → map rule (if not null then d ∷ filter (λ e. not (is_null e)) ds else filter (λ e. not (is_null e)) ds) ≡ map (λ x. done (Some x)) xs
 unfolding EachSpells
 entry_spelled rule place d ds xs true h e = h xs e
@@ -151,7 +164,8 @@ entry_spelled rule place d ds xs false h e =
     let first : rule d ≡ done (Some r1.0) = value_is rule d r1.0 (below_ok (Place place) (required_value rule d) r1.0 r1.1) in
     ap₂ (λ (a : Result _ Refusal) (rest : List (Result _ Refusal)). a ∷ rest) first (h r2.0 r2.1) ∙ ap (map (λ x. done (Some x))) (ok_is (r1.0 ∷ r2.0) xs r2.2)
 
-entries_spelled : {A : Type 0} (rule : Data → Result (Option A) Refusal) (place : ℕ) (ds : List Data) (xs : List A) → entries_from rule place ds ≡ Ok xs → EachSpells rule ds xs
+entries_spelled : {A : Type 0} (rule : Data → Result (Option A) Refusal) (place : ℕ) (ds : List Data) (xs : List A)
+    → entries_from rule place ds ≡ Ok xs → EachSpells rule ds xs
 unfolding entries_from EachSpells
 entries_spelled rule place [] xs e = ap (map (λ x. done (Some x))) (ok_is [] xs e)
 entries_spelled rule place (d ∷ ds) xs e = entry_spelled rule place d ds xs (is_null d) (λ ys f. entries_spelled rule (place + 1) ds ys f) e
@@ -166,22 +180,27 @@ value_read : {A : Type 0} (rule : Data → Result (Option A) Refusal) (d : Data)
 unfolding required_value
 value_read rule d x is = rw is refl
 
-entry_read : {A : Type 0} (rule : Data → Result (Option A) Refusal) (place : ℕ) (d : Data) (ds : List Data) (xs : List A) (null : Bool) → ((ys : List A) → EachSpells rule ds ys → entries_from rule (place + 1) ds ≡ Ok ys)
+entry_read : {A : Type 0} (rule : Data → Result (Option A) Refusal) (place : ℕ) (d : Data) (ds : List Data)
+    (xs : List A) (null : Bool) → ((ys : List A) → EachSpells rule ds ys → entries_from rule (place + 1) ds ≡ Ok ys)
     → map rule (if not null then d ∷ filter (λ e. not (is_null e)) ds else filter (λ e. not (is_null e)) ds) ≡ map (λ x. done (Some x)) xs
-    → (if null then entries_from rule (place + 1) ds else (below (Place place) (required_value rule d) >>= λ first. entries_from rule (place + 1) ds >>= λ others. done (first ∷ others))) ≡ Ok xs
+    → (if null then entries_from rule (place + 1) ds
+    else (below (Place place) (required_value rule d) >>= λ first. entries_from rule (place + 1) ds >>= λ others.
+    done (first ∷ others))) ≡ Ok xs
 unfolding EachSpells
 entry_read rule place d ds xs true h e = h xs e
 entry_read rule place d ds [] false h e = absurd cc
 entry_read rule place d ds (x ∷ xs) false h e =
     rw (value_read rule d x (first_is _ _ _ _ e), h xs (others_are _ _ _ _ e)) refl
 
-entries_read : {A : Type 0} (rule : Data → Result (Option A) Refusal) (place : ℕ) (ds : List Data) (xs : List A) → EachSpells rule ds xs → entries_from rule place ds ≡ Ok xs
+entries_read : {A : Type 0} (rule : Data → Result (Option A) Refusal) (place : ℕ) (ds : List Data) (xs : List A)
+    → EachSpells rule ds xs → entries_from rule place ds ≡ Ok xs
 unfolding entries_from EachSpells
 entries_read rule place [] [] e = refl
 entries_read rule place [] (x ∷ xs) e = absurd cc
 entries_read rule place (d ∷ ds) xs e = entry_read rule place d ds xs (is_null d) (λ ys f. entries_read rule (place + 1) ds ys f) e
 
-list_spelled : {A : Type 0} (rule : Data → Result (Option A) Refusal) (o : Option Data) (xs : List A) → or_empty (list_of rule) o ≡ Ok xs → SpellsEntries rule o xs
+list_spelled : {A : Type 0} (rule : Data → Result (Option A) Refusal) (o : Option Data) (xs : List A)
+    → or_empty (list_of rule) o ≡ Ok xs → SpellsEntries rule o xs
 unfolding list_of EachSpells
 list_spelled rule None xs e = sym (ok_is [] xs e)
 list_spelled rule (Some d) xs e = entries_spelled rule 0 (entries_of d) xs e
@@ -201,32 +220,37 @@ count_is rule d xs is =
     let entries = filter (λ e. not (is_null e)) (entries_of d) in
     sym (length-filter (λ e. not (is_null e)) (entries_of d)) ∙ (sym (as_many rule entries) ∙ (ap length is ∙ as_many (λ x. done (Some x)) xs))
 
-few_spelled : {A : Type 0} (rule : Data → Result (Option A) Refusal) (most : ℕ) (d : Data) (xs : List A) (few : Bool) → nat_le (entry_count d) most ≡ few → (if few then list_of rule d else refused TooMany) ≡ Ok xs
+few_spelled : {A : Type 0} (rule : Data → Result (Option A) Refusal) (most : ℕ) (d : Data) (xs : List A) (few : Bool)
+    → nat_le (entry_count d) most ≡ few → (if few then list_of rule d else refused TooMany) ≡ Ok xs
     → SpellsEntries rule (Some d) xs × (length xs ≤ most)
 few_spelled rule most d xs true at e =
     let is = list_spelled rule (Some d) xs e in
     (is, subst (λ (n : ℕ). n ≤ most) (count_is rule d xs is) (leb-true (entry_count d) most at))
 few_spelled rule most d xs false at e = absurd cc
 
-bounded_spelled : {A : Type 0} (rule : Data → Result (Option A) Refusal) (most : ℕ) (o : Option Data) (xs : List A) → or_empty (at_most most (list_of rule)) o ≡ Ok xs → SpellsEntries rule o xs × (length xs ≤ most)
+bounded_spelled : {A : Type 0} (rule : Data → Result (Option A) Refusal) (most : ℕ) (o : Option Data) (xs : List A)
+    → or_empty (at_most most (list_of rule)) o ≡ Ok xs → SpellsEntries rule o xs × (length xs ≤ most)
 bounded_spelled rule most None xs e =
     let none = ok_is [] xs e in
     (sym none, subst (λ (x : List _). length x ≤ most) none (omega arith))
 bounded_spelled rule most (Some d) xs e = few_spelled rule most d xs (nat_le (entry_count d) most) refl e
 
-bounded_read : {A : Type 0} (rule : Data → Result (Option A) Refusal) (most : ℕ) (o : Option Data) (xs : List A) → SpellsEntries rule o xs → length xs ≤ most → or_empty (at_most most (list_of rule)) o ≡ Ok xs
+bounded_read : {A : Type 0} (rule : Data → Result (Option A) Refusal) (most : ℕ) (o : Option Data) (xs : List A)
+    → SpellsEntries rule o xs → length xs ≤ most → or_empty (at_most most (list_of rule)) o ≡ Ok xs
 bounded_read rule most None xs is few = ap (λ (ys : List _). done ys) (sym is)
 bounded_read rule most (Some d) xs is few =
     let le : entry_count d ≤ most = subst (λ (n : ℕ). n ≤ most) (sym (count_is rule d xs is)) few in
     rw (le-leb (entry_count d) most le) (list_read rule (Some d) xs is)
 
-pub bounded_list_spelled : {A : Type 0} (rule : Data → Result (Option A) Refusal) (most : ℕ) (key : List ℕ) (d : Data) (xs : List A) → list rule most key d ≡ Ok xs → SpellsList rule most key d xs
+pub bounded_list_spelled : {A : Type 0} (rule : Data → Result (Option A) Refusal) (most : ℕ) (key : List ℕ) (d : Data)
+    (xs : List A) → list rule most key d ≡ Ok xs → SpellsList rule most key d xs
 unfolding list
 bounded_list_spelled rule most key d xs e =
     let r = bounded_spelled rule most (member_of key d) xs (below_ok (Member key) _ xs e) in
     record { entries = r.0; few = r.1 }
 
-pub bounded_list_read : {A : Type 0} (rule : Data → Result (Option A) Refusal) (most : ℕ) (key : List ℕ) (d : Data) (xs : List A) → SpellsList rule most key d xs → list rule most key d ≡ Ok xs
+pub bounded_list_read : {A : Type 0} (rule : Data → Result (Option A) Refusal) (most : ℕ) (key : List ℕ) (d : Data)
+    (xs : List A) → SpellsList rule most key d xs → list rule most key d ≡ Ok xs
 unfolding list
 bounded_list_read rule most key d xs s_ = rw (bounded_read rule most (member_of key d) xs s_.entries s_.few) refl
 
@@ -234,19 +258,22 @@ bounded_list_read rule most key d xs s_ = rw (bounded_read rule most (member_of 
 
 pub journeys_spelled : (d : Data) (inside : List Journey) → journeys d ≡ Ok inside → SpellsJourneys d inside
 unfolding journeys
-journeys_spelled d inside e = list_spelled (table journey) (member_of ESTIMATED_VEHICLE_JOURNEY.now d) inside (below_ok (Member ESTIMATED_VEHICLE_JOURNEY.now) _ inside e)
+journeys_spelled d inside e = list_spelled (table journey) (member_of ESTIMATED_VEHICLE_JOURNEY.now d) inside
+    (below_ok (Member ESTIMATED_VEHICLE_JOURNEY.now) _ inside e)
 
 pub journeys_read : (d : Data) (inside : List Journey) → SpellsJourneys d inside → journeys d ≡ Ok inside
 unfolding journeys
 journeys_read d inside is = rw (list_read (table journey) (member_of ESTIMATED_VEHICLE_JOURNEY.now d) inside is) refl
 
-few_is : (all items : List Item) (few : Bool) → nat_le (length all) 20000 ≡ few → (if few then done all else refused TooMany) ≡ Ok items → (items ≡ all) × (length items ≤ 20000)
+few_is : (all items : List Item) (few : Bool) → nat_le (length all) most_entries ≡ few
+    → (if few then done all else refused TooMany) ≡ Ok items → (items ≡ all) × (length items ≤ most_entries)
 few_is all items true at e =
     let same = ok_is all items e in
-    (sym same, subst (λ (x : List Item). length x ≤ 20000) same (leb-true (length all) 20000 at))
+    (sym same, subst (λ (x : List Item). length x ≤ most_entries) same (leb-true (length all) most_entries at))
 few_is all items false at e = absurd cc
 
-frames_spelled : (o : Option Data) (d : Data) (items : List Item) → o ≡ member_of ESTIMATED_JOURNEY_VERSION_FRAME.now d → or_empty frames_of o ≡ Ok items → SpellsFrames d items
+frames_spelled : (o : Option Data) (d : Data) (items : List Item) → o ≡ member_of ESTIMATED_JOURNEY_VERSION_FRAME.now d
+    → or_empty frames_of o ≡ Ok items → SpellsFrames d items
 unfolding frames_of
 frames_spelled None d items at e =
     let none = ok_is [] items e in
@@ -254,11 +281,11 @@ frames_spelled None d items at e =
       frames = [];
       spelled = subst (λ (x : Option Data). SpellsEntries (table frame) x []) at refl;
       are = sym none;
-      few = subst (λ (x : List Item). length x ≤ 20000) none (omega arith);
+      few = subst (λ (x : List Item). length x ≤ most_entries) none (omega arith);
     }
 frames_spelled (Some v) d items at e =
     let r = bind_ok (list_of (table frame) v) _ items e in
-    let is = few_is (concat_frames r.0) items (nat_le (length (concat_frames r.0)) 20000) refl r.2 in
+    let is = few_is (concat_frames r.0) items (nat_le (length (concat_frames r.0)) most_entries) refl r.2 in
     record {
       frames = r.0;
       spelled = subst (λ (x : Option Data). SpellsEntries (table frame) x r.0) at (list_spelled (table frame) (Some v) r.0 r.1);
@@ -268,14 +295,16 @@ frames_spelled (Some v) d items at e =
 
 pub journeys_of_frames_spelled : (d : Data) (items : List Item) → journeys_of_frames d ≡ Ok items → SpellsFrames d items
 unfolding journeys_of_frames
-journeys_of_frames_spelled d items e = frames_spelled (member_of ESTIMATED_JOURNEY_VERSION_FRAME.now d) d items refl (below_ok (Member ESTIMATED_JOURNEY_VERSION_FRAME.now) _ items e)
+journeys_of_frames_spelled d items e = frames_spelled (member_of ESTIMATED_JOURNEY_VERSION_FRAME.now d) d items refl
+    (below_ok (Member ESTIMATED_JOURNEY_VERSION_FRAME.now) _ items e)
 
-few_read : (all items : List Item) → items ≡ all → length items ≤ 20000 → few_in_all all ≡ Ok items
+few_read : (all items : List Item) → items ≡ all → length items ≤ most_entries → few_in_all all ≡ Ok items
 few_read all items are few =
-    let all_few : length all ≤ 20000 = subst (λ (x : List Item). length x ≤ 20000) are few in
-    rw (le-leb (length all) 20000 all_few) (ap (λ (x : List Item). done x) (sym are))
+    let all_few : length all ≤ most_entries = subst (λ (x : List Item). length x ≤ most_entries) are few in
+    rw (le-leb (length all) most_entries all_few) (ap (λ (x : List Item). done x) (sym are))
 
-frames_read : (o : Option Data) (frames : List (List Item)) (items : List Item) → SpellsEntries (table frame) o frames → items ≡ concat_frames frames → length items ≤ 20000
+frames_read : (o : Option Data) (frames : List (List Item)) (items : List Item) → SpellsEntries (table frame) o frames
+    → items ≡ concat_frames frames → length items ≤ most_entries
     → or_empty frames_of o ≡ Ok items
 unfolding frames_of
 frames_read None frames items is are few =
@@ -330,17 +359,20 @@ nothing_spelled read None e = refl
 nothing_spelled read (Some d) e = none_read read (text_in d) e
 
 -- what is spelled as something is there
-pub something_spelled : {A : Type 0} (read : List ℕ → Result A Refusal) (o : Option Data) (x : A) → maybe (read_from_text read) o ≡ Ok (Some x) → is_text_absent o ≡ false
+pub something_spelled : {A : Type 0} (read : List ℕ → Result A Refusal) (o : Option Data) (x : A)
+    → maybe (read_from_text read) o ≡ Ok (Some x) → is_text_absent o ≡ false
 unfolding read_from_text
 something_spelled read None x e = absurd cc
 something_spelled read (Some d) x e = some_read read (text_in d) x e
 
 -- ---- where in a round a delivery stands
 
-round_position_cases : (d : Data) (s : RoundPosition) (b : Bool) → lacks ROUND.now d ≡ b → (if b then done no_round else within_round d) ≡ Ok s → SpellsRoundPosition d s
+round_position_cases : (d : Data) (s : RoundPosition) (b : Bool) → lacks ROUND.now d ≡ b
+    → (if b then done no_round else within_round d) ≡ Ok s → SpellsRoundPosition d s
 unfolding lacks within_round
 round_position_cases d s true at_round e =
-    subst (λ (x : RoundPosition). SpellsRoundPosition d x) (ok_is no_round s e) (record { round = absent_spelled _ (member_of ROUND.now d) at_round; start = refl; part = refl })
+    subst (λ (x : RoundPosition). SpellsRoundPosition d x) (ok_is no_round s e)
+    (record { round = absent_spelled _ (member_of ROUND.now d) at_round; start = refl; part = refl })
 round_position_cases d s false at_round e =
     let r1 = bind_ok (required_row number START.now d) _ s e in
     let r2 = bind_ok (required_row number ROUND.now d) _ s r1.2 in
@@ -355,14 +387,17 @@ pub round_position_spelled : (d : Data) (s : RoundPosition) → round_position d
 unfolding round_position
 round_position_spelled d s e = round_position_cases d s (lacks ROUND.now d) refl e
 
-pub delivery_extensions_spelled : (removed : Data → Result Key Refusal) (d : Data) (x : DeliveryExtensions) → delivery_extensions removed d ≡ Ok x → SpellsDeliveryExtensions removed d x
+pub delivery_extensions_spelled : (removed : Data → Result Key Refusal) (d : Data) (x : DeliveryExtensions)
+    → delivery_extensions removed d ≡ Ok x → SpellsDeliveryExtensions removed d x
 unfolding delivery_extensions
 delivery_extensions_spelled removed d x e =
     let r1 = bind_ok (round_position d) _ x e in
-    let r2 = bind_ok (list (table removed) 20000 REMOVED.now d) _ x r1.2 in
-    subst (λ (y : DeliveryExtensions). SpellsDeliveryExtensions removed d y) (ok_is _ x r2.2) (record { round_position = round_position_spelled d r1.0 r1.1; removals = r2.1 })
+    let r2 = bind_ok (list (table removed) most_entries REMOVED.now d) _ x r1.2 in
+    subst (λ (y : DeliveryExtensions). SpellsDeliveryExtensions removed d y) (ok_is _ x r2.2)
+    (record { round_position = round_position_spelled d r1.0 r1.1; removals = r2.1 })
 
-round_position_at : (d : Data) (start round part : Option ℕ) → Spells number ROUND.now d round → SpellsBeside round START.now d start → SpellsBeside round PART.now d part
+round_position_at : (d : Data) (start round part : Option ℕ) → Spells number ROUND.now d round
+    → SpellsBeside round START.now d start → SpellsBeside round PART.now d part
     → round_position d ≡ Ok (record { start = start; round = round; part = part })
 unfolding round_position within_round lacks
 round_position_at d start None part at_round at_start at_part =
@@ -372,11 +407,17 @@ round_position_at d None (Some round) part at_round at_start at_part = absurd (c
 round_position_at d (Some start) (Some round) None at_round at_start at_part = absurd (cc at_part.1)
 round_position_at d (Some start) (Some round) (Some part) at_round at_start at_part =
     let a_round : is_text_absent (member_of ROUND.now d) ≡ false = something_spelled _ (member_of ROUND.now d) round at_round in
-    rw (a_round, required_row_ok number START.now d start at_start.0, required_row_ok number ROUND.now d round at_round, required_row_ok number PART.now d part at_part.0) refl
+    rw (
+      a_round,
+      required_row_ok number START.now d start at_start.0,
+      required_row_ok number ROUND.now d round at_round,
+      required_row_ok number PART.now d part at_part.0,
+    ) refl
 
 pub round_position_read : (d : Data) (s : RoundPosition) → SpellsRoundPosition d s → round_position d ≡ Ok s
 round_position_read d s s_ = round_position_at d s.start s.round s.part s_.round s_.start s_.part
 
-pub delivery_extensions_read : (removed : Data → Result Key Refusal) (d : Data) (e : DeliveryExtensions) → SpellsDeliveryExtensions removed d e → delivery_extensions removed d ≡ Ok e
+pub delivery_extensions_read : (removed : Data → Result Key Refusal) (d : Data) (e : DeliveryExtensions)
+    → SpellsDeliveryExtensions removed d e → delivery_extensions removed d ≡ Ok e
 unfolding delivery_extensions
 delivery_extensions_read removed d e s_ = rw (round_position_read d e.round_position s_.round_position, s_.removals) refl

@@ -16,13 +16,23 @@ use Rattle.siri_tables.proofs.BackLists.{table_entry}
 use Rattle.siri_tables.proofs.BackValues.{table_back}
 use Rattle.siri_tables.proofs.CanonicalParts.{IsCanonicalWithin, MayBeWithin}
 use Rattle.siri_tables.proofs.RowSpells.{bind_ok, done, ok_is}
-use Rattle.siri_tables.proofs.TableLaws.{KindLaws, EntryLaws, optional_laws, mandatory_laws, entries_inside_laws, TableLaws, read_spelled, spelled_read, written_read, spelled_proper, table_within, table_entries}
+use Rattle.siri_tables.proofs.TableLaws.{KindLaws, EntryLaws, optional_laws, mandatory_laws, entries_inside_laws, TableLaws, read_spelled}
+use Rattle.siri_tables.proofs.TableLaws.{spelled_read, written_read, spelled_proper, table_within, table_entries}
 use Rattle.siri_tables.proofs.ValueLaws.{name_laws, moment_laws, number_laws, flag_laws}
 use Rattle.siri_deliveries.specs.declared.names.TheConstants.{LINE_DIRECTION}
-use Rattle.siri_deliveries.specs.Topics.{stop_topic_table, make_stop_topic, read_stop_topic_rows, written_stop_topic, stop_topic, without_maximum, subscribed_stop_topic, line_direction_table, make_line_direction, line_direction, written_line_direction, a_line_direction, timetable_topic_table, make_timetable_topic, timetable_topic, written_timetable_topic, vehicle_topic_table, make_vehicle_topic, vehicle_topic, written_vehicle_topic, situation_topic_table, make_situation_topic, situation_topic, written_situation_topic, topic_rows, written_topic, topic_writing, IsProperTopic, a_topic, subscribed_rows, maximum_of, a_subscribed_topic}
-use Rattle.siri_wire.specs.Requests.{service_request_table, make_service_request, read_service_request_rows, written_service_request, asks_nothing, unless_for_nothing, service_request}
-use Rattle.siri_wire.specs.Subscriptions.{response_status_table, make_response_status, response_status, written_response_status, a_response_status, subscription_response_table, make_subscription_response}
-use Rattle.siri_wire.specs.Terminations.{termination_status_table, make_termination_status, termination_status, written_termination_status, a_termination_status, termination_response_table, make_termination_response}
+use Rattle.siri_deliveries.specs.Topics.{stop_topic_table, make_stop_topic, read_stop_topic_rows, written_stop_topic, stop_topic}
+use Rattle.siri_deliveries.specs.Topics.{without_maximum, subscribed_stop_topic, line_direction_table, make_line_direction, line_direction}
+use Rattle.siri_deliveries.specs.Topics.{written_line_direction, a_line_direction, timetable_topic_table, make_timetable_topic}
+use Rattle.siri_deliveries.specs.Topics.{timetable_topic, written_timetable_topic, vehicle_topic_table, make_vehicle_topic, vehicle_topic}
+use Rattle.siri_deliveries.specs.Topics.{written_vehicle_topic, situation_topic_table, make_situation_topic, situation_topic}
+use Rattle.siri_deliveries.specs.Topics.{written_situation_topic, topic_rows, written_topic, topic_writing, IsProperTopic, a_topic}
+use Rattle.siri_deliveries.specs.Topics.{subscribed_rows, maximum_of, a_subscribed_topic}
+use Rattle.siri_wire.specs.Requests.{service_request_table, make_service_request, read_service_request_rows, written_service_request}
+use Rattle.siri_wire.specs.Requests.{asks_nothing, unless_for_nothing, service_request}
+use Rattle.siri_wire.specs.Subscriptions.{response_status_table, make_response_status, response_status, written_response_status}
+use Rattle.siri_wire.specs.Subscriptions.{a_response_status, subscription_response_table, make_subscription_response}
+use Rattle.siri_wire.specs.Terminations.{termination_status_table, make_termination_status, termination_status, written_termination_status}
+use Rattle.siri_wire.specs.Terminations.{a_termination_status, termination_response_table, make_termination_response}
 use Rattle.siri_wire_laws.specs.ProperRequests.{IsProperServiceRequest}
 use Rattle.siri_wire_laws.specs.SpellingRequests.{SpellsTopic, SpellsSubscribed, SpellsServiceRequest}
 use Rattle.siri_wire_laws.proofs.ProperReadValues.{spelled_yields}
@@ -38,11 +48,33 @@ unfolding line_direction written_line_direction
 line_direction_entries = table_entries line_direction_laws
 
 stop_topic_laws : TableLaws 3 stop_topic_table make_stop_topic
-stop_topic_laws = record { rows = search (optional_laws, mandatory_laws, name_laws, whole_span_laws, moment_laws, number_laws); whole = λ t. refl; holds = λ a b c d e f g h. search; distinct = λ t. refl }
+stop_topic_laws = record {
+  rows = search (
+    optional_laws,
+    mandatory_laws,
+    name_laws,
+    whole_span_laws,
+    moment_laws,
+    number_laws,
+  );
+  whole = λ t. refl;
+  holds = λ a b c d e f g h. search;
+  distinct = λ t. refl;
+}
 
 timetable_topic_laws : TableLaws 3 timetable_topic_table make_timetable_topic
 timetable_topic_laws = record {
-  rows = (optional_laws whole_span_laws refl refl, (optional_laws name_laws refl refl, (entries_inside_laws {kind = a_line_direction} {bound = 100} LINE_DIRECTION.now line_direction_entries refl refl refl, tt)));
+  rows = (
+    optional_laws whole_span_laws refl refl,
+    (
+      optional_laws name_laws refl refl,
+      (
+        entries_inside_laws {kind = a_line_direction} {bound = 100}
+            LINE_DIRECTION.now line_direction_entries refl refl refl,
+        tt,
+      ),
+    ),
+  );
   whole = λ t. refl;
   holds = λ a b c. search;
   distinct = λ t. refl;
@@ -52,12 +84,18 @@ vehicle_topic_laws : TableLaws 3 vehicle_topic_table make_vehicle_topic
 vehicle_topic_laws = record { rows = search (optional_laws, name_laws); whole = λ t. refl; holds = λ a b c. search; distinct = λ t. refl }
 
 situation_topic_laws : TableLaws 3 situation_topic_table make_situation_topic
-situation_topic_laws = record { rows = search (optional_laws, name_laws, whole_span_laws, moment_laws); whole = λ t. refl; holds = λ a b c d e. search; distinct = λ t. refl }
+situation_topic_laws = record {
+  rows = search (optional_laws, name_laws, whole_span_laws, moment_laws);
+  whole = λ t. refl;
+  holds = λ a b c d e. search;
+  distinct = λ t. refl;
+}
 
 -- ---- topics of a service
 
 -- what holds of each topic that a table reads, seen as a topic of any service
-of_any : {A : Type 0} {t : Table A} {make : Maker t} → TableLaws 3 t make → (wrap : A → Topic) (d : Data) (x : Topic) (P : Topic → Type 0) → (read_all t make d >>= λ y. done (wrap y)) ≡ Ok x
+of_any : {A : Type 0} {t : Table A} {make : Maker t} → TableLaws 3 t make
+    → (wrap : A → Topic) (d : Data) (x : Topic) (P : Topic → Type 0) → (read_all t make d >>= λ y. done (wrap y)) ≡ Ok x
     → ((y : A) → AllSpelled t d y → P (wrap y)) → P x
 of_any {t = t} {make = make} laws wrap d x P e h =
     let r = bind_ok (read_all t make d) (λ y. done (wrap y)) x e in
@@ -86,7 +124,8 @@ topic_proper service.Situation d (topics.Situation t) u s_ = spelled_proper situ
 topic_proper s d x u s_ = absurd s_
 
 topic_back : (s : Service) (x : Topic) → IsProperTopic s x → topic_rows s (as_texts (written_topic x)) ≡ Ok x
-unfolding stop_topic read_stop_topic_rows timetable_topic vehicle_topic situation_topic written_topic written_stop_topic written_timetable_topic written_vehicle_topic written_situation_topic
+unfolding stop_topic read_stop_topic_rows timetable_topic vehicle_topic situation_topic written_topic written_stop_topic
+    written_timetable_topic written_vehicle_topic written_situation_topic
 topic_back service.Stop (topics.Stop t) p = rw (written_read stop_topic_laws t p) refl
 topic_back service.Timetable (topics.Timetable t) p = rw (written_read timetable_topic_laws t p) refl
 topic_back service.Vehicle (topics.Vehicle t) p = rw (written_read vehicle_topic_laws t p) refl
@@ -132,9 +171,12 @@ subscribed_spelled service.Stop d x e =
     let r = bind_ok (read_stop_topic_rows d) _ x e in
     let m = no_maximum_is r.0 r.0.maximum_stop_visits x r.2 in
     subst (λ (y : Topic). SpellsSubscribed service.Stop d y) m.1 (record { rows = read_spelled stop_topic_laws d r.0 r.1; no_maximum = m.0 })
-subscribed_spelled service.Timetable d x e = of_any timetable_topic_laws topics.Timetable d x (SpellsSubscribed service.Timetable d) e (λ y is. record { rows = is; no_maximum = refl })
-subscribed_spelled service.Vehicle d x e = of_any vehicle_topic_laws topics.Vehicle d x (SpellsSubscribed service.Vehicle d) e (λ y is. record { rows = is; no_maximum = refl })
-subscribed_spelled service.Situation d x e = of_any situation_topic_laws topics.Situation d x (SpellsSubscribed service.Situation d) e (λ y is. record { rows = is; no_maximum = refl })
+subscribed_spelled service.Timetable d x e = of_any timetable_topic_laws topics.Timetable d x
+    (SpellsSubscribed service.Timetable d) e (λ y is. record { rows = is; no_maximum = refl })
+subscribed_spelled service.Vehicle d x e = of_any vehicle_topic_laws topics.Vehicle d x
+    (SpellsSubscribed service.Vehicle d) e (λ y is. record { rows = is; no_maximum = refl })
+subscribed_spelled service.Situation d x e = of_any situation_topic_laws topics.Situation d x
+    (SpellsSubscribed service.Situation d) e (λ y is. record { rows = is; no_maximum = refl })
 
 pub subscribed_read : (s : Service) (d : Data) (x : Topic) → SpellsSubscribed s d x → subscribed_rows s d ≡ Ok x
 unfolding subscribed_stop_topic read_stop_topic_rows
@@ -152,14 +194,24 @@ pub subscribed_kind : (s : Service) → KindLaws 4 (a_subscribed_topic s)
 subscribed_kind s = record {
   back = λ x p. let o = topic_object x in rw o.1 (table_back (subscribed_rows s) o.0 x (rw o.1 at (subscribed_back s x p.0 p.1)));
   within = λ x p. topic_within s x p.0;
-  yields = spelled_yields (subscribed_rows s) (λ x. IsProperTopic s x × (maximum_of x ≡ None)) (λ d x u e. let s_ = subscribed_spelled s d x e in (topic_proper s d x u s_.rows, s_.no_maximum));
+  yields = spelled_yields (subscribed_rows s) (λ x. IsProperTopic s x × (maximum_of x ≡ None))
+      (λ d x u e. let s_ = subscribed_spelled s d x e in (topic_proper s d x u s_.rows, s_.no_maximum));
 }
 
 -- ---- requests that are answered at once
 
 service_request_laws : TableLaws 5 service_request_table make_service_request
 service_request_laws = record {
-  rows = search (optional_laws, entries_laws, name_laws, moment_laws, topic_entries service.Stop, topic_entries service.Timetable, topic_entries service.Vehicle, topic_entries service.Situation);
+  rows = search (
+    optional_laws,
+    entries_laws,
+    name_laws,
+    moment_laws,
+    topic_entries service.Stop,
+    topic_entries service.Timetable,
+    topic_entries service.Vehicle,
+    topic_entries service.Situation,
+  );
   whole = λ m. refl;
   holds = λ a b c d e f g. search;
   distinct = λ m. refl;
@@ -198,21 +250,44 @@ service_request_proper d m u s_ = (spelled_proper service_request_laws d m u s_.
 -- ---- answers
 
 pub response_status_laws : TableLaws 2 response_status_table make_response_status
-response_status_laws = record { rows = search (optional_laws, with_default_laws, name_laws, flag_laws, moment_laws, error_laws); whole = λ r. refl; holds = λ a b c d e. search; distinct = λ r. refl }
+response_status_laws = record {
+  rows = search
+      (optional_laws, with_default_laws, name_laws, flag_laws, moment_laws, error_laws);
+  whole = λ r. refl;
+  holds = λ a b c d e. search;
+  distinct = λ r. refl;
+}
 
 response_status_entries : EntryLaws 3 a_response_status
 unfolding response_status written_response_status
 response_status_entries = table_entries response_status_laws
 
 pub subscription_response_laws : TableLaws 4 subscription_response_table make_subscription_response
-subscription_response_laws = record { rows = search (optional_laws, entries_laws, name_laws, moment_laws, response_status_entries); whole = λ m. refl; holds = λ a b c. search; distinct = λ m. refl }
+subscription_response_laws = record {
+  rows = search
+      (optional_laws, entries_laws, name_laws, moment_laws, response_status_entries);
+  whole = λ m. refl;
+  holds = λ a b c. search;
+  distinct = λ m. refl;
+}
 
 pub termination_status_laws : TableLaws 2 termination_status_table make_termination_status
-termination_status_laws = record { rows = search (optional_laws, with_default_laws, name_laws, flag_laws, error_laws); whole = λ r. refl; holds = λ a b c d. search; distinct = λ r. refl }
+termination_status_laws = record {
+  rows = search (optional_laws, with_default_laws, name_laws, flag_laws, error_laws);
+  whole = λ r. refl;
+  holds = λ a b c d. search;
+  distinct = λ r. refl;
+}
 
 termination_status_entries : EntryLaws 3 a_termination_status
 unfolding termination_status written_termination_status
 termination_status_entries = table_entries termination_status_laws
 
 pub termination_response_laws : TableLaws 4 termination_response_table make_termination_response
-termination_response_laws = record { rows = search (optional_laws, entries_laws, name_laws, moment_laws, termination_status_entries); whole = λ m. refl; holds = λ a b c. search; distinct = λ m. refl }
+termination_response_laws = record {
+  rows = search
+      (optional_laws, entries_laws, name_laws, moment_laws, termination_status_entries);
+  whole = λ m. refl;
+  holds = λ a b c. search;
+  distinct = λ m. refl;
+}

@@ -17,7 +17,10 @@ use Rattle.siri_tables.proofs.TableLaws.{KindLaws, optional_laws, mandatory_laws
 use Rattle.siri_tables.proofs.ValueLaws.{name_laws, moment_laws, number_laws, flag_laws}
 use Rattle.siri_deliveries.specs.declared.names.TheConstants.{ALL_DATA, SUBSCRIPTION_REF}
 use Rattle.siri_wire.specs.Statuses.{check_table, make_check, check_response_table, make_check_response, heartbeat_table, make_heartbeat}
-use Rattle.siri_wire.specs.Supplies.{mark_table, make_mark, mark, written_mark, a_mark, lacks_mark, mark_if_any, optional_mark, an_optional_mark, ready_table, make_ready, ready_acknowledgement_table, make_ready_acknowledgement, supply_table, make_supply, read_supply_rows, unless_all, data_supply_request, written_supply, received_table, make_received}
+use Rattle.siri_wire.specs.Supplies.{mark_table, make_mark, mark, written_mark, a_mark, lacks_mark, mark_if_any, optional_mark}
+use Rattle.siri_wire.specs.Supplies.{an_optional_mark, ready_table, make_ready, ready_acknowledgement_table, make_ready_acknowledgement}
+use Rattle.siri_wire.specs.Supplies.{supply_table, make_supply, read_supply_rows, unless_all, data_supply_request, written_supply}
+use Rattle.siri_wire.specs.Supplies.{received_table, make_received}
 use Rattle.siri_deliveries.specs.Absence.{is_text_absent, lacks}
 use Rattle.siri_wire_laws.specs.ProperDeliveries.{IsProperSupply}
 use Rattle.siri_wire_laws.specs.SpellingDeliveries.{SpellsSupply}
@@ -31,10 +34,20 @@ pub check_laws : TableLaws 0 check_table make_check
 check_laws = record { rows = search (optional_laws, name_laws, moment_laws); whole = λ c. refl; holds = λ a b c. search; distinct = λ c. refl }
 
 pub check_response_laws : TableLaws 0 check_response_table make_check_response
-check_response_laws = record { rows = search (optional_laws, with_default_laws, name_laws, moment_laws, flag_laws); whole = λ c. refl; holds = λ a b c d e. search; distinct = λ c. refl }
+check_response_laws = record {
+  rows = search (optional_laws, with_default_laws, name_laws, moment_laws, flag_laws);
+  whole = λ c. refl;
+  holds = λ a b c d e. search;
+  distinct = λ c. refl;
+}
 
 pub heartbeat_laws : TableLaws 0 heartbeat_table make_heartbeat
-heartbeat_laws = record { rows = search (optional_laws, with_default_laws, name_laws, moment_laws, flag_laws); whole = λ h. refl; holds = λ a b c d. search; distinct = λ h. refl }
+heartbeat_laws = record {
+  rows = search (optional_laws, with_default_laws, name_laws, moment_laws, flag_laws);
+  whole = λ h. refl;
+  holds = λ a b c d. search;
+  distinct = λ h. refl;
+}
 
 -- ---- marks
 
@@ -49,7 +62,8 @@ mark_kind = table_kind mark_laws
 has_mark : (d : Data) (m : Mark) → mark d ≡ Ok m → lacks_mark d ≡ false
 unfolding mark lacks_mark lacks
 has_mark d m e =
-    let required : is_text_absent (member_of SUBSCRIPTION_REF.now d) ≡ false = something_spelled _ (member_of SUBSCRIPTION_REF.now d) m.subscription (read_spelled mark_laws d m e).0 in
+    let required : is_text_absent (member_of SUBSCRIPTION_REF.now d) ≡ false =
+    something_spelled _ (member_of SUBSCRIPTION_REF.now d) m.subscription (read_spelled mark_laws d m e).0 in
     rw required refl
 
 optional_mark_back : (ms : Members) (m : Mark) → mark (as_texts (object ms)) ≡ Ok m → GivesBack optional_mark (Some (object ms)) (Some m)
@@ -59,7 +73,8 @@ optional_mark_back ms m e = rw (has_mark (as_texts (object ms)) m e, e) refl
 optional_mark_yields : Yields optional_mark (AllProper mark_table)
 unfolding optional_mark mark_if_any mark
 optional_mark_yields = λ d u. inside_on (AllProper mark_table) mark_if_any
-    (λ e v. unless_absent (AllProper mark_table) (lacks_mark e) (mark e) (reads_to (AllProper mark_table) (mark e) (λ m is. read_proper mark_laws e m v is))) d u
+    (λ e v. unless_absent (AllProper mark_table) (lacks_mark e) (mark e)
+    (reads_to (AllProper mark_table) (mark e) (λ m is. read_proper mark_laws e m v is))) d u
 
 optional_mark_kind : KindLaws 1 an_optional_mark
 unfolding mark written_mark
@@ -72,15 +87,40 @@ optional_mark_kind = record {
 -- ---- rounds
 
 pub ready_laws : TableLaws 1 ready_table make_ready
-ready_laws = record { rows = search (optional_laws, mandatory_laws, name_laws, moment_laws, mark_kind); whole = λ n. refl; holds = λ a b c. search; distinct = λ n. refl }
+ready_laws = record {
+  rows = search (optional_laws, mandatory_laws, name_laws, moment_laws, mark_kind);
+  whole = λ n. refl;
+  holds = λ a b c. search;
+  distinct = λ n. refl;
+}
 
 pub ready_acknowledgement_laws : TableLaws 0 ready_acknowledgement_table make_ready_acknowledgement
-ready_acknowledgement_laws = record { rows = search (optional_laws, with_default_laws, name_laws, moment_laws, flag_laws); whole = λ a. refl; holds = λ a b c. search; distinct = λ a. refl }
+ready_acknowledgement_laws = record {
+  rows = search
+      (optional_laws, with_default_laws, name_laws, moment_laws, flag_laws);
+  whole = λ a. refl;
+  holds = λ a b c. search;
+  distinct = λ a. refl;
+}
 
 pub supply_laws : TableLaws 1 supply_table make_supply
-supply_laws = record { rows = search (optional_laws, mandatory_laws, flag_where_true_laws, name_laws, moment_laws, mark_kind); whole = λ s. refl; holds = λ a b c d. search; distinct = λ s. refl }
+supply_laws = record {
+  rows = search (
+    optional_laws,
+    mandatory_laws,
+    flag_where_true_laws,
+    name_laws,
+    moment_laws,
+    mark_kind,
+  );
+  whole = λ s. refl;
+  holds = λ a b c d. search;
+  distinct = λ s. refl;
+}
 
-not_all_is : (x s : DataSupplyRequest) (b : Bool) → b ≡ x.all_data → (if b then Err (record { path = Member ALL_DATA.now ∷ []; reason = NotCarried }) else done x) ≡ Ok s → (b ≡ false) × (x ≡ s)
+not_all_is : (x s : DataSupplyRequest) (b : Bool) → b ≡ x.all_data
+    → (if b then Err (record { path = Member ALL_DATA.now ∷ []; reason = NotCarried }) else done x) ≡ Ok s
+    → (b ≡ false) × (x ≡ s)
 not_all_is x s true at e = absurd cc
 not_all_is x s false at e = (refl, ok_is x s e)
 

@@ -5,7 +5,8 @@ use Rattle.siri_tables.specs.Tables.{AllProper}
 use Rattle.siri_wire.specs.Supplies.{ready_table, ready_acknowledgement_table, received_table}
 use Rattle.siri_wire.specs.Statuses.{check_table, check_response_table, heartbeat_table}
 use Rattle.siri_wire_laws.specs.ProperDeliveries.{IsProperSupply, IsProperServiceDelivery}
-use Rattle.siri_wire_laws.specs.ProperRequests.{IsProperServiceRequest, IsProperSubscriptionRequest, IsProperSubscriptionResponse, IsProperTerminationRequest, IsProperTerminationResponse}
+use Rattle.siri_wire_laws.specs.ProperRequests.{IsProperServiceRequest, IsProperSubscriptionRequest, IsProperSubscriptionResponse}
+use Rattle.siri_wire_laws.specs.ProperRequests.{IsProperTerminationRequest, IsProperTerminationResponse}
 
 abbrev pub IsProper : Message → Type 0
 IsProper (message.ServiceRequest m) = IsProperServiceRequest m

@@ -11,7 +11,8 @@ use Rattle.siri_records.specs.declared.key.Key.TheVariants as key
 use Rattle.siri_messages.specs.declared.deliveries.FunctionalDelivery.{FunctionalDelivery}
 use Rattle.siri_messages.specs.declared.supplies.DataSupplyRequest.{DataSupplyRequest}
 use Rattle.siri_messages.specs.declared.supplies.Mark.{Mark}
-use Rattle.siri_items.specs.declared.names.TheConstants.{DATA_FRAME_REF, DATED_VEHICLE_JOURNEY_REF, DIRECTION_REF, LINE_REF, MONITORING_REF, PARTICIPANT_REF, RECORDED_AT_TIME, SITUATION_NUMBER}
+use Rattle.siri_items.specs.declared.names.TheConstants.{DATA_FRAME_REF, DATED_VEHICLE_JOURNEY_REF, DIRECTION_REF, LINE_REF, MONITORING_REF}
+use Rattle.siri_items.specs.declared.names.TheConstants.{PARTICIPANT_REF, RECORDED_AT_TIME, SITUATION_NUMBER}
 use Rattle.siri_json.specs.Values.{member_of}
 use Rattle.siri_tables.specs.Refusals.{Refusal}
 use Rattle.siri_tables.specs.Rules.{name, moment, number, table, list}
@@ -25,6 +26,7 @@ use Rattle.siri_deliveries.specs.Frames.{journey_of_frame, journeys, frame, conc
 use Rattle.siri_wire_laws.specs.SpellingValues.{SpellsEntries}
 use Rattle.siri_wire.specs.Supplies.{mark_table, supply_table}
 use Rattle.siri_tables.specs.Tables.{AllSpelled}
+use Rattle.siri_deliveries.specs.Limits.{most_entries}
 
 -- which part of which round of a subscription is meant
 abbrev pub SpellsMark : Data → Mark → Type 0
@@ -49,7 +51,7 @@ pub record SpellsRoundPosition (d : Data) (s : RoundPosition) : Type 0 where
 -- the same, and what is shown no more
 pub record SpellsDeliveryExtensions (removed : Data → Result Key Refusal) (d : Data) (e : DeliveryExtensions) : Type 0 where
   pub round_position : SpellsRoundPosition d e.round_position
-  pub removals : list (table removed) 20000 REMOVED.now d ≡ Ok e.removals
+  pub removals : list (table removed) most_entries REMOVED.now d ≡ Ok e.removals
 
 -- ---- what is shown no more
 
@@ -57,9 +59,11 @@ pub record SpellsDeliveryExtensions (removed : Data → Result Key Refusal) (d :
 abbrev pub SpellsRemoval : Service → Data → Key → Type 0
 SpellsRemoval service.Stop d (key.Visit monitoring visit) = Spells name ITEM_REF.now d (Some visit) × Spells name MONITORING_REF.now d (Some monitoring)
 SpellsRemoval service.Timetable d (key.Journey line direction frame journey) =
-    Spells name LINE_REF.now d (Some line) × Spells name DIRECTION_REF.now d direction × Spells name DATA_FRAME_REF.now d frame × Spells name DATED_VEHICLE_JOURNEY_REF.now d (Some journey)
+    Spells name LINE_REF.now d (Some line) × Spells name DIRECTION_REF.now d direction
+    × Spells name DATA_FRAME_REF.now d frame × Spells name DATED_VEHICLE_JOURNEY_REF.now d (Some journey)
 SpellsRemoval service.Vehicle d (key.Vehicle vehicle) = Spells name ITEM_REF.now d (Some vehicle)
-SpellsRemoval service.Situation d (key.Situation participant number) = Spells name PARTICIPANT_REF.now d participant × Spells name SITUATION_NUMBER.now d (Some number)
+SpellsRemoval service.Situation d (key.Situation participant number) =
+    Spells name PARTICIPANT_REF.now d participant × Spells name SITUATION_NUMBER.now d (Some number)
 SpellsRemoval s d k = ⊥
 
 -- ---- functional deliveries
@@ -89,7 +93,7 @@ pub record SpellsFrames (d : Data) (items : List Item) : Type 0 where
   pub frames : List (List Item)
   pub spelled : SpellsEntries (table frame) (member_of ESTIMATED_JOURNEY_VERSION_FRAME.now d) frames
   pub are : items ≡ concat_frames frames
-  pub few : length items ≤ 20000
+  pub few : length items ≤ most_entries
 
 -- a frame: each of its journeys with its own RecordedAtTime or the frame's
 pub record SpellsFrame (d : Data) (items : List Item) : Type 0 where

@@ -2,7 +2,7 @@
 -- object with exactly one message in it, under that message's name, and the message's own object spells it.
 use Rattle.std.specs.Prelude.{◌≡◌, ℕ, ◌≤◌, List, length, Some, IsSomeAnd}
 use Rattle.serde_json.specs.Data.{Data, object}
-use Rattle.siri_json.specs.Tree.{tree_of}
+use Rattle.siri_json.specs.Tree.{tree_of, longest_document}
 use Rattle.siri_json.specs.Values.{member_of, object_in}
 use Rattle.siri_messages.specs.declared.message.Message.{Message}
 use Rattle.siri_messages.specs.declared.message.Message.TheVariants as message
@@ -17,7 +17,8 @@ use Rattle.siri_deliveries.specs.Deliveries.{service_delivery_table}
 use Rattle.siri_wire.specs.Supplies.{ready_table, ready_acknowledgement_table, received_table}
 use Rattle.siri_wire.specs.Statuses.{check_table, check_response_table, heartbeat_table}
 use Rattle.siri_wire_laws.specs.SpellingDeliveries.{SpellsSupply}
-use Rattle.siri_wire_laws.specs.SpellingRequests.{SpellsServiceRequest, SpellsSubscriptionRequest, SpellsSubscriptionResponse, SpellsTerminationRequest, SpellsTerminationResponse}
+use Rattle.siri_wire_laws.specs.SpellingRequests.{SpellsServiceRequest, SpellsSubscriptionRequest, SpellsSubscriptionResponse}
+use Rattle.siri_wire_laws.specs.SpellingRequests.{SpellsTerminationRequest, SpellsTerminationResponse}
 
 -- the member of that name is an object of which P holds, or a list whose first entry is
 abbrev pub HasObject : List ℕ → Data → (Data → Type 0) → Type 0
@@ -66,5 +67,5 @@ SpellsRoot (object ms) m = HasObject SIRI.now (object ms) (λ o. SpellsSiri o m)
 SpellsRoot other m = ⊥
 
 pub record SpellsDocument (document : List ℕ) (m : Message) : Type 0 where
-  pub bound : length document ≤ 8388608
+  pub bound : length document ≤ longest_document
   pub tree : IsSomeAnd (tree_of document) (λ d. SpellsRoot d m)

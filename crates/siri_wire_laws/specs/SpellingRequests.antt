@@ -17,7 +17,8 @@ use Rattle.siri_messages.specs.declared.terminations.TerminateSubscriptionRespon
 use Rattle.siri_messages.specs.declared.terminations.TerminationResponseStatus.{TerminationResponseStatus}
 use Rattle.siri_tables.specs.Tables.{AllSpelled}
 use Rattle.siri_wire.specs.Requests.{service_request_table, asks_nothing}
-use Rattle.siri_wire.specs.Subscriptions.{subscription_table, requests_nothing, requested_by, subscription_request_table, response_status_table, subscription_response_table}
+use Rattle.siri_wire.specs.Subscriptions.{subscription_table, requests_nothing, requested_by, subscription_request_table}
+use Rattle.siri_wire.specs.Subscriptions.{response_status_table, subscription_response_table}
 use Rattle.siri_wire.specs.Terminations.{termination_table, termination_status_table, termination_response_table}
 use Rattle.siri_deliveries.specs.Topics.{line_direction_table, stop_topic_table, timetable_topic_table, vehicle_topic_table, situation_topic_table, maximum_of}
 

@@ -1,5 +1,5 @@
-//! What holds of the tables inside deliveries and of marks: each function has laws for its clauses, and does nothing when
-//! it is called.
+//! What holds of the tables inside deliveries and of marks: each function has laws for its clauses, and does nothing
+//! when it is called.
 
 ghost use Rattle.std.specs.Prelude.{◌≡◌, ◌↔◌, List, Result, Ok};
 ghost use Rattle.serde_json.specs.Data.{Data};
@@ -45,8 +45,8 @@ pub fn removals_are_spelled()
     ensures of_situation { (d : Data) (k : Key) → (removed_situation d ≡ Ok k) ↔ SpellsRemoval service.Situation d k }
 {}
 
-/// The journeys of a frame, and those of all frames, are read exactly where each entry that isn't null spells its own: at
-/// most 20,000 journeys of all frames together.
+/// The journeys of a frame, and those of all frames, are read exactly where each entry that isn't null spells its own:
+/// at most 20,000 journeys of all frames together.
 pub fn journeys_are_spelled()
     ensures of_frame { (d : Data) (inside : List Journey) → (journeys d ≡ Ok inside) ↔ SpellsJourneys d inside }
     ensures of_frames { (d : Data) (items : List Item) → (journeys_of_frames d ≡ Ok items) ↔ SpellsFrames d items }

@@ -7,8 +7,9 @@
 //!                                                 with a line feed at its end or without
 //! ```
 //!
-//! A message that is read is proper, so converting twice is converting once. `siri_wire` reads and writes, and its tables say
-//! what spells their values and which are proper; what spells a document, and which messages are proper, is defined here.
+//! A message that is read is proper, so converting twice is converting once. `siri_wire` reads and writes, and its
+//! tables say what spells their values and which are proper; what spells a document, and which messages are proper, is
+//! defined here.
 #![tactic(auto)]
 
 mod delivery_laws;

@@ -25,7 +25,8 @@ pub fn topics_are_spelled()
     ensures of_line { (d : Data) (l : LineDirection) → (line_direction d ≡ Ok l) ↔ SpellsLineDirection d l }
 {}
 
-/// The element of a subscription is read from an object exactly where the object spells it, in a message of a requestor.
+/// The element of a subscription is read from an object exactly where the object spells it, in a message of a
+/// requestor.
 pub fn subscriptions_are_spelled()
     ensures { (s : Service) (requestor : Option (List ℕ)) (d : Data) (x : Subscription) → (subscription s requestor d ≡ Ok x) ↔ SpellsSubscription s requestor d x }
 {}

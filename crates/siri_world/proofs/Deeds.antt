@@ -1,29 +1,28 @@
 -- An event as a whole: what is told of it, and the world after it.
-use Rattle.std.proofs.Common.{◌≡◌, ℕ, suc, ◌+◌, ◌<◌, ◌≤◌, List, [], ◌∷◌, ◌++◌, length, Bool, true, false, cond, Option, None, Some, Result, Ok, Err, refl, ap, ◌∙◌, sym, subst, arith}
-use Rattle.std.specs.Prelude.{nat_lt, IfOk, IfErr, OnOk}
+use Rattle.std.proofs.Common.{◌≡◌, ℕ, suc, ◌+◌, ◌<◌, ◌≤◌, List, [], ◌∷◌, ◌++◌, length, Bool, true, false, cond, Option, None, Some, Result}
+use Rattle.std.proofs.Common.{Ok, Err, refl, ap, ◌∙◌, sym, subst, arith}
+use Rattle.std.specs.Prelude.{IfOk, IfErr, OnOk}
 use Rattle.siri_base.specs.declared.errors.OutOfMemory.{OutOfMemory}
 use Rattle.std.proofs.lemmas.Bool.{lt-ltb, le-ltb}
 use Rattle.std.proofs.lemmas.List.{length-map}
 use Rattle.std.proofs.lemmas.List.Sums.{fold_push}
 use Rattle.siri_life.specs.Named.{Name}
-use Rattle.siri_topic.specs.declared.subscription.Subscription.{Subscription}
-use Rattle.siri_messages.specs.declared.message.Message.{Message}
-use Rattle.siri_view.specs.Consuming.{Consuming, greatest_number}
+use Rattle.siri_view.specs.Consuming.{Consuming}
 use Rattle.siri_view.specs.Kept.{KeptSubscription, kept_of}
-use Rattle.siri_view.specs.declared.outcome.AskError.{AskError}
 use Rattle.siri_world_model.specs.declared.event.Event.{Event}
-use Rattle.siri_world_model.specs.declared.event.Event.TheVariants as event
 use Rattle.siri_world_model.specs.declared.line.Line.{Line}
 use Rattle.siri_world_model.specs.declared.step_error.StepError.{StepError}
 use Rattle.siri_world_model.specs.declared.step_error.StepError.TheVariants as error
-use Rattle.siri_world_model.specs.Consumers.{consumer_of, consumer_or_new}
+use Rattle.siri_world_model.specs.Consumers.{consumer_of}
 use Rattle.siri_world_model.specs.Goals.{ShowsGoals, goal}
 use Rattle.siri_world_model.specs.Lines as line
-use Rattle.siri_world_model.specs.Lines.{ToldLine, told_lines}
-use Rattle.siri_world_model.specs.Packets.{SentPacket, ToProducer, ToConsumer, packet_at, packet_lines}
+use Rattle.siri_world_model.specs.Lines.{told_lines}
+use Rattle.siri_world_model.specs.Packets.{packet_lines}
 use Rattle.siri_world_model.specs.World.{World, latest, nothing}
-use Rattle.siri_world_model.specs.Effects.{Effect, effect, with_packets, ask_refusal, subscribed_if, terminated_if, terminated, checked, delivered, taken_if, view_lines, viewed_if, viewed}
-use Rattle.siri_world_model.specs.Told.{is_early, passes_starts, passes_consumers, passes_packets, refusal, told, told_if, after, after_if, world_after, most_packets}
+use Rattle.siri_world_model.specs.Effects.{Effect, effect, with_packets, view_lines, viewed_if, viewed}
+use Rattle.siri_world_model.specs.Told.{is_early, passes_starts, passes_consumers, passes_packets, refusal, told, told_if, after, after_if}
+use Rattle.siri_world_model.specs.Told.{world_after, most_packets}
+pub use Rattle.siri_world_laws.proofs.Growing.{packets_stay}
 use Rattle.siri_world.specs.declared.happened.Happened.{Happened}
 use Rattle.siri_world.specs.Doing.{Does, Happens, IsFull, first_refusal}
 use Rattle.siri_world.specs.Kept.{sent_packets}
@@ -33,7 +32,9 @@ use Rattle.siri_world.specs.Serving.{shown_lines}
 
 -- ---- a view is told
 
-shown : (w : World) (c : Consuming) (identifier : Name) (kept : Option KeptSubscription) → ((h : KeptSubscription) → kept ≡ Some h → h.view ≡ goal w c.name identifier h.origin) → shown_lines (latest w) c identifier kept ≡ (viewed_if w c identifier kept).lines
+shown : (w : World) (c : Consuming) (identifier : Name) (kept : Option KeptSubscription)
+    → ((h : KeptSubscription) → kept ≡ Some h → h.view ≡ goal w c.name identifier h.origin)
+    → shown_lines (latest w) c identifier kept ≡ (viewed_if w c identifier kept).lines
 shown w c identifier None goals = refl
 shown w c identifier (Some h) goals = ap (view_lines w c identifier h) (goals h refl)
 
@@ -45,7 +46,10 @@ nothing_changes : (w : World) (c : Consuming) (identifier : Name) (kept : Option
 nothing_changes w c identifier None = refl
 nothing_changes w c identifier (Some h) = refl
 
-pub viewed_does : (known : Known) (w : World) (name identifier : Name) (c : Consuming) (happened : Happened) → Knows known w → ShowsGoals w → consumer_of name known.consumers ≡ Some c → told_lines happened.lines ≡ shown_lines (latest w) c identifier (kept_of identifier c.held) → happened.packets ≡ []
+pub viewed_does : (known : Known) (w : World) (name identifier : Name) (c : Consuming) (happened : Happened)
+    → Knows known w → ShowsGoals w → consumer_of name known.consumers ≡ Some c
+    → told_lines happened.lines ≡ shown_lines (latest w) c identifier (kept_of identifier c.held)
+    → happened.packets ≡ []
     → Does (viewed w name identifier (consumer_of name w.consumers)) happened known
 viewed_does known w name identifier c happened k goals found lines none =
     let there : consumer_of name w.consumers ≡ Some c = ap (consumer_of name) (sym k.consumers) ∙ found in
@@ -56,59 +60,12 @@ viewed_does known w name identifier c happened k goals found lines none =
       world = subst (Knows known) (sym (nothing_changes w c identifier (kept_of identifier c.held))) k;
     })
 
-pub unviewed_does : (known : Known) (w : World) (name identifier : Name) (happened : Happened) → Knows known w → consumer_of name known.consumers ≡ None → told_lines happened.lines ≡ line.Unknown name (Some identifier) ∷ [] → happened.packets ≡ [] → Does (viewed w name identifier (consumer_of name w.consumers)) happened known
+pub unviewed_does : (known : Known) (w : World) (name identifier : Name) (happened : Happened) → Knows known w
+    → consumer_of name known.consumers ≡ None → told_lines happened.lines ≡ line.Unknown name (Some identifier) ∷ []
+    → happened.packets ≡ [] → Does (viewed w name identifier (consumer_of name w.consumers)) happened known
 unviewed_does known w name identifier happened k none lines packets =
     subst (λ (it : Option Consuming). Does (viewed w name identifier it) happened known) (sym none ∙ ap (consumer_of name) k.consumers)
     (record { lines = lines; packets = ap sent_packets packets; world = k })
-
--- ---- no event takes a packet out
-
-kept_subscribed : (w : World) (c : Consuming) (wanted : Subscription) (beat : _) (refusal : Option AskError) → (subscribed_if refusal w c wanted beat).world.packets ≡ w.packets
-kept_subscribed w c wanted beat None = refl
-kept_subscribed w c wanted beat (Some why) = refl
-
-kept_ended : (w : World) (c : Consuming) (identifier : Name) (kept : KeptSubscription) (spent : Bool) → nat_lt greatest_number c.next_number ≡ spent → (terminated_if w c identifier (Some kept)).world.packets ≡ w.packets
-kept_ended w c identifier kept true is = rw is refl
-kept_ended w c identifier kept false is = rw is refl
-
-kept_terminated : (w : World) (name identifier : Name) (found : Option Consuming) → (terminated w name identifier found).world.packets ≡ w.packets
-kept_terminated w name identifier None = refl
-kept_terminated w name identifier (Some c) = by (kept_of identifier c.held)
-  where
-    by : (kept : Option KeptSubscription) → (terminated_if w c identifier kept).world.packets ≡ w.packets
-    by None = refl
-    by (Some kept) = kept_ended w c identifier kept (nat_lt greatest_number c.next_number) refl
-
-kept_checked : (w : World) (name : Name) (found : Option Consuming) → (checked w name found).world.packets ≡ w.packets
-kept_checked w name None = refl
-kept_checked w name (Some c) = refl
-
-kept_taken : (w : World) (m : Message) (found : Option Consuming) → (taken_if w found m).world.packets ≡ w.packets
-kept_taken w m None = refl
-kept_taken w m (Some c) = refl
-
-kept_delivered : (w : World) (number : ℕ) (packet : Option SentPacket) → (delivered w number packet).world.packets ≡ w.packets
-kept_delivered w number None = refl
-kept_delivered w number (Some (ToProducer sender m)) = refl
-kept_delivered w number (Some (ToConsumer receiver m)) = kept_taken w m (consumer_of receiver w.consumers)
-
-kept_viewed : (w : World) (name identifier : Name) (found : Option Consuming) → (viewed w name identifier found).world.packets ≡ w.packets
-kept_viewed w name identifier None = refl
-kept_viewed w name identifier (Some c) = ap (λ (v : World). v.packets) (nothing_changes w c identifier (kept_of identifier c.held))
-
-pub packets_stay : (w : World) (e : Event) → (effect w e).world.packets ≡ w.packets
-unfolding effect
-packets_stay w (event.Start moment) = refl
-packets_stay w (event.Clock moment) = refl
-packets_stay w (event.Feed delivery) = refl
-packets_stay w (event.Ask request) = refl
-packets_stay w (event.Subscribe name wanted beat) =
-    let c : Consuming = consumer_or_new w.moment name (consumer_of name w.consumers) in
-    kept_subscribed w c wanted beat (ask_refusal c wanted)
-packets_stay w (event.Terminate name identifier) = kept_terminated w name identifier (consumer_of name w.consumers)
-packets_stay w (event.Status name) = kept_checked w name (consumer_of name w.consumers)
-packets_stay w (event.Deliver number) = kept_delivered w number (packet_at number w.packets)
-packets_stay w (event.View name identifier) = kept_viewed w name identifier (consumer_of name w.consumers)
 
 -- ---- refusals
 
@@ -118,7 +75,8 @@ unfolding refusal
 refused_first w e why is = by (is_early w e) (passes_starts w e) (passes_consumers w e) is
   where
     by : (a b c : Bool) → cond a (Some error.NotStarted) (cond b (Some error.StartLimit) (cond c (Some error.ConsumerLimit) None)) ≡ Some why
-        → cond a (Some error.NotStarted) (cond b (Some error.StartLimit) (cond c (Some error.ConsumerLimit) (cond (passes_packets w e) (Some error.PacketLimit) None))) ≡ Some why
+        → cond a (Some error.NotStarted) (cond b (Some error.StartLimit)
+        (cond c (Some error.ConsumerLimit) (cond (passes_packets w e) (Some error.PacketLimit) None))) ≡ Some why
     by true b c is = is
     by false true c is = is
     by false false true is = is
@@ -130,7 +88,9 @@ unfolding refusal
 refused_last w e is = by (is_early w e) (passes_starts w e) (passes_consumers w e) is
   where
     by : (a b c : Bool) → cond a (Some error.NotStarted) (cond b (Some error.StartLimit) (cond c (Some error.ConsumerLimit) None)) ≡ None
-        → cond a (Some error.NotStarted) (cond b (Some error.StartLimit) (cond c (Some error.ConsumerLimit) (cond (passes_packets w e) (Some error.PacketLimit) None))) ≡ cond (passes_packets w e) (Some error.PacketLimit) None
+        → cond a (Some error.NotStarted) (cond b (Some error.StartLimit)
+        (cond c (Some error.ConsumerLimit) (cond (passes_packets w e) (Some error.PacketLimit) None))) ≡ cond
+        (passes_packets w e) (Some error.PacketLimit) None
     by true b c is = absurd (cc)
     by false true c is = absurd (cc)
     by false false true is = absurd (cc)
@@ -167,12 +127,15 @@ module _ (old mid : Known) (w : World) (e : Event) (happened : Happened) (does :
       let test : passes_packets w e ≡ false = le-ltb most_packets (length w.packets + length (effect w e).packets) (omega (arith, few, count)) in
       refused_last w e first ∙ ap (λ b. cond b (Some error.PacketLimit) None) test
 
-  pub done_told : first_refusal w e ≡ None → length mid.packets + length happened.packets ≤ 1000000 → (lines : List Line) → told_lines lines ≡ told_lines happened.lines ++ packet_lines (suc (length mid.packets)) (sent_packets happened.packets) → told w e ≡ Ok (told_lines lines)
+  pub done_told : first_refusal w e ≡ None → length mid.packets + length happened.packets ≤ 1000000
+      → (lines : List Line) → told_lines lines ≡ told_lines happened.lines
+      ++ packet_lines (suc (length mid.packets)) (sent_packets happened.packets) → told w e ≡ Ok (told_lines lines)
   done_told first few lines is =
       let before : mid.packets ≡ w.packets = does.world.packets ∙ packets_stay w e in
       ap (λ r. told_if r w e) (not_refused first few) ∙ ap Ok (sym (is ∙ λ i. does.lines i ++ packet_lines (suc (length (before i))) (does.packets i)))
 
-  pub done_stands : first_refusal w e ≡ None → length mid.packets + length happened.packets ≤ 1000000 → (new : Known) → new ≡ record mid { packets = mid.packets ++ sent_packets happened.packets } → Knows new (after w e)
+  pub done_stands : first_refusal w e ≡ None → length mid.packets + length happened.packets ≤ 1000000 → (new : Known)
+      → new ≡ record mid { packets = mid.packets ++ sent_packets happened.packets } → Knows new (after w e)
   done_stands first few new is =
       subst (Knows new) (sym (ap (λ r. after_if r w e) (not_refused first few)))
       (subst (λ (known : Known). Knows known (with_packets (effect w e))) (sym is) (record {
@@ -188,7 +151,9 @@ pub world_goes_on : (es : List Event) (e : Event) → world_after (es ++ e ∷ [
 world_goes_on es e = fold_push after nothing es e
 
 -- full is the only refusal of packets, but for want of memory
-pub full_refuses : (old mid : Known) (w : World) (e : Event) (happened : Happened) (why : StepError) → Does (effect w e) happened mid → first_refusal w e ≡ None → IsFull why (length mid.packets + length happened.packets) → Refuses w e why
+pub full_refuses : (old mid : Known) (w : World) (e : Event) (happened : Happened) (why : StepError)
+    → Does (effect w e) happened mid → first_refusal w e ≡ None
+    → IsFull why (length mid.packets + length happened.packets) → Refuses w e why
 full_refuses old mid w e happened error.NotStarted does first full = absurd full
 full_refuses old mid w e happened error.StartLimit does first full = absurd full
 full_refuses old mid w e happened error.ConsumerLimit does first full = absurd full
@@ -212,24 +177,40 @@ stays_same known error.OutOfMemory = tt
 -- ---- an event of the machine
 
 -- what an event's own function did is what the event does
-pub happen_as : (r : Result Happened OutOfMemory) (old new : Known) (e own : Event) (its : World → Effect) → e ≡ own → ((w : World) → its w ≡ effect w own) → IfOk r (Happens old new its) → IfOk r (λ happened. (w : World) → Knows old w → ShowsGoals w → Does (effect w e) happened new)
-happen_as (Ok happened) old new e own its is same did = λ w k goals. subst (λ (d : Event). Does (effect w d) happened new) (sym is) (subst (λ it. Does it happened new) (same w) (did w k))
+pub happen_as : (r : Result Happened OutOfMemory) (old new : Known) (e own : Event) (its : World → Effect) → e ≡ own
+    → ((w : World) → its w ≡ effect w own) → IfOk r (Happens old new its)
+    → IfOk r (λ happened. (w : World) → Knows old w → ShowsGoals w → Does (effect w e) happened new)
+happen_as (Ok happened) old new e own its is same did =
+    λ w k goals. subst (λ (d : Event). Does (effect w d) happened new) (sym is)
+    (subst (λ it. Does it happened new) (same w) (did w k))
 happen_as (Err why) old new e own its is same did = tt
 
-module _ (old mid : Known) (e : Event) (happened : Happened) (first : (w : World) → Knows old w → None ≡ first_refusal w e) (does : (w : World) → Knows old w → ShowsGoals w → Does (effect w e) happened mid) (shows : (es : List Event) → ShowsGoals (world_after es)) where
+module _ (old mid : Known) (e : Event) (happened : Happened)
+    (first : (w : World) → Knows old w → None ≡ first_refusal w e)
+    (does : (w : World) → Knows old w → ShowsGoals w → Does (effect w e) happened mid)
+    (shows : (es : List Event) → ShowsGoals (world_after es)) where
   does_after : (es : List Event) → StandsFor old es → Does (effect (world_after es) e) happened mid
   does_after es s = does (world_after es) s (shows es)
 
-  pub step_lines : (r : Result (List Line) StepError) → IfOk r (λ lines. told_lines lines ≡ told_lines happened.lines ++ packet_lines (suc (length mid.packets)) (sent_packets happened.packets)) → OnOk r (length mid.packets + length happened.packets ≤ 1000000)
+  pub step_lines : (r : Result (List Line) StepError) → IfOk r
+      (λ lines. told_lines lines ≡ told_lines happened.lines
+      ++ packet_lines (suc (length mid.packets)) (sent_packets happened.packets))
+      → OnOk r (length mid.packets + length happened.packets ≤ 1000000)
       → IfOk r (λ lines. (es : List Event) → StandsFor old es → told (world_after es) e ≡ Ok (told_lines lines))
   step_lines (Ok lines) is room = λ es s. done_told old mid (world_after es) e happened (does_after es s) (sym (first (world_after es) s)) room lines is
   step_lines (Err why) is room = tt
 
-  pub step_stands : (r : Result (List Line) StepError) (new : Known) → OnOk r (new ≡ record mid { packets = mid.packets ++ sent_packets happened.packets }) → OnOk r (length mid.packets + length happened.packets ≤ 1000000) → OnOk r ((es : List Event) → StandsFor old es → StandsFor new (es ++ e ∷ []))
-  step_stands (Ok lines) new is room = λ es s. subst (Knows new) (sym (world_goes_on es e)) (done_stands old mid (world_after es) e happened (does_after es s) (sym (first (world_after es) s)) room new is)
+  pub step_stands : (r : Result (List Line) StepError) (new : Known)
+      → OnOk r (new ≡ record mid { packets = mid.packets ++ sent_packets happened.packets })
+      → OnOk r (length mid.packets + length happened.packets ≤ 1000000)
+      → OnOk r ((es : List Event) → StandsFor old es → StandsFor new (es ++ e ∷ []))
+  step_stands (Ok lines) new is room = λ es s. subst (Knows new) (sym (world_goes_on es e))
+      (done_stands old mid (world_after es) e happened (does_after es s) (sym (first (world_after es) s)) room new is)
   step_stands (Err why) new is room = tt
 
-  pub step_refused : (r : Result (List Line) StepError) → IfErr r (λ why. IsFull why (length mid.packets + length happened.packets)) → IfErr r (λ why. (es : List Event) → StandsFor old es → Refuses (world_after es) e why)
+  pub step_refused : (r : Result (List Line) StepError)
+      → IfErr r (λ why. IsFull why (length mid.packets + length happened.packets))
+      → IfErr r (λ why. (es : List Event) → StandsFor old es → Refuses (world_after es) e why)
   step_refused (Ok lines) full = tt
   step_refused (Err why) full = λ es s. full_refuses old mid (world_after es) e happened why (does_after es s) (sym (first (world_after es) s)) full
 

@@ -1,5 +1,6 @@
 -- Consumers by the places at which they stand.
-use Rattle.std.proofs.Common.{◌≡◌, ℕ, suc, zero, ◌<◌, List, [], ◌∷◌, ◌++◌, length, Bool, true, false, cond, Option, None, Some, get_or, refl, ap, ◌∙◌, sym, subst, arith}
+use Rattle.std.proofs.Common.{◌≡◌, ℕ, suc, zero, ◌<◌, List, [], ◌∷◌, ◌++◌, length, Bool, true, false, cond, Option, None, Some, get_or}
+use Rattle.std.proofs.Common.{refl, ap, ◌∙◌, sym, subst, arith}
 use Rattle.std.specs.Prelude.{position}
 use Rattle.std.specs.List.{list_any, slice_set}
 use Rattle.std.specs.Cmp.Lexicographic.{bytes_decides, nat_list_eq_equiv}
@@ -34,7 +35,8 @@ at_name name (other ∷ cs) zero c here = ap (λ (d : Consuming). d.name) (sym h
 at_name name (other ∷ cs) (suc place) c here = at_name name cs place c here.1
 
 -- the consumer of a name has it
-name_case : (name : Name) (other : Consuming) (b : Bool) (rest : Option Consuming) (c : Consuming) → is_named name other ≡ b → cond b (Some other) rest ≡ Some c → (rest ≡ Some c → c.name ≡ name) → c.name ≡ name
+name_case : (name : Name) (other : Consuming) (b : Bool) (rest : Option Consuming) (c : Consuming)
+    → is_named name other ≡ b → cond b (Some other) rest ≡ Some c → (rest ≡ Some c → c.name ≡ name) → c.name ≡ name
 name_case name other true rest c is e later = let same : other ≡ c = cc in ap (λ (d : Consuming). d.name) (sym same) ∙ named name other is
 name_case name other false rest c is e later = later e
 
@@ -59,7 +61,9 @@ pub place_is : (name : Name) (cs : List Consuming) (place : Option ℕ) → plac
 place_is name cs None is = none_of name cs (none_found (is_named name) cs (sym is))
 place_is name cs (Some place) is = first_at name cs place (found (is_named name) cs place (sym is))
 
-known_case : (name : Name) (other : Consuming) (cs : List Consuming) (b : Bool) → is_named name other ≡ b → consumer_of name (other ∷ cs) ≡ None → (consumer_of name cs ≡ None → is_known name cs ≡ false) → is_known name (other ∷ cs) ≡ false
+known_case : (name : Name) (other : Consuming) (cs : List Consuming) (b : Bool) → is_named name other ≡ b
+    → consumer_of name (other ∷ cs) ≡ None → (consumer_of name cs ≡ None → is_known name cs ≡ false)
+    → is_known name (other ∷ cs) ≡ false
 known_case name other cs true is none later = let here : consumer_of name (other ∷ cs) ≡ Some other = rw is refl in absurd (cc)
 known_case name other cs false is none later = let rest : consumer_of name (other ∷ cs) ≡ consumer_of name cs = rw is refl in rw is (later (sym rest ∙ none))
 
@@ -67,7 +71,9 @@ pub unknown_is : (name : Name) (cs : List Consuming) → consumer_of name cs ≡
 unknown_is name [] none = refl
 unknown_is name (other ∷ cs) none = known_case name other cs (is_named name other) refl none (unknown_is name cs)
 
-known_here : (name : Name) (other : Consuming) (cs : List Consuming) (c : Consuming) (b : Bool) → is_named name other ≡ b → consumer_of name (other ∷ cs) ≡ Some c → (consumer_of name cs ≡ Some c → is_known name cs ≡ true) → is_known name (other ∷ cs) ≡ true
+known_here : (name : Name) (other : Consuming) (cs : List Consuming) (c : Consuming) (b : Bool)
+    → is_named name other ≡ b → consumer_of name (other ∷ cs) ≡ Some c
+    → (consumer_of name cs ≡ Some c → is_known name cs ≡ true) → is_known name (other ∷ cs) ≡ true
 known_here name other cs c true is e later = rw is refl
 known_here name other cs c false is e later = let rest : consumer_of name (other ∷ cs) ≡ consumer_of name cs = rw is refl in rw is (later (sym rest ∙ e))
 
@@ -89,7 +95,9 @@ with_same c [] place here = absurd here
 with_same c (other ∷ cs) zero here = rw (here.0) (ap (λ d. d ∷ cs) (sym here.1))
 with_same c (other ∷ cs) (suc place) here = rw (here.0) (ap (λ l. other ∷ l) (with_same c cs place here.1))
 
-same_case : (c other : Consuming) (cs : List Consuming) (b : Bool) → is_named c.name other ≡ b → consumer_of c.name (other ∷ cs) ≡ Some c → (consumer_of c.name cs ≡ Some c → with_consumer c cs ≡ cs) → with_consumer c (other ∷ cs) ≡ other ∷ cs
+same_case : (c other : Consuming) (cs : List Consuming) (b : Bool) → is_named c.name other ≡ b
+    → consumer_of c.name (other ∷ cs) ≡ Some c → (consumer_of c.name cs ≡ Some c → with_consumer c cs ≡ cs)
+    → with_consumer c (other ∷ cs) ≡ other ∷ cs
 same_case c other cs true is e later =
     let here : consumer_of c.name (other ∷ cs) ≡ Some other = rw is refl in
     let same : other ≡ c = cc in
@@ -112,12 +120,15 @@ new_case c other cs false is none later =
     let more = later (sym rest ∙ none) in
     (rw is (ap (λ l. other ∷ l) more.0), (is, more.1))
 
-pub new_last : (c : Consuming) (cs : List Consuming) → consumer_of c.name cs ≡ None → (with_consumer c cs ≡ cs ++ c ∷ []) × IsAt c.name (cs ++ c ∷ []) (length cs) c
+pub new_last : (c : Consuming) (cs : List Consuming) → consumer_of c.name cs ≡ None
+    → (with_consumer c cs ≡ cs ++ c ∷ []) × IsAt c.name (cs ++ c ∷ []) (length cs) c
 new_last c [] none = (refl, (own c, refl))
 new_last c (other ∷ cs) none = new_case c other cs (is_named c.name other) refl none (new_last c cs)
 
 -- one after the other is the later
-twice_case : (x c other : Consuming) (cs : List Consuming) (b : Bool) → is_named c.name other ≡ b → x.name ≡ c.name → with_consumer x (with_consumer c cs) ≡ with_consumer x cs → with_consumer x (with_consumer c (other ∷ cs)) ≡ with_consumer x (other ∷ cs)
+twice_case : (x c other : Consuming) (cs : List Consuming) (b : Bool) → is_named c.name other ≡ b → x.name ≡ c.name
+    → with_consumer x (with_consumer c cs) ≡ with_consumer x cs
+    → with_consumer x (with_consumer c (other ∷ cs)) ≡ with_consumer x (other ∷ cs)
 twice_case x c other cs true is same later =
     let here : is_named x.name other ≡ true = ap (λ n. is_named n other) same ∙ is in
     let its : is_named x.name c ≡ true = ap (λ n. is_named n c) same ∙ own c in
@@ -137,7 +148,8 @@ at_there name [] place c d here is = absurd here
 at_there name (other ∷ cs) zero c d here is = is ∙ here.1
 at_there name (other ∷ cs) (suc place) c d here is = at_there name cs place c d here.1 is
 
-module _ (name : Name) (items cs : List Consuming) (place : ℕ) (c d : Consuming) (view : items ≡ cs) (here : IsAt name cs place c) (value : d ≡ get_or items place d) where
+module _ (name : Name) (items cs : List Consuming) (place : ℕ) (c d : Consuming) (view : items ≡ cs)
+    (here : IsAt name cs place c) (value : d ≡ get_or items place d) where
   here_inside : IsAt name items place c
   here_inside = subst (λ l. IsAt name l place c) (sym view) here
 
@@ -169,13 +181,16 @@ module _ (moment : ℕ) (name : Name) (items cs after : List Consuming) (c : Con
   unknown_name : consumer_of name cs ≡ None → c ≡ new_consumer name moment → consumer_of c.name cs ≡ None
   unknown_name none made = ap (λ (d : Consuming). consumer_of d.name cs) made ∙ none
 
-  pub new_at : (place : ℕ) → items ≡ cs → consumer_of name cs ≡ None → c ≡ new_consumer name moment → after ≡ items ++ c ∷ [] → place ≡ length items → IsAt name after place (consumer_or_new moment name (consumer_of name cs))
+  pub new_at : (place : ℕ) → items ≡ cs → consumer_of name cs ≡ None → c ≡ new_consumer name moment
+      → after ≡ items ++ c ∷ [] → place ≡ length items → IsAt name after place
+      (consumer_or_new moment name (consumer_of name cs))
   new_at place view none made pushed last =
       let there : IsAt c.name (cs ++ c ∷ []) (length cs) c = (new_last c cs (unknown_name none made)).1 in
       let named : IsAt name (cs ++ c ∷ []) (length cs) c = subst (λ n. IsAt n (cs ++ c ∷ []) (length cs) c) (ap (λ (d : Consuming). d.name) made) there in
       let placed : IsAt name (cs ++ c ∷ []) place c = subst (λ n. IsAt name (cs ++ c ∷ []) n c) (sym (last ∙ ap length view)) named in
       subst (λ d. IsAt name after place d) (sym (new_is none made)) (subst (λ l. IsAt name l place c) (sym (pushed ∙ ap (λ l. l ++ c ∷ []) view)) placed)
 
-  pub new_with : items ≡ cs → consumer_of name cs ≡ None → c ≡ new_consumer name moment → after ≡ items ++ c ∷ [] → after ≡ with_consumer (consumer_or_new moment name (consumer_of name cs)) cs
+  pub new_with : items ≡ cs → consumer_of name cs ≡ None → c ≡ new_consumer name moment → after ≡ items ++ c ∷ []
+      → after ≡ with_consumer (consumer_or_new moment name (consumer_of name cs)) cs
   new_with view none made pushed =
       pushed ∙ ap (λ l. l ++ c ∷ []) view ∙ sym (new_last c cs (unknown_name none made)).0 ∙ ap (λ (d : Consuming). with_consumer d cs) (sym (new_is none made))

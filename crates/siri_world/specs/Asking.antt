@@ -3,7 +3,8 @@
 use Rattle.std.specs.Prelude.{◌≡◌, List, [], ◌∷◌, nat_lt, if◌then◌else◌, Option, Some, None, Result, Ok, Err}
 use Rattle.siri_life.specs.Named.{Name}
 use Rattle.siri_messages.specs.declared.message.Message.{Message}
-use Rattle.siri_view.specs.Consuming.{Consuming, greatest_number, seen_of, after_message}
+use Rattle.siri_base.specs.Numbers.{greatest_number}
+use Rattle.siri_view.specs.Consuming.{Consuming, seen_of, after_message}
 use Rattle.siri_view.specs.Kept.{KeptSubscription, kept_of}
 use Rattle.siri_view.specs.declared.outcome.AskError.{AskError}
 use Rattle.siri_view.specs.declared.outcome.AskError.TheVariants as ask_error

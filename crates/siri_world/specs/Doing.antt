@@ -7,7 +7,7 @@ use Rattle.siri_world_model.specs.declared.step_error.StepError.TheVariants as e
 use Rattle.siri_world_model.specs.Lines.{told_lines}
 use Rattle.siri_world_model.specs.World.{World}
 use Rattle.siri_world_model.specs.Effects.{Effect}
-use Rattle.siri_world_model.specs.Told.{is_early, passes_starts, passes_consumers}
+use Rattle.siri_world_model.specs.Told.{is_early, passes_starts, passes_consumers, most_starts, most_packets}
 use Rattle.siri_world.specs.declared.happened.Happened.{Happened}
 use Rattle.siri_world.specs.Kept.{sent_packets}
 use Rattle.siri_world.specs.Known.{Known, Knows}
@@ -21,12 +21,12 @@ first_refusal world event =
 
 -- a start is within its limit, and any other event comes after one
 abbrev pub CanHappen : Known → Event → Type 0
-CanHappen known (event.Start moment) = known.starts < 1000000
+CanHappen known (event.Start moment) = known.starts < most_starts
 CanHappen known other = IsSome known.producer
 
 -- with so many packets there are too many, or memory is wanting
 abbrev pub IsFull : StepError → ℕ → Type 0
-IsFull error.PacketLimit packets = 1000000 < packets
+IsFull error.PacketLimit packets = most_packets < packets
 IsFull error.OutOfMemory packets = Unit {0}
 IsFull error.NotStarted packets = ⊥
 IsFull error.StartLimit packets = ⊥

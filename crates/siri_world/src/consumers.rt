@@ -1,4 +1,5 @@
-// The consumers of a world.
+//! The consumers of a world.
+
 ghost use Rattle.std.specs.Prelude.{◌≡◌, ◌<◌, [], ◌∷◌, length, position, option_map, IfOk, OnOk};
 ghost use Rattle.siri_life.specs.Named as named;
 ghost use Rattle.siri_view.specs.Consuming.{Consuming, after_message, after_subscribe, after_terminate, request_for, seen_of, termination_of};
@@ -15,10 +16,10 @@ use siri_view::{AskError, Consumer, Seen};
 use std::alloc::Global;
 use std::marker::Model;
 
-// The most consumers that are made.
+/// The most consumers that are made.
 pub(crate) const MOST_CONSUMERS: usize = 16;
 
-// Consumers by their names, in order of first use.
+/// Consumers by their names, in order of first use.
 pub(crate) struct Consumers {
     map: IndexMap<String, Consumer>,
 }
@@ -43,7 +44,7 @@ impl Model for Consumers {
 }
 
 impl Consumers {
-    // None was made. It takes no memory.
+    /// None was made. It takes no memory.
     pub(crate) fn new(alloc: Global) -> Consumers
         ensures { result ≡ [] }
     {
@@ -52,34 +53,35 @@ impl Consumers {
         }
     }
 
-    // How many were made.
+    /// How many were made.
     pub(crate) fn len(&self) -> usize
         ensures { result ≡ length self.now }
     {
         self.map.len()
     }
 
-    // The consumer of a name.
+    /// The consumer of a name.
     pub(crate) fn get(&self, name: &Name) -> Option<&Consumer>
         ensures { option_map (λ consumer. consumer.now) result ≡ consumer_of name.now self.now }
     {
         self.map.get(name.text())
     }
 
-    // Where the consumer of a name stands, counted from 0.
+    /// Where the consumer of a name stands, counted from 0.
     pub(crate) fn place_of(&self, name: &Name) -> Option<usize>
         ensures { IsPlaceOf name.now self.now result }
     {
         self.position(name)
     }
 
+    /// Where the consumer of a name stands in the map, whose order is that of their first use.
     fn position(&self, name: &Name) -> Option<usize>
         ensures { result ≡ position (is_named name.now) self.now }
     {
         self.map.get_index_of(name.text())
     }
 
-    // Where the consumer of a name stands, which is made where there is none.
+    /// Where the consumer of a name stands, which is made where there is none.
     pub(crate) fn place_or_new(
         &mut self,
         alloc: Global,
@@ -99,7 +101,7 @@ impl Consumers {
         }
     }
 
-    // The moments of all become the later. It takes no memory.
+    /// The moments of all become the later. It takes no memory.
     pub(crate) fn clock(&mut self, now: Moment)
         ensures { self.new ≡ all_clocked now self.old }
     {
@@ -108,7 +110,7 @@ impl Consumers {
         }
     }
 
-    // The consumer at a place asks for a subscription. After want of memory all is as before.
+    /// The consumer at a place asks for a subscription. After want of memory all is as before.
     pub(crate) fn subscribe(
         &mut self,
         place: usize,
@@ -124,7 +126,7 @@ impl Consumers {
         consumer.subscribe(&wanted, beat)
     }
 
-    // The consumer at a place ends what it holds. After want of memory all is as before.
+    /// The consumer at a place ends what it holds. After want of memory all is as before.
     pub(crate) fn terminate(&mut self, place: usize, identifier: &Name) -> Result<Message, AskError>
         requires { place < length self.old }
         ensures { (name : named.Name) (c : Consuming) → IsAt name self.old place c
@@ -134,7 +136,7 @@ impl Consumers {
         consumer.terminate(identifier)
     }
 
-    // The consumer at a place takes a message.
+    /// The consumer at a place takes a message.
     pub(crate) fn take(&mut self, place: usize, message: &Message) -> Result<Seen, OutOfMemory>
         requires { place < length self.old }
         ensures seen { IfOk result (λ seen. (name : named.Name) (c : Consuming) → IsAt name self.old place c → seen ≡ seen_of c message.now) }
@@ -145,7 +147,7 @@ impl Consumers {
     }
 }
 
-// A consumer at its first use.
+/// A consumer at its first use.
 fn new_consumer(alloc: Global, name: &Name, moment: Moment) -> Result<Consumer, OutOfMemory>
     ensures { IfOk result (λ consumer. consumer ≡ new_consumer name.now moment) }
 {
@@ -154,7 +156,7 @@ fn new_consumer(alloc: Global, name: &Name, moment: Moment) -> Result<Consumer, 
     Ok(consumer)
 }
 
-// The list of one subscription.
+/// The list of one subscription.
 fn list_of(alloc: Global, wanted: &Subscription) -> Result<List<Subscription>, OutOfMemory>
     ensures { IfOk result (λ list. list ≡ wanted.now ∷ []) }
 {

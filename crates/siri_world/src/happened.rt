@@ -1,9 +1,10 @@
-// What an event did.
+//! What an event did.
+
 ghost use Rattle.std.specs.Prelude.{◌≡◌, [], ◌∷◌, IfOk};
 ghost use Rattle.std.specs.Option.{option_copied};
 ghost use Rattle.siri_world_model.specs.Lines as line;
 ghost use Rattle.siri_world_model.specs.Lines.{told_line, told_lines};
-ghost use Rattle.siri_world_model.specs.Packets as definition;
+ghost use Rattle.siri_world_model.specs.Packets.{packets_from, reply_to};
 ghost use Rattle.siri_world.specs.Kept.{sent_packets};
 
 use crate::packets::{Packet, packet_for, packet_from};
@@ -12,14 +13,14 @@ use siri_messages::Message;
 use siri_world_model::Line;
 use std::alloc::Global;
 
-// What an event told before its packets, and the packets that it sends, in order.
+/// What an event told before its packets, and the packets that it sends, in order.
 #[derive(Drop)]
 pub(crate) struct Happened {
     pub lines: List<Line>,
     pub packets: List<Packet>,
 }
 
-// A line is told, and nothing is sent.
+/// A line is told, and nothing is sent.
 pub(crate) fn told(alloc: Global, line: Line) -> Result<Happened, OutOfMemory>
     ensures { IfOk result (λ happened. (told_lines happened.lines ≡ told_line line ∷ []) × (happened.packets ≡ [])) }
 {
@@ -29,7 +30,7 @@ pub(crate) fn told(alloc: Global, line: Line) -> Result<Happened, OutOfMemory>
     })
 }
 
-// The list of one line.
+/// The list of one line.
 pub(crate) fn one(alloc: Global, line: Line) -> Result<List<Line>, OutOfMemory>
     ensures { IfOk result (λ lines. lines ≡ line ∷ []) }
 {
@@ -38,7 +39,7 @@ pub(crate) fn one(alloc: Global, line: Line) -> Result<List<Line>, OutOfMemory>
     Ok(lines)
 }
 
-// It is told that there is no such consumer, or that it doesn't hold the subscription.
+/// It is told that there is no such consumer, or that it doesn't hold the subscription.
 pub(crate) fn unknown(
     alloc: Global,
     consumer: &Name,
@@ -56,7 +57,7 @@ pub(crate) fn unknown(
     )
 }
 
-// A copy of an identifier, where there is one.
+/// A copy of an identifier, where there is one.
 fn copy_of(identifier: Option<&Name>) -> Result<Option<Name>, OutOfMemory>
     ensures { IfOk result (λ copy. copy ≡ option_copied identifier.entry) }
 {
@@ -66,9 +67,9 @@ fn copy_of(identifier: Option<&Name>) -> Result<Option<Name>, OutOfMemory>
     }
 }
 
-// A message is sent to the producer, and nothing is told.
+/// A message is sent to the producer, and nothing is told.
 pub(crate) fn sent(alloc: Global, sender: &Name, message: Message) -> Result<Happened, OutOfMemory>
-    ensures { IfOk result (λ happened. (happened.lines ≡ []) × (sent_packets happened.packets ≡ definition.packets_from sender.now (message ∷ []))) }
+    ensures { IfOk result (λ happened. (happened.lines ≡ []) × (sent_packets happened.packets ≡ packets_from sender.now (message ∷ []))) }
 {
     let mut packets = List::new(alloc);
     packets.push(packet_from(alloc, sender, message)?)?;
@@ -78,13 +79,13 @@ pub(crate) fn sent(alloc: Global, sender: &Name, message: Message) -> Result<Hap
     })
 }
 
-// The packets of what a consumer sends.
+/// The packets of what a consumer sends.
 pub(crate) fn packets_from(
     alloc: Global,
     sender: &Name,
     messages: List<Message>,
 ) -> Result<List<Packet>, OutOfMemory>
-    ensures { IfOk result (λ packets. sent_packets packets ≡ definition.packets_from sender.now messages) }
+    ensures { IfOk result (λ packets. sent_packets packets ≡ packets_from sender.now messages) }
 {
     let mut packets = List::new(alloc);
     for message in messages.into_vec() {
@@ -93,13 +94,13 @@ pub(crate) fn packets_from(
     Ok(packets)
 }
 
-// The packet of a reply to a consumer, if there is one.
+/// The packet of a reply to a consumer, if there is one.
 pub(crate) fn reply_to(
     alloc: Global,
     receiver: &Name,
     reply: Option<Message>,
 ) -> Result<List<Packet>, OutOfMemory>
-    ensures { IfOk result (λ packets. sent_packets packets ≡ definition.reply_to receiver.now reply) }
+    ensures { IfOk result (λ packets. sent_packets packets ≡ reply_to receiver.now reply) }
 {
     let mut packets = List::new(alloc);
     if let Some(message) = reply {

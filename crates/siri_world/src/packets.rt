@@ -1,9 +1,10 @@
-// The packets of the network.
+//! The packets of the network.
+
 ghost use Rattle.std.specs.Prelude.{◌≡◌, ◌+◌, ◌<◌, ◌≤◌, ◌++◌, ◌∷◌, [], suc, length, codes, option_map, IfOk, OnOk};
 ghost use Rattle.siri_world_model.specs.Lines.{told_line, told_lines};
-ghost use Rattle.siri_world_model.specs.Packets as definition;
-ghost use Rattle.siri_world_model.specs.Packets.{packet_at, packet_lines, ToProducer, ToConsumer};
+ghost use Rattle.siri_world_model.specs.Packets.{packet_at, packet_lines, ToProducer, ToConsumer, packet_line};
 ghost use Rattle.siri_world.specs.Kept.{sent_packet, sent_packets};
+ghost use Rattle.siri_world_model.specs.Told.{most_packets};
 
 use siri_base::{Copies, List, Name, OutOfMemory, TextError};
 use siri_messages::Message;
@@ -12,13 +13,13 @@ use std::alloc::Global;
 use std::marker::Model;
 use std::rc::Rc;
 
-// The most packets that are sent.
+/// The most packets that are sent.
 pub(crate) const MOST_PACKETS: usize = 1_000_000;
 
-// The name of the producer.
+/// The name of the producer.
 const PRODUCER: &str = "producer";
 
-// A packet: one end is the producer, the other a consumer of this name.
+/// A packet: one end is the producer, the other a consumer of this name.
 #[derive(Drop)]
 pub(crate) enum Packet {
     ToProducer {
@@ -31,7 +32,7 @@ pub(crate) enum Packet {
     },
 }
 
-// All packets that were ever sent, in order.
+/// All packets that were ever sent, in order.
 pub(crate) struct Packets {
     list: Vec<Packet>,
 }
@@ -45,17 +46,18 @@ impl Drop for Packets {
 impl Model for Packets {
     ghost use Rattle.std.specs.Prelude.{List, ◌≤◌, length};
     ghost use Rattle.siri_world_model.specs.Packets.{SentPacket};
+    ghost use Rattle.siri_world_model.specs.Told.{most_packets};
     ghost use Rattle.siri_world.specs.Kept.{sent_packets};
 
     ghost Value = { List SentPacket };
 
     ghost view = { λ p. sent_packets p.list.items };
 
-    ghost invariant = { λ p. length p.list.items ≤ 1000000 };
+    ghost invariant = { λ p. length p.list.items ≤ most_packets };
 }
 
 impl Packets {
-    // None was sent. It takes no memory.
+    /// None was sent. It takes no memory.
     pub(crate) fn new(alloc: Global) -> Packets
         ensures { result ≡ [] }
     {
@@ -64,22 +66,22 @@ impl Packets {
         }
     }
 
-    // How many were sent.
+    /// How many were sent.
     pub(crate) fn len(&self) -> usize
         ensures number { result ≡ length self.now }
-        ensures bound { result ≤ 1000000 }
+        ensures bound { result ≤ most_packets }
     {
         self.list.len()
     }
 
-    // How many more may be sent.
+    /// How many more may be sent.
     pub(crate) fn room(&self) -> usize
-        ensures { result + length self.now ≡ 1000000 }
+        ensures { result + length self.now ≡ most_packets }
     {
         MOST_PACKETS - self.list.len()
     }
 
-    // The packet of a number, which counts from 1.
+    /// The packet of a number, which counts from 1.
     pub(crate) fn at(&self, number: u64) -> Option<&Packet>
         ensures { option_map (λ packet. sent_packet packet.now) result ≡ packet_at number self.now }
     {
@@ -89,14 +91,14 @@ impl Packets {
         self.list.get((number - 1) as usize)
     }
 
-    // These are sent, and each is told with its number.
+    /// These are sent, and each is told with its number.
     pub(crate) fn send(
         &mut self,
         alloc: Global,
         packets: List<Packet>,
         lines: &mut List<Line>,
     ) -> Result<(), OutOfMemory>
-        requires { length self.old + length packets ≤ 1000000 }
+        requires { length self.old + length packets ≤ most_packets }
         ensures packets { OnOk result (self.new ≡ self.old ++ sent_packets packets) }
         ensures lines { OnOk result (told_lines lines.new ≡ told_lines lines.old ++ packet_lines (suc (length self.old)) (sent_packets packets)) }
     {
@@ -106,16 +108,16 @@ impl Packets {
         Ok(())
     }
 
-    // A packet is sent, and told with its number.
+    /// A packet is sent, and told with its number.
     fn push(
         &mut self,
         alloc: Global,
         packet: Packet,
         lines: &mut List<Line>,
     ) -> Result<(), OutOfMemory>
-        requires { length self.old < 1000000 }
+        requires { length self.old < most_packets }
         ensures packets { OnOk result (self.new ≡ self.old ++ sent_packet packet ∷ []) }
-        ensures lines { OnOk result (told_lines lines.new ≡ told_lines lines.old ++ definition.packet_line (suc (length self.old)) (sent_packet packet) ∷ []) }
+        ensures lines { OnOk result (told_lines lines.new ≡ told_lines lines.old ++ packet_line (suc (length self.old)) (sent_packet packet) ∷ []) }
     {
         let number = self.list.len() as u64 + 1;
         lines.push(packet_line(alloc, number, &packet)?)?;
@@ -124,9 +126,9 @@ impl Packets {
     }
 }
 
-// A packet is told with its number.
+/// A packet is told with its number.
 fn packet_line(alloc: Global, number: u64, packet: &Packet) -> Result<Line, OutOfMemory>
-    ensures { IfOk result (λ line. told_line line ≡ definition.packet_line number (sent_packet packet.now)) }
+    ensures { IfOk result (λ line. told_line line ≡ packet_line number (sent_packet packet.now)) }
 {
     match packet {
         Packet::ToProducer { message, .. } => Ok(Line::Packet {
@@ -142,7 +144,7 @@ fn packet_line(alloc: Global, number: u64, packet: &Packet) -> Result<Line, OutO
     }
 }
 
-// A message of a consumer to the producer.
+/// A message of a consumer to the producer.
 pub(crate) fn packet_from(
     alloc: Global,
     sender: &Name,
@@ -157,7 +159,7 @@ pub(crate) fn packet_from(
     })
 }
 
-// A message of the producer to a consumer.
+/// A message of the producer to a consumer.
 pub(crate) fn packet_to(
     alloc: Global,
     receiver: Name,
@@ -169,7 +171,7 @@ pub(crate) fn packet_to(
     Ok(Packet::ToConsumer { receiver, message })
 }
 
-// The same for a borrowed name, which is copied once the message is shared.
+/// The same for a borrowed name, which is copied once the message is shared.
 pub(crate) fn packet_for(
     alloc: Global,
     receiver: &Name,
@@ -184,7 +186,7 @@ pub(crate) fn packet_for(
     })
 }
 
-// The producer's name.
+/// The producer's name.
 pub(crate) fn producer_name(alloc: Global) -> Result<Name, OutOfMemory>
     ensures { IfOk result (λ name. name ≡ codes "producer") }
 {

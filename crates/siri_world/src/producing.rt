@@ -1,11 +1,11 @@
-// What the producer does in an event.
+//! What the producer does in an event.
+
 ghost use Rattle.std.specs.Prelude.{◌≡◌, [], ◌∷◌, ◌++◌, IfOk, OnOk};
 ghost use Rattle.siri_model.specs.History.{History, Clock, Feed, Take, Settle, entries_of};
 ghost use Rattle.siri_producer.specs.Answers.{answer_to};
 ghost use Rattle.siri_producer.specs.Known.{GoesOn};
 ghost use Rattle.siri_world_model.specs.Lines.{told_lines};
-ghost use Rattle.siri_world_model.specs.Packets as definition;
-ghost use Rattle.siri_world_model.specs.Packets.{ToConsumer, packets_out};
+ghost use Rattle.siri_world_model.specs.Packets.{ToConsumer, packets_out, producer as producer_name, reply_to};
 ghost use Rattle.siri_world.specs.Kept.{sent_packet, sent_packets};
 ghost use Rattle.siri_world.specs.Known.{Serves};
 ghost use Rattle.siri_world.specs.Serving.{SendsFor, Settles, fed_line, answer_line, took_line};
@@ -18,7 +18,7 @@ use siri_producer::{Answer, Out, Producer};
 use siri_world_model::{Line, Word};
 use std::alloc::Global;
 
-// A later moment, and a settle.
+/// A later moment, and a settle.
 pub(crate) fn clock(
     alloc: Global,
     producer: &mut Producer,
@@ -35,7 +35,7 @@ pub(crate) fn clock(
     })
 }
 
-// A feed, which is told in numbers, and a settle.
+/// A feed, which is told in numbers, and a settle.
 pub(crate) fn feed(
     alloc: Global,
     producer: &mut Producer,
@@ -52,7 +52,7 @@ pub(crate) fn feed(
     })
 }
 
-// A request is answered by the direct response. No settle follows.
+/// A request is answered by the direct response. No settle follows.
 pub(crate) fn ask(
     alloc: Global,
     producer: &mut Producer,
@@ -66,7 +66,7 @@ pub(crate) fn ask(
     told(alloc, Line::Answer(Message::ServiceDelivery(response)))
 }
 
-// A message of a consumer is taken, and after a settle the reply goes to the consumer.
+/// A message of a consumer is taken, and after a settle the reply goes to the consumer.
 pub(crate) fn answer(
     alloc: Global,
     producer: &mut Producer,
@@ -74,7 +74,7 @@ pub(crate) fn answer(
     message: &Message,
 ) -> Result<Happened, OutOfMemory>
     ensures { IfOk result (λ happened. (h : History) → Serves producer.old h
-        → Settles producer.new h (Take message.now) (took_line (answer_to definition.producer h message.now) ∷ []) (definition.reply_to sender.now (answer_to definition.producer h message.now).reply) happened) }
+        → Settles producer.new h (Take message.now) (took_line (answer_to producer_name h message.now) ∷ []) (reply_to sender.now (answer_to producer_name h message.now).reply) happened) }
 {
     let Answer { note, reply } = producer.take(message)?;
     let mut sent = reply_to(alloc, sender, reply)?;
@@ -87,7 +87,7 @@ pub(crate) fn answer(
     })
 }
 
-// A settle: what it sends comes after what was sent before.
+/// A settle: what it sends comes after what was sent before.
 fn settle(
     alloc: Global,
     producer: &mut Producer,
@@ -101,7 +101,7 @@ fn settle(
     push_outs(alloc, outs, packets)
 }
 
-// What a settle sends, as packets after those that are there.
+/// What a settle sends, as packets after those that are there.
 fn push_outs(alloc: Global, outs: List<Out>, packets: &mut List<Packet>) -> Result<(), OutOfMemory>
     ensures { OnOk result (sent_packets packets.new ≡ sent_packets packets.old ++ packets_out outs) }
 {
@@ -111,6 +111,7 @@ fn push_outs(alloc: Global, outs: List<Out>, packets: &mut List<Packet>) -> Resu
     Ok(())
 }
 
+/// The packet of what a settle sends: to the subscriber by name, the address isn't looked at.
 fn packet_of(alloc: Global, out: Out) -> Result<Packet, OutOfMemory>
     ensures { IfOk result (λ packet. sent_packet packet ≡ ToConsumer out.to out.message) }
 {

@@ -1,4 +1,5 @@
-// What is told of a view.
+//! What is told of a view.
+
 ghost use Rattle.std.specs.Prelude.{◌≡◌, ◌++◌, [], length, IfOk, OnOk};
 ghost use Rattle.siri_model.specs.History.{History};
 ghost use Rattle.siri_view.specs.Kept.{kept_of};
@@ -16,7 +17,7 @@ use siri_view::{Consumer, Held};
 use siri_world_model::Line;
 use std::alloc::Global;
 
-// What a consumer shows of a subscription, or that it doesn't hold it.
+/// What a consumer shows of a subscription, or that it doesn't hold it.
 pub(crate) fn view_of(
     alloc: Global,
     producer: &Producer,
@@ -45,7 +46,7 @@ pub(crate) fn view_of(
     })
 }
 
-// The line of a view.
+/// The line of a view.
 fn view_line(
     consumer: &Name,
     identifier: &Name,
@@ -64,7 +65,7 @@ fn view_line(
     })
 }
 
-// Whether this number is the one.
+/// Whether this number is the one.
 fn is_number(quiet: Option<u64>, number: u64) -> bool
     ensures { result ≡ is_number quiet number }
 {
@@ -74,7 +75,7 @@ fn is_number(quiet: Option<u64>, number: u64) -> bool
     }
 }
 
-// The items of a view are told in order of key.
+/// The items of a view are told in order of key.
 fn push_items(lines: &mut List<Line>, view: &View) -> Result<(), OutOfMemory>
     ensures { OnOk result (told_lines lines.new ≡ told_lines lines.old ++ item_lines view.now) }
 {

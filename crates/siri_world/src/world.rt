@@ -1,4 +1,5 @@
-// The machine of a world.
+//! The machine of a world.
+
 ghost use Rattle.std.specs.Prelude.{◌≡◌, ◌+◌, ◌<◌, ◌≤◌, ◌++◌, [], ◌∷◌, suc, max, length, not, ◌&&◌, nat_le, List as Items, Ok, IsSome, IsNone, IfOk, OnOk, IfErr};
 ghost use Rattle.siri_world_model.specs.declared.event.Event.{Event as AnEvent};
 ghost use Rattle.siri_world_model.specs.declared.word.Word.TheVariants as word;
@@ -9,8 +10,8 @@ ghost use Rattle.siri_world_model.specs.Goals.{ShowsGoals};
 ghost use Rattle.siri_world_model.specs.Lines as line;
 ghost use Rattle.siri_world_model.specs.Lines.{told_lines};
 ghost use Rattle.siri_world_model.specs.Packets.{packet_at, packet_lines, packets_from};
-ghost use Rattle.siri_world_model.specs.Told.{told, world_after, most_consumers};
-ghost use Rattle.siri_world_model.specs.World as definition;
+ghost use Rattle.siri_world_model.specs.Told.{told, world_after, most_consumers, most_packets, most_starts};
+ghost use Rattle.siri_world_model.specs.World.{World as ToldWorld};
 ghost use Rattle.siri_world.specs.Asking.{IsEnded, IsTold, Takes};
 ghost use Rattle.siri_world.specs.Doing.{CanHappen, Does, Happens, IsFull, first_refusal};
 ghost use Rattle.siri_world.specs.Kept.{sent_packets};
@@ -31,12 +32,12 @@ use siri_world_model::{Event, Line, StepError, Word};
 use std::alloc::Global;
 use std::marker::Model;
 
-// How often the producer starts at most.
+/// How often the producer starts at most.
 const MOST_STARTS: u64 = 1_000_000;
 
-/// The world of a script. It stands for the events that it took. Contracts see what it knows of them: the greatest moment
-/// that was given, how often the producer started, the producer of the latest start, the consumers in order of first use, and
-/// all packets that were ever sent.
+/// The world of a script. It stands for the events that it took. Contracts see what it knows of them: the greatest
+/// moment that was given, how often the producer started, the producer of the latest start, the consumers in order of
+/// first use, and all packets that were ever sent.
 pub struct World {
     alloc: Global,
     moment: Moment,
@@ -62,12 +63,13 @@ impl Drop for World {
 impl Model for World {
     ghost use Rattle.std.specs.Prelude.{◌≤◌};
     ghost use Rattle.siri_world.specs.Known.{Known};
+    ghost use Rattle.siri_world_model.specs.Told.{most_starts};
 
     ghost Value = { Known };
 
     ghost view = { λ w. record { moment = w.moment; starts = w.starts; producer = w.producer; consumers = w.consumers; packets = w.packets } };
 
-    ghost invariant = { λ w. w.starts ≤ 1000000 };
+    ghost invariant = { λ w. w.starts ≤ most_starts };
 }
 
 impl World {
@@ -77,7 +79,7 @@ impl World {
     {
         Ok(World {
             alloc,
-            moment: the_first_moment(),
+            moment: Moment::first(),
             starts: 0,
             producer: None,
             consumers: Consumers::new(alloc),
@@ -88,8 +90,9 @@ impl World {
     /// An event happens, and tells these lines: all packets that it sends are told after what else it tells.
     ///
     /// The first that holds of `NotStarted` (it isn't a start, and no start came before), `StartLimit` (it is the
-    /// 1,000,001st start), `ConsumerLimit` (it would make a 17th consumer) and `PacketLimit` (packet 1,000,001 would be sent).
-    /// After each of the first three nothing changed. After `PacketLimit` and want of memory the world is given up.
+    /// 1,000,001st start), `ConsumerLimit` (it would make a 17th consumer) and `PacketLimit` (packet 1,000,001 would be
+    /// sent). After each of the first three nothing changed. After `PacketLimit` and want of memory the world is given
+    /// up.
     pub fn step(&mut self, event: &Event) -> Result<List<Line>, StepError>
         ensures lines { IfOk result (λ lines. (es : Items AnEvent) → StandsFor self.old es → told (world_after es) event.now ≡ Ok (told_lines lines)) }
         ensures ok { OnOk result ((es : Items AnEvent) → StandsFor self.old es → StandsFor self.new (es ++ event.now ∷ [])) }
@@ -106,14 +109,14 @@ impl World {
     /// How many packets were sent, at most 1,000,000.
     pub fn sent(&self) -> u64
         ensures number { result ≡ length self.now.packets }
-        ensures bound { result ≤ 1000000 }
+        ensures bound { result ≤ most_starts }
     {
         self.packets.len() as u64
     }
 
-    // Why an event doesn't happen, but for the packets that it would send.
+    /// Why an event doesn't happen, but for the packets that it would send.
     fn refusal(&self, event: &Event) -> Option<StepError>
-        ensures first { (w : definition.World) → Knows self.now w → result ≡ first_refusal w event.now }
+        ensures first { (w : ToldWorld) → Knows self.now w → result ≡ first_refusal w event.now }
         ensures able { IsNone result → CanHappen self.now event.now }
     {
         match event {
@@ -127,17 +130,17 @@ impl World {
         }
     }
 
-    // Whether a consumer would be made, and 16 are there.
+    /// Whether a consumer would be made, and 16 are there.
     fn is_full(&self, consumer: &Name) -> bool
         ensures { result ≡ (not (is_known consumer.now self.now.consumers) && nat_le most_consumers (length self.now.consumers)) }
     {
         self.consumers.len() >= MOST_CONSUMERS && self.consumers.get(consumer).is_none()
     }
 
-    // What an event does, whatever the limits are. Its packets aren't in the network yet.
+    /// What an event does, whatever the limits are. Its packets aren't in the network yet.
     fn happen(&mut self, event: &Event) -> Result<Happened, OutOfMemory>
         requires { CanHappen self.old event.now }
-        ensures { IfOk result (λ happened. (w : definition.World) → Knows self.old w → ShowsGoals w → Does (effect w event.now) happened self.new) }
+        ensures { IfOk result (λ happened. (w : ToldWorld) → Knows self.old w → ShowsGoals w → Does (effect w event.now) happened self.new) }
     {
         match event {
             Event::Start(moment) => self.start(*moment),
@@ -162,11 +165,11 @@ impl World {
         }
     }
 
-    // The packets go into the network, and are told after what else is told.
+    /// The packets go into the network, and are told after what else is told.
     fn send(&mut self, happened: Happened) -> Result<List<Line>, StepError>
         ensures lines { IfOk result (λ lines. told_lines lines ≡ told_lines happened.lines ++ packet_lines (suc (length self.old.packets)) (sent_packets happened.packets)) }
         ensures ok { OnOk result (self.new ≡ record self.old { packets = self.old.packets ++ sent_packets happened.packets }) }
-        ensures room { OnOk result (length self.old.packets + length happened.packets ≤ 1000000) }
+        ensures room { OnOk result (length self.old.packets + length happened.packets ≤ most_packets) }
         ensures full { IfErr result (λ error. IsFull error (length self.old.packets + length happened.packets)) }
     {
         let Happened { mut lines, packets } = happened;
@@ -179,9 +182,9 @@ impl World {
 
     // ---- the producer
 
-    // The producer starts anew.
+    /// The producer starts anew.
     fn start(&mut self, now: Moment) -> Result<Happened, OutOfMemory>
-        requires { self.old.starts < 1000000 }
+        requires { self.old.starts < most_starts }
         ensures { IfOk result (Happens self.old self.new (λ w. effects.started w now)) }
     {
         let number = self.starts + 1;
@@ -192,7 +195,7 @@ impl World {
         told(self.alloc, Line::Started(number))
     }
 
-    // The greatest moment and the moments of the consumers become the later.
+    /// The greatest moment and the moments of the consumers become the later.
     fn pass(&mut self, now: Moment)
         ensures { self.new ≡ record self.old { moment = max self.old.moment now; consumers = all_clocked now self.old.consumers } }
     {
@@ -200,6 +203,7 @@ impl World {
         self.consumers.clock(now);
     }
 
+    /// All moments become the later, and the producer settles.
     fn clock(&mut self, now: Moment) -> Result<Happened, OutOfMemory>
         requires { IsSome self.old.producer }
         ensures { IfOk result (Happens self.old self.new (λ w. effects.clocked w now)) }
@@ -211,6 +215,7 @@ impl World {
         clock(self.alloc, producer, now)
     }
 
+    /// The producer is fed, which is told in numbers, and settles.
     fn feed(&mut self, delivery: &ServiceDelivery) -> Result<Happened, OutOfMemory>
         requires { IsSome self.old.producer }
         ensures { IfOk result (Happens self.old self.new (λ w. effects.fed w delivery.now)) }
@@ -221,6 +226,7 @@ impl World {
         feed(self.alloc, producer, delivery)
     }
 
+    /// The direct response of the producer is told. It is sent to nobody, and no settle follows.
     fn ask(&mut self, request: &ServiceRequest) -> Result<Happened, OutOfMemory>
         requires { IsSome self.old.producer }
         ensures { IfOk result (Happens self.old self.new (λ w. effects.asked w request.now)) }
@@ -233,6 +239,7 @@ impl World {
 
     // ---- the consumers
 
+    /// A consumer, made where there is none of the name, asks for a subscription, or it is told why it doesn't.
     fn subscribe(
         &mut self,
         name: &Name,
@@ -249,6 +256,7 @@ impl World {
         )
     }
 
+    /// A consumer asks for the end of a subscription; it is told where there is no such consumer or subscription.
     fn terminate(&mut self, name: &Name, identifier: &Name) -> Result<Happened, OutOfMemory>
         ensures { IfOk result (Happens self.old self.new (λ w. effects.terminated w name.now identifier.now (consumer_of name.now w.consumers))) }
     {
@@ -263,6 +271,7 @@ impl World {
         )
     }
 
+    /// A consumer sends a CheckStatusRequest; it is told where there is no such consumer.
     fn check(&self, name: &Name) -> Result<Happened, OutOfMemory>
         ensures { IfOk result (Happens self.now self.now (λ w. effects.checked w name.now (consumer_of name.now w.consumers))) }
     {
@@ -274,6 +283,7 @@ impl World {
 
     // ---- packets and views
 
+    /// The packet of a number reaches its receiver, whatever was delivered before; it is told where there is none.
     fn deliver(&mut self, number: u64) -> Result<Happened, OutOfMemory>
         requires { IsSome self.old.producer }
         ensures { IfOk result (Happens self.old self.new (λ w. effects.delivered w number (packet_at number w.packets))) }
@@ -292,9 +302,10 @@ impl World {
         }
     }
 
+    /// It is told what a consumer shows of a subscription, or that there is no such consumer or subscription.
     fn view(&self, name: &Name, identifier: &Name) -> Result<Happened, OutOfMemory>
         requires { IsSome self.now.producer }
-        ensures { IfOk result (λ happened. (w : definition.World) → Knows self.now w → ShowsGoals w → Does (effects.viewed w name.now identifier.now (consumer_of name.now w.consumers)) happened self.now) }
+        ensures { IfOk result (λ happened. (w : ToldWorld) → Knows self.now w → ShowsGoals w → Does (effects.viewed w name.now identifier.now (consumer_of name.now w.consumers)) happened self.now) }
     {
         let Some(producer) = &self.producer else {
             unreachable!()
@@ -306,7 +317,7 @@ impl World {
     }
 }
 
-// A request is sent, or it is told why it isn't.
+/// A request is sent, or it is told why it isn't.
 fn asked(
     alloc: Global,
     name: &Name,
@@ -327,7 +338,7 @@ fn asked(
     }
 }
 
-// A request to end a subscription is sent, or it is told why it isn't.
+/// A request to end a subscription is sent, or it is told why it isn't.
 fn ended(
     alloc: Global,
     name: &Name,
@@ -342,7 +353,7 @@ fn ended(
     }
 }
 
-// A consumer takes a message, and replies to the producer.
+/// A consumer takes a message, and replies to the producer.
 fn take(
     alloc: Global,
     consumers: &mut Consumers,
@@ -360,6 +371,7 @@ fn take(
     }
 }
 
+/// A consumer's outcome is told, and its replies go to the producer.
 fn replied(alloc: Global, receiver: &Name, seen: Seen) -> Result<Happened, OutOfMemory>
     ensures lines { IfOk result (λ happened. told_lines happened.lines ≡ line.Took receiver.now (word.Consumer seen.outcome) ∷ []) }
     ensures packets { IfOk result (λ happened. sent_packets happened.packets ≡ packets_from receiver.now seen.replies) }
@@ -371,13 +383,4 @@ fn replied(alloc: Global, receiver: &Name, seen: Seen) -> Result<Happened, OutOf
         lines: one(alloc, Line::Took { receiver, word })?,
         packets,
     })
-}
-
-fn the_first_moment() -> Moment
-    ensures { result ≡ 0 }
-{
-    match Moment::new(0) {
-        Some(moment) => moment,
-        None => unreachable!(),
-    }
 }

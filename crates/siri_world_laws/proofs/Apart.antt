@@ -23,14 +23,15 @@ use Rattle.siri_model.specs.History.{Entry, Step, Start, Clock, Feed, Take, Sett
 use Rattle.siri_model.specs.Lives.{Living, Served, acknowledgement_of, acts_in, acts_of, life_of, served_after, serving_of}
 use Rattle.siri_model.specs.Meaning.{direct_of, meaning}
 use Rattle.siri_model_laws.proofs.Serves.{goes_with}
-use Rattle.siri_settle.specs.declared.outs.Out.{Out}
+use Rattle.siri_subscriptions.specs.declared.outs.Out.{Out}
 use Rattle.siri_world_laws.specs.Networks.{WorldNetwork}
 use Rattle.siri_world_laws.specs.Apart.{acts_along, is_about, life_sends, own_steps, sends_along, sends_of, HasNoStart, HasRoomFor, IsAlike}
 use Rattle.siri_world_laws.proofs.Room.{own_room}
 
 -- ---- a history's side is that of its acts
 
-serving_both : (xs ys : List (Act Carried Asked Entry)) (v : Served) → serving_after meaning (xs ++ ys) v ≡ serving_after meaning ys (serving_after meaning xs v)
+serving_both : (xs ys : List (Act Carried Asked Entry)) (v : Served)
+    → serving_after meaning (xs ++ ys) v ≡ serving_after meaning ys (serving_after meaning xs v)
 serving_both [] ys v = refl
 serving_both (x ∷ xs) ys v = serving_both xs ys (served meaning v x)
 
@@ -102,7 +103,8 @@ fed_settles_none false entries = tt
 taken_settles_none : (m : Message) → NoneSettles (acts_in m)
 unfolding acts_in NoneSettles
 taken_settles_none (message.SubscriptionRequest r) =
-    heard_settles_none (λ (a : Asked). a.subscription.subscriber) (λ (a : Asked). a.subscription.identifier) (λ a. Subscribe r.message_identifier a) (asked_in r)
+    heard_settles_none (λ (a : Asked). a.subscription.subscriber) (λ (a : Asked). a.subscription.identifier)
+    (λ a. Subscribe r.message_identifier a) (asked_in r)
 taken_settles_none (message.TerminateSubscriptionRequest r) =
     heard_settles_none (λ (i : Name). r.subscriber_ref) (λ i. i) (λ i. Terminate r.message_identifier) r.subscription_ref
 taken_settles_none (message.DataReceivedAcknowledgement a) = acknowledged_settles_none a.status a.consumer_ref a.extensions
@@ -118,10 +120,13 @@ sends_seen name w =
     let known = state_of w.known in
     life_sends (record { producer = name; start = known.start; started = known.started; now = known.now }) known.current w.life
 
-sends_by : (name c s : Name) (k t : ℕ) (steps : History) → HasNoStart steps → sends_of name c s (Start k t ∷ steps) ≡ sends_seen name (seen_by meaning c s (along k t steps))
+sends_by : (name c s : Name) (k t : ℕ) (steps : History) → HasNoStart steps
+    → sends_of name c s (Start k t ∷ steps) ≡ sends_seen name (seen_by meaning c s (along k t steps))
 sends_by name c s k t steps none =
     let h = Start k t ∷ steps in
-    let with_state : State → Option Living → List Out = λ known life. life_sends (record { producer = name; start = known.start; started = known.started; now = known.now }) known.current life in
+    let with_state : State → Option Living → List Out = λ known life.
+    life_sends (record { producer = name; start = known.start; started = known.started; now = known.now })
+    known.current life in
     ap (λ known. with_state known (life_of c s h)) (sym (goes_with h).known)
     ∙ ap (λ (v : Served). with_state (state_of v.known) (find c s v.table)) (serving_along k t steps none)
 
@@ -138,7 +143,8 @@ module _ (name c s : Name) where
   quiet_front (Heard d i packet ∷ xs) ys n none = quiet_front xs ys (act meaning n (Heard d i packet)) none
 
   -- it is what is sent along the steps
-  pub sends_met : (k t : ℕ) (done steps : History) → HasNoStart done → HasNoStart steps → sends_along name c s (Start k t ∷ done) steps ≡ sends_in (acts_along steps) (along k t done)
+  pub sends_met : (k t : ℕ) (done steps : History) → HasNoStart done → HasNoStart steps
+      → sends_along name c s (Start k t ∷ done) steps ≡ sends_in (acts_along steps) (along k t done)
   sends_met k t done [] first none = refl
   sends_met k t done (Start number moment ∷ steps) first none = absurd none
   sends_met k t done (Clock moment ∷ steps) first none =
@@ -152,14 +158,18 @@ module _ (name c s : Name) where
       ∙ ap (sends_in (acts_along steps)) (along_more k t done (Take m))
       ∙ sym (quiet_front (acts_in m) (acts_along steps) (along k t done) (taken_settles_none m))
   sends_met k t done (Settle ∷ steps) first none =
-      let later = sends_met k t (done ++ Settle ∷ []) steps (none_started_more done (Settle ∷ []) first tt) none ∙ ap (sends_in (acts_along steps)) (along_more k t done Settle) in
+      let later = sends_met k t (done ++ Settle ∷ []) steps (none_started_more done (Settle ∷ []) first tt) none
+      ∙ ap (sends_in (acts_along steps)) (along_more k t done Settle) in
       λ i. sends_by name c s k t done first i ++ later i
 
 -- two that look alike to a subscription, and send the same of it at the settles, are alike
-pub alike_seen : (c s : Name) (k t : ℕ) (one other : History) → HasNoStart one → HasNoStart other → seen_by meaning c s (along k t one) ≡ seen_by meaning c s (along k t other)
+pub alike_seen : (c s : Name) (k t : ℕ) (one other : History) → HasNoStart one → HasNoStart other
+    → seen_by meaning c s (along k t one) ≡ seen_by meaning c s (along k t other)
     → ((name : Name) → sends_along name c s (Start k t ∷ []) one ≡ sends_along name c s (Start k t ∷ []) other) → IsAlike c s k t one other
 alike_seen c s k t one other first second same met = record {
-  life = ap (λ (v : Served). find c s v.table) (serving_along k t one first) ∙ ap (λ (w : Link Items Carried Asked History). w.life) same ∙ sym (ap (λ (v : Served). find c s v.table) (serving_along k t other second));
+  life = ap (λ (v : Served). find c s v.table) (serving_along k t one first)
+      ∙ ap (λ (w : Link Items Carried Asked History). w.life) same
+      ∙ sym (ap (λ (v : Served). find c s v.table) (serving_along k t other second));
   sent = sym (ap (λ letters. packets_of meaning (those c s letters)) (acts_send meaning (acts_along one) (opening meaning k t)))
       ∙ ap (λ (w : Link Items Carried Asked History). w.packets) same
       ∙ ap (λ letters. packets_of meaning (those c s letters)) (acts_send meaning (acts_along other) (opening meaning k t));
@@ -205,7 +215,9 @@ own_both : (c s : Name) (xs ys : List (Act Carried Asked Entry)) → own meaning
 own_both c s [] ys = refl
 own_both c s (x ∷ xs) ys = by (is_own meaning c s x) (own_both c s xs ys)
   where
-    by : (b : Bool) → own meaning c s (xs ++ ys) ≡ own meaning c s xs ++ own meaning c s ys → cond b (x ∷ own meaning c s (xs ++ ys)) (own meaning c s (xs ++ ys)) ≡ cond b (x ∷ own meaning c s xs) (own meaning c s xs) ++ own meaning c s ys
+    by : (b : Bool) → own meaning c s (xs ++ ys) ≡ own meaning c s xs ++ own meaning c s ys
+        → cond b (x ∷ own meaning c s (xs ++ ys)) (own meaning c s (xs ++ ys)) ≡ cond b (x ∷ own meaning c s xs)
+        (own meaning c s xs) ++ own meaning c s ys
     by true rest = ap (λ zs. x ∷ zs) rest
     by false rest = rest
 
@@ -221,11 +233,13 @@ own_left c s [] = refl
 own_left c s (step ∷ steps) = by (is_about c s step) refl (own_left c s steps) ∙ sym (own_both c s (acts_of step) (acts_along steps))
   where
     by : (b : Bool) → is_about c s step ≡ b → own meaning c s (acts_along (own_steps c s steps)) ≡ own meaning c s (acts_along steps)
-        → own meaning c s (acts_along (cond b (step ∷ own_steps c s steps) (own_steps c s steps))) ≡ own meaning c s (acts_of step) ++ own meaning c s (acts_along steps)
+        → own meaning c s (acts_along (cond b (step ∷ own_steps c s steps) (own_steps c s steps))) ≡ own meaning c s
+        (acts_of step) ++ own meaning c s (acts_along steps)
     by true is rest = own_both c s (acts_of step) (acts_along (own_steps c s steps)) ∙ ap (λ ys. own meaning c s (acts_of step) ++ ys) rest
     by false is rest = rest ∙ ap (λ xs. xs ++ own meaning c s (acts_along steps)) (sym (own_none c s (acts_of step) is))
 
-pub others_change_nothing : (c s : Name) (k t : ℕ) (steps : History) → HasNoStart steps → HasRoomFor c s k t steps → HasRoomFor c s k t (own_steps c s steps) → IsAlike c s k t steps (own_steps c s steps)
+pub others_change_nothing : (c s : Name) (k t : ℕ) (steps : History) → HasNoStart steps → HasRoomFor c s k t steps
+    → HasRoomFor c s k t (own_steps c s steps) → IsAlike c s k t steps (own_steps c s steps)
 others_change_nothing c s k t steps none room own_has_room =
     let one = acts_along steps in
     let left = acts_along (own_steps c s steps) in

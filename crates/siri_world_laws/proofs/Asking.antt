@@ -12,7 +12,8 @@ use Rattle.siri_messages.specs.Asked.{Asked}
 use Rattle.siri_life.specs.Life.{Subscribe, Terminate}
 use Rattle.siri_life.specs.Named.{Name}
 use Rattle.siri_life.specs.Serving.{Carries, ToProducer}
-use Rattle.siri_view.specs.Consuming.{Consuming, greatest_number, request_for, termination_of}
+use Rattle.siri_base.specs.Numbers.{greatest_number}
+use Rattle.siri_view.specs.Consuming.{Consuming, request_for, termination_of}
 use Rattle.siri_view.specs.Sending.{check_request, interval, is_topic_of, of_service, own, ready_acknowledgement}
 use Rattle.siri_world_laws.specs.Happenings.{asked_by}
 use Rattle.siri_world_laws.specs.Letters.{of_one, of_none, asking, letter_to_producer}
@@ -31,7 +32,8 @@ module _ (s : Subscription) where
   of_one_service (topic.Vehicle t) = refl
   of_one_service (topic.Situation t) = refl
 
-  by_services : of_service service.Stop (s ∷ []) ++ of_service service.Timetable (s ∷ []) ++ of_service service.Vehicle (s ∷ []) ++ of_service service.Situation (s ∷ []) ≡ s ∷ []
+  by_services : of_service service.Stop (s ∷ []) ++ of_service service.Timetable (s ∷ [])
+      ++ of_service service.Vehicle (s ∷ []) ++ of_service service.Situation (s ∷ []) ≡ s ∷ []
   by_services = of_one_service s.topic
 
 -- no interval is zero
@@ -47,10 +49,14 @@ module _ (c : Consuming) (wanted : Subscription) (beat : ℤ) where
   requested list beat = map (λ s. record { subscription = s; address = c.address; beat = beat }) list
 
   -- what the request asks for
-  asked_is : requested (of_service service.Stop (own c.name wanted ∷ []) ++ of_service service.Timetable (own c.name wanted ∷ []) ++ of_service service.Vehicle (own c.name wanted ∷ []) ++ of_service service.Situation (own c.name wanted ∷ [])) (unwrap_or (interval beat) (pos 0)) ≡ asked_by c wanted beat ∷ []
+  asked_is : requested (of_service service.Stop (own c.name wanted ∷ [])
+      ++ of_service service.Timetable (own c.name wanted ∷ []) ++ of_service service.Vehicle (own c.name wanted ∷ [])
+      ++ of_service service.Situation (own c.name wanted ∷ []))
+      (unwrap_or (interval beat) (pos 0)) ≡ asked_by c wanted beat ∷ []
   asked_is = λ i. requested (by_services (own c.name wanted) i) (beat_kept beat i)
 
-  pub request_is : letter_to_producer c.name (request_for c (wanted ∷ []) beat) ≡ of_one c.name wanted.identifier (Carries (Subscribe c.next_number (asked_by c wanted beat)))
+  pub request_is : letter_to_producer c.name (request_for c (wanted ∷ []) beat) ≡ of_one c.name wanted.identifier
+      (Carries (Subscribe c.next_number (asked_by c wanted beat)))
   unfolding letter_to_producer
   request_is = ap (asking c.name c.next_number) asked_is
 
@@ -60,7 +66,9 @@ module _ (c : Consuming) (wanted : Subscription) (beat : ℤ) where
 
 -- ---- others
 
-pub termination_is : (c : Consuming) (identifier : Name) → letter_to_producer c.name (termination_of c identifier) ≡ of_one c.name identifier (Carries (Terminate c.next_number))
+pub termination_is : (c : Consuming) (identifier : Name)
+    → letter_to_producer c.name (termination_of c identifier) ≡ of_one c.name identifier
+    (Carries (Terminate c.next_number))
 unfolding letter_to_producer
 termination_is c identifier = refl
 

@@ -1,5 +1,6 @@
 -- The goal that is told of a view is that of the network: of all lives those of the start that sent it are looked at alone.
-use Rattle.std.proofs.Common.{◌≡◌, ℕ, zero, suc, ◌+◌, ◌<◌, Bool, true, false, cond, ◌&&◌, List, [], ◌∷◌, ◌++◌, fold, Option, Some, None, refl, sym, ap, ◌∙◌, subst, arith}
+use Rattle.std.proofs.Common.{◌≡◌, ℕ, zero, suc, ◌+◌, ◌<◌, Bool, true, false, cond, ◌&&◌, List, [], ◌∷◌, ◌++◌, fold, Option, Some, None}
+use Rattle.std.proofs.Common.{refl, sym, ap, ◌∙◌, subst, arith}
 use Rattle.std.specs.Prelude.{◌==◌, slice_get, unwrap_or}
 use Rattle.std.proofs.lemmas.Bool.{eqb-true}
 use Rattle.siri_records.specs.Keyed.{Items}
@@ -99,23 +100,30 @@ module _ (c i : Name) (n s : ℕ) where
   those_all b v = those_append c i b (v.ended ++ v.table) ∙ ap (λ xs. those c i b ++ xs) (those_append c i v.ended v.table)
 
   -- of starts after this one no life is under it
-  later : (b : List (Of Living)) (k : ℕ) (h : History) (more : List History) → AreNumbered k (h ∷ more) → s < k → rounds_by (serving_from b (h ∷ more)) ≡ rounds_of n s None (those c i b)
+  later : (b : List (Of Living)) (k : ℕ) (h : History) (more : List History) → AreNumbered k (h ∷ more) → s < k
+      → rounds_by (serving_from b (h ∷ more)) ≡ rounds_of n s None (those c i b)
   later b k h [] numbered less =
       let v = serving_of h in
       let own = own_of h in
       let apart : (v.start == s) ≡ false = apart_of v.start s (λ is. let same = numbered.0 in absurd (omega (arith, is))) in
       ap (rounds_of n s (find c i v.table)) (those_append c i b v.ended)
-      ∙ skip_last n s (find c i v.table) (those c i b) (those c i v.ended) (found_none v.start n s c i v.table (find c i v.table) apart own.table refl) (not_those v.start s c i v.ended apart own.ended)
+      ∙ skip_last n s (find c i v.table) (those c i b) (those c i v.ended)
+      (found_none v.start n s c i v.table (find c i v.table) apart own.table refl)
+      (not_those v.start s c i v.ended apart own.ended)
   later b k h (next ∷ more) numbered less =
       let v = serving_of h in
       let own = own_of h in
       let apart : (v.start == s) ≡ false = apart_of v.start s (λ is. let same = numbered.0 in absurd (omega (arith, is))) in
       later (b ++ all_lives v) (suc k) next more numbered.1 (omega (arith, less))
       ∙ ap (rounds_of n s None) (those_all b v)
-      ∙ skip_last n s None (those c i b) (those c i v.ended ++ those c i v.table) refl (not_append s (those c i v.ended) (those c i v.table) (not_those v.start s c i v.ended apart own.ended) (not_those v.start s c i v.table apart own.table))
+      ∙ skip_last n s None (those c i b) (those c i v.ended ++ those c i v.table) refl
+      (not_append s (those c i v.ended) (those c i v.table) (not_those v.start s c i v.ended apart own.ended)
+      (not_those v.start s c i v.table apart own.table))
 
   -- the lives of a start are those of its history
-  here : (b : List (Of Living)) (k : ℕ) (h : History) (more : List History) (j : ℕ) → AreNumbered k (h ∷ more) → AreNot s (those c i b) → k + j ≡ s → rounds_by (serving_from b (h ∷ more)) ≡ rounds_in (unwrap_or (slice_get (h ∷ more) j) []) c i n s
+  here : (b : List (Of Living)) (k : ℕ) (h : History) (more : List History) (j : ℕ) → AreNumbered k (h ∷ more)
+      → AreNot s (those c i b) → k + j ≡ s → rounds_by (serving_from b (h ∷ more)) ≡ rounds_in
+      (unwrap_or (slice_get (h ∷ more) j) []) c i n s
   here b k h [] zero numbered before is =
       let v = serving_of h in
       ap (rounds_of n s (find c i v.table)) (those_append c i b v.ended)
@@ -126,7 +134,9 @@ module _ (c i : Name) (n s : ℕ) where
       let apart : (v.start == s) ≡ false = apart_of v.start s (λ at. let same = numbered.0 in absurd (omega (arith, at, is))) in
       ap (rounds_of n s (find c i v.table)) (those_append c i b v.ended)
       ∙ skip_first n s (find c i v.table) (those c i b) (those c i v.ended) before
-      ∙ no_rounds n s (find c i v.table) (those c i v.ended) (found_none v.start n s c i v.table (find c i v.table) apart own.table refl) (not_those v.start s c i v.ended apart own.ended)
+      ∙ no_rounds n s (find c i v.table) (those c i v.ended)
+      (found_none v.start n s c i v.table (find c i v.table) apart own.table refl)
+      (not_those v.start s c i v.ended apart own.ended)
   here b k h (next ∷ more) zero numbered before is =
       let v = serving_of h in
       later (b ++ all_lives v) (suc k) next more numbered.1 (omega (arith, is))
@@ -139,14 +149,19 @@ module _ (c i : Name) (n s : ℕ) where
       let own = own_of h in
       let apart : (v.start == s) ≡ false = apart_of v.start s (λ at. let same = numbered.0 in absurd (omega (arith, at, is))) in
       here (b ++ all_lives v) (suc k) next more j numbered.1
-      (subst (AreNot s) (sym (those_all b v)) (not_append s (those c i b) (those c i v.ended ++ those c i v.table) before (not_append s (those c i v.ended) (those c i v.table) (not_those v.start s c i v.ended apart own.ended) (not_those v.start s c i v.table apart own.table))))
+      (subst (AreNot s) (sym (those_all b v))
+      (not_append s (those c i b) (those c i v.ended ++ those c i v.table) before
+      (not_append s (those c i v.ended) (those c i v.table) (not_those v.start s c i v.ended apart own.ended)
+      (not_those v.start s c i v.table apart own.table))))
       (omega (arith, is))
 
 -- the rounds that are told of are those of the network
-pub rounds_are : (c i : Name) (n s : ℕ) (world : World) → AreNumbered 1 world.starts → rounds_by c i n s (serving_in world) ≡ rounds_in (start_at s world) c i n s
+pub rounds_are : (c i : Name) (n s : ℕ) (world : World) → AreNumbered 1 world.starts
+    → rounds_by c i n s (serving_in world) ≡ rounds_in (start_at s world) c i n s
 rounds_are c i n s world numbered = by s world.starts numbered
   where
-    by : (s : ℕ) (starts : List History) → AreNumbered 1 starts → rounds_by c i n s (serving_from [] starts) ≡ rounds_in (start_at s (record world { starts = starts })) c i n s
+    by : (s : ℕ) (starts : List History) → AreNumbered 1 starts
+        → rounds_by c i n s (serving_from [] starts) ≡ rounds_in (start_at s (record world { starts = starts })) c i n s
     by zero [] numbered = refl
     by (suc j) [] numbered = refl
     by zero (h ∷ more) numbered = later c i n zero [] 1 h more numbered (omega arith)
@@ -157,7 +172,9 @@ target_is : (rs : List (Round Items Carried)) (r : ℕ) (view : Items) → GoalA
 target_is rs zero view is = is
 target_is rs (suc j) view is = sym is.2 ∙ sym (ap target_of is.1)
 
-pub goal_is : (c i : Name) (origin : Origin) (view : Items) (world : World) → AreNumbered 1 world.starts → GoalAt meaning (rounds_by c i origin.number origin.start (serving_in world)) origin.round view → view ≡ goal world c i origin
+pub goal_is : (c i : Name) (origin : Origin) (view : Items) (world : World) → AreNumbered 1 world.starts
+    → GoalAt meaning (rounds_by c i origin.number origin.start (serving_in world)) origin.round view
+    → view ≡ goal world c i origin
 goal_is c i origin view world numbered is =
     target_is (rounds_by c i origin.number origin.start (serving_in world)) origin.round view is
     ∙ ap (λ rs. target_at rs origin.round) (rounds_are c i origin.number origin.start world numbered)

@@ -5,7 +5,8 @@ use Rattle.siri_topic.specs.declared.subscription.Subscription.{Subscription}
 use Rattle.siri_messages.specs.declared.message.Message.{Message}
 use Rattle.siri_life.specs.Named.{Name, same_name}
 use Rattle.siri_life_laws.proofs.Lists.{get_front}
-use Rattle.siri_view.specs.Consuming.{Consuming, greatest_number, after_terminate, clocked, termination_of}
+use Rattle.siri_base.specs.Numbers.{greatest_number}
+use Rattle.siri_view.specs.Consuming.{Consuming, after_message, after_subscribe, after_terminate, clocked, termination_of}
 use Rattle.siri_view.specs.Kept.{KeptSubscription, kept_of}
 use Rattle.siri_view.specs.declared.outcome.AskError.{AskError}
 use Rattle.siri_view.specs.declared.outcome.AskError.TheVariants as ask_error
@@ -16,7 +17,6 @@ use Rattle.siri_world_model.specs.Consumers.{consumer_of, consumer_or_new, with_
 use Rattle.siri_world_model.specs.Effects as effects
 use Rattle.siri_world_model.specs.Effects.{Effect, effect, with_packets}
 use Rattle.siri_world_model.specs.Lines as line
-use Rattle.siri_world_model.specs.Lines.{ToldLine}
 use Rattle.siri_world_model.specs.Packets as packet
 use Rattle.siri_world_model.specs.Packets.{SentPacket, packet_at}
 use Rattle.siri_world_model.specs.Told.{after, after_if, refusal}
@@ -37,6 +37,19 @@ pub record Grows (new old : World) : Type 0 where
 pub record Keeps (e : Effect) (old : World) : Type 0 where
   pub packets : e.world.packets ≡ old.packets
   pub consumers : (name : Name) → IsThere (consumer_of name old.consumers) → IsThere (consumer_of name e.world.consumers)
+
+-- and the producer as it was
+pub record KeepsProducer (e : Effect) (old : World) : Type 0 where
+  pub keeps : Keeps e old
+  pub starts : e.world.starts ≡ old.starts
+
+-- those that leave the producer as it was: a request, which it answers from what it knows, and what consumers are told
+abbrev pub keeps_producer : Event → Bool
+keeps_producer (event.Start moment) = false
+keeps_producer (event.Clock moment) = false
+keeps_producer (event.Feed delivery) = false
+keeps_producer (event.Deliver number) = false
+keeps_producer other = true
 
 keeps_grows : (e : Effect) (old : World) → Keeps e old → Grows (with_packets e) old
 keeps_grows e old keeps = record {
@@ -59,65 +72,91 @@ there_clocked moment name cs there = subst IsThere (sym (found_clocked moment na
     by (Some c) there = tt
 
 module _ (world : World) where
-  same_keeps : (e : Effect) → e.world ≡ world → Keeps e world
+  same_keeps : (e : Effect) → e.world ≡ world → KeepsProducer e world
   same_keeps e same = record {
-    packets = ap (λ (w : World). w.packets) same;
-    consumers = λ name there. subst (λ (w : World). IsThere (consumer_of name w.consumers)) (sym same) there;
+    keeps = record {
+      packets = ap (λ (w : World). w.packets) same;
+      consumers = λ name there. subst (λ (w : World). IsThere (consumer_of name w.consumers)) (sym same) there;
+    };
+    starts = ap (λ (w : World). w.starts) same;
   }
 
-  sent_keeps : (c : Consuming) (lines : List ToldLine) (messages : List Message) → Keeps (effects.sent_by world c lines messages) world
-  sent_keeps c lines messages = record { packets = refl; consumers = λ name there. there_with c name world.consumers there }
+  sent_keeps : (c : Consuming) (e : Effect) → e.world ≡ record world { consumers = with_consumer c world.consumers }
+      → KeepsProducer e world
+  sent_keeps c e same = record {
+    keeps = record {
+      packets = ap (λ (w : World). w.packets) same;
+      consumers = λ name there. subst (λ (w : World). IsThere (consumer_of name w.consumers)) (sym same)
+          (there_with c name world.consumers there);
+    };
+    starts = ap (λ (w : World). w.starts) same;
+  }
 
-  subscribe_keeps : (refused : Option AskError) (c : Consuming) (wanted : Subscription) (beat : ℤ) → Keeps (effects.subscribed_if refused world c wanted beat) world
-  subscribe_keeps (Some error) c wanted beat = record { packets = refl; consumers = λ name there. there_with c name world.consumers there }
-  subscribe_keeps None c wanted beat = record { packets = refl; consumers = λ name there. there_with _ name world.consumers there }
+  subscribe_keeps : (refused : Option AskError) (c : Consuming) (wanted : Subscription) (beat : ℤ)
+      → KeepsProducer (effects.subscribed_if refused world c wanted beat) world
+  subscribe_keeps (Some error) c wanted beat = sent_keeps c _ refl
+  subscribe_keeps None c wanted beat = sent_keeps (after_subscribe c (wanted ∷ []) beat) _ refl
 
-  terminate_keeps : (name identifier : Name) (found : Option Consuming) → Keeps (effects.terminated world name identifier found) world
+  terminate_keeps : (name identifier : Name) (found : Option Consuming)
+      → KeepsProducer (effects.terminated world name identifier found) world
   terminate_keeps name identifier None = same_keeps _ refl
   terminate_keeps name identifier (Some c) = kept (kept_of identifier c.held)
     where
-      spent : (b : Bool) → Keeps (if b then effects.tells world (line.Refused c.name ask_error.Spent ∷ []) else effects.sent_by world (after_terminate c identifier) [] (termination_of c identifier ∷ [])) world
+      spent : (b : Bool) → KeepsProducer (if b then effects.tells world (line.Refused c.name ask_error.Spent ∷ [])
+          else effects.sent_by world (after_terminate c identifier) [] (termination_of c identifier ∷ [])) world
       spent true = same_keeps _ refl
-      spent false = record { packets = refl; consumers = λ name there. there_with _ name world.consumers there }
+      spent false = sent_keeps (after_terminate c identifier) _ refl
 
-      kept : (k : Option KeptSubscription) → Keeps (effects.terminated_if world c identifier k) world
+      kept : (k : Option KeptSubscription) → KeepsProducer (effects.terminated_if world c identifier k) world
       kept None = same_keeps _ refl
       kept (Some k) = spent (nat_lt greatest_number c.next_number)
 
-  check_keeps : (name : Name) (found : Option Consuming) → Keeps (effects.checked world name found) world
+  check_keeps : (name : Name) (found : Option Consuming) → KeepsProducer (effects.checked world name found) world
   check_keeps name None = same_keeps _ refl
-  check_keeps name (Some c) = record { packets = refl; consumers = λ name there. there_with c name world.consumers there }
+  check_keeps name (Some c) = sent_keeps c _ refl
 
-  deliver_keeps : (number : ℕ) (found : Option SentPacket) → Keeps (effects.delivered world number found) world
-  deliver_keeps number None = same_keeps _ refl
-  deliver_keeps number (Some (packet.ToProducer sender m)) = record { packets = refl; consumers = λ name there. there }
-  deliver_keeps number (Some (packet.ToConsumer receiver m)) = by (consumer_of receiver world.consumers)
-    where
-      by : (found : Option Consuming) → Keeps (effects.taken_if world found m) world
-      by None = same_keeps _ refl
-      by (Some c) = record { packets = refl; consumers = λ name there. there_with _ name world.consumers there }
-
-  view_keeps : (name identifier : Name) (found : Option Consuming) → Keeps (effects.viewed world name identifier found) world
+  view_keeps : (name identifier : Name) (found : Option Consuming)
+      → KeepsProducer (effects.viewed world name identifier found) world
   view_keeps name identifier None = same_keeps _ refl
   view_keeps name identifier (Some c) = kept (kept_of identifier c.held)
     where
-      kept : (k : Option KeptSubscription) → Keeps (effects.viewed_if world c identifier k) world
+      kept : (k : Option KeptSubscription) → KeepsProducer (effects.viewed_if world c identifier k) world
       kept None = same_keeps _ refl
       kept (Some k) = same_keeps _ refl
+
+  pub taken_keeps : (m : Message) (found : Option Consuming) → KeepsProducer (effects.taken_if world found m) world
+  taken_keeps m None = same_keeps _ refl
+  taken_keeps m (Some c) = sent_keeps (after_message c m) _ refl
+
+  deliver_keeps : (number : ℕ) (found : Option SentPacket) → Keeps (effects.delivered world number found) world
+  deliver_keeps number None = record { packets = refl; consumers = λ name there. there }
+  deliver_keeps number (Some (packet.ToProducer sender m)) = record { packets = refl; consumers = λ name there. there }
+  deliver_keeps number (Some (packet.ToConsumer receiver m)) =
+      (taken_keeps m (consumer_of receiver world.consumers)).keeps
+
+  pub event_keeps_producer : (e : Event) → keeps_producer e ≡ true → KeepsProducer (effect world e) world
+  unfolding effect
+  event_keeps_producer (event.Ask request) is = same_keeps _ refl
+  event_keeps_producer (event.Subscribe name wanted beat) is =
+      let c = consumer_or_new world.moment name (consumer_of name world.consumers) in
+      subscribe_keeps (effects.ask_refusal c wanted) c wanted beat
+  event_keeps_producer (event.Terminate name identifier) is =
+      terminate_keeps name identifier (consumer_of name world.consumers)
+  event_keeps_producer (event.Status name) is = check_keeps name (consumer_of name world.consumers)
+  event_keeps_producer (event.View name identifier) is = view_keeps name identifier (consumer_of name world.consumers)
+  event_keeps_producer other is = absurd (cc)
 
   event_keeps : (e : Event) → Keeps (effect world e) world
   unfolding effect
   event_keeps (event.Start moment) = record { packets = refl; consumers = λ name there. there_clocked moment name world.consumers there }
   event_keeps (event.Clock moment) = record { packets = refl; consumers = λ name there. there_clocked moment name world.consumers there }
   event_keeps (event.Feed delivery) = record { packets = refl; consumers = λ name there. there }
-  event_keeps (event.Ask request) = record { packets = refl; consumers = λ name there. there }
-  event_keeps (event.Subscribe name wanted beat) =
-      let c = consumer_or_new world.moment name (consumer_of name world.consumers) in
-      subscribe_keeps (effects.ask_refusal c wanted) c wanted beat
-  event_keeps (event.Terminate name identifier) = terminate_keeps name identifier (consumer_of name world.consumers)
-  event_keeps (event.Status name) = check_keeps name (consumer_of name world.consumers)
   event_keeps (event.Deliver number) = deliver_keeps number (packet_at number world.packets)
-  event_keeps (event.View name identifier) = view_keeps name identifier (consumer_of name world.consumers)
+  event_keeps other = (event_keeps_producer other refl).keeps
+
+  -- no event takes a packet out
+  pub packets_stay : (e : Event) → (effect world e).world.packets ≡ world.packets
+  packets_stay e = (event_keeps e).packets
 
   after_grows : (e : Event) → Grows (after world e) world
   after_grows e = by (refusal world e)

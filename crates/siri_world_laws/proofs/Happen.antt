@@ -21,7 +21,8 @@ happen_one world e none [] x later is = let q : e ≡ x = cc in subst (λ y. ref
 happen_one world e none (b ∷ []) x later is = absurd (cc)
 happen_one world e none (b ∷ c ∷ before) x later is = absurd (cc)
 
-happen_last : (world : World) (events : List Event) (e : Event) → HappenFrom world events → refusal (fold after world events) e ≡ None → HappenFrom world (events ++ e ∷ [])
+happen_last : (world : World) (events : List Event) (e : Event) → HappenFrom world events
+    → refusal (fold after world events) e ≡ None → HappenFrom world (events ++ e ∷ [])
 happen_last world [] e happen none = happen_one world e none
 happen_last world (y ∷ events) e happen none = by (happen_last (after world y) events e (happen_rest world y events happen) none)
   where

@@ -25,7 +25,8 @@ pub found_named : (name : Name) (cs : List Consuming) (c : Consuming) → consum
 found_named name [] c e = absurd (cc)
 found_named name (x ∷ xs) c e = by (same_name x.name name) refl e (found_named name xs c)
   where
-    by : (b : Bool) → same_name x.name name ≡ b → cond b (Some x) (consumer_of name xs) ≡ Some c → (consumer_of name xs ≡ Some c → c.name ≡ name) → c.name ≡ name
+    by : (b : Bool) → same_name x.name name ≡ b → cond b (Some x) (consumer_of name xs) ≡ Some c
+        → (consumer_of name xs ≡ Some c → c.name ≡ name) → c.name ≡ name
     by true s e rest = let q : x ≡ c = cc in sym (ap (λ (z : Consuming). z.name) q) ∙ name_is x.name name s
     by false s e rest = rest e
 
@@ -39,7 +40,8 @@ found_ordered name (x ∷ xs) c all e = by (same_name x.name name) e (All-head I
     by false e here rest = rest e
 
 module _ (c : Consuming) where
-  later : (q r : Bool) (x : Consuming) (new old : Option Consuming) → (q ≡ true → r ≡ true → ⊥) → new ≡ cond q (Some c) old → cond r (Some x) new ≡ cond q (Some c) (cond r (Some x) old)
+  later : (q r : Bool) (x : Consuming) (new old : Option Consuming) → (q ≡ true → r ≡ true → ⊥)
+      → new ≡ cond q (Some c) old → cond r (Some x) new ≡ cond q (Some c) (cond r (Some x) old)
   later true true x new old apart rest = absurd (apart refl refl)
   later true false x new old apart rest = rest
   later false true x new old apart rest = refl
@@ -60,31 +62,40 @@ module _ (c : Consuming) where
       first false true old e = absurd (cc)
 
       by : (p : Bool) → same_name x.name c.name ≡ p → consumer_of name (with_consumer c xs) ≡ cond (same_name c.name name) (Some c) (consumer_of name xs)
-          → consumer_of name (cond p (c ∷ xs) (x ∷ with_consumer c xs)) ≡ cond (same_name c.name name) (Some c) (cond (same_name x.name name) (Some x) (consumer_of name xs))
+          → consumer_of name (cond p (c ∷ xs) (x ∷ with_consumer c xs)) ≡ cond (same_name c.name name) (Some c)
+          (cond (same_name x.name name) (Some x) (consumer_of name xs))
       by true s rest = first (same_name c.name name) (same_name x.name name) (consumer_of name xs) (ap (λ n. same_name n name) (name_is x.name c.name s))
-      by false s rest = later (same_name c.name name) (same_name x.name name) x (consumer_of name (with_consumer c xs)) (consumer_of name xs) (apart name x s) rest
+      by false s rest = later (same_name c.name name) (same_name x.name name) x (consumer_of name (with_consumer c xs))
+          (consumer_of name xs) (apart name x s) rest
 
   -- after one changes
   pub found_with : (name : Name) (cs : List Consuming) → consumer_of name (with_consumer c cs) ≡ cond (same_name name c.name) (Some c) (consumer_of name cs)
   found_with name cs = found_after name cs ∙ ap (λ b. cond b (Some c) (consumer_of name cs)) (same_turned c.name name)
 
-  pub next_with : (name : Name) (cs : List Consuming) → next_number_of name (with_consumer c cs) ≡ cond (same_name name c.name) c.next_number (next_number_of name cs)
+  pub next_with : (name : Name) (cs : List Consuming) → next_number_of name (with_consumer c cs) ≡ cond
+      (same_name name c.name) c.next_number (next_number_of name cs)
   next_with name cs = ap (λ found. option_map_or (λ (d : Consuming). d.next_number) found 1) (found_with name cs) ∙ by (same_name name c.name)
     where
-      by : (b : Bool) → option_map_or (λ (d : Consuming). d.next_number) (cond b (Some c) (consumer_of name cs)) 1 ≡ cond b c.next_number (next_number_of name cs)
+      by : (b : Bool) → option_map_or (λ (d : Consuming). d.next_number)
+          (cond b (Some c) (consumer_of name cs)) 1 ≡ cond b c.next_number (next_number_of name cs)
       by true = refl
       by false = refl
 
-  pub kept_with : (name identifier : Name) (cs : List Consuming) → kept_by name identifier (with_consumer c cs) ≡ cond (same_name name c.name) (kept_of identifier c.held) (kept_by name identifier cs)
-  kept_with name identifier cs = ap (λ found. option_and_then (λ (d : Consuming). kept_of identifier d.held) found) (found_with name cs) ∙ by (same_name name c.name)
+  pub kept_with : (name identifier : Name) (cs : List Consuming)
+      → kept_by name identifier (with_consumer c cs) ≡ cond (same_name name c.name) (kept_of identifier c.held)
+      (kept_by name identifier cs)
+  kept_with name identifier cs = ap (λ found. option_and_then (λ (d : Consuming). kept_of identifier d.held) found)
+      (found_with name cs) ∙ by (same_name name c.name)
     where
-      by : (b : Bool) → option_and_then (λ (d : Consuming). kept_of identifier d.held) (cond b (Some c) (consumer_of name cs)) ≡ cond b (kept_of identifier c.held) (kept_by name identifier cs)
+      by : (b : Bool) → option_and_then (λ (d : Consuming). kept_of identifier d.held)
+          (cond b (Some c) (consumer_of name cs)) ≡ cond b (kept_of identifier c.held) (kept_by name identifier cs)
       by true = refl
       by false = refl
 
   pub ordered_with : (cs : List Consuming) → IsOrdered c → All IsOrdered cs → All IsOrdered (with_consumer c cs)
   ordered_with [] own all = All-cons IsOrdered c [] own all
-  ordered_with (x ∷ xs) own all = by (is_named c.name x) (All-head IsOrdered x xs all) (All-tail IsOrdered x xs all) (ordered_with xs own (All-tail IsOrdered x xs all))
+  ordered_with (x ∷ xs) own all = by (is_named c.name x) (All-head IsOrdered x xs all) (All-tail IsOrdered x xs all)
+      (ordered_with xs own (All-tail IsOrdered x xs all))
     where
       by : (b : Bool) → IsOrdered x → All IsOrdered xs → All IsOrdered (with_consumer c xs) → All IsOrdered (cond b (c ∷ xs) (x ∷ with_consumer c xs))
       by true here old rest = All-cons IsOrdered c xs own old
@@ -98,21 +109,26 @@ module _ (moment : ℕ) where
   found_clocked name (x ∷ xs) = by (same_name x.name name) (found_clocked name xs)
     where
       by : (b : Bool) → consumer_of name (all_clocked moment xs) ≡ option_map (λ c. clocked c moment) (consumer_of name xs)
-          → cond b (Some (clocked x moment)) (consumer_of name (all_clocked moment xs)) ≡ option_map (λ c. clocked c moment) (cond b (Some x) (consumer_of name xs))
+          → cond b (Some (clocked x moment)) (consumer_of name (all_clocked moment xs)) ≡ option_map
+          (λ c. clocked c moment) (cond b (Some x) (consumer_of name xs))
       by true rest = refl
       by false rest = rest
 
   pub next_clocked : (name : Name) (cs : List Consuming) → next_number_of name (all_clocked moment cs) ≡ next_number_of name cs
   next_clocked name cs = ap (λ found. option_map_or (λ (d : Consuming). d.next_number) found 1) (found_clocked name cs) ∙ by (consumer_of name cs)
     where
-      by : (found : Option Consuming) → option_map_or (λ (d : Consuming). d.next_number) (option_map (λ c. clocked c moment) found) 1 ≡ option_map_or (λ (d : Consuming). d.next_number) found 1
+      by : (found : Option Consuming) → option_map_or (λ (d : Consuming). d.next_number)
+          (option_map (λ c. clocked c moment) found) 1 ≡ option_map_or (λ (d : Consuming). d.next_number) found 1
       by None = refl
       by (Some c) = refl
 
   pub kept_clocked : (name identifier : Name) (cs : List Consuming) → kept_by name identifier (all_clocked moment cs) ≡ kept_by name identifier cs
-  kept_clocked name identifier cs = ap (λ found. option_and_then (λ (d : Consuming). kept_of identifier d.held) found) (found_clocked name cs) ∙ by (consumer_of name cs)
+  kept_clocked name identifier cs = ap (λ found. option_and_then (λ (d : Consuming). kept_of identifier d.held) found)
+      (found_clocked name cs) ∙ by (consumer_of name cs)
     where
-      by : (found : Option Consuming) → option_and_then (λ (d : Consuming). kept_of identifier d.held) (option_map (λ c. clocked c moment) found) ≡ option_and_then (λ (d : Consuming). kept_of identifier d.held) found
+      by : (found : Option Consuming) → option_and_then (λ (d : Consuming). kept_of identifier d.held)
+          (option_map (λ c. clocked c moment) found) ≡ option_and_then
+          (λ (d : Consuming). kept_of identifier d.held) found
       by None = refl
       by (Some c) = refl
 

@@ -8,7 +8,7 @@ use Rattle.siri_life.specs.Link as life
 use Rattle.siri_life.specs.Link.{asked, outcome, taken, taken_as, with_part, with_start}
 use Rattle.siri_life.specs.Named.{Name, same_subscription, with_under}
 use Rattle.siri_life.specs.Network as network
-use Rattle.siri_life.specs.Network.{Happening, Starts, Clocks, Feeds, Asks, Stops, Requests, Delivers, step, takes, takes_letter}
+use Rattle.siri_life.specs.Network.{Asks, Stops, Delivers, step, takes, takes_letter}
 use Rattle.siri_life.specs.Serving.{About, Carries, ToProducer, ToConsumer}
 use Rattle.siri_life_laws.proofs.Names.{same_parts}
 use Rattle.siri_model.specs.Meaning.{meaning}
@@ -50,7 +50,9 @@ module _ (c i : Name) where
   abbrev wanted_in : WorldNetwork → Option Asked
   wanted_in n = option_map wants (n.holdings c i)
 
-  under : (d t : Name) (held : Option KeptSubscription) (n : WorldNetwork) → option_map wants (with_under d t held n.holdings c i) ≡ cond (same_subscription c i d t) (option_map wants held) (wanted_in n)
+  under : (d t : Name) (held : Option KeptSubscription) (n : WorldNetwork)
+      → option_map wants (with_under d t held n.holdings c i) ≡ cond (same_subscription c i d t) (option_map wants held)
+      (wanted_in n)
   under d t held n = by (same_subscription c i d t)
     where
       by : (b : Bool) → option_map wants (cond b held (n.holdings c i)) ≡ cond b (option_map wants held) (wanted_in n)
@@ -58,7 +60,8 @@ module _ (c i : Name) where
       by false = refl
 
   -- what is kept of one is what was kept of it
-  same_under : (d t : Name) (held : Option KeptSubscription) (n : WorldNetwork) → n.holdings d t ≡ held → cond (same_subscription c i d t) (option_map wants held) (wanted_in n) ≡ wanted_in n
+  same_under : (d t : Name) (held : Option KeptSubscription) (n : WorldNetwork) → n.holdings d t ≡ held
+      → cond (same_subscription c i d t) (option_map wants held) (wanted_in n) ≡ wanted_in n
   same_under d t held n is = by (same_subscription c i d t) refl
     where
       by : (b : Bool) → same_subscription c i d t ≡ b → cond b (option_map wants held) (wanted_in n) ≡ wanted_in n
@@ -67,7 +70,9 @@ module _ (c i : Name) where
           ap (option_map wants) (sym is) ∙ (λ j. option_map wants (n.holdings (sym names.0 j) (sym names.1 j)))
       by false same = refl
 
-  delivered_wants : (n : WorldNetwork) (d t : Name) (m : Mark) (more : Bool) (x : Carried) (held : Option KeptSubscription) → n.holdings d t ≡ held → wanted_in (network.delivered meaning n d t m more x held) ≡ wanted_in n
+  delivered_wants : (n : WorldNetwork) (d t : Name) (m : Mark) (more : Bool) (x : Carried)
+      (held : Option KeptSubscription) → n.holdings d t ≡ held
+      → wanted_in (network.delivered meaning n d t m more x held) ≡ wanted_in n
   delivered_wants n d t m more x None is = refl
   delivered_wants n d t m more x (Some h) is =
       under d t (Some (taken meaning h m more x)) n
@@ -82,10 +87,12 @@ module _ (c i : Name) where
   readied_wants n d life.Repeat = refl
   readied_wants n d life.Overlong = refl
 
-  notified_wants : (n : WorldNetwork) (d t : Name) (m : Mark) (held : Option KeptSubscription) → n.holdings d t ≡ held → wanted_in (network.notified meaning n d t m held) ≡ wanted_in n
+  notified_wants : (n : WorldNetwork) (d t : Name) (m : Mark) (held : Option KeptSubscription) → n.holdings d t ≡ held
+      → wanted_in (network.notified meaning n d t m held) ≡ wanted_in n
   notified_wants n d t m None is = refl
   notified_wants n d t m (Some h) is =
-      ap (λ (holdings : Name → Name → Option KeptSubscription). option_map wants (with_under d t (Some h) holdings c i)) (readied_wants n d (outcome meaning h m))
+      ap (λ (holdings : Name → Name → Option KeptSubscription). option_map wants (with_under d t (Some h) holdings c i))
+      (readied_wants n d (outcome meaning h m))
       ∙ under d t (Some h) n
       ∙ same_under d t (Some h) n is
 
@@ -104,20 +111,18 @@ module _ (c i : Name) where
   letter_wants n None = refl
   letter_wants n (Some letter) = takes_wants n letter.subscriber letter.identifier letter.it
 
-  stopped_wants : (n : WorldNetwork) (d t : Name) (held : Option KeptSubscription) → n.holdings d t ≡ held → wanted_in (network.stopped meaning n d t held) ≡ asked_after c i (wanted_in n) (Stops d t)
+  stopped_wants : (n : WorldNetwork) (d t : Name) (held : Option KeptSubscription) → n.holdings d t ≡ held
+      → wanted_in (network.stopped meaning n d t held) ≡ asked_after c i (wanted_in n) (Stops d t)
   stopped_wants n d t None is = sym (same_under d t None n is)
   stopped_wants n d t (Some h) is = under d t None n
 
   step_wants : (n : WorldNetwork) (e : Happens) → wanted_in (step meaning n e) ≡ asked_after c i (wanted_in n) e
-  step_wants n (Starts t) = refl
-  step_wants n (Clocks t) = refl
-  step_wants n (Feeds entries) = refl
   step_wants n (Asks d t x) =
       under d t (Some (asked meaning _ x (n.holdings d t))) n
       ∙ ap (λ wanted. cond (same_subscription c i d t) (Some wanted) (wanted_in n)) (asked_wants _ x (n.holdings d t))
   step_wants n (Stops d t) = stopped_wants n d t (n.holdings d t) refl
-  step_wants n (Requests d) = refl
   step_wants n (Delivers k) = letter_wants n (slice_get n.letters k)
+  step_wants n other = refl
 
   all_want : (happens : List Happens) (n : WorldNetwork) → wanted_in (after_all happens n) ≡ fold (asked_after c i) (wanted_in n) happens
   all_want [] n = refl

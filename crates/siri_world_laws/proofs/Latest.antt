@@ -8,7 +8,8 @@ use Rattle.siri_messages.specs.Asked.{Asked}
 use Rattle.siri_change.specs.Parts.{Carried}
 use Rattle.siri_life.specs.Life.{Packet, Subscribe, Terminate, Supply, Acknowledge, Notify, Delivery, is_before}
 use Rattle.siri_life.specs.Named.{Name, Of, find}
-use Rattle.siri_life.specs.Serving.{About, Carries, ToProducer, ToConsumer, accepted_if, accepts, acknowledged, ended_if, heard, settled_serving, supplied, with_rows, replies_to}
+use Rattle.siri_life.specs.Serving.{About, Carries, ToProducer, ToConsumer, accepted_if, accepts, acknowledged, ended_if, heard}
+use Rattle.siri_life.specs.Serving.{settled_serving, supplied, with_rows, replies_to}
 use Rattle.siri_model.specs.History.{Step, Start, Settle, History}
 use Rattle.siri_model.specs.Lives.{Living, Served, none_served, served_after, serving_of}
 use Rattle.siri_model.specs.Meaning.{meaning}
@@ -20,7 +21,8 @@ use Rattle.siri_world_laws.proofs.Producer.{heard_about, replies_about}
 
 -- ---- lives that ended before play no part in what is heard
 
-pub rows_first : (b : List (Of Living)) (v : Served) (table ended : List (Of Living)) → with_rows meaning (with_ended b v) table ended ≡ with_ended b (with_rows meaning v table ended)
+pub rows_first : (b : List (Of Living)) (v : Served) (table ended : List (Of Living))
+    → with_rows meaning (with_ended b v) table ended ≡ with_ended b (with_rows meaning v table ended)
 rows_first b v table ended = λ i. record {
   start = v.start;
   now = v.now;
@@ -29,7 +31,8 @@ rows_first b v table ended = λ i. record {
   ended = append_assoc b v.ended ended i;
 }
 
-heard_first : (b : List (Of Living)) (v : Served) (c s : Name) (p : Packet Carried Asked) → heard meaning (with_ended b v) c s p ≡ with_ended b (heard meaning v c s p)
+heard_first : (b : List (Of Living)) (v : Served) (c s : Name) (p : Packet Carried Asked)
+    → heard meaning (with_ended b v) c s p ≡ with_ended b (heard meaning v c s p)
 heard_first b v c s (Subscribe n x) = by (accepts meaning v c s n x)
   where
     by : (y : Bool) → accepted_if meaning y (with_ended b v) c s n x ≡ with_ended b (accepted_if meaning y v c s n x)
@@ -53,12 +56,14 @@ heard_first b v c s (Acknowledge m) = by (find c s v.table)
 heard_first b v c s (Notify m t) = refl
 heard_first b v c s (Delivery m t more x) = refl
 
-pub about_first : (b : List (Of Living)) (v : Served) (c s : Name) (it : About Carried Asked) → heard_about (with_ended b v) c s it ≡ with_ended b (heard_about v c s it)
+pub about_first : (b : List (Of Living)) (v : Served) (c s : Name) (it : About Carried Asked)
+    → heard_about (with_ended b v) c s it ≡ with_ended b (heard_about v c s it)
 about_first b v c s (Carries p) = heard_first b v c s p
 about_first b v c s (ToProducer answered) = refl
 about_first b v c s ToConsumer = refl
 
-replies_first : (b : List (Of Living)) (v : Served) (c s : Name) (p : Packet Carried Asked) → replies_to meaning (with_ended b v) c s p ≡ replies_to meaning v c s p
+replies_first : (b : List (Of Living)) (v : Served) (c s : Name) (p : Packet Carried Asked)
+    → replies_to meaning (with_ended b v) c s p ≡ replies_to meaning v c s p
 replies_first b v c s (Subscribe n x) = refl
 replies_first b v c s (Terminate n) = refl
 replies_first b v c s (Supply m) = refl
@@ -96,7 +101,8 @@ pub record Ends (k : ℕ) (d : Option History) (b : List (Of Living)) (starts : 
   pub later : (steps : History) → last_or d (last_goes_on steps starts) ≡ Some (history ++ steps)
   pub anew : (next : History) → serving_from b (starts ++ next ∷ []) ≡ with_ended (before ++ all_lives (serving_of history)) (serving_of next)
   pub number : AreNumbered k starts → suc (serving_of history).start ≡ k + length starts
-  pub numbered : (steps : History) → (serving_of (history ++ steps)).start ≡ (serving_of history).start → AreNumbered k starts → AreNumbered k (last_goes_on steps starts)
+  pub numbered : (steps : History) → (serving_of (history ++ steps)).start ≡ (serving_of history).start
+      → AreNumbered k starts → AreNumbered k (last_goes_on steps starts)
 
 pub ends_of : (k : ℕ) (d : Option History) (b : List (Of Living)) (h : History) (more : List History) → Ends k d b (h ∷ more)
 ends_of k d b h [] = record {
@@ -143,7 +149,8 @@ ends_some [] some = absurd (cc)
 ends_some (h ∷ more) some = ends_of 1 None [] h more
 
 -- the next start has the next number
-pub numbered_anew : (k number t : ℕ) (starts : List History) → number ≡ k + length starts → AreNumbered k starts → AreNumbered k (starts ++ (Start number t ∷ []) ∷ [])
+pub numbered_anew : (k number t : ℕ) (starts : List History) → number ≡ k + length starts → AreNumbered k starts
+    → AreNumbered k (starts ++ (Start number t ∷ []) ∷ [])
 unfolding served_after
 numbered_anew k number t [] is n = (omega (arith, is), tt)
 numbered_anew k number t (h ∷ more) is n = (n.0, numbered_anew (suc k) number t more (omega (arith, is)) n.1)

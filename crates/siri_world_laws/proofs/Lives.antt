@@ -4,7 +4,9 @@ use Rattle.std.specs.Prelude.{nat_lt}
 use Rattle.std.proofs.lemmas.Bool.{ltb-true}
 use Rattle.siri_records.specs.Keyed.{Items}
 use Rattle.siri_change.specs.Parts.{Carried}
-use Rattle.siri_life.specs.Life.{Mark, Outstanding, is_mark, is_due, acknowledged_at, acknowledged_if, next_part, after_acknowledgement, supplied_at, after_supply, opened, opened_at, opened_if, wants_round, after_send, sent_if, after_heartbeat, heartbeat_if, sends_heartbeat, settled}
+use Rattle.siri_life.specs.Life.{Mark, Outstanding, is_mark, is_due, acknowledged_at, acknowledged_if, next_part, after_acknowledgement}
+use Rattle.siri_life.specs.Life.{supplied_at, after_supply, opened, opened_at, opened_if, wants_round, after_send, sent_if, after_heartbeat}
+use Rattle.siri_life.specs.Life.{heartbeat_if, sends_heartbeat, settled}
 use Rattle.siri_model.specs.Lives.{Living}
 use Rattle.siri_model.specs.Meaning.{meaning}
 use Rattle.siri_model_laws.proofs.Lawful.{meaning_lawful}
@@ -25,7 +27,12 @@ as_it_is : (l : Living) → GoesOn l l
 as_it_is l = record { number = refl; start = refl; wanted = refl; part = λ has. has }
 
 then : (a b c : Living) → GoesOn b a → GoesOn c b → GoesOn c a
-then a b c first later = record { number = later.number ∙ first.number; start = later.start ∙ first.start; wanted = later.wanted ∙ first.wanted; part = λ has. later.part (first.part has) }
+then a b c first later = record {
+  number = later.number ∙ first.number;
+  start = later.start ∙ first.start;
+  wanted = later.wanted ∙ first.wanted;
+  part = λ has. later.part (first.part has);
+}
 
 -- ---- a message of the outstanding round is sent
 
@@ -65,7 +72,13 @@ module _ (l : Living) (direct : Items) (now : ℕ) where
   look_goes = by l.outstanding
     where
       test : (b : Bool) → GoesOn (opened_if meaning b l direct now) l
-      test true = record { number = refl; start = refl; wanted = refl; part = λ has. meaning_lawful.some_part l.acknowledged (meaning.target l.acknowledged direct l.wanted) l.wanted }
+      test true = record {
+        number = refl;
+        start = refl;
+        wanted = refl;
+        part = λ has. meaning_lawful.some_part l.acknowledged
+            (meaning.target l.acknowledged direct l.wanted) l.wanted;
+      }
       test false = as_it_is l
 
       by : (o : Option (Outstanding Items Carried)) → GoesOn (opened_at meaning o l direct now) l

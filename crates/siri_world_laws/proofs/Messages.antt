@@ -9,9 +9,11 @@ use Rattle.siri_life.specs.Life.{Mark, Notify, Delivery}
 use Rattle.siri_life.specs.Serving.{Carries, ToConsumer}
 use Rattle.siri_rounds.specs.declared.answers.SupplyError.{SupplyError}
 use Rattle.siri_rounds.specs.Wanted.{WantedPart}
-use Rattle.siri_replies.specs.Parts.{part_functional, part_delivery, part_notification, refused_supply, in_stop_monitoring, in_estimated_timetable, in_vehicle_monitoring, in_situation_exchange}
+use Rattle.siri_replies.specs.Parts.{part_functional, part_delivery, part_notification, refused_supply, in_stop_monitoring}
+use Rattle.siri_replies.specs.Parts.{in_estimated_timetable, in_vehicle_monitoring, in_situation_exchange}
 use Rattle.siri_replies.specs.Responses.{number_text}
-use Rattle.siri_view.specs.Hearing.{Delivered, Heard, only, heard, placed, number_of}
+use Rattle.siri_base.specs.Numbers.{number_of}
+use Rattle.siri_view.specs.Hearing.{Delivered, Heard, only, heard, placed}
 use Rattle.siri_world_laws.specs.Letters.{letter_heard, letter_to_consumer, moment_in, of_none, of_one}
 use Rattle.siri_world_laws.proofs.Well.{IsFor}
 use Rattle.siri_world_laws.proofs.Texts.{number_read_back}
@@ -21,7 +23,9 @@ abbrev pub mark_at : (number start : ℕ) → WantedPart → Mark
 mark_at number start part = record { number = number; start = start; round = part.place.round; part = part.place.part }
 
 -- of whatever service a topic is, its delivery stands alone
-alone : (which : Topic) (d : FunctionalDelivery) → only (in_stop_monitoring which d ++ (in_estimated_timetable which d ++ (in_vehicle_monitoring which d ++ in_situation_exchange which d))) ≡ Some d
+alone : (which : Topic) (d : FunctionalDelivery)
+    → only (in_stop_monitoring which d ++ in_estimated_timetable which d ++ in_vehicle_monitoring which d ++ in_situation_exchange which d)
+    ≡ Some d
 alone (topic.Stop t) d = refl
 alone (topic.Timetable t) d = refl
 alone (topic.Vehicle t) d = refl
@@ -34,7 +38,8 @@ module _ (producer : List ℕ) (wanted : Subscription) (number start : ℕ) (par
 
   delivery_says : heard (message.ServiceDelivery (part_delivery producer wanted number start part)) ≡ said (number_of (number_text number))
   unfolding part_delivery
-  delivery_says = ap (λ (d : Option FunctionalDelivery). placed (number_of (number_text number)) d part.more) (alone wanted.topic (part_functional wanted start part))
+  delivery_says = ap (λ (d : Option FunctionalDelivery). placed (number_of (number_text number)) d part.more)
+      (alone wanted.topic (part_functional wanted start part))
 
   said_of : (n : ℕ) → said (Some n) ≡ Delivered wanted.subscriber wanted.identifier (mark_at n start part) part.more part.carried
   unfolding part_functional
@@ -46,7 +51,9 @@ module _ (producer : List ℕ) (wanted : Subscription) (number start : ℕ) (par
   said_to None = tt
 
   -- a part that is delivered is a letter of its subscription
-  pub delivery_letter : number < 1000000000000000000 → letter_to_consumer wanted.subscriber (message.ServiceDelivery (part_delivery producer wanted number start part)) ≡ of_one wanted.subscriber wanted.identifier (Carries (Delivery (mark_at number start part) part.moment part.more part.carried))
+  pub delivery_letter : number < 1000000000000000000 → letter_to_consumer wanted.subscriber
+      (message.ServiceDelivery (part_delivery producer wanted number start part)) ≡ of_one wanted.subscriber
+      wanted.identifier (Carries (Delivery (mark_at number start part) part.moment part.more part.carried))
   unfolding part_delivery moment_in
   delivery_letter small = ap (letter_heard wanted.subscriber part.moment) (delivery_says ∙ ap said (number_read_back number small) ∙ said_of number)
 
@@ -54,15 +61,20 @@ module _ (producer : List ℕ) (wanted : Subscription) (number start : ℕ) (par
   delivery_made = subst (IsFor wanted.subscriber) (sym delivery_says) (said_to (number_of (number_text number)))
 
   -- so is one that is announced
-  pub notification_letter : letter_to_consumer wanted.subscriber (message.DataReadyNotification (part_notification producer wanted number start part)) ≡ of_one wanted.subscriber wanted.identifier (Carries (Notify (mark_at number start part) part.moment))
+  pub notification_letter : letter_to_consumer wanted.subscriber
+      (message.DataReadyNotification (part_notification producer wanted number start part)) ≡ of_one wanted.subscriber
+      wanted.identifier (Carries (Notify (mark_at number start part) part.moment))
   unfolding part_notification moment_in
   notification_letter = refl
 
 -- where there is no part, the answer is of no subscription
-pub refused_letter : (producer receiver : List ℕ) (now : ℕ) (why : SupplyError) → letter_to_consumer receiver (message.ServiceDelivery (refused_supply producer now why)) ≡ of_none receiver ToConsumer
+pub refused_letter : (producer receiver : List ℕ) (now : ℕ) (why : SupplyError)
+    → letter_to_consumer receiver (message.ServiceDelivery (refused_supply producer now why)) ≡ of_none receiver
+    ToConsumer
 unfolding refused_supply moment_in
 refused_letter producer receiver now why = refl
 
-pub refused_made : (producer receiver : List ℕ) (now : ℕ) (why : SupplyError) → IsFor receiver (heard (message.ServiceDelivery (refused_supply producer now why)))
+pub refused_made : (producer receiver : List ℕ) (now : ℕ) (why : SupplyError)
+    → IsFor receiver (heard (message.ServiceDelivery (refused_supply producer now why)))
 unfolding refused_supply
 refused_made producer receiver now why = tt

@@ -1,27 +1,24 @@
 -- After events that all happened the producer knows what was observed since its latest start: the same moment, and the same
 -- items are current.
-use Rattle.std.proofs.Common.{◌≡◌, ℕ, zero, suc, max, Bool, true, false, List, [], ◌∷◌, ◌++◌, length, fold, Option, Some, None, refl, sym, ap, ◌∙◌, subst}
-use Rattle.std.specs.Prelude.{nat_lt, nat_le, unwrap_or, if◌then◌else◌}
+use Rattle.std.proofs.Common.{◌≡◌, ℕ, zero, suc, max, false, List, [], ◌∷◌, ◌++◌, length, fold, Option, Some, None, refl, sym, ap, ◌∙◌, subst}
+use Rattle.std.specs.Prelude.{nat_le, unwrap_or}
 use Rattle.std.specs.List.{All, last_or}
 use Rattle.std.proofs.lemmas.List.Elements.{All-get_or}
 use Rattle.std.proofs.lemmas.List.Sums.{fold-append}
 use Rattle.std.proofs.lemmas.Option.{slice_get_within, get_or_from_slice_get}
-use Rattle.siri_topic.specs.declared.subscription.Subscription.{Subscription}
 use Rattle.siri_messages.specs.declared.message.Message.{Message}
 use Rattle.siri_messages.specs.declared.message.Message.TheVariants as message
-use Rattle.siri_model.specs.History.{Step, Start, Clock, Feed, Take, Settle, History, State, after_entry, after_step, entries_fed, entries_of, nothing as nothing_known, state_of}
+use Rattle.siri_model.specs.History.{Step, Start, Clock, Feed, Take, Settle, History, State, after_entry, after_step, entries_fed}
+use Rattle.siri_model.specs.History.{entries_of, nothing as nothing_known, state_of}
 use Rattle.siri_model.specs.Meaning.{meaning}
 use Rattle.siri_model_laws.proofs.Current.{last_appended}
 use Rattle.siri_model_laws.proofs.InOrder.{more_steps}
 use Rattle.siri_life.specs.Network.{network_after}
-use Rattle.siri_view.specs.Consuming.{Consuming, greatest_number}
-use Rattle.siri_view.specs.Kept.{KeptSubscription, kept_of}
-use Rattle.siri_view.specs.declared.outcome.AskError.{AskError}
 use Rattle.siri_world_model.specs.declared.event.Event.{Event}
 use Rattle.siri_world_model.specs.declared.event.Event.TheVariants as event
-use Rattle.siri_world_model.specs.Consumers.{consumer_of, consumer_or_new}
+use Rattle.siri_world_model.specs.Consumers.{consumer_of}
 use Rattle.siri_world_model.specs.Effects as effects
-use Rattle.siri_world_model.specs.Effects.{Effect, effect, with_packets, ask_refusal}
+use Rattle.siri_world_model.specs.Effects.{Effect, effect, with_packets}
 use Rattle.siri_world_model.specs.Packets as packet
 use Rattle.siri_world_model.specs.Packets.{SentPacket, packet_at}
 use Rattle.siri_world_model.specs.Told.{after, after_if, refusal, is_early, world_after}
@@ -31,6 +28,7 @@ use Rattle.siri_world_laws.proofs.Well.{IsOfConsumer, IsMade}
 use Rattle.siri_world_laws.specs.Networks.{WorldNetwork}
 use Rattle.siri_world_laws.specs.Views.{AllHappen, observed, observed_after}
 use Rattle.siri_world_laws.proofs.Consumers.{Stands}
+use Rattle.siri_world_laws.proofs.Growing.{KeepsProducer, event_keeps_producer, taken_keeps}
 use Rattle.siri_world_laws.proofs.Happen.{HappenFrom, happen_rest}
 use Rattle.siri_world_laws.proofs.Latest.{ends_some}
 use Rattle.siri_world_laws.proofs.Steps.{not_early, step_stands}
@@ -80,7 +78,8 @@ abbrev last_of : List History → History
 last_of starts = unwrap_or (last_or None starts) []
 
 -- a step and a settle of the latest
-settled_is : (starts : List History) (step : Step) → nat_le (length starts) 0 ≡ false → state_of (last_of (last_goes_on (step ∷ Settle ∷ []) starts)) ≡ after_step (state_of (last_of starts)) step
+settled_is : (starts : List History) (step : Step) → nat_le (length starts) 0 ≡ false
+    → state_of (last_of (last_goes_on (step ∷ Settle ∷ []) starts)) ≡ after_step (state_of (last_of starts)) step
 unfolding after_step
 settled_is starts step some =
     let e = ends_some starts some in
@@ -96,27 +95,41 @@ Knows world history = Alike (state_of (latest world)) (state_of history)
 
 -- where a step and a settle are the event
 steps_known : (world : World) (starts : List History) (step : Step) (seen : History) → nat_le (length starts) 0 ≡ false
-    → Alike (after_step (state_of (last_of starts)) step) (state_of seen) → Alike (state_of (last_of (last_goes_on (step ∷ Settle ∷ []) starts))) (state_of seen)
+    → Alike (after_step (state_of (last_of starts)) step) (state_of seen)
+    → Alike (state_of (last_of (last_goes_on (step ∷ Settle ∷ []) starts))) (state_of seen)
 steps_known world starts step seen some alike = subst (λ s. Alike s (state_of seen)) (sym (settled_is starts step some)) alike
 
 -- and the same was observed
-more_known : (world : World) (step : Step) (seen : History) → nat_le (length world.starts) 0 ≡ false → Knows world seen → Alike (state_of (last_of (last_goes_on (step ∷ Settle ∷ []) world.starts))) (state_of (seen ++ step ∷ []))
+more_known : (world : World) (step : Step) (seen : History) → nat_le (length world.starts) 0 ≡ false → Knows world seen
+    → Alike (state_of (last_of (last_goes_on (step ∷ Settle ∷ []) world.starts))) (state_of (seen ++ step ∷ []))
 more_known world step seen some knows =
     steps_known world world.starts step (seen ++ step ∷ []) some
-    (subst (λ s. Alike (after_step (state_of (latest world)) step) s) (sym (more_steps seen step)) (alike_after (state_of (latest world)) (state_of seen) step knows))
+    (subst (λ s. Alike (after_step (state_of (latest world)) step) s) (sym (more_steps seen step))
+    (alike_after (state_of (latest world)) (state_of seen) step knows))
 
-start_known : (world : World) (moment : ℕ) (seen : History) → Knows (with_packets (effect world (event.Start moment))) (observed_after seen (event.Start moment))
+start_known : (world : World) (moment : ℕ) (seen : History)
+    → Knows (with_packets (effect world (event.Start moment))) (observed_after seen (event.Start moment))
 unfolding effect after_step
 start_known world moment seen =
-    subst (λ found. Alike (state_of (unwrap_or found [])) (state_of (Start 1 moment ∷ []))) (sym (last_appended None world.starts (Start (suc (length world.starts)) moment ∷ [])))
+    subst (λ found. Alike (state_of (unwrap_or found [])) (state_of (Start 1 moment ∷ [])))
+    (sym (last_appended None world.starts (Start (suc (length world.starts)) moment ∷ [])))
     (record { now = refl; current = refl })
 
+-- what leaves the producer as it was
+kept_known : (world : World) (e : Effect) (seen : History) → KeepsProducer e world → Knows world seen
+    → Knows (with_packets e) seen
+kept_known world e seen keeps knows =
+    subst (λ (starts : List History). Alike (state_of (last_of starts)) (state_of seen)) (sym keeps.starts) knows
+
 -- a packet that reaches the producer
-answered_known : (world : World) (sender : List ℕ) (m : Message) (seen : History) → nat_le (length world.starts) 0 ≡ false → IsOfConsumer sender m → Knows world seen → Alike (state_of (last_of (last_goes_on (Take m ∷ Settle ∷ []) world.starts))) (state_of seen)
+answered_known : (world : World) (sender : List ℕ) (m : Message) (seen : History)
+    → nat_le (length world.starts) 0 ≡ false → IsOfConsumer sender m → Knows world seen
+    → Alike (state_of (last_of (last_goes_on (Take m ∷ Settle ∷ []) world.starts))) (state_of seen)
 answered_known world sender m seen some made knows =
     steps_known world world.starts (Take m) seen some (taken_alike (state_of (latest world)) (state_of seen) m (feeds_nothing sender m made) knows)
 
-deliver_known : (world : World) (number : ℕ) (seen : History) → nat_le (length world.starts) 0 ≡ false → All IsMade world.packets → Knows world seen → Knows (with_packets (effect world (event.Deliver number))) seen
+deliver_known : (world : World) (number : ℕ) (seen : History) → nat_le (length world.starts) 0 ≡ false
+    → All IsMade world.packets → Knows world seen → Knows (with_packets (effect world (event.Deliver number))) seen
 unfolding effect
 deliver_known world number seen some made knows = by (packet_at number world.packets) refl
   where
@@ -124,85 +137,36 @@ deliver_known world number seen some made knows = by (packet_at number world.pac
     sent zero sender m is = absurd (cc)
     sent (suc before) sender m is =
         let p = packet.ToProducer sender m in
-        subst IsMade (get_or_from_slice_get world.packets before p p is) (All-get_or IsMade world.packets before p (slice_get_within world.packets before p is) made)
-
-    taken : (m : Message) (found : Option Consuming) → Knows (with_packets (effects.taken_if world found m)) seen
-    taken m None = knows
-    taken m (Some c) = knows
+        subst IsMade (get_or_from_slice_get world.packets before p p is)
+        (All-get_or IsMade world.packets before p (slice_get_within world.packets before p is) made)
 
     by : (found : Option SentPacket) → packet_at number world.packets ≡ found → Knows (with_packets (effects.delivered world number found)) seen
     by None is = knows
     by (Some (packet.ToProducer sender m)) is = answered_known world sender m seen some (sent number sender m is) knows
-    by (Some (packet.ToConsumer receiver m)) is = taken m (consumer_of receiver world.consumers)
-
--- what a consumer is told to do
-subscribe_known : (world : World) (name : List ℕ) (wanted : Subscription) (beat : _) (seen : History) → Knows world seen → Knows (with_packets (effect world (event.Subscribe name wanted beat))) seen
-unfolding effect
-subscribe_known world name wanted beat seen knows =
-    let c = consumer_or_new world.moment name (consumer_of name world.consumers) in
-    by c (ask_refusal c wanted)
-  where
-    by : (c : Consuming) (refused : Option AskError) → Knows (with_packets (effects.subscribed_if refused world c wanted beat)) seen
-    by c (Some error) = knows
-    by c None = knows
-
-terminate_known : (world : World) (name identifier : List ℕ) (seen : History) → Knows world seen → Knows (with_packets (effect world (event.Terminate name identifier))) seen
-unfolding effect
-terminate_known world name identifier seen knows = by (consumer_of name world.consumers)
-  where
-    spent : (b : Bool) (refused sent : Effect) → Knows (with_packets refused) seen → Knows (with_packets sent) seen → Knows (with_packets (if b then refused else sent)) seen
-    spent true refused sent told done = told
-    spent false refused sent told done = done
-
-    one : (c : Consuming) (kept : Option KeptSubscription) → Knows (with_packets (effects.terminated_if world c identifier kept)) seen
-    one c None = knows
-    one c (Some kept) = spent (nat_lt greatest_number c.next_number) _ _ knows knows
-
-    by : (found : Option Consuming) → Knows (with_packets (effects.terminated world name identifier found)) seen
-    by None = knows
-    by (Some c) = one c (kept_of identifier c.held)
-
-status_known : (world : World) (name : List ℕ) (seen : History) → Knows world seen → Knows (with_packets (effect world (event.Status name))) seen
-unfolding effect
-status_known world name seen knows = by (consumer_of name world.consumers)
-  where
-    by : (found : Option Consuming) → Knows (with_packets (effects.checked world name found)) seen
-    by None = knows
-    by (Some c) = knows
-
-view_known : (world : World) (name identifier : List ℕ) (seen : History) → Knows world seen → Knows (with_packets (effect world (event.View name identifier))) seen
-unfolding effect
-view_known world name identifier seen knows = by (consumer_of name world.consumers)
-  where
-    one : (c : Consuming) (kept : Option KeptSubscription) → Knows (with_packets (effects.viewed_if world c identifier kept)) seen
-    one c None = knows
-    one c (Some kept) = knows
-
-    by : (found : Option Consuming) → Knows (with_packets (effects.viewed world name identifier found)) seen
-    by None = knows
-    by (Some c) = one c (kept_of identifier c.held)
+    by (Some (packet.ToConsumer receiver m)) is =
+        kept_known world _ seen (taken_keeps world m (consumer_of receiver world.consumers)) knows
 
 -- each event that happens
-event_known : (world : World) (e : Event) (seen : History) → is_early world e ≡ false → All IsMade world.packets → Knows world seen → Knows (with_packets (effect world e)) (observed_after seen e)
+event_known : (world : World) (e : Event) (seen : History) → is_early world e ≡ false → All IsMade world.packets
+    → Knows world seen → Knows (with_packets (effect world e)) (observed_after seen e)
 unfolding effect
 event_known world (event.Start moment) seen late made knows = start_known world moment seen
 event_known world (event.Clock moment) seen late made knows = more_known world (Clock moment) seen late knows
 event_known world (event.Feed delivery) seen late made knows = more_known world (Feed (entries_of delivery)) seen late knows
-event_known world (event.Ask request) seen late made knows = knows
-event_known world (event.Subscribe name wanted beat) seen late made knows = subscribe_known world name wanted beat seen knows
-event_known world (event.Terminate name identifier) seen late made knows = terminate_known world name identifier seen knows
-event_known world (event.Status name) seen late made knows = status_known world name seen knows
 event_known world (event.Deliver number) seen late made knows = deliver_known world number seen late made knows
-event_known world (event.View name identifier) seen late made knows = view_known world name identifier seen knows
+event_known world other seen late made knows =
+    kept_known world (effect world other) seen (event_keeps_producer world other refl) knows
 
 -- ---- all events
 
-known_from : (world : World) (n : WorldNetwork) (seen : History) (events : List Event) → Stands world n → Knows world seen → HappenFrom world events → Knows (fold after world events) (fold observed_after seen events)
+known_from : (world : World) (n : WorldNetwork) (seen : History) (events : List Event) → Stands world n
+    → Knows world seen → HappenFrom world events → Knows (fold after world events) (fold observed_after seen events)
 known_from world n seen [] stands knows happen = knows
 known_from world n seen (e ∷ events) stands knows happen =
     let none : refusal world e ≡ None = happen [] e events refl in
     known_from (after world e) (network_after meaning (happenings world e) n) (observed_after seen e) events (step_stands world e n stands)
-    (subst (λ w. Knows w (observed_after seen e)) (sym (ap (λ refused. after_if refused world e) none)) (event_known world e seen (not_early world e none) stands.0.made knows))
+    (subst (λ w. Knows w (observed_after seen e)) (sym (ap (λ refused. after_if refused world e) none))
+    (event_known world e seen (not_early world e none) stands.0.made knows))
     (happen_rest world e events happen)
 
 -- the producer knows what was observed since its latest start

@@ -32,12 +32,16 @@ pub use Rattle.siri_world_laws.proofs.Replies.{heard_about, serving_heard}
 -- ---- a settle
 
 -- what is sent are the letters of the table
-pub sends_are_letters : (h : History) → All IsShort (serving_of h).table → letters_of (packets_out (sends producer h)) ≡ row_letters meaning (serving_of h).known (serving_of h).now (serving_of h).table
+pub sends_are_letters : (h : History) → All IsShort (serving_of h).table
+    → letters_of (packets_out (sends producer h)) ≡ row_letters meaning (serving_of h).known (serving_of h).now
+    (serving_of h).table
 unfolding sends
 sends_are_letters h short =
     let v = serving_of h in
     let goes = goes_with h in
-    rows_are_letters (at_of producer h) (current h) v.known (λ wanted. ap (λ (s : State). shown s.now s.current wanted.subscription.topic) goes.known) v.table (well_after h).named (recursion_from_All IsShort v.table short)
+    rows_are_letters (at_of producer h) (current h) v.known
+    (λ wanted. ap (λ (s : State). shown s.now s.current wanted.subscription.topic) goes.known) v.table
+    (well_after h).named (recursion_from_All IsShort v.table short)
     (subst (λ k. AllLive (IsOf k) v.table) goes.start (stands_after h))
     ∙ ap (λ now. row_letters meaning v.known now v.table) (sym goes.now)
 
@@ -47,7 +51,8 @@ sends_are_made h = rows_are_made (at_of producer h) (current h) (rows_of (table_
 
 -- ---- a message of a consumer
 
-pub taken_is_heard : (h : History) (c : Name) (m : Message) → IsOfConsumer c m → serving_of (h ++ Take m ∷ []) ≡ serving_heard (serving_of h) (letter_to_producer c m)
+pub taken_is_heard : (h : History) (c : Name) (m : Message) → IsOfConsumer c m
+    → serving_of (h ++ Take m ∷ []) ≡ serving_heard (serving_of h) (letter_to_producer c m)
 unfolding served_after
 taken_is_heard h c m made = more_served h (Take m) ∙ message_heard (serving_of h) c m made
 
@@ -61,10 +66,12 @@ replies_about v c s ToConsumer = []
 abbrev pub replies_heard : Served → Letter → List Letter
 replies_heard v letter = replies_about v letter.subscriber letter.identifier letter.it
 
-pub reply_is_letter : (h : History) (c : Name) (m : Message) → IsOfConsumer c m → All IsShort (serving_of h).table → letters_of (reply_to c (answer_to producer h m).reply) ≡ replies_heard (serving_of h) (letter_to_producer c m)
+pub reply_is_letter : (h : History) (c : Name) (m : Message) → IsOfConsumer c m → All IsShort (serving_of h).table
+    → letters_of (reply_to c (answer_to producer h m).reply) ≡ replies_heard (serving_of h) (letter_to_producer c m)
 unfolding answer_to letter_to_producer IsOfConsumer
 reply_is_letter h c (message.SubscriptionRequest r) made short = sym (ap (λ all. replies_heard (serving_of h) (asking c r.message_identifier all)) made.1)
-reply_is_letter h c (message.TerminateSubscriptionRequest r) made short = sym (ap (λ all. replies_heard (serving_of h) (ending c r.message_identifier all)) made.1.1)
+reply_is_letter h c (message.TerminateSubscriptionRequest r) made short =
+    sym (ap (λ all. replies_heard (serving_of h) (ending c r.message_identifier all)) made.1.1)
 reply_is_letter h c (message.DataSupplyRequest r) made short =
     ap (λ m. letter_to_consumer c m ∷ []) (answer_is h c r made)
     ∙ supply_is_letter h c r made (recursion_from_All IsShort (table_of h) short) (life_of c r.extensions.subscription h) refl
@@ -110,7 +117,8 @@ stays_short new old goes small = subst (λ number. number < 1000000000000000000)
 
 -- after a step, by the table of what was served before it
 short_step : (h : History) (step : Step) → AllByRecursion IsShort (served_after (serving_of h) step).table → All IsShort (serving_of (h ++ step ∷ [])).table
-short_step h step short = subst (λ (v : Served). All IsShort v.table) (sym (more_served h step)) (All-from_recursion IsShort (served_after (serving_of h) step).table short)
+short_step h step short = subst (λ (v : Served). All IsShort v.table) (sym (more_served h step))
+    (All-from_recursion IsShort (served_after (serving_of h) step).table short)
 
 pub short_started : (number moment : ℕ) → All IsShort (serving_of (Start number moment ∷ [])).table
 unfolding served_after
@@ -132,7 +140,8 @@ short_settled h short =
     let v = serving_of h in
     short_step h Settle (settled_all HasShort stays_short v.known v.now v.table (recursion_from_All IsShort v.table short))
 
-short_heard : (v : Served) (c : Name) (m : Message) → IsOfConsumer c m → AllByRecursion IsShort v.table → AllByRecursion IsShort (serving_heard v (letter_to_producer c m)).table
+short_heard : (v : Served) (c : Name) (m : Message) → IsOfConsumer c m → AllByRecursion IsShort v.table
+    → AllByRecursion IsShort (serving_heard v (letter_to_producer c m)).table
 unfolding letter_to_producer IsOfConsumer
 short_heard v c (message.SubscriptionRequest r) made short =
     subst (λ all. AllByRecursion IsShort (serving_heard v (asking c r.message_identifier all)).table) (sym made.1)
@@ -154,7 +163,8 @@ short_heard v c (message.DataReadyNotification r) made short = absurd made
 short_heard v c (message.CheckStatusResponse r) made short = absurd made
 short_heard v c (message.HeartbeatNotification r) made short = absurd made
 
-pub short_taken : (h : History) (c : Name) (m : Message) → IsOfConsumer c m → All IsShort (serving_of h).table → All IsShort (serving_of (h ++ Take m ∷ [])).table
+pub short_taken : (h : History) (c : Name) (m : Message) → IsOfConsumer c m → All IsShort (serving_of h).table
+    → All IsShort (serving_of (h ++ Take m ∷ [])).table
 short_taken h c m made short =
     let v = serving_of h in
     subst (λ (v : Served). All IsShort v.table) (sym (taken_is_heard h c m made))

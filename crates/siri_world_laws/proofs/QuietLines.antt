@@ -32,7 +32,8 @@ views_held : (es : List Event) (c i : Name) → HasView (find c i (network_of es
 unfolding HasView
 views_held es c i =
     reach (λ n. HasView (find c i n.serving.table)) tt
-    (λ moment happens. view_of_fact _ _ _ _ (network_fit meaning c i meaning_lawful happens (opening meaning 1 moment) (opening_fit meaning c i moment)).good.life) es
+    (λ moment happens. view_of_fact _ _ _ _ (network_fit meaning c i meaning_lawful happens (opening meaning 1 moment)
+    (opening_fit meaning c i moment)).good.life) es
 
 pub keyed_again : (items : Items) → is_keyed items ≡ true → by_key (map (λ entry. entry.1) items) ≡ items
 keyed_again [] keyed = refl

@@ -27,7 +27,7 @@ use Rattle.siri_rounds.specs.declared.answers.SupplyError.{SupplyError}
 use Rattle.siri_rounds.specs.declared.answers.SupplyError.TheVariants as refused_as
 use Rattle.siri_rounds.specs.Wanted.{WantedPart, wanted_in, wanted_part, wanted_part_of}
 use Rattle.siri_replies.specs.Parts.{refused_supply}
-use Rattle.siri_take.specs.Supplies.{supply_answer, supply_by, supply_of, supply_in}
+use Rattle.siri_subscriptions.specs.Supplies.{supply_answer, supply_by, supply_of, supply_in}
 use Rattle.siri_view.specs.Hearing.{heard as heard_by}
 use Rattle.siri_world_model.specs.Packets.{producer}
 use Rattle.siri_world_laws.proofs.Well.{IsShort, IsFor, IsOfConsumer}
@@ -51,7 +51,9 @@ pub message_heard : (v : Served) (c : Name) (m : Message) → IsOfConsumer c m �
 unfolding acts_in letter_to_producer IsOfConsumer
 message_heard v c (message.SubscriptionRequest r) made =
     let asked = made.0 in
-    ap (λ (all : List Asked). serving_after meaning (map (λ asked. Heard asked.subscription.subscriber asked.subscription.identifier (Subscribe r.message_identifier asked)) all) v) made.1
+    ap (λ (all : List Asked). serving_after meaning
+    (map (λ asked. Heard asked.subscription.subscriber asked.subscription.identifier
+    (Subscribe r.message_identifier asked)) all) v) made.1
     ∙ ap (λ name. heard meaning v name asked.subscription.identifier (Subscribe r.message_identifier asked)) made.2
     ∙ sym (ap (λ all. serving_heard v (asking c r.message_identifier all)) made.1)
 message_heard v c (message.TerminateSubscriptionRequest r) made =
@@ -75,7 +77,9 @@ message_heard v c (message.HeartbeatNotification r) made = absurd made
 -- ---- the reply to a request for a part
 
 -- a refusal is of no subscription
-refused_alone : (producer receiver : List ℕ) (now : ℕ) (why : SupplyError) → letter_to_consumer receiver (message.ServiceDelivery (refused_supply producer now why)) ∷ [] ≡ told meaning receiver
+refused_alone : (producer receiver : List ℕ) (now : ℕ) (why : SupplyError)
+    → letter_to_consumer receiver (message.ServiceDelivery (refused_supply producer now why)) ∷ [] ≡ told meaning
+    receiver
 refused_alone producer receiver now why = ap (λ letter. letter ∷ []) (refused_letter producer receiver now why)
 
 -- by the life of the subscription that its mark names
@@ -114,7 +118,8 @@ module _ (producer : List ℕ) (k now : ℕ) (mark : Mark) (l : Living) where
         ≡ supply_letters meaning wanted.subscriber wanted.identifier (supply_sends meaning l k (mark_of mark))
     supply_letter = by l.outstanding
       where
-        by : (o : Option (Outstanding Items Carried)) → letter_to_consumer wanted.subscriber (reply_by wanted.fetched (wanted_part_of (length l.rounds) o) (names o)) ∷ []
+        by : (o : Option (Outstanding Items Carried)) → letter_to_consumer wanted.subscriber
+            (reply_by wanted.fetched (wanted_part_of (length l.rounds) o) (names o)) ∷ []
             ≡ supply_letters meaning wanted.subscriber wanted.identifier (part_at meaning o l k (mark_of mark))
         by None = none_letters wanted.fetched (names None)
         by (Some o) = part_letters o wanted.fetched (slice_get o.round.parts o.acknowledged_parts) (names (Some o)) refl
@@ -140,7 +145,8 @@ module _ (h : History) (c s : Name) where
   named : (l : Living) → life_of c s h ≡ Some l → (c ≡ l.wanted.subscription.subscriber) × (s ≡ l.wanted.subscription.identifier)
   named l is =
       let there = row_of_life h c s ∙ ap (option_map row_of) is in
-      let both = and_parts (same_name l.wanted.subscription.subscriber c) (same_name l.wanted.subscription.identifier s) (find_passes (is_of c s) (rows_of (table_of h)) (row_of l) there) in
+      let both = and_parts (same_name l.wanted.subscription.subscriber c) (same_name l.wanted.subscription.identifier s)
+      (find_passes (is_of c s) (rows_of (table_of h)) (row_of l) there) in
       (sym ((bytes_decides l.wanted.subscription.subscriber c).0 both.0), sym ((bytes_decides l.wanted.subscription.identifier s).0 both.1))
 
 module _ (h : History) (c : Name) (r : DataSupplyRequest) (is : r.consumer_ref ≡ c) where
@@ -151,7 +157,8 @@ module _ (h : History) (c : Name) (r : DataSupplyRequest) (is : r.consumer_ref �
   answer k now l = message.ServiceDelivery (supply_in producer k now mark (option_map row_of l)).delivery
 
   -- the answer is found by the life
-  pub answer_is : message.ServiceDelivery (supply_answer producer (start_of h) (now_of h) r (rows_of (table_of h))).delivery ≡ answer (start_of h) (now_of h) (life_of c mark.subscription h)
+  pub answer_is : message.ServiceDelivery (supply_answer producer (start_of h) (now_of h) r
+      (rows_of (table_of h))).delivery ≡ answer (start_of h) (now_of h) (life_of c mark.subscription h)
   unfolding supply_answer
   answer_is =
       ap (λ row. message.ServiceDelivery (supply_in producer (start_of h) (now_of h) mark row).delivery) (row_of_life h r.consumer_ref mark.subscription)
@@ -174,4 +181,5 @@ module _ (h : History) (c : Name) (r : DataSupplyRequest) (is : r.consumer_ref �
   supply_is_made None there = refused_made producer c (now_of h) refused_as.NothingReady
   supply_is_made (Some l) there =
       subst (λ name. IsFor name (heard_by (answer (start_of h) (now_of h) (Some l)))) (sym (named h c mark.subscription l there).0)
-      (reply_made producer (start_of h) (now_of h) mark l l.wanted.subscription.fetched (wanted_part (slot_of meaning l)) (names producer (start_of h) (now_of h) mark l l.outstanding))
+      (reply_made producer (start_of h) (now_of h) mark l l.wanted.subscription.fetched
+      (wanted_part (slot_of meaning l)) (names producer (start_of h) (now_of h) mark l l.outstanding))

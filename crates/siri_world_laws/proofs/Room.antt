@@ -5,7 +5,7 @@ use Rattle.siri_life.specs.Meaning.{Meaning}
 use Rattle.siri_life.specs.Life.{Life, Packet, Subscribe, Terminate, Supply, Acknowledge, Notify, Delivery, can_accept, is_before}
 use Rattle.siri_life.specs.Named.{Name, Of, same_subscription, find, put, without, keep}
 use Rattle.siri_life.specs.Serving
-use Rattle.siri_life.specs.Serving.{Act, Clocked, Fed, Heard, Settled, settled_rows, table_limit}
+use Rattle.siri_life.specs.Serving.{Act, Clocked, Fed, Heard, Settled, settled_rows, most_subscriptions}
 use Rattle.siri_life.specs.Network.{Network, act, hears, own, is_own, opening, HasRoom, HaveRoom}
 use Rattle.siri_life_laws.proofs.Names.{same_parts}
 
@@ -28,7 +28,9 @@ module _ {V P W H E : Type 0} (f : Meaning V P W H E) (c s : Name) where
   sole_put d t l [] same sole = same
   sole_put d t l (x ∷ []) same sole =
       let names = same_parts c s d t same in
-      let again : same_subscription d t x.subscriber x.identifier ≡ true = subst (λ (z : Name × Name). same_subscription z.0 z.1 x.subscriber x.identifier ≡ true) (λ i. (names.0 i, names.1 i)) sole in
+      let again : same_subscription d t x.subscriber x.identifier ≡ true =
+      subst (λ (z : Name × Name). same_subscription z.0 z.1 x.subscriber x.identifier ≡ true)
+      (λ i. (names.0 i, names.1 i)) sole in
       by (same_subscription d t x.subscriber x.identifier) again
     where
       by : (b : Bool) → b ≡ true → IsSole (cond b (record { subscriber = d; identifier = t; it = l } ∷ []) (x ∷ put d t l []))
@@ -98,7 +100,8 @@ module _ {V P W H E : Type 0} (f : Meaning V P W H E) (c s : Name) where
   heard_room : (n : Network V P W H) (d t : Name) (p : Packet P W) → Sole n → HasRoom f c s n (Heard d t p)
   heard_room n d t (Subscribe number x) sole =
       let one = few n.serving.table sole in
-      λ same. ap (λ full. can_accept f full n.serving.now number x (find c s n.serving.table)) (lt-leb table_limit (length n.serving.table) (omega (arith, one)))
+      λ same. ap (λ full. can_accept f full n.serving.now number x (find c s n.serving.table))
+      (lt-leb most_subscriptions (length n.serving.table) (omega (arith, one)))
   heard_room n d t (Terminate number) sole = tt
   heard_room n d t (Supply m) sole = tt
   heard_room n d t (Acknowledge m) sole = tt
@@ -115,7 +118,8 @@ module _ {V P W H E : Type 0} (f : Meaning V P W H E) (c s : Name) where
   own_room_from [] n sole = tt
   own_room_from (a ∷ all) n sole = by (is_own f c s a) refl (own_room_from all)
     where
-      by : (b : Bool) → is_own f c s a ≡ b → ((n : Network V P W H) → Sole n → HaveRoom f c s (own f c s all) n) → HaveRoom f c s (cond b (a ∷ own f c s all) (own f c s all)) n
+      by : (b : Bool) → is_own f c s a ≡ b → ((n : Network V P W H) → Sole n → HaveRoom f c s (own f c s all) n)
+          → HaveRoom f c s (cond b (a ∷ own f c s all) (own f c s all)) n
       by true is rest = (act_room n a sole, rest (act f n a) (act_sole n a is sole))
       by false is rest = rest n sole
 

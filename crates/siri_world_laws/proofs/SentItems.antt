@@ -1,5 +1,6 @@
 -- Each item that a consumer keeps of a subscription was sent to it in a part of that subscription, as it is.
-use Rattle.std.proofs.Common.{◌≡◌, ℕ, suc, ◌<◌, ◌≤◌, Bool, true, false, cond, List, [], ◌∷◌, ◌++◌, map, Option, Some, None, refl, sym, ap, ◌∙◌, subst, ⊎_elim, arith}
+use Rattle.std.proofs.Common.{◌≡◌, ℕ, suc, ◌<◌, ◌≤◌, Bool, true, false, cond, List, [], ◌∷◌, ◌++◌, map, Option, Some, None, refl, sym, ap}
+use Rattle.std.proofs.Common.{◌∙◌, subst, ⊎_elim, arith}
 use Rattle.std.specs.Prelude.{nat_lt, ◌==◌, option_map, slice_get}
 use Rattle.std.specs.BTreeMap.{is_at}
 use Rattle.std.specs.List.{All, AllByRecursion, Contains}
@@ -20,10 +21,11 @@ use Rattle.siri_messages.specs.declared.supplies.Mark.{Mark as SentMark}
 use Rattle.siri_change.specs.Parts.{Carried, changes_in}
 use Rattle.siri_life.specs.Meaning.{apply_parts}
 use Rattle.siri_life.specs.Life.{Mark, Subscribe, Terminate, Supply, Acknowledge, Notify, Delivery}
-use Rattle.siri_life.specs.Link.{Origin, Outcome, UnknownSubscription, OldStart, Gap, Repeat, Overlong, Wanted, asked, base_of, outcome, taken, taken_as, with_part, with_start, with_start_if}
+use Rattle.siri_life.specs.Link.{Origin, Outcome, UnknownSubscription, OldStart, Gap, Repeat, Overlong, Wanted, asked, base_of, outcome}
+use Rattle.siri_life.specs.Link.{taken, taken_as, with_part, with_start, with_start_if}
 use Rattle.siri_life.specs.Named.{Name, same_subscription}
 use Rattle.siri_life.specs.Network
-use Rattle.siri_life.specs.Network.{Starts, Clocks, Feeds, Asks, Stops, Requests, Delivers, step, takes, takes_letter}
+use Rattle.siri_life.specs.Network.{Asks, Stops, Delivers, step, takes, takes_letter}
 use Rattle.siri_life.specs.Serving.{About, Carries, ToProducer, ToConsumer}
 use Rattle.siri_life_laws.proofs.Longer.{step_longer}
 use Rattle.siri_life_laws.proofs.Names.{same_parts}
@@ -55,7 +57,9 @@ module _ (P : AnItem → Type 0) where
   after_items : (items : List AnItem) (view : Items) → AllOf view → All P items → AllOf (apply view (map (λ item. (key_of item, Some item)) items))
   after_items [] view old new = old
   after_items (item ∷ items) view old new =
-      after_items items (with_item view (key_of item, item)) (All-values-insert_entry key_cmp (key_of item) item P view old (All-head P item items new)) (All-tail P item items new)
+      after_items items (with_item view (key_of item, item))
+      (All-values-insert_entry key_cmp (key_of item) item P view old (All-head P item items new))
+      (All-tail P item items new)
 
   after_removals : (keys : List Key) (view : Items) → AllOf view → AllOf (apply view (map (λ key. (key, None)) keys))
   after_removals [] view old = old
@@ -123,10 +127,12 @@ module _ (c i : Name) where
     has = is.has;
   }
 
-  all_more : (old new : List Letter) (origin : Origin) → Holds old new → (items : List AnItem) → All (IsCarried old origin) items → All (IsCarried new origin) items
+  all_more : (old new : List Letter) (origin : Origin) → Holds old new → (items : List AnItem)
+      → All (IsCarried old origin) items → All (IsCarried new origin) items
   all_more old new origin longer items all k d lt = carried_more old new origin longer _ (all k d lt)
 
-  parts_more : (old new : List Letter) (origin : Origin) → Holds old new → (parts : List Carried) → AllByRecursion (PartIsCarried old origin) parts → AllByRecursion (PartIsCarried new origin) parts
+  parts_more : (old new : List Letter) (origin : Origin) → Holds old new → (parts : List Carried)
+      → AllByRecursion (PartIsCarried old origin) parts → AllByRecursion (PartIsCarried new origin) parts
   parts_more old new origin longer [] all = tt
   parts_more old new origin longer (part ∷ parts) all = (all_more old new origin longer part.items all.0, parts_more old new origin longer parts all.1)
 
@@ -141,7 +147,9 @@ module _ (c i : Name) where
   -- ---- a part that is taken
   module _ (letters : List Letter) where
     -- a view of an earlier round of the same start
-    later : (number start round : ℕ) (item : AnItem) → IsCarried letters (record { number = number; start = start; round = round }) item → IsCarried letters (record { number = number; start = start; round = suc round }) item
+    later : (number start round : ℕ) (item : AnItem) → IsCarried letters
+        (record { number = number; start = start; round = round }) item
+        → IsCarried letters (record { number = number; start = start; round = suc round }) item
     later number start round item is = record {
       place = is.place;
       mark = is.mark;
@@ -161,7 +169,9 @@ module _ (c i : Name) where
       start : m.start ≡ h.start
       round : m.round ≡ suc h.round
 
-    all_of_part : (k : ℕ) (m : Mark) (moment : ℕ) (more : Bool) (x : Carried) (h : KeptSubscription) → slice_get letters k ≡ Some (of_one c i (Carries (Delivery m moment more x))) → IsNext h m → PartIsCarried letters (next h) x
+    all_of_part : (k : ℕ) (m : Mark) (moment : ℕ) (more : Bool) (x : Carried) (h : KeptSubscription)
+        → slice_get letters k ≡ Some (of_one c i (Carries (Delivery m moment more x))) → IsNext h m
+        → PartIsCarried letters (next h) x
     all_of_part k m moment more x h there is =
         All-weaker (Contains x.items) (IsCarried letters (next h)) (λ item has. record {
           place = k;
@@ -182,18 +192,22 @@ module _ (c i : Name) where
         held : (b : Bool) → 1 ≤ h.round → All (IsCarried letters (next h)) (values_of (cond b h.view []))
         held false some = All-nil (IsCarried letters (next h))
         held true some =
-            All-weaker (IsCarried letters (record { number = h.number; start = h.start; round = h.round })) (IsCarried letters (next h)) (λ item old. later h.number h.start h.round item old)
+            All-weaker (IsCarried letters (record { number = h.number; start = h.start; round = h.round }))
+            (IsCarried letters (next h)) (λ item old. later h.number h.start h.round item old)
             (values_of h.view) (subst (λ origin. All (IsCarried letters origin) (values_of h.view)) (is.belongs some) is.view)
 
         by : (b : Bool) → (h.round == 0) ≡ b → All (IsCarried letters (next h)) (values_of (cond b [] (cond h.wanted.subscription.incremental h.view [])))
         by true none = All-nil (IsCarried letters (next h))
         by false some = let n = eqb-false h.round 0 some in held h.wanted.subscription.incremental (omega (arith, n))
 
-    parts_push : (h : KeptSubscription) (x : Carried) → (parts : List Carried) → AllByRecursion (PartIsCarried letters (next h)) parts → PartIsCarried letters (next h) x → AllByRecursion (PartIsCarried letters (next h)) (parts ++ x ∷ [])
+    parts_push : (h : KeptSubscription) (x : Carried) → (parts : List Carried)
+        → AllByRecursion (PartIsCarried letters (next h)) parts → PartIsCarried letters (next h) x
+        → AllByRecursion (PartIsCarried letters (next h)) (parts ++ x ∷ [])
     parts_push h x [] old new = (new, tt)
     parts_push h x (part ∷ parts) old new = (old.0, parts_push h x parts old.1 new)
 
-    part_kept : (more : Bool) (h : KeptSubscription) (x : Carried) → IsKept letters h → PartIsCarried letters (next h) x → IsKept letters (with_part meaning more h x)
+    part_kept : (more : Bool) (h : KeptSubscription) (x : Carried) → IsKept letters h → PartIsCarried letters (next h) x
+        → IsKept letters (with_part meaning more h x)
     part_kept true h x is new = record { view = is.view; parts = parts_push h x h.parts is.parts new; belongs = is.belongs }
     part_kept false h x is new = record {
       view = after_parts (IsCarried letters (next h)) (h.parts ++ x ∷ []) (base_of meaning h) (base_kept h is) (parts_push h x h.parts is.parts new);
@@ -221,7 +235,9 @@ module _ (c i : Name) where
           round = ⊎_elim (λ w. absurd (omega (arith, w.0, older))) (λ w. w.1) here.which;
         }
 
-    taken_kept : (k : ℕ) (m : Mark) (moment : ℕ) (more : Bool) (x : Carried) (h : KeptSubscription) → slice_get letters k ≡ Some (of_one c i (Carries (Delivery m moment more x))) → IsKept letters h → IsKept letters (taken meaning h m more x)
+    taken_kept : (k : ℕ) (m : Mark) (moment : ℕ) (more : Bool) (x : Carried) (h : KeptSubscription)
+        → slice_get letters k ≡ Some (of_one c i (Carries (Delivery m moment more x))) → IsKept letters h
+        → IsKept letters (taken meaning h m more x)
     taken_kept k m moment more x h there is = by (outcome meaning h m) (means meaning h m)
       where
         by : (o : Outcome) → Means meaning h m o → IsKept letters (taken_as meaning o h m more x)
@@ -232,7 +248,8 @@ module _ (c i : Name) where
         by Overlong says = is
         by Wanted says =
             let turned = with_start meaning h m.start in
-            part_kept more turned x (start_kept (nat_lt h.start m.start) h m.start is) (all_of_part k m moment more x turned there (next_place h m (nat_lt h.start m.start) refl says))
+            part_kept more turned x (start_kept (nat_lt h.start m.start) h m.start is)
+            (all_of_part k m moment more x turned there (next_place h m (nat_lt h.start m.start) refl says))
 
     asked_kept : (number : ℕ) (wanted : Asked) (held : Option KeptSubscription) → KeptIf letters held → IsKept letters (asked meaning number wanted held)
     asked_kept number wanted None is = record { view = All-nil (IsCarried letters _); parts = tt; belongs = λ some. absurd (omega arith) }
@@ -241,20 +258,25 @@ module _ (c i : Name) where
   -- ---- what happens
   module _ (n : WorldNetwork) (letters : List Letter) (longer : Holds n.letters letters) (old : KeptIf letters (n.holdings c i)) where
     -- what is kept of one subscription is another thing
-    under : (d j : Name) (held : Option KeptSubscription) → ((c ≡ d) × (i ≡ j) → KeptIf letters held) → (b : Bool) → same_subscription c i d j ≡ b → KeptIf letters (cond b held (n.holdings c i))
+    under : (d j : Name) (held : Option KeptSubscription) → ((c ≡ d) × (i ≡ j) → KeptIf letters held) → (b : Bool)
+        → same_subscription c i d j ≡ b → KeptIf letters (cond b held (n.holdings c i))
     under d j held new true same = new (same_parts c i d j same)
     under d j held new false apart = old
 
     own : (d j : Name) → (c ≡ d) × (i ≡ j) → KeptIf letters (n.holdings d j)
     own d j same = subst (λ (z : Name × Name). KeptIf letters (n.holdings z.0 z.1)) (λ k. (same.0 k, same.1 k)) old
 
-    delivery_kept : (k : ℕ) (d j : Name) (m : Mark) (moment : ℕ) (more : Bool) (x : Carried) (held : Option KeptSubscription) → n.holdings d j ≡ held → slice_get n.letters k ≡ Some (of_one d j (Carries (Delivery m moment more x)))
+    delivery_kept : (k : ℕ) (d j : Name) (m : Mark) (moment : ℕ) (more : Bool) (x : Carried)
+        (held : Option KeptSubscription) → n.holdings d j ≡ held
+        → slice_get n.letters k ≡ Some (of_one d j (Carries (Delivery m moment more x)))
         → KeptIf letters ((Network.delivered meaning n d j m more x held).holdings c i)
     delivery_kept k d j m moment more x None is there = old
     delivery_kept k d j m moment more x (Some h) is there =
         under d j (Some (taken meaning h m more x)) (λ same.
         taken_kept letters k m moment more x h
-        (longer k (of_one c i (Carries (Delivery m moment more x))) (subst (λ (z : Name × Name). slice_get n.letters k ≡ Some (of_one z.0 z.1 (Carries (Delivery m moment more x)))) (λ l. (sym same.0 l, sym same.1 l)) there))
+        (longer k (of_one c i (Carries (Delivery m moment more x)))
+        (subst (λ (z : Name × Name). slice_get n.letters k ≡ Some
+        (of_one z.0 z.1 (Carries (Delivery m moment more x)))) (λ l. (sym same.0 l, sym same.1 l)) there))
         (subst (KeptIf letters) is (own d j same)))
         (same_subscription c i d j) refl
 
@@ -266,13 +288,17 @@ module _ (c i : Name) where
     readied_same d Repeat = refl
     readied_same d Overlong = refl
 
-    notified_kept : (d j : Name) (m : Mark) (held : Option KeptSubscription) → n.holdings d j ≡ held → KeptIf letters ((Network.notified meaning n d j m held).holdings c i)
+    notified_kept : (d j : Name) (m : Mark) (held : Option KeptSubscription) → n.holdings d j ≡ held
+        → KeptIf letters ((Network.notified meaning n d j m held).holdings c i)
     notified_kept d j m None is = old
     notified_kept d j m (Some h) is =
-        subst (λ (holdings : Name → Name → Option KeptSubscription). KeptIf letters (cond (same_subscription c i d j) (Some h) (holdings c i))) (sym (readied_same d (outcome meaning h m)))
+        subst (λ (holdings : Name → Name → Option KeptSubscription).
+        KeptIf letters (cond (same_subscription c i d j) (Some h) (holdings c i)))
+        (sym (readied_same d (outcome meaning h m)))
         (under d j (Some h) (λ same. subst (KeptIf letters) is (own d j same)) (same_subscription c i d j) refl)
 
-    letter_kept : (k : ℕ) (d j : Name) (it : About Carried Asked) → slice_get n.letters k ≡ Some (of_one d j it) → KeptIf letters ((takes meaning n d j it).holdings c i)
+    letter_kept : (k : ℕ) (d j : Name) (it : About Carried Asked) → slice_get n.letters k ≡ Some (of_one d j it)
+        → KeptIf letters ((takes meaning n d j it).holdings c i)
     letter_kept k d j (ToProducer true) there = old
     letter_kept k d j (ToProducer false) there = old
     letter_kept k d j ToConsumer there = old
@@ -288,17 +314,14 @@ module _ (c i : Name) where
     stopped_kept d j (Some h) = under d j None (λ same. tt) (same_subscription c i d j) refl
 
     happening_kept : (e : Happens) → KeptIf letters ((step meaning n e).holdings c i)
-    happening_kept (Starts moment) = old
-    happening_kept (Clocks moment) = old
-    happening_kept (Feeds entries) = old
     happening_kept (Asks d j wanted) = under d j _ (λ same. asked_kept letters _ wanted (n.holdings d j) (own d j same)) (same_subscription c i d j) refl
     happening_kept (Stops d j) = stopped_kept d j (n.holdings d j)
-    happening_kept (Requests d) = old
     happening_kept (Delivers k) = by (slice_get n.letters k) refl
       where
         by : (found : Option Letter) → slice_get n.letters k ≡ found → KeptIf letters ((takes_letter meaning n found).holdings c i)
         by None there = old
         by (Some letter) there = letter_kept k letter.subscriber letter.identifier letter.it there
+    happening_kept other = old
 
   step_kept : (n : WorldNetwork) (e : Happens) → KeptIf n.letters (n.holdings c i) → KeptIf (step meaning n e).letters ((step meaning n e).holdings c i)
   step_kept n e is =
@@ -344,7 +367,8 @@ a_part letter about c i same is = subst (λ (l : Letter). IsPart l.it) (sym same
 
 module _ (events : List Event) (c i : Name) where
   -- what such a letter carries, the packet of its place has
-  sent_heard : (k : ℕ) (receiver : Name) (sent : Message) (moment : ℕ) (it : Heard) (origin : Origin) (item : AnItem) (is : IsCarried c i (network_of events).letters origin item)
+  sent_heard : (k : ℕ) (receiver : Name) (sent : Message) (moment : ℕ) (it : Heard) (origin : Origin) (item : AnItem)
+      (is : IsCarried c i (network_of events).letters origin item)
       → slice_get (world_after events).packets k ≡ Some (packet.ToConsumer receiver sent) → heard sent ≡ it
       → letter_heard receiver moment it ≡ of_one c i (Carries (Delivery is.mark is.moment is.more is.part))
       → WasSent events c i (record { number = origin.number; start = origin.start; round = origin.round }) item
@@ -352,7 +376,8 @@ module _ (events : List Event) (c i : Name) where
       let it = ap (λ (l : Letter). l.it) same in
       let receiver_is : receiver ≡ c = ap (λ (l : Letter). l.subscriber) same in
       let identifier_is : identifier ≡ i = ap (λ (l : Letter). l.identifier) same in
-      let own : subscriber ≡ receiver = subst (IsFor receiver) says (is_for (world_after events) (network_of events) (world_stands events) k receiver sent there) in
+      let own : subscriber ≡ receiver = subst (IsFor receiver) says
+      (is_for (world_after events) (network_of events) (world_stands events) k receiver sent there) in
       let mark_is : m ≡ is.mark = cc in
       let part_is : part ≡ is.part = cc in
       record {
@@ -368,26 +393,41 @@ module _ (events : List Event) (c i : Name) where
         round_is = subst (λ (w : Mark). w.round ≤ origin.round) (sym mark_is) is.round_is;
         has = subst (λ (p : Carried). Contains p.items item) (sym part_is) is.has;
       }
-  sent_heard k receiver sent moment (Notified identifier m) origin item is there says same = absurd (a_part (letter_heard receiver moment (Notified identifier m)) (Carries (Delivery is.mark is.moment is.more is.part)) c i same tt)
-  sent_heard k receiver sent moment Noted origin item is there says same = absurd (a_part (letter_heard receiver moment Noted) (Carries (Delivery is.mark is.moment is.more is.part)) c i same tt)
-  sent_heard k receiver sent moment Foreign origin item is there says same = absurd (a_part (letter_heard receiver moment Foreign) (Carries (Delivery is.mark is.moment is.more is.part)) c i same tt)
+  sent_heard k receiver sent moment (Notified identifier m) origin item is there says same =
+      absurd (a_part (letter_heard receiver moment (Notified identifier m))
+      (Carries (Delivery is.mark is.moment is.more is.part)) c i same tt)
+  sent_heard k receiver sent moment Noted origin item is there says same =
+      absurd (a_part (letter_heard receiver moment Noted)
+      (Carries (Delivery is.mark is.moment is.more is.part)) c i same tt)
+  sent_heard k receiver sent moment Foreign origin item is there says same =
+      absurd (a_part (letter_heard receiver moment Foreign)
+      (Carries (Delivery is.mark is.moment is.more is.part)) c i same tt)
 
-  was_sent : (origin : Origin) (item : AnItem) → IsCarried c i (network_of events).letters origin item → WasSent events c i (record { number = origin.number; start = origin.start; round = origin.round }) item
+  was_sent : (origin : Origin) (item : AnItem) → IsCarried c i (network_of events).letters origin item
+      → WasSent events c i (record { number = origin.number; start = origin.start; round = origin.round }) item
   was_sent origin item is = by (slice_get (world_after events).packets is.place) refl
     where
       letter : slice_get (network_of events).letters is.place ≡ option_map letter_of (slice_get (world_after events).packets is.place)
       letter = letter_at (world_after events) (network_of events) is.place (world_stands events).1
 
-      some : (p : SentPacket) → slice_get (world_after events).packets is.place ≡ Some p → letter_of p ≡ of_one c i (Carries (Delivery is.mark is.moment is.more is.part)) → WasSent events c i (record { number = origin.number; start = origin.start; round = origin.round }) item
-      some (packet.ToProducer sender sent) there same = absurd (no_part sender sent (a_part (letter_to_producer sender sent) (Carries (Delivery is.mark is.moment is.more is.part)) c i same tt))
+      some : (p : SentPacket) → slice_get (world_after events).packets is.place ≡ Some p
+          → letter_of p ≡ of_one c i (Carries (Delivery is.mark is.moment is.more is.part))
+          → WasSent events c i (record { number = origin.number; start = origin.start; round = origin.round }) item
+      some (packet.ToProducer sender sent) there same = absurd
+          (no_part sender sent (a_part (letter_to_producer sender sent)
+          (Carries (Delivery is.mark is.moment is.more is.part)) c i same tt))
       some (packet.ToConsumer receiver sent) there same = sent_heard is.place receiver sent (moment_in sent) (heard sent) origin item is there refl same
 
-      by : (found : Option SentPacket) → slice_get (world_after events).packets is.place ≡ found → WasSent events c i (record { number = origin.number; start = origin.start; round = origin.round }) item
+      by : (found : Option SentPacket) → slice_get (world_after events).packets is.place ≡ found
+          → WasSent events c i (record { number = origin.number; start = origin.start; round = origin.round }) item
       by None there = let e = sym is.there ∙ letter ∙ ap (option_map letter_of) there in absurd (cc)
-      by (Some p) there = let e : Some (letter_of p) ≡ Some (of_one c i (Carries (Delivery is.mark is.moment is.more is.part))) = sym (letter ∙ ap (option_map letter_of) there) ∙ is.there in some p there (cc)
+      by (Some p) there = let e : Some (letter_of p) ≡ Some
+          (of_one c i (Carries (Delivery is.mark is.moment is.more is.part))) =
+          sym (letter ∙ ap (option_map letter_of) there) ∙ is.there in some p there (cc)
 
   -- each item of a view that is kept was sent
-  pub view_sent : (kept : KeptSubscription) → kept_by c i (world_after events).consumers ≡ Some kept → All (WasSent events c i (held_by kept)) (values_of kept.view)
+  pub view_sent : (kept : KeptSubscription) → kept_by c i (world_after events).consumers ≡ Some kept
+      → All (WasSent events c i (held_by kept)) (values_of kept.view)
   view_sent kept is =
       let n = network_of events in
       let holds : IsKept c i n.letters kept = subst (KeptIf c i n.letters) (held_is events c i kept is) (all_kept c i (happened events) opened tt) in

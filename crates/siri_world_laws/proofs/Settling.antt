@@ -1,5 +1,6 @@
 -- Right after a settle nothing is due of a subscription: no message of its wanted part, and no heartbeat.
-use Rattle.std.proofs.Common.{◌≡◌, ℕ, zero, suc, ℤ, pos, negsuc, ◌+◌, Bool, true, false, ◌&&◌, List, [], ◌∷◌, ◌++◌, Option, Some, None, refl, sym, ap, ◌∙◌, subst, arith}
+use Rattle.std.proofs.Common.{◌≡◌, ℕ, zero, suc, ℤ, pos, negsuc, ◌+◌, Bool, true, false, ◌&&◌, List, [], ◌∷◌, ◌++◌, Option, Some, None}
+use Rattle.std.proofs.Common.{refl, sym, ap, ◌∙◌, subst, arith}
 use Rattle.std.specs.Prelude.{int_lt, option_map, if◌then◌else◌}
 use Rattle.std.proofs.lemmas.Bool.{lt-ltb}
 use Rattle.siri_records.specs.Keyed.{Items}
@@ -20,8 +21,8 @@ use Rattle.siri_model_laws.proofs.InOrder.{more_steps}
 use Rattle.siri_model_laws.proofs.Serves.{goes_with, more_served}
 use Rattle.siri_rounds.specs.Wanted.{KeptRounds, wanted_part}
 use Rattle.siri_replies.specs.Statuses.{heartbeat}
-use Rattle.siri_settle.specs.Messages.{message_of}
-use Rattle.siri_settle.specs.Sends.{At, heartbeat_due, outs_with, part_due, row_sends}
+use Rattle.siri_subscriptions.specs.Messages.{message_of}
+use Rattle.siri_subscriptions.specs.Sends.{At, heartbeat_due, outs_with, part_due, row_sends}
 use Rattle.siri_producer.specs.Sends.{at_of}
 use Rattle.siri_world_laws.specs.Apart.{life_sends, sends_of}
 use Rattle.siri_world_laws.proofs.Sends.{look_keeps}
@@ -55,7 +56,8 @@ module _ (at : At) (items : Items) where
       not_due = ap (λ (kept : KeptRounds). is_message_due kept at.now) (look_keeps l (direct l.wanted) at.now) ∙ still.2
 
       no_part : part_due at items (row_of l) ≡ None
-      no_part = ap (λ due. if due then option_map (message_of at.producer at.start l.wanted.subscription l.number) (wanted_part (looked (asked_of (row_of l)) (direct l.wanted) at.now (slot_of meaning l))) else None) not_due
+      no_part = ap (λ due. if due then option_map (message_of at.producer at.start l.wanted.subscription l.number)
+          (wanted_part (looked (asked_of (row_of l)) (direct l.wanted) at.now (slot_of meaning l))) else None) not_due
 
       no_heartbeat : heartbeat_due at (row_of l) ≡ None
       no_heartbeat = ap (λ due. if due then Some (message.HeartbeatNotification (heartbeat at.producer at.now at.started)) else None) still.3
@@ -75,12 +77,16 @@ module _ (at : At) (items : Items) where
 
 -- ---- after a history
 
-first_settled : (known : History) (now : ℕ) (lives : List Living) → first (settled_all meaning known now lives) ≡ option_map (λ (l : Living). settled meaning l (direct_of known l.wanted) now) (first lives)
+first_settled : (known : History) (now : ℕ) (lives : List Living)
+    → first (settled_all meaning known now lives) ≡ option_map
+    (λ (l : Living). settled meaning l (direct_of known l.wanted) now) (first lives)
 first_settled known now [] = refl
 first_settled known now (l ∷ lives) = refl
 
 -- the life after a settle, by what is shown
-life_settles : (c s : Name) (h : History) → life_of c s (h ++ Settle ∷ []) ≡ option_map (λ (l : Living). settled meaning l (shown (now_of h) (current h) l.wanted.subscription.topic) (now_of h)) (life_of c s h)
+life_settles : (c s : Name) (h : History) → life_of c s (h ++ Settle ∷ []) ≡ option_map
+    (λ (l : Living). settled meaning l (shown (now_of h) (current h) l.wanted.subscription.topic) (now_of h))
+    (life_of c s h)
 unfolding served_after
 life_settles c s h =
     let v = serving_of h in
@@ -88,7 +94,8 @@ life_settles c s h =
     ap (λ (served : Served). find c s served.table) (more_served h Settle)
     ∙ ap (λ lives. first lives) (those_settled meaning c s v.known v.now v.table)
     ∙ first_settled v.known v.now (those c s v.table)
-    ∙ (λ i. option_map (λ (l : Living). settled meaning l (shown (goes.known i).now (goes.known i).current l.wanted.subscription.topic) (goes.now i)) (life_of c s h))
+    ∙ (λ i. option_map (λ (l : Living). settled meaning l
+    (shown (goes.known i).now (goes.known i).current l.wanted.subscription.topic) (goes.now i)) (life_of c s h))
 
 state_settles : (h : History) → state_of (h ++ Settle ∷ []) ≡ state_of h
 unfolding after_step

@@ -35,7 +35,8 @@ stands_act : (v : Served) (a : Act Carried Asked Entry) → Stands v → Stands 
 stands_act v (Clocked moment) stand = kept_all (IsOf v.start) (lives_on meaning (clocked_serving meaning v moment).now) v.table stand
 stands_act v (Fed entries) stand = stand
 stands_act v (Heard c s p) stand =
-    subst (λ k. AllLive (IsOf k) (heard meaning v c s p).table) (sym (heard_keeps v c s p).start) (heard_all (IsOf v.start) (stays v.start) v c s p (begins v p) stand)
+    subst (λ k. AllLive (IsOf k) (heard meaning v c s p).table) (sym (heard_keeps v c s p).start)
+    (heard_all (IsOf v.start) (stays v.start) v c s p (begins v p) stand)
 stands_act v Settled stand = settled_all (IsOf v.start) (stays v.start) v.known v.now v.table stand
 
 stands_acts : (v : Served) (acts : List (Act Carried Asked Entry)) → Stands v → Stands (serving_after meaning acts v)

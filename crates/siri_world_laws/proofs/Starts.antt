@@ -1,10 +1,15 @@
 -- Each life of a producer's side is of its start, and no subscription is in its table twice.
-use Rattle.std.proofs.Common.{◌≡◌, ℕ, suc, ◌≤◌, max, Bool, true, false, cond, ◌&&◌, List, [], ◌∷◌, ◌++◌, length, Option, Some, None, refl, sym, ap, ◌∙◌, subst, arith}
+use Rattle.std.proofs.Common.{◌≡◌, ℕ, suc, ◌≤◌, max, Bool, true, false, cond, ◌&&◌, List, [], ◌∷◌, ◌++◌, length, Option, Some, None, refl}
+use Rattle.std.proofs.Common.{sym, ap, ◌∙◌, subst, arith}
 use Rattle.std.specs.Prelude.{nat_lt}
 use Rattle.siri_life.specs.Meaning.{Meaning}
-use Rattle.siri_life.specs.Life.{Outstanding, Life, Mark, is_mark, is_due, Subscribe, Terminate, Supply, Acknowledge, Notify, Delivery, new_life, is_before, opened, opened_at, opened_if, wants_round, after_send, sent_if, after_heartbeat, heartbeat_if, sends_heartbeat, settled, after_acknowledgement, acknowledged_at, acknowledged_if, next_part, after_supply, supplied_at}
+use Rattle.siri_life.specs.Life.{Outstanding, Life, Mark, is_mark, is_due, Subscribe, Terminate, Supply, Acknowledge, Notify, Delivery}
+use Rattle.siri_life.specs.Life.{new_life, is_before, opened, opened_at, opened_if, wants_round, after_send, sent_if, after_heartbeat}
+use Rattle.siri_life.specs.Life.{heartbeat_if, sends_heartbeat, settled, after_acknowledgement, acknowledged_at, acknowledged_if, next_part}
+use Rattle.siri_life.specs.Life.{after_supply, supplied_at}
 use Rattle.siri_life.specs.Named.{Name, Of, same_subscription, those, first, find, put, without, keep}
-use Rattle.siri_life.specs.Serving.{Serving, Act, Clocked, Fed, Heard, Settled, row_of, settled_rows, accepted_if, accepts, ended_if, supplied, acknowledged, lives_on, expired, served, serving_after, opening_serving}
+use Rattle.siri_life.specs.Serving.{Serving, Act, Clocked, Fed, Heard, Settled, row_of, settled_rows, accepted_if, accepts, ended_if}
+use Rattle.siri_life.specs.Serving.{supplied, acknowledged, lives_on, expired, served, serving_after, opening_serving}
 use Rattle.siri_life_laws.proofs.Names.{those_put, those_without, those_keep, those_settled, rest}
 use Rattle.siri_life_laws.proofs.Sees.{length_rest, length_only, length_settled}
 
@@ -122,7 +127,8 @@ module _ {V P W H E : Type 0} (f : Meaning V P W H E) where
     pub ended : AreOf v.start v.ended
     pub once : (c s : Name) → length (those c s v.table) ≤ 1
 
-  once_put : (d t : Name) (l : Life V P W) (xs : List (Of (Life V P W))) → ((c s : Name) → length (those c s xs) ≤ 1) → (c s : Name) → length (those c s (put d t l xs)) ≤ 1
+  once_put : (d t : Name) (l : Life V P W) (xs : List (Of (Life V P W))) → ((c s : Name) → length (those c s xs) ≤ 1)
+      → (c s : Name) → length (those c s (put d t l xs)) ≤ 1
   once_put d t l xs once c s =
       subst (λ (zs : List (Life V P W)). length zs ≤ 1) (sym (those_put c s d t l xs)) (by (same_subscription c s d t))
     where
@@ -130,7 +136,8 @@ module _ {V P W H E : Type 0} (f : Meaning V P W H E) where
       by true = length_rest f c s l (those c s xs) (once c s)
       by false = once c s
 
-  once_without : (d t : Name) (xs : List (Of (Life V P W))) → ((c s : Name) → length (those c s xs) ≤ 1) → (c s : Name) → length (those c s (without d t xs)) ≤ 1
+  once_without : (d t : Name) (xs : List (Of (Life V P W))) → ((c s : Name) → length (those c s xs) ≤ 1) → (c s : Name)
+      → length (those c s (without d t xs)) ≤ 1
   once_without d t xs once c s =
       subst (λ (zs : List (Life V P W)). length zs ≤ 1) (sym (those_without c s d t xs)) (by (same_subscription c s d t))
     where
@@ -138,14 +145,16 @@ module _ {V P W H E : Type 0} (f : Meaning V P W H E) where
       by true = omega arith
       by false = once c s
 
-  once_keep : (p : Life V P W → Bool) (xs : List (Of (Life V P W))) → ((c s : Name) → length (those c s xs) ≤ 1) → (c s : Name) → length (those c s (keep p xs)) ≤ 1
+  once_keep : (p : Life V P W → Bool) (xs : List (Of (Life V P W))) → ((c s : Name) → length (those c s xs) ≤ 1)
+      → (c s : Name) → length (those c s (keep p xs)) ≤ 1
   once_keep p xs once c s =
       let same = ap (λ (zs : List (Life V P W)). length zs) (those_keep c s p xs) in
       let few = length_only f c s p (those c s xs) in
       let one = once c s in
       omega arith
 
-  once_settled : (known : H) (now : ℕ) (xs : List (Of (Life V P W))) → ((c s : Name) → length (those c s xs) ≤ 1) → (c s : Name) → length (those c s (settled_rows f known now xs)) ≤ 1
+  once_settled : (known : H) (now : ℕ) (xs : List (Of (Life V P W))) → ((c s : Name) → length (those c s xs) ≤ 1)
+      → (c s : Name) → length (those c s (settled_rows f known now xs)) ≤ 1
   once_settled known now xs once c s =
       let same = ap (λ (zs : List (Life V P W)). length zs) (those_settled f c s known now xs) in
       let long = length_settled f c s known now (those c s xs) in

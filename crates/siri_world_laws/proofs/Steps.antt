@@ -1,6 +1,7 @@
 -- What the producer of a world does is what that of its network does: after each event the world's network is the one after
 -- what happens in it.
-use Rattle.std.proofs.Common.{◌≡◌, ℕ, zero, suc, max, Bool, true, false, List, [], ◌∷◌, ◌++◌, length, Option, Some, None, refl, sym, ap, ◌∙◌, subst, append-nil, arith}
+use Rattle.std.proofs.Common.{◌≡◌, ℕ, zero, suc, max, Bool, true, false, List, [], ◌∷◌, ◌++◌, length, Option, Some, None, refl, sym, ap}
+use Rattle.std.proofs.Common.{◌∙◌, subst, append-nil, arith}
 use Rattle.std.specs.Prelude.{nat_le, slice_get, option_map, unwrap_or, if◌then◌else◌}
 use Rattle.std.specs.List.{All, last_or}
 use Rattle.std.proofs.lemmas.List.{append_assoc, map-append}
@@ -16,7 +17,8 @@ use Rattle.siri_change.specs.Parts.{Carried}
 use Rattle.siri_life.specs.Life.{Subscribe, Terminate, Supply, Acknowledge, Notify, Delivery}
 use Rattle.siri_life.specs.Named.{Name, Of, next_of}
 use Rattle.siri_life.specs.Network.{network_after, step, takes, takes_letter, Clocks, Feeds}
-use Rattle.siri_life.specs.Serving.{About, Carries, ToProducer, ToConsumer, clocked_serving, expired_serving, fed_serving, heard, row_letters, settled_serving, started_serving, told}
+use Rattle.siri_life.specs.Serving.{About, Carries, ToProducer, ToConsumer, clocked_serving, expired_serving, fed_serving, heard}
+use Rattle.siri_life.specs.Serving.{row_letters, settled_serving, started_serving, told}
 use Rattle.siri_model.specs.History.{Entry, Step, Start, Clock, Feed, Take, Settle, History, entries_of}
 use Rattle.siri_model.specs.Lives.{Living, Served, served_after, serving_of}
 use Rattle.siri_model.specs.Meaning.{meaning}
@@ -42,10 +44,13 @@ use Rattle.siri_world_laws.specs.Happenings.{happening, happening_if, happenings
 use Rattle.siri_world_laws.specs.Letters.{Letter, letter_of, letter_to_producer, letters_of, asking, ending, acknowledging}
 use Rattle.siri_world_laws.specs.Networks.{WorldNetwork, next_number_of, kept_by, serving_from, with_ended, all_lives, Fits}
 use Rattle.siri_world_laws.proofs.Well.{IsOfConsumer, IsMade, AreNumbered, IsShort, IsOrdered, IsWell}
-use Rattle.siri_world_laws.proofs.Consumers.{Stands, StandsAfter, told_stands, subscribe_stands, terminate_stands, status_stands, to_consumer_stands, to_nobody_stands}
+use Rattle.siri_world_laws.proofs.Consumers.{Stands, StandsAfter, told_stands, subscribe_stands, terminate_stands, status_stands}
+use Rattle.siri_world_laws.proofs.Consumers.{to_consumer_stands, to_nobody_stands}
 use Rattle.siri_world_laws.proofs.Known.{next_clocked, kept_clocked, ordered_clocked}
 use Rattle.siri_world_laws.proofs.Latest.{rows_first, Ends, ends_of, ends_some, two_steps, about_first, about_replies, about_start, numbered_anew}
-use Rattle.siri_world_laws.proofs.Producer.{sends_are_letters, sends_are_made, heard_about, serving_heard, taken_is_heard, replies_about, replies_heard, reply_is_letter, reply_is_made, short_started, short_clocked, short_fed, short_settled, short_taken}
+use Rattle.siri_world_laws.proofs.Producer.{sends_are_letters, sends_are_made, heard_about, serving_heard, taken_is_heard, replies_about}
+use Rattle.siri_world_laws.proofs.Producer.{replies_heard, reply_is_letter, reply_is_made, short_started, short_clocked, short_fed}
+use Rattle.siri_world_laws.proofs.Producer.{short_settled, short_taken}
 
 -- ---- a step of the producer and a settle
 
@@ -82,18 +87,23 @@ IsToProducer (ToProducer answered) = Unit {0}
 IsToProducer ToConsumer = ⊥
 
 -- the producer takes it, replies, and settles
-about_settles : (n : WorldNetwork) (c s : Name) (it : About Carried Asked) → IsToProducer it → Settles (λ v. heard_about v c s it) (replies_about n.serving c s it) (takes meaning n c s it) n
+about_settles : (n : WorldNetwork) (c s : Name) (it : About Carried Asked) → IsToProducer it
+    → Settles (λ v. heard_about v c s it) (replies_about n.serving c s it) (takes meaning n c s it) n
 about_settles n c s (Carries (Subscribe number x)) to = record {
   serving = refl;
   numbers = λ name. refl;
   holdings = λ name identifier. refl;
-  sent = ap (λ xs. (xs ++ told meaning c) ++ row_letters meaning (heard meaning n.serving c s (Subscribe number x)).known (heard meaning n.serving c s (Subscribe number x)).now (heard meaning n.serving c s (Subscribe number x)).table) (append-nil n.letters);
+  sent = ap (λ xs. (xs ++ told meaning c) ++ row_letters meaning
+      (heard meaning n.serving c s (Subscribe number x)).known (heard meaning n.serving c s (Subscribe number x)).now
+      (heard meaning n.serving c s (Subscribe number x)).table) (append-nil n.letters);
 }
 about_settles n c s (Carries (Terminate number)) to = record {
   serving = refl;
   numbers = λ name. refl;
   holdings = λ name identifier. refl;
-  sent = ap (λ xs. (xs ++ told meaning c) ++ row_letters meaning (heard meaning n.serving c s (Terminate number)).known (heard meaning n.serving c s (Terminate number)).now (heard meaning n.serving c s (Terminate number)).table) (append-nil n.letters);
+  sent = ap (λ xs. (xs ++ told meaning c) ++ row_letters meaning (heard meaning n.serving c s (Terminate number)).known
+      (heard meaning n.serving c s (Terminate number)).now (heard meaning n.serving c s (Terminate number)).table)
+      (append-nil n.letters);
 }
 about_settles n c s (Carries (Supply m)) to = record { serving = refl; numbers = λ name. refl; holdings = λ name identifier. refl; sent = refl }
 about_settles n c s (Carries (Acknowledge m)) to = record { serving = refl; numbers = λ name. refl; holdings = λ name identifier. refl; sent = refl }
@@ -153,7 +163,10 @@ module _ (world : World) (old : WorldNetwork) (stands : Stands world old) (e : E
   short_is : All IsShort (serving_of h).table
   short_is = subst (λ (x : History). All IsShort (serving_of x).table) latest_is well.short
 
-  module _ (moment : ℕ) (consumers : List Consuming) (keep : Keep consumers world.consumers) (next : Step) (serves : Served → Served) (next_is : Serves h next serves) (lines : List ToldLine) (replies : List SentPacket) (letters : List Letter) (said : letters_of replies ≡ letters) (made : All IsMade replies) (new : WorldNetwork) (settled : Settles serves letters new old) where
+  module _ (moment : ℕ) (consumers : List Consuming) (keep : Keep consumers world.consumers) (next : Step)
+      (serves : Served → Served) (next_is : Serves h next serves) (lines : List ToldLine) (replies : List SentPacket)
+      (letters : List Letter) (said : letters_of replies ≡ letters) (made : All IsMade replies) (new : WorldNetwork)
+      (settled : Settles serves letters new old) where
     abbrev outs : List SentPacket
     outs = packets_out (sends producer (latest world ++ next ∷ []))
 
@@ -231,7 +244,8 @@ module _ (world : World) (old : WorldNetwork) (stands : Stands world old) (e : E
   pub clock_stands : (moment : ℕ) → StandsAfter world (event.Clock moment) old
   unfolding effect happening
   clock_stands moment =
-      settles_stand (max world.moment moment) (all_clocked moment world.consumers) (clocked_keep moment) (Clock moment) (λ v. expired_serving meaning (clocked_serving meaning v moment)) (clock_serves moment) [] [] []
+      settles_stand (max world.moment moment) (all_clocked moment world.consumers) (clocked_keep moment) (Clock moment)
+      (λ v. expired_serving meaning (clocked_serving meaning v moment)) (clock_serves moment) [] [] []
       refl (All-nil IsMade) (step meaning old (Clocks moment)) (record {
         serving = refl;
         numbers = λ name. refl;
@@ -262,7 +276,8 @@ module _ (world : World) (old : WorldNetwork) (stands : Stands world old) (e : E
         serving = refl;
         numbers = λ name. refl;
         holdings = λ name identifier. refl;
-        sent = ap (λ xs. xs ++ row_letters meaning (fed_serving meaning old.serving entries).known old.serving.now old.serving.table) (sym (append-nil old.letters));
+        sent = ap (λ xs. xs ++ row_letters meaning (fed_serving meaning old.serving entries).known old.serving.now
+            old.serving.table) (sym (append-nil old.letters));
       })
 
   -- ---- a packet that reaches the producer
@@ -277,7 +292,9 @@ module _ (world : World) (old : WorldNetwork) (stands : Stands world old) (e : E
         short = short_taken h sender m made short_is;
       }
 
-  reply_said : (sender : Name) (m : Message) → IsOfConsumer sender m → letters_of (reply_to sender (answer_to producer (latest world) m).reply) ≡ replies_heard old.serving (letter_to_producer sender m)
+  reply_said : (sender : Name) (m : Message) → IsOfConsumer sender m
+      → letters_of (reply_to sender (answer_to producer (latest world) m).reply) ≡ replies_heard old.serving
+      (letter_to_producer sender m)
   reply_said sender m made =
       let letter = letter_to_producer sender m in
       ap (λ x. letters_of (reply_to sender (answer_to producer x m).reply)) latest_is
@@ -285,22 +302,31 @@ module _ (world : World) (old : WorldNetwork) (stands : Stands world old) (e : E
       ∙ sym (about_replies e.before (serving_of h) letter.subscriber letter.identifier letter.it)
       ∙ ap (λ v. replies_heard v letter) (sym serving_is)
 
-  pub answered_stands : (sender : Name) (m : Message) → IsOfConsumer sender m → Stands (with_packets (effects.answered world sender m (answer_to producer (latest world) m))) (takes_letter meaning old (Some (letter_to_producer sender m)))
+  pub answered_stands : (sender : Name) (m : Message) → IsOfConsumer sender m
+      → Stands (with_packets (effects.answered world sender m (answer_to producer (latest world) m)))
+      (takes_letter meaning old (Some (letter_to_producer sender m)))
   answered_stands sender m made =
       let letter = letter_to_producer sender m in
-      settles_stand world.moment world.consumers same_keep (Take m) (λ v. serving_heard v letter) (heard_serves sender m made) [] (reply_to sender (answer_to producer (latest world) m).reply) (replies_heard old.serving letter)
+      settles_stand world.moment world.consumers same_keep (Take m) (λ v. serving_heard v letter)
+      (heard_serves sender m made) [] (reply_to sender (answer_to producer (latest world) m).reply)
+      (replies_heard old.serving letter)
       (reply_said sender m made) (subst (λ x. All IsMade (reply_to sender (answer_to producer x m).reply)) (sym latest_is) (reply_is_made h sender m made))
       (takes_letter meaning old (Some letter)) (about_settles old letter.subscriber letter.identifier letter.it (is_to_producer sender m))
 
 -- ---- a packet to the producer
 
-to_producer_stands : (world : World) (number : ℕ) (sender : Name) (m : Message) (n : WorldNetwork) → nat_le (length world.starts) 0 ≡ false → packet_at number world.packets ≡ Some (packet.ToProducer sender m) → Stands world n → StandsAfter world (event.Deliver number) n
+to_producer_stands : (world : World) (number : ℕ) (sender : Name) (m : Message) (n : WorldNetwork)
+    → nat_le (length world.starts) 0 ≡ false → packet_at number world.packets ≡ Some (packet.ToProducer sender m)
+    → Stands world n → StandsAfter world (event.Deliver number) n
 unfolding effect happening
 to_producer_stands world zero sender m n some is stands = absurd (cc)
 to_producer_stands world (suc before) sender m n some is stands =
     let sent = packet.ToProducer sender m in
-    let made : IsMade sent = subst IsMade (get_or_from_slice_get world.packets before sent sent is) (All-get_or IsMade world.packets before sent (slice_get_within world.packets before sent is) stands.0.made) in
-    let letter : slice_get n.letters before ≡ Some (letter_to_producer sender m) = ap (λ xs. slice_get xs before) stands.1.letters ∙ slice_get-map letter_of world.packets before ∙ ap (option_map letter_of) is in
+    let made : IsMade sent = subst IsMade (get_or_from_slice_get world.packets before sent sent is)
+    (All-get_or IsMade world.packets before sent (slice_get_within world.packets before sent is) stands.0.made) in
+    let letter : slice_get n.letters before ≡ Some (letter_to_producer sender m) =
+    ap (λ xs. slice_get xs before) stands.1.letters ∙ slice_get-map letter_of world.packets before
+    ∙ ap (option_map letter_of) is in
     subst (λ found. Stands (with_packets (delivered world (suc before) found)) (takes_letter meaning n (slice_get n.letters before))) (sym is)
     (subst (λ found. Stands (with_packets (effects.answered world sender m (answer_to producer (latest world) m))) (takes_letter meaning n found)) (sym letter)
     (answered_stands world n stands (ends_some world.starts some) sender m made))
@@ -308,7 +334,9 @@ to_producer_stands world (suc before) sender m n some is stands =
 -- ---- the next start
 
 -- the next start's side
-next_serving : (starts : List History) → AreNumbered 1 starts → (moment : ℕ) → started_serving meaning (serving_from [] starts) moment ≡ serving_from [] (starts ++ (Start (suc (length starts)) moment ∷ []) ∷ [])
+next_serving : (starts : List History) → AreNumbered 1 starts → (moment : ℕ)
+    → started_serving meaning (serving_from [] starts) moment ≡ serving_from []
+    (starts ++ (Start (suc (length starts)) moment ∷ []) ∷ [])
 unfolding served_after
 next_serving [] numbered moment = refl
 next_serving (first ∷ more) numbered moment =
@@ -333,7 +361,9 @@ start_stands world moment n stands =
     let first : History = Start (suc (length world.starts)) moment ∷ [] in (
       record {
         numbered = numbered_anew 1 (suc (length world.starts)) moment world.starts (omega arith) well.numbered;
-        short = subst (λ (x : History). All IsShort (serving_of x).table) (sym (ap (λ found. unwrap_or found []) (last_appended None world.starts first))) (short_started (suc (length world.starts)) moment);
+        short = subst (λ (x : History). All IsShort (serving_of x).table)
+            (sym (ap (λ found. unwrap_or found []) (last_appended None world.starts first)))
+            (short_started (suc (length world.starts)) moment);
         made = subst (All IsMade) (sym (append-nil world.packets)) well.made;
         ordered = ordered_clocked moment world.consumers well.ordered;
       },
@@ -347,7 +377,8 @@ start_stands world moment n stands =
 
 -- ---- every packet
 
-pub deliver_stands : (world : World) (number : ℕ) (n : WorldNetwork) → (nat_le (length world.starts) 0 ≡ false) → Stands world n → StandsAfter world (event.Deliver number) n
+pub deliver_stands : (world : World) (number : ℕ) (n : WorldNetwork) → (nat_le (length world.starts) 0 ≡ false)
+    → Stands world n → StandsAfter world (event.Deliver number) n
 deliver_stands world number n some stands = by (packet_at number world.packets) refl
   where
     by : (found : Option SentPacket) → packet_at number world.packets ≡ found → StandsAfter world (event.Deliver number) n

@@ -77,11 +77,13 @@ module _ (P : Living → Type 0) where
       where
         by : (l : Option Living) → find c s v.table ≡ l → AllLive (supplied meaning v c s m l).table
         by None is = all
-        by (Some l) is = put_all c s (after_supply meaning l v.start m v.now) v.table (stays _ l (supply_goes l v.start m v.now) (found_all c s v.table l all is)) all
+        by (Some l) is = put_all c s (after_supply meaning l v.start m v.now) v.table
+            (stays _ l (supply_goes l v.start m v.now) (found_all c s v.table l all is)) all
     heard_all v c s (Acknowledge m) begins all = by (find c s v.table) refl
       where
         by : (l : Option Living) → find c s v.table ≡ l → AllLive (acknowledged meaning v c s m l).table
         by None is = all
-        by (Some l) is = put_all c s (after_acknowledgement meaning l v.start m v.now) v.table (stays _ l (acknowledgement_goes l v.start m v.now) (found_all c s v.table l all is)) all
+        by (Some l) is = put_all c s (after_acknowledgement meaning l v.start m v.now) v.table
+            (stays _ l (acknowledgement_goes l v.start m v.now) (found_all c s v.table l all is)) all
     heard_all v c s (Notify m moment) begins all = all
     heard_all v c s (Delivery m moment more part) begins all = all

@@ -47,12 +47,15 @@ module _ (c : Consuming) (identifier : Name) where
   sent packets = letters_of (packets_from c.name (replies_by c identifier packets))
 
   -- as the packets that they are
-  supply_letters : (b : Bool) (m : Mark) → sent (Acknowledge m ∷ then_supply view.meaning b m) ≡ letters_for meaning c.name identifier (Acknowledge m ∷ then_supply meaning b m)
+  supply_letters : (b : Bool) (m : Mark) → sent (Acknowledge m ∷ then_supply view.meaning b m) ≡ letters_for meaning
+      c.name identifier (Acknowledge m ∷ then_supply meaning b m)
   unfolding letter_to_producer
   supply_letters true m = refl
   supply_letters false m = refl
 
-  replied_as : (o : life.Outcome) (h : KeptSubscription) (m : Mark) (more : Bool) → sent (replies_as view.meaning o h m more) ≡ letters_for meaning c.name identifier (replies_as meaning o h m more)
+  replied_as : (o : life.Outcome) (h : KeptSubscription) (m : Mark) (more : Bool)
+      → sent (replies_as view.meaning o h m more) ≡ letters_for meaning c.name identifier
+      (replies_as meaning o h m more)
   unfolding letter_to_producer
   replied_as life.Wanted h m more = supply_letters (more && h.wanted.subscription.fetched) m
   replied_as life.Repeat h m more = refl
@@ -61,7 +64,8 @@ module _ (c : Consuming) (identifier : Name) where
   replied_as life.Gap h m more = refl
   replied_as life.Overlong h m more = refl
 
-  pub replied : (h : KeptSubscription) (m : Mark) (more : Bool) → sent (replies view.meaning h m more) ≡ letters_for meaning c.name identifier (replies meaning h m more)
+  pub replied : (h : KeptSubscription) (m : Mark) (more : Bool)
+      → sent (replies view.meaning h m more) ≡ letters_for meaning c.name identifier (replies meaning h m more)
   replied h m more = replied_as (life.outcome view.meaning h m) h m more
 
   asked_as : (o : life.Outcome) (m : Mark) → sent (asks_for_as view.meaning o m) ≡ letters_for meaning c.name identifier (asks_for_as meaning o m)
@@ -86,10 +90,14 @@ module _ (c : Consuming) (identifier : Name) where
   one_made message made = All-cons (IsOfConsumer c.name) message [] made (All-nil (IsOfConsumer c.name))
 
   then_made : (b : Bool) (m : Mark) → All (IsOfConsumer c.name) (replies_by c identifier (Acknowledge m ∷ then_supply view.meaning b m))
-  then_made true m = All-cons (IsOfConsumer c.name) (acknowledgement c.name c.moment identifier m) (supply_request c.name c.moment identifier (life.next_mark view.meaning m) ∷ []) (acknowledgement_made m) (one_made (supply_request c.name c.moment identifier (life.next_mark view.meaning m)) (supply_made (life.next_mark view.meaning m)))
+  then_made true m = All-cons (IsOfConsumer c.name) (acknowledgement c.name c.moment identifier m)
+      (supply_request c.name c.moment identifier (life.next_mark view.meaning m) ∷ []) (acknowledgement_made m)
+      (one_made (supply_request c.name c.moment identifier (life.next_mark view.meaning m))
+      (supply_made (life.next_mark view.meaning m)))
   then_made false m = one_made (acknowledgement c.name c.moment identifier m) (acknowledgement_made m)
 
-  made_as : (o : life.Outcome) (h : KeptSubscription) (m : Mark) (more : Bool) → All (IsOfConsumer c.name) (replies_by c identifier (replies_as view.meaning o h m more))
+  made_as : (o : life.Outcome) (h : KeptSubscription) (m : Mark) (more : Bool)
+      → All (IsOfConsumer c.name) (replies_by c identifier (replies_as view.meaning o h m more))
   made_as life.Wanted h m more = then_made (more && h.wanted.subscription.fetched) m
   made_as life.Repeat h m more = one_made (acknowledgement c.name c.moment identifier m) (acknowledgement_made m)
   made_as life.UnknownSubscription h m more = All-nil (IsOfConsumer c.name)
@@ -135,7 +143,9 @@ module _ (c : Consuming) (identifier : Name) where
   abbrev answers : KeptSubscription → Mark → List Message
   answers h m = readied c (life.outcome view.meaning h m) ++ replies_by c identifier (asks_for view.meaning h m)
 
-  pub notified_sent : (h : KeptSubscription) (m : Mark) → letters_of (packets_from c.name (answers h m)) ≡ ready_letters (life.outcome meaning h m) ++ letters_for meaning c.name identifier (asks_for meaning h m)
+  pub notified_sent : (h : KeptSubscription) (m : Mark)
+      → letters_of (packets_from c.name (answers h m)) ≡ ready_letters (life.outcome meaning h m)
+      ++ letters_for meaning c.name identifier (asks_for meaning h m)
   notified_sent h m =
       let o = life.outcome view.meaning h m in
       ap letters_of (map-append (packet.ToProducer c.name) (readied c o) (replies_by c identifier (asks_for view.meaning h m)))

@@ -20,7 +20,7 @@ use Rattle.siri_world_model.specs.declared.event.Event.TheVariants as event
 use Rattle.siri_world_model.specs.declared.step_error.StepError.{StepError}
 use Rattle.siri_world_model.specs.Consumers.{consumer_of}
 use Rattle.siri_world_model.specs.Effects as effects
-use Rattle.siri_world_model.specs.Effects.{Effect, all_lines, effect}
+use Rattle.siri_world_model.specs.Effects.{all_lines, effect}
 use Rattle.siri_world_model.specs.Goals.{goal, is_quiet}
 use Rattle.siri_world_model.specs.Lines as line
 use Rattle.siri_world_model.specs.Lines.{ToldLine}
@@ -39,13 +39,16 @@ use Rattle.siri_world_laws.proofs.Worlds.{world_stands}
 use Rattle.siri_world_laws.proofs.Views.{held_is, quiet_meets, quiet_view, view_shown}
 
 -- the direct response to what the producer knows is that to what was observed
-direct_observed : (events : List Event) (topic : Topic) → Knows (world_after events) (observed events) → shown (now_of (latest (world_after events))) (current (latest (world_after events))) topic ≡ direct_response events topic
+direct_observed : (events : List Event) (topic : Topic) → Knows (world_after events) (observed events)
+    → shown (now_of (latest (world_after events))) (current (latest (world_after events))) topic ≡ direct_response
+    events topic
 direct_observed events topic knows = λ i. shown (knows.now i) (knows.current i) topic
 
 -- ---- what is told
 
 -- the lines of an event that is told of
-told_lines_are : (world : World) (e : Event) (lines : List ToldLine) (refused : Option StepError) → told_if refused world e ≡ Ok lines → lines ≡ all_lines world (effect world e)
+told_lines_are : (world : World) (e : Event) (lines : List ToldLine) (refused : Option StepError)
+    → told_if refused world e ≡ Ok lines → lines ≡ all_lines world (effect world e)
 told_lines_are world e lines (Some error) is = absurd (cc)
 told_lines_are world e lines None is = sym (ok_same (all_lines world (effect world e)) lines is)
   where
@@ -66,11 +69,13 @@ module _ (events : List Event) (happen : AllHappen events) (consumer identifier 
 
   -- the items of a quiet view are direct
   quiet_direct : (kept : KeptSubscription) → kept_by consumer identifier world.consumers ≡ Some kept → is_quiet world consumer identifier kept.number ≡ true
-      → AreDirect kept.wanted.subscription.slack (map (λ entry. entry.1) (goal world consumer identifier kept.origin)) (direct_response events kept.wanted.subscription.topic)
+      → AreDirect kept.wanted.subscription.slack (map (λ entry. entry.1) (goal world consumer identifier kept.origin))
+      (direct_response events kept.wanted.subscription.topic)
   quiet_direct kept is quiet =
       let slack = kept.wanted.subscription.slack in
       let shown_is = view_shown events consumer identifier kept is in
-      let viewed = subst (λ view. InOrder view × (is_keyed view ≡ true)) shown_is (quiet_viewed events consumer identifier kept (quiet_view events consumer identifier kept is quiet)) in
+      let viewed = subst (λ view. InOrder view × (is_keyed view ≡ true)) shown_is
+      (quiet_viewed events consumer identifier kept (quiet_view events consumer identifier kept is quiet)) in
       let items = goal world consumer identifier kept.origin in
       let again = sym (keyed_again items viewed.1) in
       let met = (meets_stated slack items (direct_of (latest world) kept.wanted)).0 (quiet_meets events consumer identifier kept is quiet) in
@@ -85,16 +90,21 @@ module _ (events : List Event) (happen : AllHappen events) (consumer identifier 
       → ShowsDirect events consumer identifier (effects.view_lines world found identifier kept (goal world found.name identifier kept.origin))
   kept_tells found kept there holds =
       let named : found.name ≡ consumer = found_named consumer world.consumers found there in
-      let is_kept : kept_by consumer identifier world.consumers ≡ Some kept = ap (λ c. option_and_then (λ (c : Consuming). kept_of identifier c.held) c) there ∙ holds in
+      let is_kept : kept_by consumer identifier world.consumers ≡ Some kept =
+      ap (λ c. option_and_then (λ (c : Consuming). kept_of identifier c.held) c) there ∙ holds in
       let goal_items = goal world consumer identifier kept.origin in
       let quiet = is_quiet world consumer identifier kept.number in
       record {
         held = held_by kept;
         items = map (λ entry. entry.1) goal_items;
         quiet = quiet;
-        says = ap (λ name. line.View name identifier (held_by kept) (length (goal world name identifier kept.origin)) (is_quiet world name identifier kept.number) ∷ map (λ entry. line.Item entry.1) (goal world name identifier kept.origin)) named
+        says = ap (λ name. line.View name identifier (held_by kept) (length (goal world name identifier kept.origin))
+            (is_quiet world name identifier kept.number) ∷ map (λ entry. line.Item entry.1)
+            (goal world name identifier kept.origin)) named
             ∙ (λ i. line.View consumer identifier (held_by kept) (same_length goal_items i) quiet ∷ map_both goal_items i);
-        are_sent = subst (λ (view : Items). All (WasSent events consumer identifier (held_by kept)) (map (λ entry. entry.1) view)) (view_shown events consumer identifier kept is_kept) (view_sent events consumer identifier kept is_kept);
+        are_sent = subst (λ (view : Items). All (WasSent events consumer identifier (held_by kept))
+            (map (λ entry. entry.1) view)) (view_shown events consumer identifier kept is_kept)
+            (view_sent events consumer identifier kept is_kept);
         asked = kept.wanted;
         is_asked = wants_last events consumer identifier kept (held_is events consumer identifier kept is_kept);
         is_direct = quiet_direct kept is_kept;
@@ -116,16 +126,23 @@ module _ (events : List Event) (happen : AllHappen events) (consumer identifier 
         says = ap (λ name. line.Unknown name (Some identifier) ∷ []) (found_named consumer world.consumers found there);
       })
       one found (Some kept) there holds =
-          subst (TellsView events consumer identifier) (sym (append-nil (effects.view_lines world found identifier kept (goal world found.name identifier kept.origin)))) (inr (kept_tells found kept there holds))
+          subst (TellsView events consumer identifier)
+          (sym (append-nil (effects.view_lines world found identifier kept
+          (goal world found.name identifier kept.origin)))) (inr (kept_tells found kept there holds))
 
-      by : (found : Option Consuming) → consumer_of consumer world.consumers ≡ found → TellsView events consumer identifier (all_lines world (effects.viewed world consumer identifier found))
+      by : (found : Option Consuming) → consumer_of consumer world.consumers ≡ found
+          → TellsView events consumer identifier (all_lines world (effects.viewed world consumer identifier found))
       by None there = inl (record { is_asked = none_asked (ap (option_and_then (λ (c : Consuming). kept_of identifier c.held)) there); says = refl })
       by (Some found) there = one found (kept_of identifier found.held) there refl
 
 -- where all events happened, a view that is told shows the direct response where it is quiet
-pub views_tell : (events : List Event) → AllHappen events → (consumer identifier : Name) (lines : List ToldLine) → told (world_after events) (event.View consumer identifier) ≡ Ok lines → TellsView events consumer identifier lines
+pub views_tell : (events : List Event) → AllHappen events → (consumer identifier : Name) (lines : List ToldLine)
+    → told (world_after events) (event.View consumer identifier) ≡ Ok lines → TellsView events consumer identifier lines
 views_tell events happen consumer identifier lines is =
-    subst (TellsView events consumer identifier) (sym (told_lines_are (world_after events) (event.View consumer identifier) lines (refusal (world_after events) (event.View consumer identifier)) is)) (view_tells events happen consumer identifier)
+    subst (TellsView events consumer identifier)
+    (sym (told_lines_are (world_after events) (event.View consumer identifier) lines
+    (refusal (world_after events) (event.View consumer identifier)) is))
+    (view_tells events happen consumer identifier)
 
 -- ---- what is told of a request
 
@@ -135,7 +152,8 @@ module _ (events : List Event) (happen : AllHappen events) where
 
   topic_answered : (topic : Topic) → answering (now_of (latest known)) (current (latest known)) topic ≡ answered events topic
   unfolding answering
-  topic_answered topic = ap (λ (items : Items). map (λ entry. entry.1) (at_most (most_of topic) items)) (direct_observed events topic (observed_known events happen))
+  topic_answered topic = ap (λ (items : Items). map (λ entry. entry.1) (at_most (most_of topic) items))
+      (direct_observed events topic (observed_known events happen))
 
   topics_answered : (topics : List Topic) → items_listed (map (answer (now_of (latest known)) (current (latest known))) topics) ≡ map (answered events) topics
   unfolding answer
@@ -154,6 +172,9 @@ module _ (events : List Event) (happen : AllHappen events) where
   }
 
 -- where all events happened, a request that is told of is answered by the direct response to each of its topics
-pub requests_answered : (events : List Event) → AllHappen events → (request : ServiceRequest) (lines : List ToldLine) → told (world_after events) (event.Ask request) ≡ Ok lines → AnswersDirect events request lines
+pub requests_answered : (events : List Event) → AllHappen events → (request : ServiceRequest) (lines : List ToldLine)
+    → told (world_after events) (event.Ask request) ≡ Ok lines → AnswersDirect events request lines
 requests_answered events happen request lines is =
-    subst (AnswersDirect events request) (sym (told_lines_are (world_after events) (event.Ask request) lines (refusal (world_after events) (event.Ask request)) is)) (request_answered events happen request)
+    subst (AnswersDirect events request) (sym
+    (told_lines_are (world_after events) (event.Ask request) lines
+    (refusal (world_after events) (event.Ask request)) is)) (request_answered events happen request)

@@ -31,15 +31,19 @@ use Rattle.siri_world_laws.proofs.Worlds.{known_is, network_of, reach, table_is,
 -- ---- what is kept
 
 -- what a consumer keeps is what the network has of it
-pub held_is : (es : List Event) (name identifier : Name) (kept : KeptSubscription) → kept_by name identifier (world_after es).consumers ≡ Some kept → (network_of es).holdings name identifier ≡ Some kept
+pub held_is : (es : List Event) (name identifier : Name) (kept : KeptSubscription)
+    → kept_by name identifier (world_after es).consumers ≡ Some kept
+    → (network_of es).holdings name identifier ≡ Some kept
 held_is es name identifier kept is = (world_stands es).1.holdings name identifier ∙ is
 
 -- ---- views are goals
 
 views_in : (es : List Event) (c i : Name) → ViewIsGoal meaning (seen_by meaning c i (network_of es)) ((network_of es).holdings c i)
-views_in es c i = reach (λ n. ViewIsGoal meaning (seen_by meaning c i n) (n.holdings c i)) tt (λ moment happens. views meaning meaning_lawful moment happens c i) es
+views_in es c i = reach (λ n. ViewIsGoal meaning (seen_by meaning c i n) (n.holdings c i)) tt
+    (λ moment happens. views meaning meaning_lawful moment happens c i) es
 
-pub view_shown : (es : List Event) (c i : Name) (kept : KeptSubscription) → kept_by c i (world_after es).consumers ≡ Some kept → kept.view ≡ goal (world_after es) c i kept.origin
+pub view_shown : (es : List Event) (c i : Name) (kept : KeptSubscription)
+    → kept_by c i (world_after es).consumers ≡ Some kept → kept.view ≡ goal (world_after es) c i kept.origin
 view_shown es c i kept is =
     let world = world_after es in
     let n = network_of es in
@@ -69,7 +73,8 @@ pub record HasQuiet (h : History) (c i : Name) (number : ℕ) : Type 0 where
 quiet_has : (h : History) (c i : Name) (number : ℕ) → is_number (quiet_number h c i) number ≡ true → HasQuiet h c i number
 quiet_has h c i number is = settled (is_settled h) is
   where
-    quiet : (l : Living) (b : Bool) → life_of c i h ≡ Some l → is_life_quiet meaning l (direct_of h l.wanted) ≡ b → is_number (if b then Some l.number else None) number ≡ true → HasQuiet h c i number
+    quiet : (l : Living) (b : Bool) → life_of c i h ≡ Some l → is_life_quiet meaning l (direct_of h l.wanted) ≡ b
+        → is_number (if b then Some l.number else None) number ≡ true → HasQuiet h c i number
     quiet l true there b is = record { living = l; there = there; quiet = b; numbered = eqb-true l.number number is }
     quiet l false there b is = absurd (cc)
 
@@ -81,8 +86,10 @@ quiet_has h c i number is = settled (is_settled h) is
     settled true is = found (life_of c i h) refl is
     settled false is = absurd (cc)
 
-meets_in : (es : List Event) (c i : Name) → MeetsWhereQuiet meaning (seen_by meaning c i (network_of es)) ((network_of es).holdings c i) (find c i (network_of es).serving.table)
-meets_in es c i = reach (λ n. MeetsWhereQuiet meaning (seen_by meaning c i n) (n.holdings c i) (find c i n.serving.table)) tt (λ moment happens. meets_where_quiet meaning meaning_lawful moment happens c i) es
+meets_in : (es : List Event) (c i : Name) → MeetsWhereQuiet meaning (seen_by meaning c i (network_of es))
+    ((network_of es).holdings c i) (find c i (network_of es).serving.table)
+meets_in es c i = reach (λ n. MeetsWhereQuiet meaning (seen_by meaning c i n) (n.holdings c i)
+    (find c i n.serving.table)) tt (λ moment happens. meets_where_quiet meaning meaning_lawful moment happens c i) es
 
 -- what is kept of a subscription that is told as quiet, and its life
 pub record IsQuietView (es : List Event) (c i : Name) (kept : KeptSubscription) : Type 0 where
@@ -92,7 +99,9 @@ pub record IsQuietView (es : List Event) (c i : Name) (kept : KeptSubscription) 
   pub wanted : living.wanted ≡ kept.wanted
   pub meet : meets kept.wanted.subscription.slack kept.view (direct_of (latest (world_after es)) kept.wanted) ≡ true
 
-pub quiet_view : (es : List Event) (c i : Name) (kept : KeptSubscription) → kept_by c i (world_after es).consumers ≡ Some kept → is_quiet (world_after es) c i kept.number ≡ true → IsQuietView es c i kept
+pub quiet_view : (es : List Event) (c i : Name) (kept : KeptSubscription)
+    → kept_by c i (world_after es).consumers ≡ Some kept → is_quiet (world_after es) c i kept.number ≡ true
+    → IsQuietView es c i kept
 quiet_view es c i kept is quiet =
     let world = world_after es in
     let n = network_of es in
@@ -100,9 +109,14 @@ quiet_view es c i kept is quiet =
     let stands = world_stands es in
     let one = quiet_has h c i kept.number quiet in
     let l = one.living in
-    let life : find c i n.serving.table ≡ Some l = ap (λ (v : Served). find c i v.table) stands.1.serving ∙ ap (λ table. find c i table) (table_is world) ∙ one.there in
-    let direct : (wanted : Asked) → direct_of n.serving.known wanted ≡ direct_of h wanted = λ wanted. ap (λ (v : Served). direct_of v.known wanted) stands.1.serving ∙ ap (λ known. direct_of known wanted) (known_is world) ∙ direct_same h wanted in
-    let claim = subst (λ (z : Option KeptSubscription × Option Living). MeetsWhereQuiet meaning (seen_by meaning c i n) z.0 z.1) (λ j. (held_is es c i kept is j, life j)) (meets_in es c i) in
+    let life : find c i n.serving.table ≡ Some l = ap (λ (v : Served). find c i v.table) stands.1.serving
+    ∙ ap (λ table. find c i table) (table_is world) ∙ one.there in
+    let direct : (wanted : Asked) → direct_of n.serving.known wanted ≡ direct_of h wanted =
+    λ wanted. ap (λ (v : Served). direct_of v.known wanted) stands.1.serving
+    ∙ ap (λ known. direct_of known wanted) (known_is world) ∙ direct_same h wanted in
+    let claim = subst (λ (z : Option KeptSubscription × Option Living).
+    MeetsWhereQuiet meaning (seen_by meaning c i n) z.0 z.1) (λ j. (held_is es c i kept is j, life j))
+    (meets_in es c i) in
     let met = claim one.numbered (ap (is_life_quiet meaning l) (direct l.wanted) ∙ one.quiet) in
     record {
       living = l;
@@ -112,11 +126,15 @@ quiet_view es c i kept is quiet =
       meet = subst (λ items. meets kept.wanted.subscription.slack kept.view items ≡ true) (direct kept.wanted) met.2;
     }
 
-pub quiet_meets : (es : List Event) (c i : Name) (kept : KeptSubscription) → kept_by c i (world_after es).consumers ≡ Some kept → is_quiet (world_after es) c i kept.number ≡ true
+pub quiet_meets : (es : List Event) (c i : Name) (kept : KeptSubscription)
+    → kept_by c i (world_after es).consumers ≡ Some kept → is_quiet (world_after es) c i kept.number ≡ true
     → meets kept.wanted.subscription.slack (goal (world_after es) c i kept.origin) (direct_of (latest (world_after es)) kept.wanted) ≡ true
 quiet_meets es c i kept is quiet =
-    subst (λ items. meets kept.wanted.subscription.slack items (direct_of (latest (world_after es)) kept.wanted) ≡ true) (view_shown es c i kept is) (quiet_view es c i kept is quiet).meet
+    subst (λ items. meets kept.wanted.subscription.slack items (direct_of (latest (world_after es)) kept.wanted) ≡ true)
+    (view_shown es c i kept is) (quiet_view es c i kept is quiet).meet
 
 pub views_meet : (es : List Event) → claims.MeetsWhereQuiet (world_after es)
 views_meet es name identifier consumer kept found held quiet =
-    quiet_meets es consumer.name identifier kept ((found_own name (world_after es).consumers consumer (world_stands es).0.ordered found).kept identifier ∙ held) quiet
+    quiet_meets es consumer.name identifier kept
+    ((found_own name (world_after es).consumers consumer (world_stands es).0.ordered found).kept identifier ∙ held)
+    quiet

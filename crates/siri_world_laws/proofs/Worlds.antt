@@ -62,30 +62,28 @@ pub after_more : (before later : List Event) → world_after (before ++ later) �
 after_more before later = fold-append after nothing before later
 
 -- and what happened
-happened_both : (world : World) (before later : List Event) → happened_from world (before ++ later) ≡ happened_from world before ++ happened_from (fold after world before) later
+happened_both : (world : World) (before later : List Event)
+    → happened_from world (before ++ later) ≡ happened_from world before
+    ++ happened_from (fold after world before) later
 happened_both world [] later = refl
 happened_both world (e ∷ before) later =
     ap (λ xs. happenings world e ++ xs) (happened_both (after world e) before later)
     ∙ sym (append_assoc (happenings world e) (happened_from (after world e) before) (happened_from (fold after (after world e) before) later))
 
 pub network_more : (before later : List Event) → network_of (before ++ later) ≡ after_all (happened_from (world_after before) later) (network_of before)
-network_more before later = ap (λ xs. after_all xs opened) (happened_both nothing before later) ∙ after_both (happened before) (happened_from (world_after before) later) opened
+network_more before later = ap (λ xs. after_all xs opened) (happened_both nothing before later)
+    ∙ after_both (happened before) (happened_from (world_after before) later) opened
 
 -- ---- nothing happens before the first start
 
 -- what holds of the network before, and after whatever happens from a first start on, holds of that of a world
-pub reach : (P : WorldNetwork → Type 0) → P opened → ((moment : ℕ) (happens : List Happens) → P (after_all happens (opening meaning 1 moment))) → (es : List Event) → P (network_of es)
+pub reach : (P : WorldNetwork → Type 0) → P opened
+    → ((moment : ℕ) (happens : List Happens) → P (after_all happens (opening meaning 1 moment))) → (es : List Event)
+    → P (network_of es)
 unfolding refusal effect happening
 reach P none some [] = none
 reach P none some (event.Start t ∷ es) = some t (happened_from (after nothing (event.Start t)) es)
-reach P none some (event.Clock t ∷ es) = reach P none some es
-reach P none some (event.Feed d ∷ es) = reach P none some es
-reach P none some (event.Ask r ∷ es) = reach P none some es
-reach P none some (event.Subscribe name wanted beat ∷ es) = reach P none some es
-reach P none some (event.Terminate name identifier ∷ es) = reach P none some es
-reach P none some (event.Status name ∷ es) = reach P none some es
-reach P none some (event.Deliver number ∷ es) = reach P none some es
-reach P none some (event.View name identifier ∷ es) = reach P none some es
+reach P none some (other ∷ es) = reach P none some es
 
 -- ---- the latest start
 

@@ -12,8 +12,8 @@ use Rattle.siri_model.specs.History.{Entry, Step, Start, History, current}
 use Rattle.siri_model.specs.Lives.{Living, acts_of, is_settle, life_of}
 use Rattle.siri_model.specs.Meaning.{direct_of, meaning}
 use Rattle.siri_model.specs.Rows.{row_of}
-use Rattle.siri_settle.specs.declared.outs.Out.{Out}
-use Rattle.siri_settle.specs.Sends.{At, row_sends}
+use Rattle.siri_subscriptions.specs.declared.outs.Out.{Out}
+use Rattle.siri_subscriptions.specs.Sends.{At, row_sends}
 use Rattle.siri_producer.specs.Sends.{at_of}
 
 -- steps after a start, as each subscription hears them
@@ -76,5 +76,6 @@ sends_along name subscriber identifier history (step ∷ steps) =
 pub record IsAlike (subscriber identifier : Name) (number moment : ℕ) (one other : History) : Type 0 where
   pub life : life_of subscriber identifier (Start number moment ∷ one) ≡ life_of subscriber identifier (Start number moment ∷ other)
   pub sent : packets_along subscriber identifier number moment one ≡ packets_along subscriber identifier number moment other
-  pub sends : (name : Name) → sends_along name subscriber identifier (Start number moment ∷ []) one ≡ sends_along name subscriber identifier (Start number moment ∷ []) other
+  pub sends : (name : Name) → sends_along name subscriber identifier
+      (Start number moment ∷ []) one ≡ sends_along name subscriber identifier (Start number moment ∷ []) other
   pub direct : (wanted : Asked) → direct_of (Start number moment ∷ one) wanted ≡ direct_of (Start number moment ∷ other) wanted

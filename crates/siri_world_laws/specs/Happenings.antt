@@ -5,7 +5,8 @@ use Rattle.siri_messages.specs.Asked.{Asked}
 use Rattle.siri_life.specs.Named.{Name}
 use Rattle.siri_life.specs.Network.{Happening, Starts, Clocks, Feeds, Asks, Stops, Requests, Delivers}
 use Rattle.siri_model.specs.History.{Entry, entries_of}
-use Rattle.siri_view.specs.Consuming.{Consuming, greatest_number}
+use Rattle.siri_base.specs.Numbers.{greatest_number}
+use Rattle.siri_view.specs.Consuming.{Consuming}
 use Rattle.siri_view.specs.Sending.{own}
 use Rattle.siri_view.specs.declared.outcome.AskError.{AskError}
 use Rattle.siri_world_model.specs.declared.event.Event.{Event}

@@ -5,3 +5,5 @@ pub mod Claims
 pub mod QuietViews
 pub mod Apart
 pub mod Views
+pub mod Opened
+pub mod Scripts

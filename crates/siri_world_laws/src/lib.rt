@@ -13,16 +13,17 @@
 //! ```
 //!
 //! A world is a network as `siri_life` has it, event by event: `specs/Letters.antt` says what each packet is about,
-//! `specs/Networks.antt` what a world is in the words of networks, `specs/Happenings.antt` what each event is there. So what
-//! `siri_life_laws` proves of networks holds of worlds; `specs/Claims.antt`, `QuietViews.antt` and `Views.antt` say it in the
-//! words of scripts, and `Apart.antt` of a producer's history. No law says that a packet comes: all of them hold where each
-//! one is lost.
+//! `specs/Networks.antt` what a world is in the words of networks, `specs/Happenings.antt` what each event is there. So
+//! what `siri_life_laws` proves of networks holds of worlds; `specs/Claims.antt`, `QuietViews.antt` and `Views.antt`
+//! say it in the words of scripts, and `Apart.antt` of a producer's history. No law says that a packet comes: all of
+//! them hold where each one is lost.
 //!
-//! How it is proved: `proofs/Producer.antt` has what the producer's messages are as letters, `Consumers.antt` what the consumers'
-//! events do, `Steps.antt` every event, `Worlds.antt` all of them; `Goals.antt` that the lives of all starts tell the same
-//! rounds as the history of one; `Views`, `QuietLines`, `Parts`, `Again`, `Apart` and `Once` what follows; `Observed` that a
-//! producer knows what was observed since its latest start, `SentItems` that what a consumer shows was sent to it, and `Telling`
-//! what is told of a view and of a request.
+//! How it is proved: `proofs/Producer.antt` has what the producer's messages are as letters, `Consumers.antt` what the
+//! consumers' events do, `Steps.antt` every event, `Worlds.antt` all of them; `Goals.antt` that the lives of all starts
+//! tell the same rounds as the history of one; `Views`, `QuietLines`, `Parts`, `Again`, `Apart` and `Once` what
+//! follows; `Observed` that a producer knows what was observed since its latest start, `SentItems` that what a consumer
+//! shows was sent to it, and `Telling` what is told of a view and of a request. `scripts` has small ones, run by the
+//! definitions, with the lines of their reports.
 //!
 //! Stands on `siri_world_model`, which has the definitions of worlds, on `siri_model_laws` and on `siri_life_laws`.
 #![tactic(auto)]
@@ -30,6 +31,7 @@
 mod network_laws;
 mod packet_laws;
 mod producer_laws;
+mod scripts;
 mod told_laws;
 mod view_laws;
 
@@ -41,6 +43,11 @@ pub use packet_laws::{
 pub use producer_laws::{
     a_second_settle_changes_nothing, other_subscriptions_and_their_settles_change_nothing,
     other_subscriptions_change_nothing,
+};
+pub use scripts::{
+    changes_wait_for_the_round, ended_lives, quiet_views, repeats, requests, restarts,
+    sixteen_consumers_subscribe, small_changes_wait, starts_are_numbered, terminations,
+    two_consumers,
 };
 pub use told_laws::{quiet_views_are_direct, requests_are_answered_directly};
 pub use view_laws::{quiet_views_meet, views_are_goals};

@@ -14,7 +14,9 @@ use Rattle.siri_responder.specs.FedCounts.{fed_counts}
 use Rattle.siri_producer.specs.Answers.{answer_to}
 use Rattle.siri_producer.specs.Sends.{sends}
 use Rattle.siri_producer.specs.declared.answers.Answer.{Answer}
-use Rattle.siri_view.specs.Consuming.{Consuming, greatest_number, most_held, held_by, seen_of, after_message, count_after, request_for, after_subscribe, termination_of, after_terminate}
+use Rattle.siri_base.specs.Numbers.{greatest_number}
+use Rattle.siri_view.specs.Consuming.{Consuming, most_held, held_by, seen_of, after_message, count_after, request_for, after_subscribe}
+use Rattle.siri_view.specs.Consuming.{termination_of, after_terminate}
 use Rattle.siri_view.specs.Kept.{KeptSubscription, kept_of}
 use Rattle.siri_view.specs.Sending.{check_request}
 use Rattle.siri_view.specs.declared.outcome.AskError.{AskError}

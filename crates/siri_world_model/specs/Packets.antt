@@ -1,7 +1,7 @@
 -- The packets of a world: each message that was ever sent, in order, with who sent it or whom it is for.
 use Rattle.std.specs.Prelude.{ℕ, zero, suc, List, [], ◌∷◌, map, codes, Option, Some, None, slice_get}
 use Rattle.siri_messages.specs.declared.message.Message.{Message}
-use Rattle.siri_settle.specs.declared.outs.Out.{Out}
+use Rattle.siri_subscriptions.specs.declared.outs.Out.{Out}
 use Rattle.siri_world_model.specs.Lines as line
 use Rattle.siri_world_model.specs.Lines.{ToldLine}
 

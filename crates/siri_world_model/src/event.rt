@@ -1,4 +1,4 @@
-// What happens in a world.
+//! What happens in a world.
 
 use siri_base::{Moment, Name, Span};
 use siri_messages::{ServiceDelivery, ServiceRequest};
@@ -7,8 +7,8 @@ use siri_topic::Subscription;
 /// What happens in a world. The name of a consumer is 1 to 64 letters, digits, `_` or `-`, and isn't `producer`.
 #[derive(Drop)]
 pub enum Event {
-    /// The producer starts anew at this moment, which is its ServiceStartedTime. The number of its start is one more than the
-    /// last; it holds no item and no subscription. The moments of the consumers become the later.
+    /// The producer starts anew at this moment, which is its ServiceStartedTime. The number of its start is one more
+    /// than the last; it holds no item and no subscription. The moments of the consumers become the later.
     Start(Moment),
     /// The moments of the producer and of all consumers become the later.
     Clock(Moment),
@@ -16,8 +16,8 @@ pub enum Event {
     Feed(ServiceDelivery),
     /// The producer is asked for a direct response.
     Ask(ServiceRequest),
-    /// A consumer asks for a subscription under its next number (EN 15531-2, SubscriptionRequest), whose subscriber it is. At
-    /// its first use the consumer is made, without an address; its first number is 1.
+    /// A consumer asks for a subscription under its next number (EN 15531-2, SubscriptionRequest), whose subscriber it
+    /// is. At its first use the consumer is made, without an address; its first number is 1.
     Subscribe {
         consumer: Name,
         wanted: Subscription,

@@ -1,5 +1,5 @@
-//! What a world is and what happens in it, as types and definitions: one producer, which starts anew now and then, up to
-//! sixteen consumers, and a network between them that keeps every packet that was ever sent (EN 15531-2).
+//! What a world is and what happens in it, as types and definitions: one producer, which starts anew now and then, up
+//! to sixteen consumers, and a network between them that keeps every packet that was ever sent (EN 15531-2).
 //!
 //! ```text
 //!     Start, Clock, Feed, Ask -----> the producer ----- settles, replies ------+
@@ -11,16 +11,17 @@
 //!     Subscribe, Terminate, Status, View -----> the consumers --- requests, replies
 //! ```
 //!
-//! An event happens at a time, and tells lines. The packets that it sends are told after what else it tells. A packet is
-//! delivered as often as an event says so, in any order, to whichever start of the producer is the latest; one that no event
-//! delivers is lost. After each moment, feed or message that it took the producer settles; a start and an ask are followed by
-//! no settle.
+//! An event happens at a time, and tells lines. The packets that it sends are told after what else it tells. A packet
+//! is delivered as often as an event says so, in any order, to whichever start of the producer is the latest; one that
+//! no event delivers is lost. After each moment, feed or message that it took the producer settles; a start and an ask
+//! are followed by no settle.
 //!
-//! What a consumer shows of a subscription is told by the rounds of the producer, never by what changes made of a view: the
-//! items are the goal of the round that the view belongs to.
+//! What a consumer shows of a subscription is told by the rounds of the producer, never by what changes made of a view:
+//! the items are the goal of the round that the view belongs to.
 //!
 //! Stands on `siri_base`, `siri_records`, `siri_topic`, `siri_messages`, `siri_life`, `siri_model`, `siri_producer` and
-//! `siri_view`. It has the types of events and lines, and the definitions of what an event does; `siri_world` has the code.
+//! `siri_view`. It has the types of events and lines, and the definitions of what an event does; `siri_world` has the
+//! code.
 #![tactic(auto)]
 
 mod event;

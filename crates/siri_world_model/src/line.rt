@@ -1,4 +1,4 @@
-// What is told of an event.
+//! What is told of an event.
 
 use crate::Word;
 use siri_base::Name;
@@ -17,14 +17,15 @@ pub enum Line {
     Fed(Fed),
     /// The direct response to what was asked, a ServiceDelivery.
     Answer(Message),
-    /// A packet was sent. It has a number, which counts from 1, and a receiver: `producer`, or a consumer. The message is
-    /// shared with the network, which keeps it.
+    /// A packet was sent. It has a number, which counts from 1, and a receiver: `producer`, or a consumer. The message
+    /// is shared with the network, which keeps it.
     Packet {
         number: u64,
         to: Name,
         message: Rc<Message>,
     },
-    /// A consumer doesn't ask: its numbers are used up (`Spent`), or it would hold more than 200 subscriptions (`TooMany`).
+    /// A consumer doesn't ask: its numbers are used up (`Spent`), or it would hold more than 200 subscriptions
+    /// (`TooMany`).
     Refused {
         consumer: Name,
         error: AskError,

@@ -1,12 +1,13 @@
-// Why an event doesn't happen.
+//! Why an event doesn't happen.
+
 ghost use Rattle.std.specs.Prelude.{◌≡◌};
 ghost use Rattle.siri_world_model.specs.declared.step_error.StepError.TheVariants.{OutOfMemory};
 
 use siri_base::OutOfMemory;
 use thiserror::Error;
 
-/// Why an event doesn't happen: of `NotStarted`, `StartLimit`, `ConsumerLimit` and `PacketLimit` the first that holds. After
-/// `PacketLimit` and `OutOfMemory` the world is given up.
+/// Why an event doesn't happen: of `NotStarted`, `StartLimit`, `ConsumerLimit` and `PacketLimit` the first that holds.
+/// After `PacketLimit` and `OutOfMemory` the world is given up.
 #[derive(Clone, Copy, Debug, PartialEq, Eq, Error)]
 pub enum StepError {
     /// The event isn't a start, and no start came before.

@@ -1,4 +1,4 @@
-// What a receiver says of a packet.
+//! What a receiver says of a packet.
 
 use siri_producer::Note;
 use siri_view::Outcome;

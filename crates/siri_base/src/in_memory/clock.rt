@@ -1,4 +1,5 @@
-// Clocks in memory.
+//! Clocks in memory.
+
 ghost use Rattle.std.specs.Prelude.{◌≡◌, Some, []};
 
 use super::failures::Failures;

@@ -1,4 +1,5 @@
-// Failures that are named beforehand.
+//! Failures that are named beforehand.
+
 ghost use Rattle.std.specs.Prelude.{◌≡◌, ℕ, ◌<◌, ◌≤◌, ◌↔◌, List, IsTrue, MatchBool};
 ghost use Rattle.siri_base.specs.Failures.{IsDue, after_call, Passes, Came};
 ghost use Rattle.siri_base.specs.InMemoryFailures.{Reaches};
@@ -7,7 +8,7 @@ use std::marker::Model;
 
 /// The failures to come, each by what passes before it, counted from the failure before it: bytes, or calls.
 #[derive(Drop)]
-pub struct Failures<'a> {
+pub(crate) struct Failures<'a> {
     /// What still passes before the next.
     next: Option<usize>,
     later: &'a [usize],
@@ -24,7 +25,7 @@ impl<'a> Model for Failures<'a> {
 
 impl<'a> Failures<'a> {
     /// These failures.
-    pub fn new(failures: &'a [usize]) -> Self
+    pub(crate) fn new(failures: &'a [usize]) -> Self
         ensures { result ≡ failures.now }
     {
         match failures.split_first() {
@@ -40,14 +41,14 @@ impl<'a> Failures<'a> {
     }
 
     /// Whether the next call fails.
-    pub fn is_due(&self) -> bool
+    pub(crate) fn is_due(&self) -> bool
         ensures { IsTrue result ↔ IsDue self.now }
     {
         self.next == Some(0)
     }
 
     /// Counts a call; the failure that was due is over then.
-    pub fn count(&mut self)
+    pub(crate) fn count(&mut self)
         ensures { self.new ≡ after_call self.old }
     {
         match self.next {
@@ -58,7 +59,7 @@ impl<'a> Failures<'a> {
     }
 
     /// Counts a call, and tells whether it fails.
-    pub fn call(&mut self) -> bool
+    pub(crate) fn call(&mut self) -> bool
         ensures due { IsTrue result ↔ IsDue self.old }
         ensures counted { self.new ≡ after_call self.old }
     {
@@ -68,7 +69,7 @@ impl<'a> Failures<'a> {
     }
 
     /// Whether a call over so many bytes fails; the failure that was due is over then.
-    pub fn comes(&mut self, length: usize) -> bool
+    pub(crate) fn comes(&mut self, length: usize) -> bool
         ensures { MatchBool result (Came self.old self.new length) ((self.new ≡ self.old) × (IsDue self.old → length ≡ 0)) }
     {
         if self.next == Some(0) && length > 0 {
@@ -79,7 +80,7 @@ impl<'a> Failures<'a> {
     }
 
     /// So many bytes, or fewer where a failure comes before them.
-    pub fn room(&self, count: usize) -> usize
+    pub(crate) fn room(&self, count: usize) -> usize
         ensures most { result ≤ count }
         ensures reaches { Reaches self.now result }
         ensures some { (IsDue self.now → ⊥) → 0 < count → 0 < result }
@@ -91,7 +92,7 @@ impl<'a> Failures<'a> {
     }
 
     /// So many bytes pass, no more than come before the next failure.
-    pub fn pass(&mut self, count: usize)
+    pub(crate) fn pass(&mut self, count: usize)
         requires { Reaches self.old count }
         ensures { Passes self.old self.new count }
     {

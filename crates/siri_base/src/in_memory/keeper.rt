@@ -1,11 +1,12 @@
-// Keepers of the start number in memory.
+//! Keepers of the start number in memory.
+
 ghost use Rattle.std.specs.Prelude.{◌≡◌, Some, []};
 
 use super::failures::Failures;
 use crate::{Keeper, OutsideError};
 
 /// The greatest number that is kept.
-const LAST_NUMBER: u64 = 99_999_999_999;
+const GREATEST_START: u64 = 99_999_999_999;
 
 /// A number that is kept in memory. It fails at 99,999,999,999.
 #[derive(Drop)]
@@ -30,7 +31,7 @@ impl Keeper for InMemoryKeeper {
     ghost faults = { λ k. k.faults };
 
     fn raise(&mut self) -> Result<u64, OutsideError> {
-        if self.number >= LAST_NUMBER {
+        if self.number >= GREATEST_START {
             self.faults = self.faults.saturating_add(1);
             return Err(OutsideError::Failed);
         }
@@ -68,7 +69,7 @@ impl<'a> Keeper for FailingKeeper<'a> {
     ghost faults = { λ k. k.faults };
 
     fn raise(&mut self) -> Result<u64, OutsideError> {
-        if self.failures.call() || self.number >= LAST_NUMBER {
+        if self.failures.call() || self.number >= GREATEST_START {
             self.faults = self.faults.saturating_add(1);
             return Err(OutsideError::Failed);
         }

@@ -1,4 +1,5 @@
-// What the wires in memory share: one connection at a time, whichever list it comes from.
+//! What the wires in memory share: one connection at a time, whichever list it comes from.
+
 ghost use Rattle.std.specs.Prelude.{◌≡◌, ◌<◌, ◌≤◌, [], IfOk, IsSome, OnErr, OnOk, length, option_map, slice_get};
 ghost use Rattle.std.specs.Io.{ReadsAtMost, WritesAtMost};
 ghost use Rattle.siri_base.specs.Causes.{CountsFailures, HasCause, HasOutsideCause, Rose};
@@ -12,8 +13,8 @@ use crate::{Copies, Failed, Name, OutOfMemory, OutsideError, Sink, Source};
 use std::alloc::Global;
 use std::marker::Model;
 
-/// A connection of a wire in memory: the bytes that come by it, and its failures of reading and of writing, each by how many
-/// bytes pass before it, counted from the failure before it.
+/// A connection of a wire in memory: the bytes that come by it, and its failures of reading and of writing, each by how
+/// many bytes pass before it, counted from the failure before it.
 #[derive(Clone, Copy)]
 pub struct FailingConnection<'a> {
     pub input: &'a [u8],
@@ -34,7 +35,8 @@ impl<'a> FailingConnection<'a> {
     }
 }
 
-/// The failures of a wire's calls, each by how many calls of that name come before it, counted from the failure before it.
+/// The failures of a wire's calls, each by how many calls of that name come before it, counted from the failure before
+/// it.
 #[derive(Clone, Copy)]
 pub struct FailingCalls<'a> {
     pub listen: &'a [usize],
@@ -52,7 +54,7 @@ struct Last<'a> {
 }
 
 /// A wire without connections of its own: each is handed to the call that takes it.
-pub struct Line<'a> {
+pub(crate) struct Line<'a> {
     last: Option<Last<'a>>,
     /// What went by the connections before the last.
     before: Vec<FailingSink<'a>>,
@@ -91,7 +93,7 @@ impl<'a> Model for Line<'a> {
 
 impl<'a> Line<'a> {
     /// A line over which nothing came yet, with these failures. It takes no memory.
-    pub fn new(alloc: Global, calls: FailingCalls<'a>) -> Self
+    pub(crate) fn new(alloc: Global, calls: FailingCalls<'a>) -> Self
         ensures { result ≡ record { wire = with_failures calls.entry [] []; faults = 0 } }
     {
         Line {
@@ -107,14 +109,14 @@ impl<'a> Line<'a> {
     }
 
     /// The addresses that were listened at and dialled, in order.
-    pub fn addresses(&self) -> &[Name]
+    pub(crate) fn addresses(&self) -> &[Name]
         ensures { result.now ≡ self.now.wire.named }
     {
         &self.addresses
     }
 
     /// What was written to a connection, or `None` exactly where no such one came.
-    pub fn written(&self, place: usize) -> Option<&[u8]>
+    pub(crate) fn written(&self, place: usize) -> Option<&[u8]>
         ensures { option_map (λ text. text.now) result ≡ slice_get (texts self.now.wire) place }
     {
         if let Some(sink) = self.before.get(place) {
@@ -127,7 +129,7 @@ impl<'a> Line<'a> {
     }
 
     /// Listens at an address.
-    pub fn listen(&mut self, address: &Name) -> Result<(), OutsideError>
+    pub(crate) fn listen(&mut self, address: &Name) -> Result<(), OutsideError>
         ensures told { Listens address.now self.old.wire self.new.wire result }
         ensures cause { HasOutsideCause self.old.faults self.new.faults result }
         ensures counted { CountsFailures self.old.faults self.new.faults result }
@@ -140,7 +142,7 @@ impl<'a> Line<'a> {
     }
 
     /// Takes this connection, where there is one.
-    pub fn accept(&mut self, next: Option<FailingConnection<'a>>) -> Result<(), OutsideError>
+    pub(crate) fn accept(&mut self, next: Option<FailingConnection<'a>>) -> Result<(), OutsideError>
         ensures open { OnOk result (IsSome self.new.wire.present) }
         ensures told { AcceptsNext (option_map connection_of next.entry) self.old.wire self.new.wire result }
         ensures cause { HasOutsideCause self.old.faults self.new.faults result }
@@ -159,7 +161,7 @@ impl<'a> Line<'a> {
     }
 
     /// Names an address, and takes this connection, where there is one.
-    pub fn dial(
+    pub(crate) fn dial(
         &mut self,
         address: &Name,
         next: Option<FailingConnection<'a>>,
@@ -186,7 +188,7 @@ impl<'a> Line<'a> {
     }
 
     /// Gives the next bytes of the connection that is there.
-    pub fn read(&mut self, into: &mut [u8]) -> Result<usize, Failed>
+    pub(crate) fn read(&mut self, into: &mut [u8]) -> Result<usize, Failed>
         requires { IsSome self.old.wire.present }
         ensures open { IsSome self.new.wire.present }
         ensures bound { ReadsAtMost result into.new }
@@ -212,7 +214,7 @@ impl<'a> Line<'a> {
     }
 
     /// Appends a front of the piece to the connection that is there.
-    pub fn write(&mut self, piece: &[u8]) -> Result<usize, OutsideError>
+    pub(crate) fn write(&mut self, piece: &[u8]) -> Result<usize, OutsideError>
         requires { IsSome self.old.wire.present }
         ensures open { IsSome self.new.wire.present }
         ensures bound { WritesAtMost result piece.now }
@@ -233,7 +235,7 @@ impl<'a> Line<'a> {
     }
 
     /// Ends the connection, where one is there.
-    pub fn hang_up(&mut self)
+    pub(crate) fn hang_up(&mut self)
         ensures { self.new ≡ record self.old { wire = hung_up self.old.wire } }
     {
         if let Some(last) = &mut self.last {

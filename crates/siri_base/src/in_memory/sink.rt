@@ -1,4 +1,5 @@
-// Sinks in memory.
+//! Sinks in memory.
+
 ghost use Rattle.std.specs.Prelude.{◌≡◌, Some, []};
 
 use super::failures::Failures;

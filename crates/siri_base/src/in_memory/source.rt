@@ -1,4 +1,5 @@
-// Sources in memory.
+//! Sources in memory.
+
 ghost use Rattle.std.specs.Prelude.{◌≡◌, Some, []};
 
 use super::failures::Failures;

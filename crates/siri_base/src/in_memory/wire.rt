@@ -1,4 +1,5 @@
-// Wires in memory.
+//! Wires in memory.
+
 ghost use Rattle.std.specs.Prelude.{◌≡◌, IsSome, Some, [], map, option_map, slice_get};
 ghost use Rattle.siri_base.specs.Wires.{new_wire, texts};
 ghost use Rattle.siri_base.specs.InMemoryLines.{connection_of, with_failures};
@@ -103,8 +104,8 @@ impl<'a> Wire for InMemoryWire<'a> {
     }
 }
 
-/// A wire with connections to come and to be dialled, and with failures that are named beforehand. It fails at those, and where
-/// no connection is left.
+/// A wire with connections to come and to be dialled, and with failures that are named beforehand. It fails at those,
+/// and where no connection is left.
 pub struct FailingWire<'a> {
     to_accept: &'a [FailingConnection<'a>],
     to_dial: &'a [FailingConnection<'a>],
@@ -122,8 +123,8 @@ impl Drop for FailingWire<'_> {
 }
 
 impl<'a> FailingWire<'a> {
-    /// A wire with these connections to accept and these to dial, each with its failures, and with these failures of its
-    /// calls. A call that fails so takes no connection. It takes no memory.
+    /// A wire with these connections to accept and these to dial, each with its failures, and with these failures of
+    /// its calls. A call that fails so takes no connection. It takes no memory.
     pub fn new(
         alloc: Global,
         to_accept: &'a [FailingConnection<'a>],

@@ -5,6 +5,8 @@ use Rattle.siri_view.specs.Consuming.{Consuming}
 use Rattle.siri_wire.specs.declared.wanted.Wanted.{Wanted}
 use Rattle.siri_network.specs.Calls.{Outside}
 use Rattle.siri_consume.specs.Opening.{Opens, opened}
+use Rattle.siri_base.specs.Numbers.{greatest_number}
+use Rattle.siri_consume.specs.Wanting.{most_wanted}
 
 pub record OpensConsumer (name listen : List ℕ) (input : Bytes) (list : List Wanted) (consumer : Consuming) (from to : Outside) : Type 0 where
   pub start : ℕ
@@ -15,5 +17,5 @@ pub record OpensConsumer (name listen : List ℕ) (input : Bytes) (list : List W
 -- it holds nothing, its numbers aren't used up, and no more is wanted than it may hold
 pub record MayAsk (consumer : Consuming) (list : List Wanted) : Type 0 where
   pub holds : consumer.held ≡ []
-  pub unspent : consumer.next_number ≤ 999999999999999999
-  pub few : length list ≤ 200
+  pub unspent : consumer.next_number ≤ greatest_number
+  pub few : length list ≤ most_wanted

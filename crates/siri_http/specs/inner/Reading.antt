@@ -1,5 +1,6 @@
 -- Inner words: how far a message was read.
-use Rattle.std.specs.Prelude.{◌≡◌, ⊤, ℕ, ◌-◌, ◌≤◌, ◌<◌, false, MatchBool, nat_le, nat_lt, List, [], ◌++◌, length, take, Option, None, Some, Result, if◌then◌else◌}
+use Rattle.std.specs.Prelude.{◌≡◌, ⊤, ℕ, ◌-◌, ◌≤◌, ◌<◌, false, MatchBool, nat_le, nat_lt, List, [], ◌++◌, length, take, Option, None, Some}
+use Rattle.std.specs.Prelude.{Result, if◌then◌else◌}
 use Rattle.siri_base.specs.Failures.{Passes}
 use Rattle.siri_base.specs.MetFailures.{Meets}
 use Rattle.siri_base.specs.Wires.{Present}

@@ -9,7 +9,8 @@ use Rattle.siri_change.proofs.difference.changes.Goals.{then-not-same+in_ok-addi
 
 pub returns-in-None-None : goal.returns-in-None-None
 returns-in-None-None c =
-    let left = none_left c.args.before.now c.args.after.now c.loop-list.old_place c.loop-list.new_place c.in-None-None.ensures.entry c.in-None-None.ensures'.entry in
+    let left = none_left c.args.before.now c.args.after.now c.loop-list.old_place c.loop-list.new_place
+    c.in-None-None.ensures.entry c.in-None-None.ensures'.entry in
     sym (append-nil _) ∙ (ap (λ l. c.loop-list.list ++ l) (sym left) ∙ c.loop-list.invariant)
 
 pub loop-list-smaller-in-None-Some : goal.loop-list-smaller-in-None-Some
@@ -22,7 +23,8 @@ loop-list-preserved-in-None-Some c =
     let f = deref_entry c.in-None-Some.new in
     let above = above_past f.0 c.args.before.now c.loop-list.old_place c.in-None-Some.ensures.entry in
     written _ _ _ _ _ _ _ c.in_ok-push-in-None-Some.ensures.ok c.in_ok-addition-in-None-Some.ensures
-    (added_at c.args.before.now c.args.after.now c.loop-list.old_place c.loop-list.new_place f c.in-None-Some.ensures'.ordered c.in-None-Some.ensures'.entry above)
+    (added_at c.args.before.now c.args.after.now c.loop-list.old_place c.loop-list.new_place f
+    c.in-None-Some.ensures'.ordered c.in-None-Some.ensures'.entry above)
     c.loop-list.invariant
 
 pub loop-list-smaller-in-Some-None : goal.loop-list-smaller-in-Some-None
@@ -35,7 +37,8 @@ loop-list-preserved-in-Some-None c =
     let e = deref_entry c.in-Some-None.old in
     let above = above_past e.0 c.args.after.now c.loop-list.new_place c.in-Some-None.ensures'.entry in
     written _ _ _ _ _ _ _ c.in_ok-push-in-Some-None.ensures.ok c.in_ok-removal-in-Some-None.ensures
-    (removed_at c.args.before.now c.args.after.now c.loop-list.old_place c.loop-list.new_place e c.in-Some-None.ensures.ordered c.in-Some-None.ensures.entry above)
+    (removed_at c.args.before.now c.args.after.now c.loop-list.old_place c.loop-list.new_place e
+    c.in-Some-None.ensures.ordered c.in-Some-None.ensures.entry above)
     c.loop-list.invariant
 
 pub loop-list-smaller-in-Less : goal.loop-list-smaller-in-Less
@@ -46,9 +49,12 @@ loop-list-smaller-in-Less c =
 pub loop-list-preserved-in-Less : goal.loop-list-preserved-in-Less
 loop-list-preserved-in-Less c =
     let e = deref_entry c.in-Some-Some.old in
-    let above = above_from e.0 c.args.after.now c.loop-list.new_place (deref_entry c.in-Some-Some.new) c.in-Some-Some.ensures'.ordered c.in-Some-Some.ensures'.entry (sym c.in-Less.ensures) in
+    let above = above_from e.0 c.args.after.now c.loop-list.new_place
+    (deref_entry c.in-Some-Some.new) c.in-Some-Some.ensures'.ordered c.in-Some-Some.ensures'.entry
+    (sym c.in-Less.ensures) in
     written _ _ _ _ _ _ _ c.in_ok-push-in-Less.ensures.ok c.in_ok-removal-in-Less.ensures
-    (removed_at c.args.before.now c.args.after.now c.loop-list.old_place c.loop-list.new_place e c.in-Some-Some.ensures.ordered c.in-Some-Some.ensures.entry above)
+    (removed_at c.args.before.now c.args.after.now c.loop-list.old_place c.loop-list.new_place e
+    c.in-Some-Some.ensures.ordered c.in-Some-Some.ensures.entry above)
     c.loop-list.invariant
 
 pub loop-list-smaller-in-Greater : goal.loop-list-smaller-in-Greater
@@ -60,9 +66,11 @@ pub loop-list-preserved-in-Greater : goal.loop-list-preserved-in-Greater
 loop-list-preserved-in-Greater c =
     let f = deref_entry c.in-Some-Some.new in
     let e = deref_entry c.in-Some-Some.old in
-    let above = above_from f.0 c.args.before.now c.loop-list.old_place e c.in-Some-Some.ensures.ordered c.in-Some-Some.ensures.entry (reversed f.0 e.0 Greater (sym c.in-Greater.ensures)) in
+    let above = above_from f.0 c.args.before.now c.loop-list.old_place e c.in-Some-Some.ensures.ordered
+    c.in-Some-Some.ensures.entry (reversed f.0 e.0 Greater (sym c.in-Greater.ensures)) in
     written _ _ _ _ _ _ _ c.in_ok-push-in-Greater.ensures.ok c.in_ok-addition-in-Greater.ensures
-    (added_at c.args.before.now c.args.after.now c.loop-list.old_place c.loop-list.new_place f c.in-Some-Some.ensures'.ordered c.in-Some-Some.ensures'.entry above)
+    (added_at c.args.before.now c.args.after.now c.loop-list.old_place c.loop-list.new_place f
+    c.in-Some-Some.ensures'.ordered c.in-Some-Some.ensures'.entry above)
     c.loop-list.invariant
 
 pub loop-list-smaller : goal.loop-list-smaller

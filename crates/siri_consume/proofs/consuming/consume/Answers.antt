@@ -20,7 +20,8 @@ pub returns-clause-keeper_fault : goal.returns-clause-keeper_fault
 returns-clause-keeper_fault g c = keeper_fault _ _ _ _ _ _ _ _ c.in-Err.end c.in-Err.ensures.err
 
 pub returns-clause-complete : goal.returns-clause-complete
-returns-clause-complete g c = λ has wanted unread _. ends_whole _ _ _ _ _ _ _ _ c.in-Err.end c.in-Err.ensures.err has wanted (read_unless_named c.in-Err.end _ _ _ _ unread c.in-Err.ensures.meets)
+returns-clause-complete g c = λ has wanted unread _. ends_whole _ _ _ _ _ _ _ _ c.in-Err.end c.in-Err.ensures.err has
+    wanted (read_unless_named c.in-Err.end _ _ _ _ unread c.in-Err.ensures.meets)
 
 pub returns-clause-sink_meets : goal.returns-clause-sink_meets
 returns-clause-sink_meets g c = rw (written_unless c.in-Err.end (not_write _ _ _ _ _ _ _ _ c.in-Err.end c.in-Err.ensures.err)) (sink_none _ _)

@@ -22,7 +22,8 @@ returns g c =
       wanted = tt;
       at_most = tt;
       all = tt;
-      stops = stops_at _ _ _ _ _ _ c.in_default.not-Done not_write c.read_lines.ensures.ends (c.read_lines.ensures.report (nothing_wanted c.args.subscriber.now) c.new-taken.ensures);
+      stops = stops_at _ _ _ _ _ _ c.in_default.not-Done not_write c.read_lines.ensures.ends
+          (c.read_lines.ensures.report (nothing_wanted c.args.subscriber.now) c.new-taken.ensures);
       read = λ e. let fault : c.read_lines.result ≡ status.ReadFault = cc in c.read_lines.ensures.read fault;
       pieces = c.read_lines.ensures.pieces (nothing_wanted c.args.subscriber.now) c.new-taken.ensures;
       meets = c.read_lines.ensures.source_meets;

@@ -1,5 +1,5 @@
 use Rattle.siri_base.specs.OutsideCalls.{KeeperState}
-use Rattle.siri_network.specs.Calls.{Told, outside_of, told_by}
+use Rattle.siri_network.specs.Calls.{Told, outside_with}
 use Rattle.siri_network.specs.Turns.{running}
 use Rattle.siri_consume.specs.Consumption.{ConsumesTurns}
 use Rattle.siri_consume.proofs.Made.{state_of}
@@ -8,5 +8,6 @@ use Rattle.siri_consume.proofs.turns.consume_connections.Given as goal
 abbrev pub invariant-loop-turn : goal.invariant-loop-turn
 invariant-loop-turn g l =
     (keeper : Told KeeperState) → ConsumesTurns (l.producer.host, l.producer.path) l._turn
-    (running (state_of l.fn.consumer l.fn.tally) (outside_of (told_by (g.W.Wire.tells l.fn.wire) (g.W.Wire.faults l.fn.wire)) (told_by (g.C.Clock.tells l.fn.clock) (g.C.Clock.faults l.fn.clock)) keeper))
-    (running (state_of l.consumer l.tally) (outside_of (told_by (g.W.Wire.tells l.wire) (g.W.Wire.faults l.wire)) (told_by (g.C.Clock.tells l.clock) (g.C.Clock.faults l.clock)) keeper))
+    (running (state_of l.fn.consumer l.fn.tally)
+    (outside_with g.W.Wire g.C.Clock l.fn.wire l.fn.clock keeper))
+    (running (state_of l.consumer l.tally) (outside_with g.W.Wire g.C.Clock l.wire l.clock keeper))

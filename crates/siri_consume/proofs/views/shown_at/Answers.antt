@@ -10,4 +10,5 @@ returns-in_err-held c =
 pub returns : goal.returns
 returns c =
     let at = held_at c.args.consumer.now.held c.args.place c.in_ok-identifier.identifier.now c.len.ensures.ordered c.in_ok-identifier.ensures in
-    shown_is c.args.consumer.now.held c.args.place c.in_ok-identifier.identifier.now c.in_ok-held.field-0 c.in_ok-view.field-0.now at c.in_ok-held.ensures c.in_ok-view.ensures
+    shown_is c.args.consumer.now.held c.args.place c.in_ok-identifier.identifier.now c.in_ok-held.field-0
+    c.in_ok-view.field-0.now at c.in_ok-held.ensures c.in_ok-view.ensures

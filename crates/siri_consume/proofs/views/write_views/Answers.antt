@@ -11,7 +11,8 @@ use Rattle.siri_consume.proofs.views.write_views.Goals as goal
 pub returns-in_err-write_view-clause-err : goal.returns-in_err-write_view-clause-err
 returns-in_err-write_view-clause-err g c =
     let name = c.args.consumer.now.name in
-    on_err c.from_residual.result (pieces_cut shown (lines_of name) _ _ _ c.args.consumer.now.held c.loop-place.place _ c.in-Some.ensures c.loop-place.invariant.written
+    on_err c.from_residual.result (pieces_cut shown (lines_of name) _ _ _ c.args.consumer.now.held c.loop-place.place _
+    c.in-Some.ensures c.loop-place.invariant.written
     (front_are _ _ c.name.result.now name (c.in-Some.identifier.now, c.in-Some.held, c.in-Some.view.now) c.name.ensures c.in_err-write_view.ensures.err))
 
 pub loop-place-preserved : goal.loop-place-preserved
@@ -25,9 +26,11 @@ loop-place-preserved g c =
     }
 
 pub returns-in_default-clause-ok : goal.returns-in_default-clause-ok
-returns-in_default-clause-ok g c = pieces_all shown (lines_of c.args.consumer.now.name) _ _ c.args.consumer.now.held c.loop-place.place c.in_default.ensures c.loop-place.invariant.written
+returns-in_default-clause-ok g c = pieces_all shown (lines_of c.args.consumer.now.name) _ _ c.args.consumer.now.held
+    c.loop-place.place c.in_default.ensures c.loop-place.invariant.written
 
 pub returns-in_err-write_view-clause-meets : goal.returns-in_err-write_view-clause-meets
 returns-in_err-write_view-clause-meets g c =
     let p = err_from_is_err_and c.from_residual.result c.from_residual.ensures.1 in
-    rw (p.1, p.2) (sink_more (has_failed {T = Unit {0}} (Err c.in_err-write_view.field-0.0)) _ _ _ _ _ _ c.loop-place.invariant.meets c.in_err-write_view.ensures.meets)
+    rw (p.1, p.2) (sink_more (has_failed {T = Unit {0}} (Err c.in_err-write_view.field-0.0)) _ _ _ _ _ _
+    c.loop-place.invariant.meets c.in_err-write_view.ensures.meets)

@@ -24,4 +24,6 @@ returns-in_err-outs-clause-err g c =
 
 pub returns-in_err-finish-clause-err : goal.returns-in_err-finish-clause-err
 returns-in_err-finish-clause-err g c =
-    on_err c.from_residual-in_err-finish.result _ (stops_writing c.args.producer.now c.in_ok-asked.asked c.in_ok-response.response _ _ _ c.in_ok-asked.ensures.told c.in_ok-response.ensures.response c.in_err-finish.ensures.err)
+    on_err c.from_residual-in_err-finish.result _
+    (stops_writing c.args.producer.now c.in_ok-asked.asked c.in_ok-response.response _ _ _
+    c.in_ok-asked.ensures.told c.in_ok-response.ensures.response c.in_err-finish.ensures.err)

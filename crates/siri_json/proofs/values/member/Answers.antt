@@ -8,4 +8,5 @@ use Rattle.siri_json.proofs.values.member.Goals as goal
 pub returns : goal.returns
 unfolding member_of
 returns c =
-    c.unless_null.ensures ∙ ap unless_null (shown_of_ref c.get.result ∙ ap (option_map data_of) c.get.ensures ∙ sym (get-data_of c.args.name.now (value_view c.args.tree.now)))
+    c.unless_null.ensures ∙ ap unless_null (shown_of_ref c.get.result ∙ ap (option_map data_of) c.get.ensures
+    ∙ sym (get-data_of c.args.name.now (value_view c.args.tree.now)))

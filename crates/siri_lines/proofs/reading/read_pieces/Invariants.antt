@@ -7,7 +7,9 @@ use Rattle.siri_lines.proofs.reading.read_pieces.Given as goal
 
 abbrev pub invariant-loop-reader : goal.invariant-loop-reader
 invariant-loop-reader g l = record {
-  reads : (w : g.T.LineTaker.World) → g.T.LineTaker.fits l.fn.taker w → ReadsOn g.T.LineTaker.fits (verdict l.fn.most g.T.LineTaker.event) w (g.S.Source.left l.fn.source) (g.S.Source.left l.source) (g.K.Sink.held l.fn.sink) l.taker l.reader (g.K.Sink.held l.sink);
+  reads : (w : g.T.LineTaker.World) → g.T.LineTaker.fits l.fn.taker w
+      → ReadsOn g.T.LineTaker.fits (verdict l.fn.most g.T.LineTaker.event) w (g.S.Source.left l.fn.source)
+      (g.S.Source.left l.source) (g.K.Sink.held l.fn.sink) l.taker l.reader (g.K.Sink.held l.sink);
   most : l.reader.most ≡ l.fn.most;
   within : IsWithin l.reader;
   space : 0 < length l.buffer;

@@ -24,7 +24,8 @@ pub returns-in_ok-insert-in-Err-clause-ok : goal.returns-in_ok-insert-in-Err-cla
 returns-in_ok-insert-in-Err-clause-ok c = ap entries_view c.in_ok-insert-in-Err.ensures.items ∙ put_gap key_cmp c.args.key _ _ c.args.item c.in-Err.ensures
 
 pub returns-in_ok-insert-in-Err-clause-ordered : goal.returns-in_ok-insert-in-Err-clause-ordered
-returns-in_ok-insert-in-Err-clause-ordered c = rw c.in_ok-insert-in-Err.ensures.items (sorted_gap key_cmp_total c.args.key c.args.item _ _ c.requires c.in-Err.ensures)
+returns-in_ok-insert-in-Err-clause-ordered c = rw c.in_ok-insert-in-Err.ensures.items
+    (sorted_gap key_cmp_total c.args.key c.args.item _ _ c.requires c.in-Err.ensures)
 
 pub returns-in_err-insert-in-Err-clause-held : goal.returns-in_err-insert-in-Err-clause-held
 returns-in_err-insert-in-Err-clause-held c held =

@@ -16,9 +16,11 @@ loop-low-preserved-then-lt c =
     let es = c.args.items.now in
     let middle : ℕ = c.loop-low.low + (c.loop-low.high - c.loop-low.low) / 2 in
     let e : Key × Item = (c.in-Some.entry.now.0, c.in-Some.entry.now.1.value) in
-    let below : is_below topic least e.0 ≡ true = ap (λ o. is_lt (nat_cmp (ordering_index o) (ordering_index least))) (sym c.side.ensures) ∙ (sym c.lt.ensures ∙ c.if-lt.true) in
+    let below : is_below topic least e.0 ≡ true = ap (λ o. is_lt (nat_cmp (ordering_index o) (ordering_index least)))
+    (sym c.side.ensures) ∙ (sym c.lt.ensures ∙ c.if-lt.true) in
     record {
-      below = holds_to key_cmp (is_below topic least) (below_before topic least) es middle e (drop (middle + 1) es) c.entry.ensures.ordered c.in-Some.ensures.onward.0 below;
+      below = holds_to key_cmp (is_below topic least) (below_before topic least) es middle e
+          (drop (middle + 1) es) c.entry.ensures.ordered c.in-Some.ensures.onward.0 below;
       above = c.loop-low.invariant.above;
       rising = omega (arith, c.loop-low-test.true);
       within = c.loop-low.invariant.within;
@@ -31,10 +33,12 @@ loop-low-preserved-in_default c =
     let es = c.args.items.now in
     let middle : ℕ = c.loop-low.low + (c.loop-low.high - c.loop-low.low) / 2 in
     let e : Key × Item = (c.in-Some.entry.now.0, c.in-Some.entry.now.1.value) in
-    let above : is_below topic least e.0 ≡ false = ap (λ o. is_lt (nat_cmp (ordering_index o) (ordering_index least))) (sym c.side.ensures) ∙ (sym c.lt.ensures ∙ c.if-lt.false) in
+    let above : is_below topic least e.0 ≡ false = ap (λ o. is_lt (nat_cmp (ordering_index o) (ordering_index least)))
+    (sym c.side.ensures) ∙ (sym c.lt.ensures ∙ c.if-lt.false) in
     record {
       below = c.loop-low.invariant.below;
-      above = fails_on key_cmp (is_below topic least) (below_before topic least) es middle e (drop (middle + 1) es) c.entry.ensures.ordered c.in-Some.ensures.onward.0 above;
+      above = fails_on key_cmp (is_below topic least) (below_before topic least) es middle e
+          (drop (middle + 1) es) c.entry.ensures.ordered c.in-Some.ensures.onward.0 above;
       rising = omega arith;
       within = omega (arith, c.loop-low-test.true, c.loop-low.invariant.within);
     }

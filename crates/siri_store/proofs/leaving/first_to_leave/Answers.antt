@@ -18,7 +18,8 @@ loop-place-preserved-then-leaves_before c =
     let next : place - 1 + 1 ≡ place = omega (arith, c.loop-place-test.true) in
     let is = c.in-Some.ensures.onward.0 ∙ ap (λ n. e ∷ drop n es) next in
     let dead = ap (λ i. is_dead i now) (sym c.deref.ensures) ∙ (sym c.dead.ensures ∙ c.if-dead.true) in
-    let first = takes_from now (drop (place - 1) es) (drop place es) e _ is dead c.loop-place.invariant.first (sym c.leaves_before.ensures ∙ c.if-leaves_before.true) in
+    let first = takes_from now (drop (place - 1) es) (drop place es) e _ is dead c.loop-place.invariant.first
+    (sym c.leaves_before.ensures ∙ c.if-leaves_before.true) in
     record {
       first = subst (λ (o : Option (Key × Item)). IsFirst (dead_of now (drop (place - 1) es)) o) c.in-Some.ensures.entry first;
       within = omega (arith, c.loop-place.invariant.within);
@@ -37,7 +38,8 @@ loop-place-preserved-else-dead c =
     let inv = c.loop-place.invariant in
     elim c.else-dead.branch [
       | else-dead-via-then-dead+else-leaves_before w ↦ record {
-        first = keeps_from now (drop (place - 1) es) (drop place es) e _ is (told ∙ w.if-dead.true) inv.first (sym w.leaves_before.ensures ∙ w.if-leaves_before.false);
+        first = keeps_from now (drop (place - 1) es) (drop place es) e _ is (told ∙ w.if-dead.true) inv.first
+            (sym w.leaves_before.ensures ∙ w.if-leaves_before.false);
         within = omega (arith, inv.within);
         found = inv.found;
       }

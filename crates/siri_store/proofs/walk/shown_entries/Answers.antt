@@ -42,14 +42,17 @@ loop-place-preserved c =
           let next = shown_next topic moment es place end e c.loop-place-test.true w.in-Some.ensures.onward.0 shown in
           let pair : ◌≡◌ {A = Key × Item} (w.in_ok-key.key, w.in_ok-item.item.value) e = λ j. (w.in_ok-key.ensures j, w.in_ok-item.ensures.cases j) in
           record {
-            found = found_one _ _ _ _ _ e (w.found-is ∙ (w.in_ok-push_last.ensures.ok ∙ ap (λ (x : Key × Item). c.loop-place.found ++ x ∷ []) pair)) next now.found;
+            found = found_one _ _ _ _ _ e (w.found-is
+                ∙ (w.in_ok-push_last.ensures.ok ∙ ap (λ (x : Key × Item). c.loop-place.found ++ x ∷ []) pair)) next
+                now.found;
             within = now.within;
             left = left;
             counter = counted_one c.args.counter.now c.loop-place.counter c.match-entry.counter _ _ onward now.counter (w.counter-is ∙ w.count.ensures.step);
           }
       | in-Some+else-shown w ↦
           let e : Key × Item = (w.in-Some.entry.now.0, w.in-Some.entry.now.1.value) in
-          let unshown : is_shown topic e.1 moment ≡ false = ap (λ i. is_shown topic i moment) (sym w.deref.ensures) ∙ (sym w.shown.ensures ∙ w.if-shown.false) in
+          let unshown : is_shown topic e.1 moment ≡ false = ap (λ i. is_shown topic i moment) (sym w.deref.ensures)
+          ∙ (sym w.shown.ensures ∙ w.if-shown.false) in
           let next = unshown_next topic moment es place end e c.loop-place-test.true w.in-Some.ensures.onward.0 unshown in
           record {
             found = rw (w.found-is, ← next) now.found;

@@ -42,14 +42,16 @@ loop-place-preserved c =
           let shown : is_shown topic e.1 moment ≡ true = ap (λ i. is_shown topic i moment) (sym w.deref.ensures) ∙ (sym w.shown.ensures ∙ w.if-shown.true) in
           let next = ap values_of (shown_next topic moment es place end e c.loop-place-test.true w.in-Some.ensures.onward.0 shown) in
           record {
-            found = found_one _ _ _ _ _ e.1 (one_more c.loop-place.found.items _ _ e.1 (ap (λ v. v.items) w.found-is ∙ w.in_ok-push.ensures.items) w.in_ok-item.ensures.cases) next now.found;
+            found = found_one _ _ _ _ _ e.1 (one_more c.loop-place.found.items _ _ e.1
+                (ap (λ v. v.items) w.found-is ∙ w.in_ok-push.ensures.items) w.in_ok-item.ensures.cases) next now.found;
             within = now.within;
             left = left;
             counter = counted_one c.args.counter.now c.loop-place.counter c.match-entry.counter _ _ onward now.counter (w.counter-is ∙ w.count.ensures.step);
           }
       | in-Some+else-shown w ↦
           let e : Key × Item = (w.in-Some.entry.now.0, w.in-Some.entry.now.1.value) in
-          let unshown : is_shown topic e.1 moment ≡ false = ap (λ i. is_shown topic i moment) (sym w.deref.ensures) ∙ (sym w.shown.ensures ∙ w.if-shown.false) in
+          let unshown : is_shown topic e.1 moment ≡ false = ap (λ i. is_shown topic i moment) (sym w.deref.ensures)
+          ∙ (sym w.shown.ensures ∙ w.if-shown.false) in
           let next = ap values_of (unshown_next topic moment es place end e c.loop-place-test.true w.in-Some.ensures.onward.0 unshown) in
           record {
             found = rw (w.found-is, ← next) now.found;

@@ -17,7 +17,8 @@ returns-in_err-below_place c =
     let so_far = ap (λ (ds : List Data). after c.loop-place.found.items (found_from rule place ds)) (sym here) ∙ c.loop-place.invariant in
     let not_null : is_null (shown v) ≡ false = sym c.is_null.ensures ∙ c.if-not-is_null.true in
     let p = err_from_is_err_and c.from_residual.result c.from_residual.ensures.1 in
-    rw (p.1, p.2) (found_fails rule c.loop-place.found.items place (shown v) (rest_from (place + 1) vs) _ _ not_null (c.in_err-below_place.ensures (rule (shown v)) c.inside.ensures) so_far)
+    rw (p.1, p.2) (found_fails rule c.loop-place.found.items place (shown v) (rest_from (place + 1) vs) _ _ not_null
+    (c.in_err-below_place.ensures (rule (shown v)) c.inside.ensures) so_far)
 
 pub loop-place-preserved : goal.loop-place-preserved
 loop-place-preserved c =
@@ -30,11 +31,15 @@ loop-place-preserved c =
     elim c.if-not-is_null.branch [
       | then-not-is_null+in_ok-below_place+in_ok-push_some w ↦
           let not_null : is_null (shown v) ≡ false = sym c.is_null.ensures ∙ w.if-not-is_null.true in
-          rw (w.found-is, w.in_ok-push_some.ensures) (found_takes rule c.loop-place.found.items place (shown v) (rest_from (place + 1) vs) _ _ not_null (w.in_ok-below_place.ensures (rule (shown v)) w.inside.ensures) so_far)
+          rw (w.found-is, w.in_ok-push_some.ensures)
+          (found_takes rule c.loop-place.found.items place (shown v) (rest_from (place + 1) vs) _ _ not_null
+          (w.in_ok-below_place.ensures (rule (shown v)) w.inside.ensures) so_far)
       | else-not-is_null w ↦
           let null : is_null (shown v) ≡ true = sym c.is_null.ensures ∙ w.if-not-is_null.false in
           rw (w.found-is) (found_passes rule c.loop-place.found.items place (shown v) (rest_from (place + 1) vs) _ null so_far)
     ]
 
 pub returns : goal.returns
-returns c = rw (c.of.ensures) (found_done (inside name c.args.inner.now) c.loop-place.found.items c.loop-place.place (rest_from c.loop-place.place c.args.values.now) _ (rest_from-all c.loop-place.place c.args.values.now c.loop-place-test.false) c.loop-place.invariant)
+returns c = rw (c.of.ensures) (found_done (inside name c.args.inner.now) c.loop-place.found.items c.loop-place.place
+    (rest_from c.loop-place.place c.args.values.now) _
+    (rest_from-all c.loop-place.place c.args.values.now c.loop-place-test.false) c.loop-place.invariant)

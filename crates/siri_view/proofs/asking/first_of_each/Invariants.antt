@@ -1,4 +1,4 @@
-use Rattle.std.proofs.Common.{◌≡◌, List, [], take}
+use Rattle.std.proofs.Common.{◌≡◌, [], take}
 use Rattle.std.specs.Prelude.{fold, map}
 use Rattle.siri_view.specs.Sending.{with_first, own}
 use Rattle.siri_view.proofs.asking.first_of_each.Given as goal

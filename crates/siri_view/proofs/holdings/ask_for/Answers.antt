@@ -1,4 +1,4 @@
-use Rattle.std.proofs.Common.{arith, ap, sym, ◌∙◌, Some, None}
+use Rattle.std.proofs.Common.{arith, ap, sym, ◌∙◌}
 use Rattle.std.proofs.lemmas.Map.{lookup-none}
 use Rattle.std.proofs.lemmas.Cmp.{nat_list_cmp_total}
 use Rattle.siri_records.proofs.Edited.{here_below, gap_within, sorted_gap}
@@ -24,7 +24,10 @@ pub returns-in_ok-insert-in-Err-clause-ok : goal.returns-in_ok-insert-in-Err-cla
 returns-in_ok-insert-in-Err-clause-ok c =
     c.in_ok-insert-in-Err.ensures.items
     ∙ (put_in name_cmp c.args.identifier c.args.entries.now.items c.in-Err.at c.new-kept.result c.in-Err.ensures
-    ∙ ap (λ kept. with_kept c.args.identifier kept c.args.entries.now.items) (c.new-kept.ensures ∙ ap (asked meaning c.args.number c.args.asked) (sym (lookup-none _ _ (none_at nat_list_cmp_total _ _ _ c.requires.ordered c.in-Err.ensures)))))
+    ∙ ap (λ kept. with_kept c.args.identifier kept c.args.entries.now.items)
+    (c.new-kept.ensures ∙ ap (asked meaning c.args.number c.args.asked)
+    (sym (lookup-none _ _ (none_at nat_list_cmp_total _ _ _ c.requires.ordered c.in-Err.ensures)))))
 
 pub returns-in_ok-insert-in-Err-clause-ordered : goal.returns-in_ok-insert-in-Err-clause-ordered
-returns-in_ok-insert-in-Err-clause-ordered c = rw c.in_ok-insert-in-Err.ensures.items (sorted_gap nat_list_cmp_total c.args.identifier _ _ _ c.requires.ordered c.in-Err.ensures)
+returns-in_ok-insert-in-Err-clause-ordered c = rw c.in_ok-insert-in-Err.ensures.items
+    (sorted_gap nat_list_cmp_total c.args.identifier _ _ _ c.requires.ordered c.in-Err.ensures)

@@ -1,4 +1,6 @@
-use Rattle.siri_wire_laws.proofs.ReadIffSpellsParts.{visit_cancellation_spelled, visit_cancellation_read, removed_journey_spelled, removed_journey_read, vehicle_cancellation_spelled, vehicle_cancellation_read, removed_situation_spelled, removed_situation_read}
+use Rattle.siri_wire_laws.proofs.ReadIffSpellsParts.{visit_cancellation_spelled, visit_cancellation_read, removed_journey_spelled}
+use Rattle.siri_wire_laws.proofs.ReadIffSpellsParts.{removed_journey_read, vehicle_cancellation_spelled, vehicle_cancellation_read}
+use Rattle.siri_wire_laws.proofs.ReadIffSpellsParts.{removed_situation_spelled, removed_situation_read}
 use Rattle.siri_wire_laws.proofs.delivery_laws.removals_are_spelled.Goals as goal
 
 pub returns-clause-of_visit : goal.returns-clause-of_visit

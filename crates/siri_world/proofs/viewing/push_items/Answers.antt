@@ -14,8 +14,12 @@ loop-place-preserved c =
     let value = c.in_ok-clone.field-0.value in
     ap told_lines c.in_ok-push.ensures.ok ∙ told_more c.loop-place.lines _ ∙ ap (λ l. l ++ line.Item value ∷ []) c.loop-place.invariant
     ∙ append_assoc before (item_lines (take place view)) (line.Item value ∷ [])
-    ∙ ap (λ l. before ++ l) (sym (more_items view place value (ap Some c.in_ok-clone.ensures.cases ∙ sym (ap (option_map (λ item. item.now.value)) c.in-Some.is) ∙ c.at.ensures)))
+    ∙ ap (λ l. before ++ l) (sym (more_items view place value
+    (ap Some c.in_ok-clone.ensures.cases ∙ sym (ap (option_map (λ item. item.now.value)) c.in-Some.is)
+    ∙ c.at.ensures)))
 
 pub returns-in_default : goal.returns-in_default
 returns-in_default c =
-    c.loop-place.invariant ∙ ap (λ l. told_lines c.args.lines.now ++ l) (all_items c.args.view.now c.loop-place.place (sym (ap (option_map (λ item. item.now.value)) c.in_default.is) ∙ c.at.ensures))
+    c.loop-place.invariant ∙ ap (λ l. told_lines c.args.lines.now ++ l)
+    (all_items c.args.view.now c.loop-place.place
+    (sym (ap (option_map (λ item. item.now.value)) c.in_default.is) ∙ c.at.ensures))

@@ -7,7 +7,8 @@ use Rattle.siri_lines.proofs.reader.Reader.take.Given as goal
 
 abbrev pub invariant-loop-end : goal.invariant-loop-end
 invariant-loop-end g l = record {
-  front : TakesFront g.T.LineTaker.fits (verdict l.fn.self.most g.T.LineTaker.event) l.fn.taker l.fn.self (g.K.Sink.held l.fn.sink) l.fn.piece l.taker l.self (g.K.Sink.held l.sink) l.rest;
+  front : TakesFront g.T.LineTaker.fits (verdict l.fn.self.most g.T.LineTaker.event) l.fn.taker l.fn.self
+      (g.K.Sink.held l.fn.sink) l.fn.piece l.taker l.self (g.K.Sink.held l.sink) l.rest;
   most : l.self.most ≡ l.fn.self.most;
   within : IsWithin l.self;
   room : room l.self + length l.fn.piece ≤ room l.fn.self + length l.rest;

@@ -10,6 +10,8 @@ pub returns-clause-done : goal.returns-clause-done
 returns-clause-done c = λ progress plays.
     let now = plays_as _ _ progress c.self.view_is plays in
     let drawn_plays = draws_plays _ progress _ c.draw.ensures.number now in
-    let not_zero : (drawn (draws progress).number 10 == 0) ≡ false = ap (λ (n : ℕ). n == 0) (ap (λ n. drawn n 10) (sym drawn_plays.number) ∙ sym c.draw.ensures.value) ∙ ne_eqb c.draw.result 0 c.if-draw-eq0.false in
+    let not_zero : (drawn (draws progress).number 10 == 0) ≡ false =
+    ap (λ (n : ℕ). n == 0) (ap (λ n. drawn n 10) (sym drawn_plays.number) ∙ sym c.draw.ensures.value)
+    ∙ ne_eqb c.draw.result 0 c.if-draw-eq0.false in
     let family : Result Progress ℕ → Type 0 = λ outcome. Brings c.deliver.new.self c.deliver.result outcome in
     subst family (sym (chosen_delivered progress not_zero)) (c.deliver.ensures.done (draws progress) drawn_plays)

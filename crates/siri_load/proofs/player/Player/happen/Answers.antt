@@ -15,7 +15,9 @@ returns-in_err-make_drawn c = λ progress plays.
     let p = err_from_is_err_and c.from_residual.result c.from_residual.ensures.1 in
     let family : ℕ → Type 0 = λ choice. Brings c.make_drawn.new.self (Err c.in_err-make_drawn.field-0.0) (makes_by choice (draws progress)) in
     gives_as c.make_drawn.new.self c.from_residual.result c.in_err-make_drawn.field-0.0 _ (p.1 ∙ ap Err p.2)
-    (brings_none c.make_drawn.new.self c.make_drawn.new.self c.in_err-make_drawn.field-0.0 (takes_all delivers_or_loses) (makes_by (drawn (draws progress).number 10) (draws progress)) (subst family (sym choice) (c.in_err-make_drawn.ensures {u = tt} (draws progress) drawn_plays)))
+    (brings_none c.make_drawn.new.self c.make_drawn.new.self c.in_err-make_drawn.field-0.0 (takes_all delivers_or_loses)
+    (makes_by (drawn (draws progress).number 10) (draws progress))
+    (subst family (sym choice) (c.in_err-make_drawn.ensures {u = tt} (draws progress) drawn_plays)))
 
 pub returns : goal.returns
 returns c = λ progress plays.
@@ -23,4 +25,7 @@ returns c = λ progress plays.
     let drawn_plays = draws_plays _ progress _ c.draw-choice.ensures.number now in
     let choice : drawn (draws progress).number 10 ≡ c.draw-choice.result = ap (λ n. drawn n 10) (sym drawn_plays.number) ∙ sym c.draw-choice.ensures.value in
     let family : ℕ → Type 0 = λ choice. Brings c.make_drawn.new.self (Ok c.in_ok-make_drawn.field-0) (makes_by choice (draws progress)) in
-    brings_on c.make_drawn.new.self c.take_all.new.self c.in_ok-make_drawn.field-0 c.take_all.result (takes_all delivers_or_loses) (makes_by (drawn (draws progress).number 10) (draws progress)) (subst family (sym choice) (c.in_ok-make_drawn.ensures {u = tt} (draws progress) drawn_plays)) c.take_all.ensures
+    brings_on c.make_drawn.new.self c.take_all.new.self c.in_ok-make_drawn.field-0 c.take_all.result
+    (takes_all delivers_or_loses) (makes_by (drawn (draws progress).number 10) (draws progress))
+    (subst family (sym choice) (c.in_ok-make_drawn.ensures {u = tt} (draws progress) drawn_plays))
+    c.take_all.ensures

@@ -9,16 +9,23 @@ use Rattle.siri_producer.proofs.producer.Producer.feed_owned.Goals as goal
 pub invariant_of-self : goal.invariant_of-self
 invariant_of-self c =
     let inside = c.self.inside in
-    is_fed c.feed_owned.result inside.responder c.feed_owned.new.self inside.table inside.is_settled (entries_of c.args.delivery) c.self.invariant.stands c.feed_owned.ensures.ok c.feed_owned.ensures.err
+    is_fed c.feed_owned.result inside.responder c.feed_owned.new.self inside.table inside.is_settled
+    (entries_of c.args.delivery) c.self.invariant.stands c.feed_owned.ensures.ok c.feed_owned.ensures.err
 
 pub returns-clause-ok : goal.returns-clause-ok
 returns-clause-ok c =
     let inside = c.self.inside in
     let entries = entries_of c.args.delivery in
-    on_ok_weaker c.feed_owned.result (λ goes. subst (λ (k : Known). GoesOn k (known_of c.feed_owned.new.self inside.table false) (Feed entries)) c.self.view_is (goes_fed inside.responder c.feed_owned.new.self inside.table inside.is_settled entries goes)) c.feed_owned.ensures.ok
+    on_ok_weaker c.feed_owned.result (λ goes. subst
+    (λ (k : Known). GoesOn k (known_of c.feed_owned.new.self inside.table false) (Feed entries)) c.self.view_is
+    (goes_fed inside.responder c.feed_owned.new.self inside.table inside.is_settled entries goes))
+    c.feed_owned.ensures.ok
 
 pub returns-clause-err : goal.returns-clause-err
 returns-clause-err c =
     let inside = c.self.inside in
     let entries = entries_of c.args.delivery in
-    on_err_weaker c.feed_owned.result (λ some. subst (λ (k : Known). TookSome k (known_of c.feed_owned.new.self inside.table false) entries) c.self.view_is (took_fed inside.responder c.feed_owned.new.self inside.table inside.is_settled entries some)) c.feed_owned.ensures.err
+    on_err_weaker c.feed_owned.result (λ some. subst
+    (λ (k : Known). TookSome k (known_of c.feed_owned.new.self inside.table false) entries) c.self.view_is
+    (took_fed inside.responder c.feed_owned.new.self inside.table inside.is_settled entries some))
+    c.feed_owned.ensures.err

@@ -13,7 +13,8 @@ invariant_of-self c =
 pub returns-clause-stands : goal.returns-clause-stands
 returns-clause-stands c = λ m other.
     let inside = c.self.inside in
-    subst (λ (k : Known). GoesOn k (known_of inside.responder inside.table false) (Take m)) c.self.view_is (goes_ignored inside.responder inside.table inside.is_settled m other)
+    subst (λ (k : Known). GoesOn k (known_of inside.responder inside.table false) (Take m)) c.self.view_is
+    (goes_ignored inside.responder inside.table inside.is_settled m other)
 
 pub returns-clause-answer : goal.returns-clause-answer
 returns-clause-answer c = λ m other h s. c.noted.ensures ∙ answer_ignored c.args.self.now m other h s

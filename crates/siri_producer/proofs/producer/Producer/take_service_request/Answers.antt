@@ -1,4 +1,4 @@
-use Rattle.std.proofs.Common.{false, ◌∙◌, subst}
+use Rattle.std.proofs.Common.{false, ap, ◌∙◌, subst}
 use Rattle.siri_messages.specs.declared.message.Message.TheVariants as message
 use Rattle.siri_model.specs.History.{Take}
 use Rattle.siri_producer.specs.declared.answers.Note.TheVariants as note
@@ -13,17 +13,23 @@ pub invariant_of-self-2 : goal.invariant_of-self-2
 invariant_of-self-2 c =
     let inside = c.self.inside in
     let request = c.args.request.now in
-    is_producer c.direct.new.self inside.table (went (known_of inside.responder inside.table inside.is_settled) (known_of c.direct.new.self inside.table false) (Take (message.ServiceRequest request)) c.self.invariant.stands (goes_asked inside.responder inside.table inside.is_settled c.direct.new.self request c.direct.ensures.rest))
+    is_producer c.direct.new.self inside.table
+    (went (known_of inside.responder inside.table inside.is_settled) (known_of c.direct.new.self inside.table false)
+    (Take (message.ServiceRequest request)) c.self.invariant.stands
+    (goes_asked inside.responder inside.table inside.is_settled c.direct.new.self request c.direct.ensures.rest))
 
-pub returns-clause-ok : goal.returns-clause-ok
-returns-clause-ok c =
-    let inside = c.self.inside in
-    let request = c.args.request.now in
-    subst (λ (k : Known). GoesOn k (known_of c.direct.new.self inside.table false) (Take (message.ServiceRequest request))) c.self.view_is (goes_asked inside.responder inside.table inside.is_settled c.direct.new.self request c.direct.ensures.rest)
-
-pub returns-clause-answer : goal.returns-clause-answer
-returns-clause-answer c = λ h s.
+pub returns-clause-takes : goal.returns-clause-takes
+returns-clause-takes c =
     let inside = c.self.inside in
     let request = c.args.request.now in
     let delivery = c.in_ok-delivery.delivery in
-    c.replied.ensures ∙ subst (λ (k : Known). AnswerFor k (message.ServiceRequest request) (replied note.Asked (message.ServiceDelivery delivery))) c.self.view_is (answer_asked inside.responder inside.table inside.is_settled request delivery c.in_ok-delivery.ensures.ok) h s
+    record {
+      ok = subst (λ (k : Known). GoesOn k (known_of c.direct.new.self inside.table false)
+          (Take (message.ServiceRequest request))) c.self.view_is
+          (goes_asked inside.responder inside.table inside.is_settled c.direct.new.self request c.direct.ensures.rest);
+      answer = λ h s. c.replied.ensures ∙ subst (λ (k : Known). AnswerFor k (message.ServiceRequest request)
+          (replied note.Asked (message.ServiceDelivery delivery))) c.self.view_is
+          (answer_asked inside.responder inside.table inside.is_settled request delivery c.in_ok-delivery.ensures.ok) h s;
+      err = tt;
+      name = ap (λ k. k.name) c.direct.ensures.rest ∙ ap (λ (k : Known). k.responder.name) c.self.view_is;
+    }

@@ -1,4 +1,4 @@
-use Rattle.std.proofs.Common.{false, ◌∙◌, subst}
+use Rattle.std.proofs.Common.{false, ap, ◌∙◌, subst}
 use Rattle.siri_messages.specs.declared.message.Message.TheVariants as message
 use Rattle.siri_model.specs.History.{Take}
 use Rattle.siri_producer.specs.declared.answers.Note.TheVariants as note
@@ -13,18 +13,25 @@ pub invariant_of-self : goal.invariant_of-self
 invariant_of-self c =
     let inside = c.self.inside in
     let request = c.args.request.now in
-    is_producer inside.responder inside.table (went (known_of inside.responder inside.table inside.is_settled) (known_of inside.responder inside.table false) (Take (message.CheckStatusRequest request)) c.self.invariant.stands (goes_checked inside.responder inside.table inside.is_settled request))
+    is_producer inside.responder inside.table
+    (went (known_of inside.responder inside.table inside.is_settled) (known_of inside.responder inside.table false)
+    (Take (message.CheckStatusRequest request)) c.self.invariant.stands
+    (goes_checked inside.responder inside.table inside.is_settled request))
 
-pub returns-clause-ok : goal.returns-clause-ok
-returns-clause-ok c =
-    let inside = c.self.inside in
-    let request = c.args.request.now in
-    subst (λ (k : Known). GoesOn k (known_of inside.responder inside.table false) (Take (message.CheckStatusRequest request))) c.self.view_is (goes_checked inside.responder inside.table inside.is_settled request)
-
-pub returns-clause-answer : goal.returns-clause-answer
-returns-clause-answer c = λ h s.
+pub returns-clause-takes : goal.returns-clause-takes
+returns-clause-takes c =
     let inside = c.self.inside in
     let request = c.args.request.now in
     let response = c.in_ok-response.response in
-    c.replied.ensures ∙ subst (λ (k : Known). AnswerFor k (message.CheckStatusRequest request) (replied note.Checked (message.CheckStatusResponse response))) c.self.view_is
-    (answer_checked inside.responder inside.table inside.is_settled c.name.result.now c.now-now.result c.started-started.result request response c.name.ensures c.now-now.ensures c.started-started.ensures c.in_ok-response.ensures) h s
+    record {
+      ok = subst (λ (k : Known). GoesOn k (known_of inside.responder inside.table false)
+          (Take (message.CheckStatusRequest request))) c.self.view_is
+          (goes_checked inside.responder inside.table inside.is_settled request);
+      answer = λ h s. c.replied.ensures ∙ subst (λ (k : Known). AnswerFor k (message.CheckStatusRequest request)
+          (replied note.Checked (message.CheckStatusResponse response))) c.self.view_is
+          (answer_checked inside.responder inside.table inside.is_settled c.name.result.now c.now-now.result
+          c.started-started.result request response c.name.ensures c.now-now.ensures c.started-started.ensures
+          c.in_ok-response.ensures) h s;
+      err = tt;
+      name = ap (λ (k : Known). k.responder.name) c.self.view_is;
+    }

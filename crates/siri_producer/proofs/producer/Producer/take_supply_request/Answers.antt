@@ -14,24 +14,28 @@ invariant_of-self-2 c =
     let inside = c.self.inside in
     let request = c.args.request.now in
     let after = c.supply.new.table in
-    is_producer inside.responder after (went (known_of inside.responder inside.table inside.is_settled) (known_of inside.responder after false) (Take (message.DataSupplyRequest request)) c.self.invariant.stands
-    (goes_supplied inside.responder inside.table inside.is_settled after c.start-start.result c.now-now.result request c.start-start.ensures c.now-now.ensures c.in_ok-answer.ensures.rows))
+    is_producer inside.responder after (went (known_of inside.responder inside.table inside.is_settled)
+    (known_of inside.responder after false) (Take (message.DataSupplyRequest request)) c.self.invariant.stands
+    (goes_supplied inside.responder inside.table inside.is_settled after c.start-start.result c.now-now.result request
+    c.start-start.ensures c.now-now.ensures c.in_ok-answer.ensures.rows))
 
-pub returns-clause-ok : goal.returns-clause-ok
-returns-clause-ok c =
+pub returns-clause-takes : goal.returns-clause-takes
+returns-clause-takes c =
     let inside = c.self.inside in
     let request = c.args.request.now in
     let after = c.supply.new.table in
-    subst (λ (k : Known). GoesOn k (known_of inside.responder after false) (Take (message.DataSupplyRequest request))) c.self.view_is
-    (goes_supplied inside.responder inside.table inside.is_settled after c.start-start.result c.now-now.result request c.start-start.ensures c.now-now.ensures c.in_ok-answer.ensures.rows)
-
-pub returns-clause-answer : goal.returns-clause-answer
-returns-clause-answer c = λ h s.
-    let inside = c.self.inside in
-    let request = c.args.request.now in
     let answer = c.in_ok-answer.answer in
     let told : Note → _ = λ note. replied note (message.ServiceDelivery answer.delivery) in
-    c.replied.ensures
-    ∙ ap told c.supply_note.ensures
-    ∙ subst (λ (k : Known). AnswerFor k (message.DataSupplyRequest request) (supply_reply answer)) c.self.view_is
-    (answer_supplied inside.responder inside.table inside.is_settled c.name-name.result.now c.start-start.result c.now-now.result request answer c.name-name.ensures c.start-start.ensures c.now-now.ensures c.in_ok-answer.ensures.answer) h s
+    record {
+      ok = subst (λ (k : Known). GoesOn k (known_of inside.responder after false) (Take (message.DataSupplyRequest request))) c.self.view_is
+          (goes_supplied inside.responder inside.table inside.is_settled after c.start-start.result c.now-now.result request
+          c.start-start.ensures c.now-now.ensures c.in_ok-answer.ensures.rows);
+      answer = λ h s. c.replied.ensures
+          ∙ ap told c.supply_note.ensures
+          ∙ subst (λ (k : Known). AnswerFor k (message.DataSupplyRequest request) (supply_reply answer)) c.self.view_is
+          (answer_supplied inside.responder inside.table inside.is_settled c.name-name.result.now c.start-start.result
+          c.now-now.result request answer c.name-name.ensures c.start-start.ensures c.now-now.ensures
+          c.in_ok-answer.ensures.answer) h s;
+      err = tt;
+      name = ap (λ (k : Known). k.responder.name) c.self.view_is;
+    }

@@ -1,4 +1,4 @@
-use Rattle.std.proofs.Common.{false, ◌∙◌, subst}
+use Rattle.std.proofs.Common.{false, ap, ◌∙◌, subst}
 use Rattle.siri_messages.specs.declared.message.Message.TheVariants as message
 use Rattle.siri_model.specs.History.{Take}
 use Rattle.siri_producer.specs.declared.answers.Note.TheVariants as note
@@ -14,18 +14,25 @@ invariant_of-self-2 c =
     let inside = c.self.inside in
     let request = c.args.request.now in
     let after = c.terminate.new.table in
-    is_producer inside.responder after (went (known_of inside.responder inside.table inside.is_settled) (known_of inside.responder after false) (Take (message.TerminateSubscriptionRequest request)) c.self.invariant.stands (goes_ended inside.responder inside.table inside.is_settled after request c.in_ok-response.ensures.rows))
+    is_producer inside.responder after (went (known_of inside.responder inside.table inside.is_settled)
+    (known_of inside.responder after false) (Take (message.TerminateSubscriptionRequest request))
+    c.self.invariant.stands (goes_ended inside.responder inside.table inside.is_settled after request
+    c.in_ok-response.ensures.rows))
 
-pub returns-clause-ok : goal.returns-clause-ok
-returns-clause-ok c =
+pub returns-clause-takes : goal.returns-clause-takes
+returns-clause-takes c =
     let inside = c.self.inside in
     let request = c.args.request.now in
     let after = c.terminate.new.table in
-    subst (λ (k : Known). GoesOn k (known_of inside.responder after false) (Take (message.TerminateSubscriptionRequest request))) c.self.view_is (goes_ended inside.responder inside.table inside.is_settled after request c.in_ok-response.ensures.rows)
-
-pub returns-clause-answer : goal.returns-clause-answer
-returns-clause-answer c = λ h s.
-    let inside = c.self.inside in
-    let request = c.args.request.now in
     let response = c.in_ok-response.response in
-    c.replied.ensures ∙ subst (λ (k : Known). AnswerFor k (message.TerminateSubscriptionRequest request) (replied note.Ended (message.TerminateSubscriptionResponse response))) c.self.view_is (answer_ended inside.responder inside.table inside.is_settled c.now.result request response c.now.ensures c.in_ok-response.ensures.answer) h s
+    record {
+      ok = subst (λ (k : Known). GoesOn k (known_of inside.responder after false)
+          (Take (message.TerminateSubscriptionRequest request))) c.self.view_is
+          (goes_ended inside.responder inside.table inside.is_settled after request c.in_ok-response.ensures.rows);
+      answer = λ h s. c.replied.ensures ∙ subst (λ (k : Known). AnswerFor k (message.TerminateSubscriptionRequest request)
+          (replied note.Ended (message.TerminateSubscriptionResponse response))) c.self.view_is
+          (answer_ended inside.responder inside.table inside.is_settled c.now.result request response c.now.ensures
+          c.in_ok-response.ensures.answer) h s;
+      err = tt;
+      name = ap (λ (k : Known). k.responder.name) c.self.view_is;
+    }

@@ -6,7 +6,9 @@ use Rattle.siri_records.proofs.keyed.KeyedItems.entry.Goals as goal
 
 pub returns-in-Some-clause-onward : goal.returns-in-Some-clause-onward
 returns-in-Some-clause-onward c =
-    rw (← c.self.view_is) (placed_at (λ (e : Key × Shared). (e.0, e.1.value)) c.self.inside.entries.items c.args.place c.in-Some.entry.now (rw c.deref.ensures.value at c.in-Some.ensures.lookup.3.0) (rw c.deref.ensures.value at c.in-Some.ensures.lookup.1))
+    rw (← c.self.view_is) (placed_at (λ (e : Key × Shared). (e.0, e.1.value)) c.self.inside.entries.items c.args.place
+    c.in-Some.entry.now (rw c.deref.ensures.value at c.in-Some.ensures.lookup.3.0)
+    (rw c.deref.ensures.value at c.in-Some.ensures.lookup.1))
 
 pub returns-in-Some-clause-ordered : goal.returns-in-Some-clause-ordered
 returns-in-Some-clause-ordered c = rw (← c.self.view_is) (order_viewed _ c.self.invariant)

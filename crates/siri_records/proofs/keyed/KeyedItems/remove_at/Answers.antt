@@ -23,4 +23,6 @@ returns-clause-rest c =
     let es = c.self.inside.entries.items in
     let within = rw (← c.self.view_is) at c.requires in
     let lt : c.args.place < length es = omega (arith, within, length_viewed es) in
-    rw (← c.self.view_is) (ap entries_view c.remove-key.ensures.items ∙ remove_here key_cmp c.remove-key.result.0 _ _ (here_at key_cmp_total es c.args.place c.remove-key.result c.self.invariant lt c.remove-key.ensures.value))
+    rw (← c.self.view_is) (ap entries_view c.remove-key.ensures.items
+    ∙ remove_here key_cmp c.remove-key.result.0 _ _
+    (here_at key_cmp_total es c.args.place c.remove-key.result c.self.invariant lt c.remove-key.ensures.value))

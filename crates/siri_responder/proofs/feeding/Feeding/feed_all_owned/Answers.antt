@@ -5,9 +5,11 @@ use Rattle.siri_responder.proofs.feeding.Feeding.feed_all_owned.Goals as goal
 pub loop-delivery-preserved : goal.loop-delivery-preserved
 loop-delivery-preserved c = record {
   alive = c.in_ok-feed_one_owned.ensures.alive;
-  reached = reached_more _ _ _ _ (entries_in c.in-Some.delivery) _ (rw (c.in-Some.ensures.steps.0) at c.loop-delivery.invariant.reached) c.in_ok-feed_one_owned.ensures.ok;
+  reached = reached_more _ _ _ _ (entries_in c.in-Some.delivery) _
+      (rw (c.in-Some.ensures.steps.0) at c.loop-delivery.invariant.reached) c.in_ok-feed_one_owned.ensures.ok;
 }
 
 pub returns-in_err-feed_one_owned-clause-err : goal.returns-in_err-feed_one_owned-clause-err
 returns-in_err-feed_one_owned-clause-err c =
-    on_err _ (reached_some _ _ _ _ (entries_in c.in-Some.delivery) _ (rw (c.in-Some.ensures.steps.0) at c.loop-delivery.invariant.reached) c.in_err-feed_one_owned.ensures.err)
+    on_err _ (reached_some _ _ _ _ (entries_in c.in-Some.delivery) _
+    (rw (c.in-Some.ensures.steps.0) at c.loop-delivery.invariant.reached) c.in_err-feed_one_owned.ensures.err)

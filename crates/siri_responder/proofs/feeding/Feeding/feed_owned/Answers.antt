@@ -18,7 +18,9 @@ returns-in_err-feed_all_owned-2-clause-err c =
     let timetable = d.estimated_timetable_delivery in
     let vehicle = d.vehicle_monitoring_delivery in
     on_err _ (deliveries_front _ _ (stop ++ timetable ++ vehicle) d.situation_exchange_delivery
-    (deliveries_front _ _ (stop ++ timetable) vehicle (deliveries_later _ _ _ stop timetable c.in_ok-feed_all_owned.ensures.ok c.in_err-feed_all_owned-2.ensures.err)))
+    (deliveries_front _ _ (stop ++ timetable) vehicle
+    (deliveries_later _ _ _ stop timetable c.in_ok-feed_all_owned.ensures.ok
+    c.in_err-feed_all_owned-2.ensures.err)))
 
 pub returns-in_err-feed_all_owned-3-clause-err : goal.returns-in_err-feed_all_owned-3-clause-err
 returns-in_err-feed_all_owned-3-clause-err c =

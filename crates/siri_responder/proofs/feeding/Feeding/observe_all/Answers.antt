@@ -10,5 +10,6 @@ loop-item-preserved c =
     let next = drop_here c.args.items.now c.loop-item.item-index c.item-item.result c.loop-item-test.true c.item-item.is in
     record {
       alive = c.in_ok-observe.ensures.alive;
-      reached = reached_more _ _ _ _ (Observed c.item-item.result ∷ []) _ (rw next at c.loop-item.invariant.reached) (c.in_ok-observe.ensures.ok ∙ ap (λ (i : Item). after c.loop-item.self (Observed i)) c.in_ok-copy.ensures);
+      reached = reached_more _ _ _ _ (Observed c.item-item.result ∷ []) _ (rw next at c.loop-item.invariant.reached)
+          (c.in_ok-observe.ensures.ok ∙ ap (λ (i : Item). after c.loop-item.self (Observed i)) c.in_ok-copy.ensures);
     }

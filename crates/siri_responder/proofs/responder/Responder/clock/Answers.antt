@@ -10,12 +10,15 @@ invariant_of-self c =
     let inside = c.self.inside in
     record {
       alive = c.expire.ensures.alive;
-      stands = rw (c.expire.ensures.rest, c.advance.ensures) (history_clock inside.start inside.started inside.feeding.store.moment inside.feeding.store.entries c.args.now c.self.invariant.stands);
+      stands = rw (c.expire.ensures.rest, c.advance.ensures)
+          (history_clock inside.start inside.started inside.feeding.store.moment inside.feeding.store.entries c.args.now
+          c.self.invariant.stands);
     }
 
 pub returns-clause-stands : goal.returns-clause-stands
 returns-clause-stands c = λ h s.
-    let store = c.expire.ensures.rest ∙ ap (λ (t : Held). record { entries = living t.moment t.entries; moment = t.moment; reads = t.reads }) c.advance.ensures in
+    let store = c.expire.ensures.rest ∙ ap (λ (t : Held).
+    record { entries = living t.moment t.entries; moment = t.moment; reads = t.reads }) c.advance.ensures in
     stands_clock c.args.self.now _ c.args.now h s
     (ap (λ (k : Known). k.start) c.self.view_is)
     (ap (λ (k : Known). k.started) c.self.view_is)

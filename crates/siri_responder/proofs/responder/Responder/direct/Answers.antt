@@ -12,5 +12,7 @@ returns-clause-ok c =
     let request = c.args.request.now in
     let inside = c.self.inside in
     let same = ap (λ (k : Known). response k.name k.moment k.held request) c.self.view_is in
-    IfOk-weaker c.response_to.result (λ (d : ServiceDelivery). d ≡ response inside.name inside.feeding.store.moment inside.feeding.store.entries request) (ResponseFor known request)
+    IfOk-weaker c.response_to.result (λ (d : ServiceDelivery).
+    d ≡ response inside.name inside.feeding.store.moment inside.feeding.store.entries request)
+    (ResponseFor known request)
     (λ d is h s. is ∙ same ∙ response_of known h request s) c.response_to.ensures.ok

@@ -12,7 +12,8 @@ invariant_of-self c =
     let some = subst (λ (f : Feeding). ReachesSome f c.feed_owned.new.self (entries_of c.args.delivery)) c.begin.ensures c.in_err-feed_owned.ensures.err in
     record {
       alive = c.in_err-feed_owned.ensures.alive;
-      stands = history_some c.self.inside.start c.self.inside.started c.self.inside.feeding c.feed_owned.new.self (entries_of c.args.delivery) c.self.invariant.stands some;
+      stands = history_some c.self.inside.start c.self.inside.started c.self.inside.feeding c.feed_owned.new.self
+          (entries_of c.args.delivery) c.self.invariant.stands some;
     }
 
 pub returns-in_err-feed_owned-clause-reads : goal.returns-in_err-feed_owned-clause-reads
@@ -33,7 +34,8 @@ invariant_of-self-2 c =
     let fed = c.in_ok-feed_owned.ensures.ok ∙ ap (λ (f : Feeding). after_all f (entries_of c.args.delivery)) c.begin.ensures in
     record {
       alive = c.in_ok-feed_owned.ensures.alive;
-      stands = history_fed c.self.inside.start c.self.inside.started c.self.inside.feeding c.feed_owned.new.self (entries_of c.args.delivery) c.self.invariant.stands fed;
+      stands = history_fed c.self.inside.start c.self.inside.started c.self.inside.feeding c.feed_owned.new.self
+          (entries_of c.args.delivery) c.self.invariant.stands fed;
     }
 
 pub returns-clause-reads : goal.returns-clause-reads

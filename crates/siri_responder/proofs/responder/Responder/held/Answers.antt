@@ -9,7 +9,14 @@ pub returns-clause-stands : goal.returns-clause-stands
 returns-clause-stands c =
     let inside = c.self.inside in
     let store = inside.feeding.store in
-    let known : Known = record { name = inside.name; start = inside.start; started = inside.started; moment = store.moment; held = store.entries; reads = store.reads } in
+    let known : Known = record {
+      name = inside.name;
+      start = inside.start;
+      started = inside.started;
+      moment = store.moment;
+      held = store.entries;
+      reads = store.reads;
+    } in
     subst (λ (k : Known). (h : History) × StandsFor k h) c.self.view_is (history_known known c.self.invariant.stands)
 
 pub returns-clause-in_order : goal.returns-clause-in_order

@@ -13,7 +13,8 @@ returns-clause-part c wanted =
     let s = c.args.self.now in
     let some : 0 < parts_count list = omega arith in
     let next : kept.last + 1 ≡ suc s.rounds_opened = add-one kept.last ∙ ap (λ t. suc t.rounds_opened) c.self.view_is in
-    wanted_lent (part_lent c.part_at.result) (kept.last + 1) 0 c.args.now s.acknowledged wanted list c.slice.result.now None c.part_at.ensures c.slice.ensures some
+    wanted_lent (part_lent c.part_at.result) (kept.last + 1) 0 c.args.now s.acknowledged wanted list c.slice.result.now
+    None c.part_at.ensures c.slice.ensures some
     ∙ ap (λ n. wanted_part_of n (Some (record { round = round_on s.acknowledged c.args.now wanted list; acknowledged_parts = 0; last_sent = None }))) next
 
 pub returns-clause-sent : goal.returns-clause-sent

@@ -10,7 +10,8 @@ returns-in-Some-clause-part c =
     let kept = c.self.inside in
     let o = c.in-Some.round in
     let wanting : IsOpen (Some o) = subst IsOpen c.in-Some.is c.self.invariant in
-    wanted_lent (part_lent c.part_at.result) kept.last o.acknowledged_parts o.moment kept.acknowledged o.target o.changes c.slice-changes.result.now o.last_sent c.part_at.ensures c.slice-changes.ensures wanting.part
+    wanted_lent (part_lent c.part_at.result) kept.last o.acknowledged_parts o.moment kept.acknowledged o.target
+    o.changes c.slice-changes.result.now o.last_sent c.part_at.ensures c.slice-changes.ensures wanting.part
     ∙ (ap (λ r. wanted_part_of kept.last (option_map (outstanding_on kept.acknowledged) r)) (sym c.in-Some.is)
     ∙ ap wanted_part c.self.view_is)
 

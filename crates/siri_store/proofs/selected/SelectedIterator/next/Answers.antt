@@ -10,7 +10,9 @@ pub returns-then-shown-clause-steps : goal.returns-then-shown-clause-steps
 returns-then-shown-clause-steps c =
     let walk = c.loop-self.self in
     let e : Key × Item = (c.in_ok-entry.entry.now.0, c.in_ok-entry.entry.now.1.value) in
-    let shown : is_shown walk.topic.now e.1 walk.moment ≡ true = ap (λ i. is_shown walk.topic.now i walk.moment) (sym c.deref.ensures) ∙ (sym c.shown.ensures ∙ c.if-shown.true) in
+    let shown : is_shown walk.topic.now e.1 walk.moment ≡ true =
+    ap (λ i. is_shown walk.topic.now i walk.moment) (sym c.deref.ensures)
+    ∙ (sym c.shown.ensures ∙ c.if-shown.true) in
     let is = rw (← c.loop-self.invariant.entries) at c.in_ok-entry.ensures.onward.0 in
     let next = ap values_of (shown_next walk.topic.now walk.moment walk.entries.now walk.place walk.end e c.loop-self-test.true is shown) in
     record {
@@ -29,7 +31,9 @@ pub loop-self-preserved : goal.loop-self-preserved
 loop-self-preserved c =
     let walk = c.loop-self.self in
     let e : Key × Item = (c.in_ok-entry.entry.now.0, c.in_ok-entry.entry.now.1.value) in
-    let unshown : is_shown walk.topic.now e.1 walk.moment ≡ false = ap (λ i. is_shown walk.topic.now i walk.moment) (sym c.deref.ensures) ∙ (sym c.shown.ensures ∙ c.if-shown.false) in
+    let unshown : is_shown walk.topic.now e.1 walk.moment ≡ false =
+    ap (λ i. is_shown walk.topic.now i walk.moment) (sym c.deref.ensures)
+    ∙ (sym c.shown.ensures ∙ c.if-shown.false) in
     let is = rw (← c.loop-self.invariant.entries) at c.in_ok-entry.ensures.onward.0 in
     let next = ap values_of (unshown_next walk.topic.now walk.moment walk.entries.now walk.place walk.end e c.loop-self-test.true is unshown) in
     record {

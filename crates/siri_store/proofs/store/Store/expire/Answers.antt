@@ -12,14 +12,18 @@ pub overflow_sub-result : goal.overflow_sub-result
 overflow_sub-result c =
     let now = c.self.inside.moment in
     let es = c.self.inside.entries in
-    let both : length (dead_of now es) + length (living now es) ≡ length es = length-filter_both (λ (e : Key × Item). is_dead e.1 now) (λ (e : Key × Item). not (is_dead e.1 now)) (λ e. refl) es in
+    let both : length (dead_of now es) + length (living now es) ≡ length es =
+    length-filter_both (λ (e : Key × Item). is_dead e.1 now) (λ (e : Key × Item). not (is_dead e.1 now))
+    (λ e. refl) es in
     omega (arith, both, c.len-before.ensures, c.len.ensures, ap length c.keep_living.ensures)
 
 pub returns-clause-number : goal.returns-clause-number
 returns-clause-number c =
     let now = c.self.inside.moment in
     let es = c.self.inside.entries in
-    let both : length (dead_of now es) + length (living now es) ≡ length es = length-filter_both (λ (e : Key × Item). is_dead e.1 now) (λ (e : Key × Item). not (is_dead e.1 now)) (λ e. refl) es in
+    let both : length (dead_of now es) + length (living now es) ≡ length es =
+    length-filter_both (λ (e : Key × Item). is_dead e.1 now) (λ (e : Key × Item). not (is_dead e.1 now))
+    (λ e. refl) es in
     rw (← c.self.view_is) (omega (arith, both, c.len-before.ensures, c.len.ensures, ap length c.keep_living.ensures))
 
 pub returns-clause-alive : goal.returns-clause-alive

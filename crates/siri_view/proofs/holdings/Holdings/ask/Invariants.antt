@@ -13,7 +13,8 @@ abbrev pub invariant-loop-identifier : goal.invariant-loop-identifier
 invariant-loop-identifier l = record {
   can_next : (goal.iterator-loop-identifier).can_next l.identifier-iterator;
   is_finite : (goal.iterator-loop-identifier).is_finite l.identifier-iterator;
-  leads : fold (with_request l.fn.number) l.self-inside.entries.items (into_iter_items l.identifier-iterator) ≡ fold (with_request l.fn.number) l.fn.self l.fn.requests.items;
+  leads : fold (with_request l.fn.number) l.self-inside.entries.items (into_iter_items l.identifier-iterator) ≡ fold
+      (with_request l.fn.number) l.fn.self l.fn.requests.items;
   ordered : IsStrictlySortedBy name_cmp (keys_of l.self-inside.entries.items);
   room : vec_len l.self-inside.entries + length (into_iter_items l.identifier-iterator) ≤ vec_capacity l.self-inside.entries;
 }

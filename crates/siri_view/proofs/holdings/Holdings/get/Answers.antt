@@ -11,10 +11,15 @@ pub index-requires : goal.index-requires
 index-requires c = omega (arith, here_below _ _ _ c.in-Ok.ensures)
 
 pub returns-in-Ok-clause-kept : goal.returns-in-Ok-clause-kept
-returns-in-Ok-clause-kept c = rw (← c.self.view_is) (ap (λ (e : Name × KeptSubscription). Some e.1) c.index.ensures ∙ sym (lookup_at name_cmp c.args.identifier.now c.self.inside.entries.items c.in-Ok.at c.index.result.now c.in-Ok.ensures))
+returns-in-Ok-clause-kept c = rw (← c.self.view_is)
+    (ap (λ (e : Name × KeptSubscription). Some e.1) c.index.ensures
+    ∙ sym (lookup_at name_cmp c.args.identifier.now c.self.inside.entries.items c.in-Ok.at c.index.result.now
+    c.in-Ok.ensures))
 
 pub returns-in-Ok-clause-same : goal.returns-in-Ok-clause-same
-returns-in-Ok-clause-same c = rw (← c.self.view_is) (put_same name_cmp c.args.identifier.now c.self.inside.entries.items c.in-Ok.at c.index.result.now c.in-Ok.ensures (here_below _ _ _ c.in-Ok.ensures) c.index.ensures)
+returns-in-Ok-clause-same c = rw (← c.self.view_is)
+    (put_same name_cmp c.args.identifier.now c.self.inside.entries.items c.in-Ok.at c.index.result.now c.in-Ok.ensures
+    (here_below _ _ _ c.in-Ok.ensures) c.index.ensures)
 
 pub returns-in-Err-clause-kept : goal.returns-in-Err-clause-kept
 returns-in-Err-clause-kept c = rw (← c.self.view_is) (sym (lookup-none _ _ (none_at nat_list_cmp_total _ _ _ c.self.invariant c.in-Err.ensures)))

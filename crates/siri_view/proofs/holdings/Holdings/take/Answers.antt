@@ -24,9 +24,13 @@ invariant_of-self c = rw c.take_at.ensures.keys c.self.invariant
 pub returns-in-Ok-clause-ok : goal.returns-in-Ok-clause-ok
 returns-in-Ok-clause-ok c =
     rw (← c.self.view_is)
-    (on_ok_weaker c.take_at.result (λ is. is ∙ taken_here (mark_by c.args.mark) c.args.more c.args.part c.args.identifier.now c.self.inside.entries.items c.in-Ok.at c.in-Ok.ensures) c.take_at.ensures.ok)
+    (on_ok_weaker c.take_at.result (λ is. is ∙ taken_here
+    (mark_by c.args.mark) c.args.more c.args.part c.args.identifier.now c.self.inside.entries.items c.in-Ok.at
+    c.in-Ok.ensures) c.take_at.ensures.ok)
 
 pub returns-in-Err-clause-ok : goal.returns-in-Err-clause-ok
 returns-in-Err-clause-ok c =
     rw (← c.self.view_is)
-    (sym (ap (λ kept. with_taken c.args.identifier.now (mark_by c.args.mark) c.args.more c.args.part kept c.self.inside.entries.items) (lookup-none _ _ (none_at nat_list_cmp_total _ _ _ c.self.invariant c.in-Err.ensures))))
+    (sym (ap (λ kept. with_taken c.args.identifier.now (mark_by c.args.mark) c.args.more c.args.part kept
+    c.self.inside.entries.items) (lookup-none _ _
+    (none_at nat_list_cmp_total _ _ _ c.self.invariant c.in-Err.ensures))))

@@ -19,7 +19,9 @@ loop-place-preserved c =
     let within : place < length (values c.self.inside.map) = omega (arith, c.loop-place.invariant.all, c.loop-place-test.true) in
     let made = c.clock.ensures ∙ ap (λ (d : Consuming). clocked d c.args.now) (value_there (values map) place before at) in
     record {
-      clocked = clocked_more c.args.now (values c.self.inside.map) (values map) place after before within c.loop-place.invariant.clocked made ∙ sym (values_set map.entries place after);
+      clocked = clocked_more c.args.now (values c.self.inside.map)
+          (values map) place after before within c.loop-place.invariant.clocked made
+          ∙ sym (values_set map.entries place after);
       named = named_set map.entries place before after at (ap (λ (d : Consuming). d.name) c.clock.ensures) c.loop-place.invariant.named;
       all = c.loop-place.invariant.all;
       len = index_map_len-with_value_at map place after ∙ c.loop-place.invariant.len;

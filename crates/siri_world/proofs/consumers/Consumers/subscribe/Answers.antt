@@ -10,7 +10,9 @@ pub invariant_of-self : goal.invariant_of-self
 invariant_of-self c =
     let before = c.index_mut-consumer.result.now in
     named_set c.self.inside.map.entries c.args.place before c.subscribe.new.self c.index_mut-consumer.ensures.value
-    (name_kept c.subscribe.result before c.subscribe.new.self (after_subscribe before c.in_ok-wanted.wanted c.args.beat) refl c.subscribe.ensures.ok c.subscribe.ensures.refused) c.self.invariant
+    (name_kept c.subscribe.result before c.subscribe.new.self
+    (after_subscribe before c.in_ok-wanted.wanted c.args.beat) refl c.subscribe.ensures.ok
+    c.subscribe.ensures.refused) c.self.invariant
 
 pub returns : goal.returns
 returns c = λ name d here.
@@ -23,7 +25,9 @@ returns c = λ name d here.
     let facts = c.subscribe.ensures in
     let wanted = c.args.wanted.now in
     let new = c.subscribe.new.self in
-    asks_subscribed d wanted c.args.beat now before c.in_ok-wanted.wanted c.subscribe.result _ new (is_there name items now place d before c.self.view_is here value) c.in_ok-wanted.ensures
+    asks_subscribed d wanted c.args.beat now before c.in_ok-wanted.wanted c.subscribe.result _ new
+    (is_there name items now place d before c.self.view_is here value) c.in_ok-wanted.ensures
     facts.request facts.ok facts.spent facts.too_many facts.at_most facts.not_not_held facts.refused
-    (λ is. values_set entries place new ∙ written name items now place d before c.self.view_is here value new (after_subscribe d (wanted ∷ []) c.args.beat) is refl)
+    (λ is. values_set entries place new ∙ written name items now place d before c.self.view_is here value new
+    (after_subscribe d (wanted ∷ []) c.args.beat) is refl)
     (λ is. values_set entries place new ∙ unwritten name items now place d before c.self.view_is here value new is)

@@ -10,7 +10,9 @@ pub invariant_of-self : goal.invariant_of-self
 invariant_of-self c =
     let before = c.index_mut-consumer.result.now in
     named_set c.self.inside.map.entries c.args.place before c.terminate.new.self c.index_mut-consumer.ensures.value
-    (name_kept c.terminate.result before c.terminate.new.self (after_terminate before c.args.identifier.now) refl c.terminate.ensures.ok c.terminate.ensures.refused) c.self.invariant
+    (name_kept c.terminate.result before c.terminate.new.self
+    (after_terminate before c.args.identifier.now) refl c.terminate.ensures.ok c.terminate.ensures.refused)
+    c.self.invariant
 
 pub returns : goal.returns
 returns c = λ name d here.

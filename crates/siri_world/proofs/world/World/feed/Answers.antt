@@ -8,5 +8,13 @@ use Rattle.siri_world.proofs.world.World.feed.Goals as goal
 
 pub returns : goal.returns
 returns c = IfOk-weaker c.feed.result _ _ (λ happened did w k.
-    let old : Known = record { moment = c.self.inside.moment; starts = c.self.inside.starts; producer = c.self.inside.producer; consumers = c.self.inside.consumers; packets = c.self.inside.packets } in
-    settled_does old _ w (Feed (entries_of c.args.delivery.now)) (λ h. fed_line h c.args.delivery.now ∷ []) (λ h. []) c.in-Some.producer c.feed.new.producer happened (subst (λ known. Knows known w) (sym c.self.view_is) k) c.in-Some.is did refl) c.feed.ensures
+    let old : Known = record {
+      moment = c.self.inside.moment;
+      starts = c.self.inside.starts;
+      producer = c.self.inside.producer;
+      consumers = c.self.inside.consumers;
+      packets = c.self.inside.packets;
+    } in
+    settled_does old _ w (Feed (entries_of c.args.delivery.now)) (λ h. fed_line h c.args.delivery.now ∷ [])
+    (λ h. []) c.in-Some.producer c.feed.new.producer happened
+    (subst (λ known. Knows known w) (sym c.self.view_is) k) c.in-Some.is did refl) c.feed.ensures

@@ -8,4 +8,5 @@ pub returns-then-len-ge-MOST_CONSUMERS : goal.returns-then-len-ge-MOST_CONSUMERS
 returns-then-len-ge-MOST_CONSUMERS c =
     let same = ap (λ (k : Known). k.consumers) c.self.view_is in
     let full = subst (λ n. 16 ≤ n) (c.len.ensures ∙ ap length same) c.if-len-ge-MOST_CONSUMERS.true in
-    full_is (λ consumer. consumer.now) c.args.consumer.now c.args.self.now.consumers c.get.result c.is_none.result full (c.get.ensures ∙ ap (consumer_of c.args.consumer.now) same) c.is_none.ensures
+    full_is (λ consumer. consumer.now) c.args.consumer.now c.args.self.now.consumers c.get.result c.is_none.result full
+    (c.get.ensures ∙ ap (consumer_of c.args.consumer.now) same) c.is_none.ensures

@@ -10,6 +10,13 @@ subscribe-requires c = at_within _ _ _ _ c.in_ok-place.ensures.place
 
 pub returns : goal.returns
 returns c = IfOk-weaker c.asked.result _ _ (λ happened told w k.
-    let old : Known = record { moment = c.self.inside.moment; starts = c.self.inside.starts; producer = c.self.inside.producer; consumers = c.self.inside.consumers; packets = c.self.inside.packets } in
-    subscribed_does old _ w c.args.name.now c.in_ok-place.place c.args.wanted.now c.args.beat c.place_or_new.new.self c.subscribe.new.self c.subscribe.result happened (subst (λ known. Knows known w) (sym c.self.view_is) k) refl
+    let old : Known = record {
+      moment = c.self.inside.moment;
+      starts = c.self.inside.starts;
+      producer = c.self.inside.producer;
+      consumers = c.self.inside.consumers;
+      packets = c.self.inside.packets;
+    } in
+    subscribed_does old _ w c.args.name.now c.in_ok-place.place c.args.wanted.now c.args.beat c.place_or_new.new.self
+    c.subscribe.new.self c.subscribe.result happened (subst (λ known. Knows known w) (sym c.self.view_is) k) refl
     c.in_ok-place.ensures.ok c.in_ok-place.ensures.place c.subscribe.ensures told) c.asked.ensures

@@ -1,0 +1,33 @@
+-- Lists of arguments.
+use Rattle.std.proofs.Common.{◌≡◌, ◌≢◌, ℕ, List, [], ◌∷◌, length, map, Bool, None, refl, ap}
+use Rattle.std.specs.Prelude.{◌||◌}
+use Rattle.std.specs.List.{list_any}
+use Rattle.siri_cli.specs.Commands.{load_of, serve_of, consume_of}
+
+-- a test of what elements are mapped to
+pub any_of_map : {X Y : Type 0} (test : Y → Bool) (image : X → Y) (list : List X) → list_any test (map image list) ≡ list_any (λ x. test (image x)) list
+any_of_map test image [] = refl
+any_of_map test image (x ∷ list) = ap (λ rest. test (image x) || rest) (any_of_map test image list)
+
+-- arguments of another number
+module _ {X : Type 0} (text : X → List ℕ) where
+  pub no_load : (list : List X) → length list ≢ 2 → load_of (map text list) ≡ None
+  no_load [] other = refl
+  no_load (a ∷ []) other = refl
+  no_load (a ∷ b ∷ []) other = absurd (other refl)
+  no_load (a ∷ b ∷ c ∷ rest) other = refl
+
+  pub no_serve : (list : List X) → length list ≢ 3 → serve_of (map text list) ≡ None
+  no_serve [] other = refl
+  no_serve (a ∷ []) other = refl
+  no_serve (a ∷ b ∷ []) other = refl
+  no_serve (a ∷ b ∷ c ∷ []) other = absurd (other refl)
+  no_serve (a ∷ b ∷ c ∷ d ∷ rest) other = refl
+
+  pub no_consume : (list : List X) → length list ≢ 4 → consume_of (map text list) ≡ None
+  no_consume [] other = refl
+  no_consume (a ∷ []) other = refl
+  no_consume (a ∷ b ∷ []) other = refl
+  no_consume (a ∷ b ∷ c ∷ []) other = refl
+  no_consume (a ∷ b ∷ c ∷ d ∷ []) other = absurd (other refl)
+  no_consume (a ∷ b ∷ c ∷ d ∷ e ∷ rest) other = refl

@@ -1,0 +1,50 @@
+-- Only a command with arguments takes memory.
+use Rattle.std.proofs.Common.{◌≡◌, ℕ, List, Bool, true, false, Option, Some, None}
+use Rattle.std.specs.Prelude.{is_some, option_map, if◌then◌else◌, ◌&&◌}
+use Rattle.siri_base.specs.Numbers.{number_of}
+use Rattle.siri_http.specs.declared.address.Address.{Address}
+use Rattle.siri_cli.specs.Arguments.{count_of, is_listen, is_name, producer_of, most_events, most_connections}
+use Rattle.siri_cli.specs.Commands.{HasArguments, consume_by, consume_with, load_by, load_with, serve_by}
+use Rattle.siri_cli.specs.declared.command.Command.TheVariants.{Serve}
+
+load_some : (seed count : Option ℕ) → is_some (load_with seed count) ≡ true → HasArguments (load_with seed count)
+load_some (Some seed) (Some count) is = tt
+load_some (Some seed) None is = cc
+load_some None count is = cc
+
+pub some_load : (seed count : List ℕ) → is_some (load_by seed count) ≡ true → HasArguments (load_by seed count)
+unfolding load_by
+some_load seed count is = load_some (number_of seed) (count_of 0 most_events count) is
+
+serve_some : (name listen : List ℕ) (count : Option ℕ) → is_some (option_map (Serve name listen) count) ≡ true
+    → HasArguments (option_map (Serve name listen) count)
+serve_some name listen (Some count) is = tt
+serve_some name listen None is = cc
+
+serve_if : (good : Bool) (name listen : List ℕ) (count : Option ℕ)
+    → is_some (if good then option_map (Serve name listen) count else None) ≡ true
+    → HasArguments (if good then option_map (Serve name listen) count else None)
+serve_if true name listen count is = serve_some name listen count is
+serve_if false name listen count is = cc
+
+pub some_serve : (name listen count : List ℕ) → is_some (serve_by name listen count) ≡ true → HasArguments (serve_by name listen count)
+unfolding serve_by
+some_serve name listen count is = serve_if (is_name name && is_listen listen) name listen (count_of 1 most_connections count) is
+
+consume_some : (name listen : List ℕ) (producer : Option Address) (count : Option ℕ)
+    → is_some (consume_with name listen producer count) ≡ true → HasArguments (consume_with name listen producer count)
+consume_some name listen (Some producer) (Some count) is = tt
+consume_some name listen (Some producer) None is = cc
+consume_some name listen None count is = cc
+
+consume_if : (good : Bool) (name listen : List ℕ) (producer : Option Address) (count : Option ℕ)
+    → is_some (if good then consume_with name listen producer count else None) ≡ true
+    → HasArguments (if good then consume_with name listen producer count else None)
+consume_if true name listen producer count is = consume_some name listen producer count is
+consume_if false name listen producer count is = cc
+
+pub some_consume : (name listen producer count : List ℕ) → is_some (consume_by name listen producer count) ≡ true
+    → HasArguments (consume_by name listen producer count)
+unfolding consume_by
+some_consume name listen producer count is = consume_if (is_name name && is_listen listen) name listen
+    (producer_of producer) (count_of 1 most_connections count) is

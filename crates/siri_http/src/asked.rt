@@ -1,0 +1,114 @@
+//! What an accepted connection asks.
+
+ghost use Rattle.std.specs.Prelude.{◌≡◌, true};
+ghost use Rattle.siri_http.specs.Connections.{OnConnection};
+ghost use Rattle.siri_http.specs.Messages.{is_post};
+ghost use Rattle.siri_http.specs.Texts.{is_written};
+ghost use Rattle.siri_http.specs.Requests.{Asks, by_method, name_of, status_of, unasked_of};
+ghost use Rattle.siri_http.specs.ExchangeCauses.{HasAskedCause, outcome};
+
+use crate::errors::HttpError;
+use crate::request::{HttpRequest, read_request};
+use siri_base::{List, OutOfMemory, Wire};
+use std::alloc::Global;
+
+/// Why a request is refused before its body is looked at.
+#[derive(Clone, Copy, Debug, PartialEq, Eq)]
+pub enum BadRequest {
+    /// Its head is none, or its Content-Length is none or stands twice.
+    BadHead,
+    /// Its head has more bytes or more lines than a head may have.
+    HeadTooLong,
+    /// It is a POST and has no Content-Length.
+    NoLength,
+    /// It has a Transfer-Encoding.
+    TransferCoding,
+    /// Its Content-Length is above 8,388,608.
+    BodyTooLong,
+    /// Its method isn't POST.
+    NotPost,
+}
+
+impl BadRequest {
+    /// The status that it is answered with.
+    pub fn status(self) -> u16
+        ensures value { result ≡ status_of self }
+        ensures written { is_written result ≡ true }
+    {
+        match self {
+            BadRequest::BadHead => 400,
+            BadRequest::HeadTooLong => 431,
+            BadRequest::NoLength => 411,
+            BadRequest::TransferCoding => 501,
+            BadRequest::BodyTooLong => 413,
+            BadRequest::NotPost => 405,
+        }
+    }
+
+    /// Its name, which the answer's body tells.
+    pub fn name(self) -> &'static str
+        ensures { result.now ≡ name_of self }
+    {
+        match self {
+            BadRequest::BadHead => "BadHead",
+            BadRequest::HeadTooLong => "HeadTooLong",
+            BadRequest::NoLength => "NoLength",
+            BadRequest::TransferCoding => "TransferCoding",
+            BadRequest::BodyTooLong => "BodyTooLong",
+            BadRequest::NotPost => "NotPost",
+        }
+    }
+}
+
+/// What an accepted connection asks.
+#[derive(Debug, Drop)]
+pub enum Asked {
+    /// A POST with this body.
+    Posted(List<u8>),
+    /// A request that is refused.
+    Refused(BadRequest),
+    /// The input ended before the request did.
+    Short,
+    /// A read of the wire failed: its count of faults rose.
+    Failed,
+}
+
+/// What a request asks.
+fn asked_of(request: HttpRequest) -> Asked
+    ensures { result ≡ by_method (is_post request.method) request.body }
+{
+    if request.method.text() == "POST" {
+        Asked::Posted(request.body)
+    } else {
+        Asked::Refused(BadRequest::NotPost)
+    }
+}
+
+/// What is asked where no request was read.
+fn unasked(error: HttpError) -> Result<Asked, OutOfMemory>
+    ensures { outcome result ≡ unasked_of error }
+{
+    match error {
+        HttpError::BadHead => Ok(Asked::Refused(BadRequest::BadHead)),
+        HttpError::HeadTooLong => Ok(Asked::Refused(BadRequest::HeadTooLong)),
+        HttpError::NoLength => Ok(Asked::Refused(BadRequest::NoLength)),
+        HttpError::TransferCoding => Ok(Asked::Refused(BadRequest::TransferCoding)),
+        HttpError::BodyTooLong => Ok(Asked::Refused(BadRequest::BodyTooLong)),
+        HttpError::Short => Ok(Asked::Short),
+        HttpError::ReadFault | HttpError::WriteFault => Ok(Asked::Failed),
+        HttpError::OutOfMemory => Err(OutOfMemory),
+    }
+}
+
+/// Reads what the connection that is there asks. `Failed` comes only where the wire's count of faults rose.
+pub fn read_asked<W: Wire>(alloc: Global, wire: &mut W) -> Result<Asked, OutOfMemory>
+    requires there { W.is_open wire.old }
+    ensures open { W.is_open wire.new }
+    ensures told { OnConnection (Asks (outcome result)) (W.tells wire.old) (W.tells wire.new) }
+    ensures cause { HasAskedCause (W.faults wire.old) (W.faults wire.new) (outcome result) }
+{
+    match read_request(alloc, wire) {
+        Ok(request) => Ok(asked_of(request)),
+        Err(error) => unasked(error),
+    }
+}

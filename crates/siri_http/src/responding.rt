@@ -1,0 +1,41 @@
+//! Answers a request.
+
+ghost use Rattle.std.specs.Prelude.{◌≡◌, true};
+ghost use Rattle.siri_base.specs.OutsideCalls.{WhereTold};
+ghost use Rattle.siri_http.specs.Texts.{is_written, response_text};
+ghost use Rattle.siri_http.specs.Responses.{Responds};
+ghost use Rattle.siri_http.specs.ExchangeCauses.{HasResponseCause, outcome};
+
+use crate::errors::HttpError;
+use crate::writing::write_response;
+use siri_base::{OutOfMemory, Wire};
+use std::alloc::Global;
+
+/// Writes a response to the connection that is there, with a JSON body or a plain one, and hangs up. It answers whether
+/// the response was written whole; `false` comes only where the wire's count of faults rose. The status is one of 200,
+/// 400, 405, 411, 413, 431 and 501.
+pub fn respond<W: Wire>(
+    alloc: Global,
+    wire: &mut W,
+    status: u16,
+    plain: bool,
+    body: &[u8],
+) -> Result<bool, OutOfMemory>
+    requires there { W.is_open wire.old }
+    requires status { is_written status ≡ true }
+    ensures told { WhereTold (W.tells wire.old) (W.tells wire.new) (Responds (response_text status plain body.now) (outcome result)) }
+    ensures cause { HasResponseCause (W.faults wire.old) (W.faults wire.new) (outcome result) }
+{
+    match write_response(alloc, wire, status, plain, body) {
+        Ok(()) => {
+            wire.hang_up();
+            Ok(true)
+        }
+        Err(HttpError::WriteFault) => {
+            wire.hang_up();
+            Ok(false)
+        }
+        Err(HttpError::OutOfMemory) => Err(OutOfMemory),
+        Err(_) => unreachable!(),
+    }
+}

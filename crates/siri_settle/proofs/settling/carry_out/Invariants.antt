@@ -1,5 +1,0 @@
-use Rattle.siri_settle.proofs.Done.{AreSettled}
-use Rattle.siri_settle.proofs.settling.carry_out.Given as goal
-
-abbrev pub invariant-loop-due : goal.invariant-loop-due
-invariant-loop-due l = AreSettled l.fn.responder.moment l.fn.responder.held l.initial.table l.place l.table l.due-iterator.rest.items

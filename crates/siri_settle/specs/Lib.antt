@@ -1,6 +1,0 @@
-pub mod Rounds
-pub mod Openings
-pub mod Messages
-pub mod Sends
-pub mod Settled
-pub mod Due

@@ -1,0 +1,13 @@
+pub mod Kept
+pub mod Marked
+pub mod Acknowledged
+pub mod Supplied
+pub mod Ended
+pub mod Asked
+pub mod Accepted
+pub mod Carriage
+pub mod Wholes
+pub mod Found
+pub mod Rows
+pub mod Planned
+pub mod Done

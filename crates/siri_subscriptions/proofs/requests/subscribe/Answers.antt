@@ -1,0 +1,25 @@
+use Rattle.std.proofs.Common.{ap, ◌∙◌}
+use Rattle.siri_messages.specs.Asked.{asked_in}
+use Rattle.siri_replies.specs.Responses.{subscription_response}
+use Rattle.siri_subscriptions.specs.Courses.{kept_rows}
+use Rattle.siri_subscriptions.specs.Requests.{subscription_answer}
+use Rattle.siri_subscriptions.specs.Prepared.{all_statuses, all_rows}
+use Rattle.siri_subscriptions.proofs.Accepted.{answered, rows_answered}
+use Rattle.siri_subscriptions.proofs.requests.subscribe.Goals as goal
+
+pub returns-clause-answer : goal.returns-clause-answer
+unfolding subscription_answer
+returns-clause-answer c =
+    let r = c.args.request.now in
+    let rows = kept_rows c.args.table.now in
+    c.subscription_response.ensures r.message_identifier c.in_ok-text.ensures
+    ∙ ap (subscription_response c.args.now r.message_identifier)
+    (c.in_ok-statuses.ensures.ok ∙ (ap (λ l. all_statuses c.args.now r.message_identifier l rows)
+    c.in_ok-candidates.ensures ∙ answered c.args.now r.message_identifier (asked_in r) rows))
+
+pub returns-clause-rows : goal.returns-clause-rows
+returns-clause-rows c =
+    let r = c.args.request.now in
+    let rows = kept_rows c.args.table.now in
+    c.in_ok-statuses.ensures.rows ∙ (ap (λ l. all_rows c.args.now r.message_identifier l rows)
+    c.in_ok-candidates.ensures ∙ rows_answered c.args.now r.message_identifier (asked_in r) rows)

@@ -1,0 +1,5 @@
+use Rattle.siri_subscriptions.proofs.Done.{AreSettled}
+use Rattle.siri_subscriptions.proofs.settling.carry_out.Given as goal
+
+abbrev pub invariant-loop-due : goal.invariant-loop-due
+invariant-loop-due l = AreSettled l.fn.responder.moment l.fn.responder.held l.initial.table l.place l.table l.due-iterator.rest.items

@@ -1,0 +1,45 @@
+//! What is kept of a subscription.
+
+ghost use Rattle.std.specs.Prelude.{◌≡◌, false};
+ghost use Rattle.siri_messages.specs.Asked.{Asked};
+ghost use Rattle.siri_model.specs.Rows.{nothing_kept};
+ghost use Rattle.siri_subscriptions.specs.Courses.{kept};
+
+use siri_base::Moment;
+use siri_rounds::Rounds;
+use siri_topic::Subscription;
+use std::alloc::Global;
+
+/// What a producer keeps of a subscription.
+pub struct Course {
+    /// Its rounds.
+    pub rounds: Rounds,
+    /// The moment of the last heartbeat, or of the acceptance.
+    pub last_heartbeat: Moment,
+    /// Whether the last look found that the acknowledged view meets what is shown.
+    pub is_level: bool,
+}
+
+impl Drop for Course {
+    fn drop(self) {
+        let Course {
+            rounds: _,
+            last_heartbeat: _,
+            is_level: _,
+        } = self;
+    }
+}
+
+impl Course {
+    /// The course of a subscription that is accepted at a moment. It takes no memory.
+    pub fn new(alloc: Global, wanted: &Subscription, now: Moment) -> Course
+        ensures kept { (asked : Asked) → asked.subscription ≡ wanted.now → kept result ≡ nothing_kept now asked }
+        ensures level { result.is_level ≡ false }
+    {
+        Course {
+            rounds: Rounds::new(alloc, wanted.fetched),
+            last_heartbeat: now,
+            is_level: false,
+        }
+    }
+}

@@ -1,0 +1,152 @@
+//! What is due of one subscription at a settle.
+
+ghost use Rattle.std.specs.Prelude.{◌≡◌, ◌≤◌, ◌++◌, is_some, IfOk, OnOk};
+ghost use Rattle.siri_subs.specs.Lent.{entry_of};
+ghost use Rattle.siri_subscriptions.specs.Courses.{kept_row};
+ghost use Rattle.siri_model.specs.Rows.{is_heartbeat_due};
+ghost use Rattle.siri_subscriptions.specs.Due.{course_after, IsDue, IsFound};
+ghost use Rattle.siri_subscriptions.specs.Openings.{CanOpen};
+ghost use Rattle.siri_subscriptions.specs.Sends.{outs_with, at_of, heartbeat_due, part_due, row_sends};
+
+use crate::course::Course;
+use crate::outs::push_out;
+use crate::{Finding, Out, look, message_due, move_on};
+use siri_base::{List, Moment, OutOfMemory};
+use siri_change::View;
+use siri_messages::Message;
+use siri_replies::heartbeat;
+use siri_responder::Responder;
+use siri_status::Beats;
+use siri_subs::Entry;
+use std::alloc::Global;
+
+/// What a settle does to a subscription, found before anything changes.
+#[derive(Drop)]
+pub(crate) struct Due {
+    pub finding: Finding,
+    pub has_heartbeat: bool,
+}
+
+/// Looks at a subscription, puts what is sent of it at the end, and tells what is due. Of the responder nothing but the
+/// counter of steps changes.
+pub(crate) fn find_due(
+    alloc: Global,
+    responder: &mut Responder,
+    entry: &Entry<'_, Course>,
+    outs: &mut List<Out>,
+) -> Result<Due, OutOfMemory>
+    ensures due { IfOk result (IsDue responder.old.moment responder.old.held (entry_of entry.now)) }
+    ensures outs { OnOk result (outs.new ≡ outs.old ++ row_sends (at_of responder.old) responder.old.held (kept_row (entry_of entry.now))) }
+    ensures rest { responder.new ≡ record responder.old { reads = responder.new.reads } }
+    ensures risen { responder.old.reads ≤ responder.new.reads }
+{
+    let finding = look_at(alloc, responder, entry)?;
+    push_part(alloc, responder, entry, &finding, outs)?;
+    let has_heartbeat = push_heartbeat(responder, entry, outs)?;
+    Ok(Due {
+        finding,
+        has_heartbeat,
+    })
+}
+
+/// Puts the message of the wanted part at the end, where one is due.
+fn push_part(
+    alloc: Global,
+    responder: &Responder,
+    entry: &Entry<'_, Course>,
+    finding: &Finding,
+    outs: &mut List<Out>,
+) -> Result<(), OutOfMemory>
+    requires { IsFound responder.now.moment responder.now.held (entry_of entry.now) finding.now }
+    ensures { OnOk result (outs.new ≡ outs.old ++ outs_with (kept_row (entry_of entry.now)) (part_due (at_of responder.now) responder.now.held (kept_row (entry_of entry.now)))) }
+{
+    let part = part_due(alloc, responder, entry, finding)?;
+    push_out(outs, entry, part)
+}
+
+/// Puts a heartbeat at the end, where one is due, and tells whether one is.
+fn push_heartbeat(
+    responder: &Responder,
+    entry: &Entry<'_, Course>,
+    outs: &mut List<Out>,
+) -> Result<bool, OutOfMemory>
+    ensures outs { OnOk result (outs.new ≡ outs.old ++ outs_with (kept_row (entry_of entry.now)) (heartbeat_due (at_of responder.now) (kept_row (entry_of entry.now)))) }
+    ensures due { IfOk result (λ is_due. is_due ≡ is_heartbeat_due responder.now.moment (kept_row (entry_of entry.now))) }
+{
+    let heartbeat = heartbeat_due(responder, entry)?;
+    let is_due = heartbeat.is_some();
+    push_out(outs, entry, heartbeat)?;
+    Ok(is_due)
+}
+
+/// Looks at a subscription, unless a round of it is outstanding.
+fn look_at(
+    alloc: Global,
+    responder: &mut Responder,
+    entry: &Entry<'_, Course>,
+) -> Result<Finding, OutOfMemory>
+    ensures found { IfOk result (IsFound responder.old.moment responder.old.held (entry_of entry.now)) }
+    ensures rest { responder.new ≡ record responder.old { reads = responder.new.reads } }
+    ensures risen { responder.old.reads ≤ responder.new.reads }
+{
+    let course = entry.slot;
+    if course.rounds.outstanding().is_some() {
+        return Ok(Finding {
+            opening: None,
+            is_level: course.is_level,
+        });
+    }
+    let shown = responder.shown(&entry.wanted.topic)?;
+    look(alloc, entry.wanted, &course.rounds, View::of(shown))
+}
+
+/// The message of the wanted part, where one is due once the round has opened that a look found.
+fn part_due(
+    alloc: Global,
+    responder: &Responder,
+    entry: &Entry<'_, Course>,
+    finding: &Finding,
+) -> Result<Option<Message>, OutOfMemory>
+    requires { IsFound responder.now.moment responder.now.held (entry_of entry.now) finding.now }
+    ensures { IfOk result (λ message. message ≡ part_due (at_of responder.now) responder.now.held (kept_row (entry_of entry.now))) }
+{
+    message_due(
+        alloc,
+        responder.name(),
+        responder.start(),
+        entry.wanted,
+        entry.number,
+        &entry.slot.rounds,
+        finding.opening.as_ref(),
+        responder.now(),
+    )
+}
+
+/// A heartbeat, where one is due.
+fn heartbeat_due(
+    responder: &Responder,
+    entry: &Entry<'_, Course>,
+) -> Result<Option<Message>, OutOfMemory>
+    ensures message { IfOk result (λ message. message ≡ heartbeat_due (at_of responder.now) (kept_row (entry_of entry.now))) }
+    ensures due { IfOk result (λ message. is_some message ≡ is_heartbeat_due responder.now.moment (kept_row (entry_of entry.now))) }
+{
+    let now = responder.now();
+    let beats = Beats::new(entry.beat, entry.slot.last_heartbeat);
+    if !beats.due(now) {
+        return Ok(None);
+    }
+    let heartbeat = heartbeat(responder.name(), now, responder.started())?;
+    Ok(Some(Message::HeartbeatNotification(heartbeat)))
+}
+
+/// Does what is due at a moment. It takes no memory.
+pub(crate) fn do_due(course: &mut Course, now: Moment, due: Due)
+    requires { CanOpen due.finding.opening course.old.rounds }
+    ensures { course.new ≡ course_after now due course.old }
+{
+    move_on(&mut course.rounds, now, due.finding.opening);
+    course.is_level = due.finding.is_level;
+    if due.has_heartbeat {
+        course.last_heartbeat = now;
+    }
+}

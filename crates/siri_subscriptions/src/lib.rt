@@ -1,0 +1,57 @@
+//! A producer's subscriptions (EN 15531-2): what it keeps of each, what a message about them does, and what a settle
+//! sends.
+//!
+//! ```text
+//!     SubscriptionRequest          -> subscribe    ---+
+//!     TerminateSubscriptionRequest -> terminate    ---+--> the table of subscriptions, and the answer
+//!     DataSupplyRequest            -> supply       ---+
+//!     DataReceivedAcknowledgement  -> acknowledge  ---+
+//!
+//!     the responder, the table     -> settle       ---> what is sent, to whom; each row after it
+//!
+//!     and for one subscription:
+//!
+//!     what is shown, the rounds    -> look         ---> the round that is to open, where one is due
+//!     that round, the rounds       -> message_due  ---> the message of the wanted part, where one is due
+//!
+//!     that round                   -> move_on      ---> the rounds, with what was sent
+//! ```
+//!
+//! A [`Course`] is the slot of a row of the table (`siri_subs`): the rounds of the subscription, when its last
+//! heartbeat was, and whether its consumer's view was level at the last look. Contracts see it as it is kept; what of
+//! it belongs to the life of the subscription is told by `kept`, in the words of `siri_model`.
+//!
+//! A request may ask for many subscriptions. All memory that its answer may need is taken before the first is accepted,
+//! and the part that is supplied is made before it counts as sent, so after want of memory the table is as it was.
+//!
+//! A settle is two passes over the table. In the first each subscription looks and says what is to be sent, which takes
+//! all memory and changes nothing of the table; in the second each moves on, which takes none. So after want of memory
+//! the table is as it was.
+//!
+//! Stands on `siri_base`, `siri_records`, `siri_topic`, `siri_messages`, `siri_change`, `siri_subs`, `siri_status`,
+//! `siri_rounds`, `siri_replies` and `siri_responder`; its contracts cite the words of `siri_model` for what a message
+//! and a settle do to the rows of a table. What is done with a message (`acknowledgements`, `prepared`, `requests`,
+//! `supplies`, `terminations`) knows no item and no store.
+#![tactic(auto)]
+
+mod acknowledgements;
+mod course;
+mod due;
+mod looks;
+mod messages;
+mod outs;
+mod prepared;
+mod requests;
+mod settling;
+mod supplies;
+mod terminations;
+
+pub use acknowledgements::acknowledge;
+pub use course::Course;
+pub use looks::{Finding, Opening, look, move_on};
+pub use messages::message_due;
+pub use outs::Out;
+pub use requests::subscribe;
+pub use settling::settle;
+pub use supplies::{SupplyAnswer, supply};
+pub use terminations::terminate;

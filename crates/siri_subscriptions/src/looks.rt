@@ -1,0 +1,124 @@
+//! Whether a round is due, and what it leads to.
+
+ghost use Rattle.std.specs.Prelude.{◌≡◌, ◌<◌, ◌==◌, ◌&&◌, ◌||◌, ℕ, not, nat_lt, true, IfOk, Some, None};
+ghost use Rattle.siri_life.specs.Life.{greatest_round};
+ghost use Rattle.siri_messages.specs.Asked.{Asked};
+ghost use Rattle.siri_change.specs.Changes as change;
+ghost use Rattle.siri_change.specs.Parts as part;
+ghost use Rattle.siri_subscriptions.specs.Openings.{with_opening, CanOpen};
+ghost use Rattle.siri_subscriptions.specs.Rounds.{looked, sent_if_due};
+
+use siri_base::{Copies, List, Moment, OutOfMemory};
+use siri_change::{Change, View, changes, differ, target};
+use siri_records::{Item, Key};
+use siri_rounds::{GREATEST_ROUND, Rounds};
+use siri_topic::Subscription;
+use std::alloc::Global;
+use std::rc::Rc;
+
+/// A round that is to open: the view that it leads to, and by which changes.
+#[derive(Drop)]
+pub struct Opening {
+    pub target: View,
+    pub changes: List<Change>,
+}
+
+/// What a look found.
+#[derive(Drop)]
+pub struct Finding {
+    /// The round that is to open, where one is due.
+    pub opening: Option<Opening>,
+    /// Whether the acknowledged view meets what is shown.
+    pub is_level: bool,
+}
+
+/// Looks at a subscription of which no round is outstanding, by what is shown to its topic: a round is due where none
+/// was opened yet, or where the acknowledged view and what is shown differ by its slack; none is after the greatest
+/// number. Nothing changes.
+pub fn look(
+    alloc: Global,
+    wanted: &Subscription,
+    rounds: &Rounds,
+    direct: View,
+) -> Result<Finding, OutOfMemory>
+    requires { rounds.now.outstanding ≡ None }
+    ensures opening { IfOk result (λ finding. (asked : Asked) → asked.subscription ≡ wanted.now → (now : ℕ)
+        → with_opening now finding.opening rounds.now ≡ looked asked direct now rounds.now) }
+    ensures can_open { IfOk result (λ finding. CanOpen finding.opening rounds.now) }
+    ensures level { IfOk result (λ finding. finding.is_level ≡ change.meets wanted.now.slack rounds.now.acknowledged direct) }
+{
+    let is_level = !differ(rounds.acknowledged(), &direct, wanted.slack);
+    let opening = if is_round_due(rounds.last(), is_level) {
+        Some(round_to_open(alloc, wanted, rounds.acknowledged(), direct)?)
+    } else {
+        None
+    };
+    Ok(Finding { opening, is_level })
+}
+
+/// Whether a round is due after the last one, where the acknowledged view meets what is shown or not.
+fn is_round_due(last: u64, is_level: bool) -> bool
+    ensures due { result ≡ (nat_lt last greatest_round && (last == 0 || not is_level)) }
+    ensures room { result ≡ true → last < greatest_round }
+{
+    last < GREATEST_ROUND && (last == 0 || !is_level)
+}
+
+/// The round that what is shown makes.
+fn round_to_open(
+    alloc: Global,
+    wanted: &Subscription,
+    acknowledged: &View,
+    direct: View,
+) -> Result<Opening, OutOfMemory>
+    ensures target { IfOk result (λ opening. opening.target ≡ change.target wanted.now.slack wanted.now.incremental acknowledged.now direct) }
+    ensures changes { IfOk result (λ opening. opening.changes ≡ part.load acknowledged.now opening.target wanted.now.incremental) }
+{
+    let target = target(acknowledged, &direct, wanted.slack, wanted.incremental)?;
+    let changes = if wanted.incremental {
+        changes(acknowledged, &target)?
+    } else {
+        whole(alloc, &target)?
+    };
+    Ok(Opening { target, changes })
+}
+
+/// All of a view, as changes of the empty view.
+fn whole(alloc: Global, view: &View) -> Result<List<Change>, OutOfMemory>
+    ensures { IfOk result (λ list. list ≡ part.whole view.now) }
+{
+    let mut list = List::new(alloc);
+    let mut place = 0;
+    loop {
+        match view.entry(place) {
+            None => return Ok(list),
+            Some(entry) => list.push(addition(entry)?)?,
+        }
+        place += 1;
+    }
+}
+
+/// The change that makes an entry's item the one of its key.
+fn addition(entry: &(Key, Rc<Item>)) -> Result<Change, OutOfMemory>
+    ensures { IfOk result (λ change. change ≡ (entry.now.0, Some entry.now.1.value)) }
+{
+    let item = entry.1.clone()?;
+    Ok(Change {
+        key: entry.0.copy()?,
+        item: Some(item),
+    })
+}
+
+/// Opens the round that a look found, where it found one, at a moment; then the message that is due, if one is, counts
+/// as sent. It takes no memory.
+pub fn move_on(rounds: &mut Rounds, now: Moment, opening: Option<Opening>)
+    requires { CanOpen opening rounds.old }
+    ensures { rounds.new ≡ sent_if_due now (with_opening now opening rounds.old) }
+{
+    if let Some(opening) = opening {
+        rounds.begin(now, opening.target, opening.changes);
+    }
+    if rounds.due(now) {
+        rounds.sent(now);
+    }
+}

@@ -1,6 +1,0 @@
-use Rattle.std.proofs.Common.{◌≡◌, map, take}
-use Rattle.siri_take.specs.Endings.{sayings_of, sayings}
-use Rattle.siri_take.proofs.terminations.endings.Given as goal
-
-abbrev pub invariant-loop-identifier : goal.invariant-loop-identifier
-invariant-loop-identifier l = map sayings_of l.endings.items ≡ map (sayings l.subscriber) (take l.identifier-index l.identifiers)

@@ -1,6 +1,0 @@
-pub mod Requests
-pub mod Prepared
-pub mod Terminations
-pub mod Endings
-pub mod Acknowledgements
-pub mod Supplies

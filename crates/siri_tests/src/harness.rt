@@ -1,0 +1,153 @@
+//! Runs of `serve` and `consume` over an outside in memory, with failures that are named beforehand, and what comes of
+//! them.
+
+use crate::running::{Ended, end_over};
+use siri_base::{
+    FailingCalls, FailingClock, FailingConnection, FailingKeeper, FailingWire, InMemorySink,
+    InMemorySource, Moment, Name,
+};
+use std::alloc::Global;
+
+/// What is run: the words, the number that is kept, the moments to come, what the source has, and the connections to
+/// come and to be dialled, each with its failures; and the calls that fail, each by how many of that name come before
+/// it.
+#[derive(Clone, Copy)]
+pub(crate) struct Run<'a> {
+    pub(crate) words: &'a [&'a str],
+    pub(crate) kept: u64,
+    pub(crate) moments: &'a [i64],
+    pub(crate) input: &'a str,
+    pub(crate) to_accept: &'a [FailingConnection<'a>],
+    pub(crate) to_dial: &'a [FailingConnection<'a>],
+    pub(crate) calls: FailingCalls<'a>,
+    pub(crate) now: &'a [usize],
+    pub(crate) raise: &'a [usize],
+}
+
+/// No call of a wire that fails.
+pub(crate) const NO_CALLS: FailingCalls<'static> = FailingCalls {
+    listen: &[],
+    accept: &[],
+    dial: &[],
+};
+
+/// A run of no words, to which nothing comes, and of which no call fails by name.
+pub(crate) const UNFAILING: Run<'static> = Run {
+    words: &[],
+    kept: 0,
+    moments: &[],
+    input: "",
+    to_accept: &[],
+    to_dial: &[],
+    calls: NO_CALLS,
+    now: &[],
+    raise: &[],
+};
+
+/// What comes of it: what is written to the connections, in the order in which they came, where it is listened and
+/// dialled, what is written at the end, and the status with its text.
+#[derive(Clone, Copy)]
+pub(crate) struct Comes<'a> {
+    pub(crate) answered: &'a [&'a str],
+    pub(crate) named: &'a [&'a str],
+    pub(crate) output: &'a str,
+    pub(crate) number: u8,
+    pub(crate) text: &'a str,
+}
+
+/// The moments of these numbers of milliseconds since 1970.
+pub(crate) fn moments_of(alloc: Global, moments: &[i64]) -> Option<Vec<Moment>> {
+    let mut all = Vec::new(alloc);
+    for moment in moments {
+        all.push(Moment::new(*moment)?).ok()?;
+    }
+    Some(all)
+}
+
+/// Connections that bring these bytes and never fail.
+fn unfailing<'a>(alloc: Global, inputs: &[&'a [u8]]) -> Option<Vec<FailingConnection<'a>>> {
+    let mut all = Vec::new(alloc);
+    for input in inputs {
+        all.push(FailingConnection::of(*input)).ok()?;
+    }
+    Some(all)
+}
+
+/// Whether these are the addresses.
+pub(crate) fn are_named(addresses: &[Name], named: &[&str]) -> bool {
+    let mut same = addresses.len() == named.len();
+    for (address, name) in addresses.iter().zip(named) {
+        same = same && address.text() == *name;
+    }
+    same
+}
+
+/// Whether a wire was written to and named its addresses so.
+fn was_used(wire: &FailingWire<'_>, comes: &Comes<'_>) -> bool {
+    let mut same = are_named(wire.addresses(), comes.named);
+    let mut place = 0usize;
+    for answered in comes.answered {
+        same = same && wire.written(place) == Some(answered.as_bytes());
+        place = place.saturating_add(1);
+    }
+    same && wire.written(place).is_none()
+}
+
+/// How a run ends over a wire and a sink, which are lent, so that neither is let go here.
+fn end_of(
+    alloc: Global,
+    run: &Run<'_>,
+    wire: &mut FailingWire<'_>,
+    sink: &mut InMemorySink,
+) -> Option<Ended> {
+    let moments = moments_of(alloc, run.moments)?;
+    let mut clock = FailingClock::new(&moments, run.now);
+    let mut source = InMemorySource::new(run.input.as_bytes());
+    let mut keeper = FailingKeeper::new(run.kept, run.raise);
+    end_over(
+        alloc,
+        run.words,
+        &mut source,
+        sink,
+        wire,
+        &mut clock,
+        &mut keeper,
+    )
+    .ok()
+}
+
+/// Whether this comes of a run.
+pub(crate) fn comes_of(alloc: Global, run: &Run<'_>, comes: &Comes<'_>) -> bool {
+    let mut wire = FailingWire::new(alloc, run.to_accept, run.to_dial, run.calls);
+    let mut sink = InMemorySink::new(alloc);
+    match end_of(alloc, run, &mut wire, &mut sink) {
+        Some(ended) => {
+            ended.is(comes.number, comes.text)
+                && sink.bytes() == comes.output.as_bytes()
+                && was_used(&wire, comes)
+        }
+        None => false,
+    }
+}
+
+/// Whether this comes of a run with connections to come and to be dialled that bring these bytes and never fail.
+pub(crate) fn comes_of_bytes(
+    alloc: Global,
+    run: &Run<'_>,
+    to_accept: &[&[u8]],
+    to_dial: &[&[u8]],
+    comes: &Comes<'_>,
+) -> bool {
+    let Some(to_accept) = unfailing(alloc, to_accept) else {
+        return false;
+    };
+    let Some(to_dial) = unfailing(alloc, to_dial) else {
+        return false;
+    };
+    let run = Run {
+        to_accept: &to_accept,
+        to_dial: &to_dial,
+        ..*run
+    };
+    comes_of(alloc, &run, comes)
+}

@@ -1,5 +1,0 @@
--- In order of reading: the forms of arguments; the words of the command line. The words in `inner` are cited by private
--- functions alone.
-pub mod Arguments
-pub mod Commands
-pub mod inner
