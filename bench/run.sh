@@ -36,7 +36,7 @@ for load in "2000 0 0" "2000 20 0" "2000 20 2000" "20000 0 0" "20000 20 0" "2000
   python3 "$here/make.py" subscribed $load >"$inputs/subscribed.${load// /.}"
 done
 
-echo "commit $(git -C "$here" rev-parse --short HEAD); $(nproc) cores, load $(cut -d' ' -f1 /proc/loadavg); $(rt version)"
+echo "commit $(git -C "$here" rev-parse --short HEAD); $(nproc) cores, load $(cut -d' ' -f1 /proc/loadavg)"
 python3 "$here/measure.py" "$here/../crates" "$here/yardstick/target/release/yardstick" "$inputs"
 python3 "$here/network.py" "$here/../crates/siri/out/siri" "$here/yardstick/target/release/http" "$inputs"
 
