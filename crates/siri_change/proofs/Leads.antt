@@ -239,11 +239,11 @@ agree_same (Some x) (Some y) e = ap Some (same_exact x y e)
 agree_same None (Some y) e = cc
 agree_same (Some x) None e = cc
 
-off_left : (b c : Bool) → (b || c) ≡ false → b ≡ false
+pub off_left : (b c : Bool) → (b || c) ≡ false → b ≡ false
 off_left true c h = h
 off_left false c h = refl
 
-off_right : (b c : Bool) → (b || c) ≡ false → c ≡ false
+pub off_right : (b c : Bool) → (b || c) ≡ false → c ≡ false
 off_right true c h = cc
 off_right false c h = h
 
@@ -299,7 +299,7 @@ changes_lead a t s r = leads a t (changes a t) s r (fits_on a t (keys_of_both a 
 
 -- ---- meets
 
-agree_none : (test : Item → Item → Bool) (a b : Items) (q : Key) → item_of a q ≡ None → item_of b q ≡ None → agree_on test a b q ≡ true
+pub agree_none : (test : Item → Item → Bool) (a b : Items) (q : Key) → item_of a q ≡ None → item_of b q ≡ None → agree_on test a b q ≡ true
 agree_none test a b q p r = λ i. option_eq test (p i) (r i)
 
 all_at_case : (test : Item → Item → Bool) (a b : Items) (q k : Key) (ks : List Key) (d : Bool) → tied q k ≡ d
@@ -310,12 +310,12 @@ all_at_case test a b q k ks true tie all there rest =
     ap (agree_on test a b) (one_key q k tie) ∙ (and_parts (agree_on test a b k) (list_all (agree_on test a b) ks) all).0
 all_at_case test a b q k ks false tie all there rest = rest ((and_parts (agree_on test a b k) (list_all (agree_on test a b) ks) all).1) there
 
-all_at : (test : Item → Item → Bool) (a b : Items) (q : Key) (ks : List Key) → list_all (agree_on test a b) ks ≡ true
+pub all_at : (test : Item → Item → Bool) (a b : Items) (q : Key) (ks : List Key) → list_all (agree_on test a b) ks ≡ true
     → has q ks ≡ true → agree_on test a b q ≡ true
 all_at test a b q [] all there = cc
 all_at test a b q (k ∷ ks) all there = all_at_case test a b q k ks (tied q k) refl all there (all_at test a b q ks)
 
-agree_case : (test : Item → Item → Bool) (a b : Items) (q : Key) (d : Bool) → has q (keys_of_both a b) ≡ d
+pub agree_case : (test : Item → Item → Bool) (a b : Items) (q : Key) (d : Bool) → has q (keys_of_both a b) ≡ d
     → list_all (agree_on test a b) (keys_of_both a b) ≡ true → agree_on test a b q ≡ true
 agree_case test a b q true h all = all_at test a b q (keys_of_both a b) all h
 agree_case test a b q false h all = let n = none_of_both a b q h in agree_none test a b q n.0 n.1

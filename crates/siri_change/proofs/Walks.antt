@@ -11,8 +11,8 @@ use Rattle.std.specs.declared.cmp.Ordering.TheVariants.{Less, Equal, Greater}
 use Rattle.siri_records.specs.declared.key.Key.{Key}
 use Rattle.siri_records.specs.declared.item.Item.{Item}
 use Rattle.siri_records.specs.Near.{is_near}
-use Rattle.siri_records.specs.Order.{key_cmp}
-use Rattle.siri_records.proofs.Order.{key_cmp_total, key_cmp_exact, key_cmp_same}
+use Rattle.siri_records.specs.Order.{key_cmp, key_cmp_total}
+use Rattle.siri_records.proofs.Order.{key_cmp_exact, key_cmp_same}
 use Rattle.siri_records.specs.Keyed.{Items, InOrder, item_of, with_item, KeyChange}
 use Rattle.siri_change.specs.Same.{is_same}
 use Rattle.siri_change.specs.Changes.{keys_of_both, agree_on, meets, acknowledged_if_near, target, changes}

@@ -8,12 +8,12 @@ ghost use Rattle.siri_change.specs.Changes.{acknowledged_if_near, changes, meets
 
 use crate::{Change, View, same};
 use siri_base::{Copies, List, OutOfMemory, Span};
-use siri_records::{Item, Key, near};
+use siri_records::{Item, SharedKey, near};
 use std::cmp::Ordering;
 use std::rc::Rc;
 
-/// A key of a view and its item, which other views may hold too.
-type Entry = (Key, Rc<Item>);
+/// A key of a view and its item, both of which other views may hold too.
+type Entry = (SharedKey, Rc<Item>);
 
 /// Whether two views differ: they don't have the same keys, or the two items of some key aren't near with the slack. It
 /// goes over both once and takes no memory.
@@ -37,7 +37,7 @@ pub fn differ(view: &View, wanted: &View, slack: Span) -> bool
 }
 
 /// Keys by service, then by their names in turn, an absent name first: the order of views.
-fn compare(a: &Key, b: &Key) -> Ordering
+fn compare(a: &SharedKey, b: &SharedKey) -> Ordering
     ensures { result ≡ key_cmp a.now b.now }
 {
     a.cmp(b)
@@ -70,7 +70,7 @@ pub fn target(
         match direct.entry(place) {
             None => return Ok(target),
             Some(entry) => {
-                let item = acknowledged_if_near(acknowledged.get(&entry.0), &entry.1, slack);
+                let item = acknowledged_if_near(acknowledged.get(entry.0.key()), &entry.1, slack);
                 target.push_last(entry.0.copy()?, item.clone()?)?;
             }
         }

@@ -6,6 +6,7 @@ ghost use Rattle.siri_records.specs.declared.key.Key.{Key};
 ghost use Rattle.siri_records.specs.Keyed.{Items, InOrder, KeyChange, after_change, apply, most_live};
 ghost use Rattle.siri_change.specs.Same.{is_same};
 ghost use Rattle.siri_change.specs.Changes.{Meets, meets, target, changes};
+ghost use Rattle.siri_change.specs.Looks.{LooksByKeys};
 ghost use Rattle.siri_change.specs.Views.{is_keyed, is_view, is_keyed_change, are_keyed};
 ghost use Rattle.siri_change.specs.Parts.{load, base_view, part_after, parts_count, parts_of, as_sent, apply_parts, Carried, carried, changes_in, apply_carried};
 
@@ -95,4 +96,10 @@ pub fn views_stay_views()
     ensures change { (view : Items) (change : KeyChange) → is_view view ≡ true → is_keyed_change change ≡ true → length (after_change view change) ≤ most_live → is_view (after_change view change) ≡ true }
     ensures part { (view : Items) (part : Carried) → is_view view ≡ true → length (apply view (changes_in part)) ≤ most_live → is_view (apply view (changes_in part)) ≡ true }
     ensures target { (slack : ℤ) (incremental : Bool) (acknowledged direct : Items) → is_view acknowledged ≡ true → is_view direct ≡ true → is_view (target slack incremental acknowledged direct) ≡ true }
+{}
+
+/// A law: where a view and what is shown agree on all keys but some, these alone tell whether the view meets it, which
+/// target a round has, and which changes it carries.
+pub fn looks_need_few_keys()
+    ensures { LooksByKeys }
 {}

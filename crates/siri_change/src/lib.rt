@@ -13,7 +13,7 @@
 //! The changes of a round are cut in parts of a hundred, and a part is carried as items, whose keys are their own, and
 //! removed keys.
 //!
-//! The items are shared: views of many subscriptions over one store hold each item once.
+//! Keys and items are shared: views of many subscriptions over one store hold each of them once.
 //!
 //! Stands on `siri_base` and `siri_records`. It knows no subscription, no round, no message and no store.
 #![tactic(auto)]
@@ -26,9 +26,9 @@ mod view;
 pub use difference::{changes, differ, target};
 pub use laws::{
     carried_parts_lead_to_the_target, changes_lead_to_the_view, items_carry_their_keys,
-    parts_are_made_as_one, parts_are_the_list, parts_lead_to_the_target, same_items_are_equal,
-    targets_meet_the_response, views_are_tested, views_stay_in_order, views_stay_views,
-    views_that_meet_are_near,
+    looks_need_few_keys, parts_are_made_as_one, parts_are_the_list, parts_lead_to_the_target,
+    same_items_are_equal, targets_meet_the_response, views_are_tested, views_stay_in_order,
+    views_stay_views, views_that_meet_are_near,
 };
 pub use sameness::same;
 pub use siri_records::Change;

@@ -8,12 +8,12 @@ ghost use Rattle.siri_records.specs.Keyed.{InOrder, item_of, deref_entry, after_
 
 use crate::Change;
 use siri_base::{Copies, List, OutOfMemory};
-use siri_records::{Item, Key, KeyedItems};
+use siri_records::{Item, Key, KeyedItems, SharedKey};
 use std::alloc::Global;
 use std::marker::Model;
 use std::rc::Rc;
 
-/// Shared items by their keys. Contracts see the keys with the items themselves, in order of key, each key once.
+/// Shared items by their shared keys. Contracts see the keys with the items themselves, in order of key, each key once.
 pub struct View {
     items: KeyedItems,
 }
@@ -76,7 +76,7 @@ impl View {
 
     /// The key and the item at a place in order of key, counted from 0, or `None` exactly where the place isn't below
     /// the length.
-    pub fn entry(&self, place: usize) -> Option<&(Key, Rc<Item>)>
+    pub fn entry(&self, place: usize) -> Option<&(SharedKey, Rc<Item>)>
         ensures entry { option_map deref_entry result ≡ slice_get self.now place }
         ensures small { OnSome result (place + 1 < 2 ^ 64) }
         ensures ordered { InOrder self.now }
@@ -105,7 +105,7 @@ impl View {
     }
 
     /// Puts an item at the end: its key is above those that are held. After want of memory the view is as before.
-    pub fn push_last(&mut self, key: Key, item: Rc<Item>) -> Result<(), OutOfMemory>
+    pub fn push_last(&mut self, key: SharedKey, item: Rc<Item>) -> Result<(), OutOfMemory>
         requires { IsStrictlySortedBy key_cmp (keys_of self.old ++ key ∷ []) }
         ensures ok { OnOk result (self.new ≡ self.old ++ (key, item.value) ∷ []) }
         ensures err { OnErr result (self.new ≡ self.old) }

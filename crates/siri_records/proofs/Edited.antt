@@ -8,7 +8,7 @@ use Rattle.std.specs.Map.{keys_of, lookup, remove_entry}
 use Rattle.std.specs.BTreeMap.{insert_entry, is_at}
 use Rattle.std.specs.Ordering.{is_eq, ordering_reverse}
 use Rattle.std.specs.declared.cmp.Ordering.{Ordering}
-use Rattle.std.specs.declared.cmp.Ordering.TheVariants.{Less}
+use Rattle.std.specs.declared.cmp.Ordering.TheVariants.{Less, Equal}
 use Rattle.std.specs.declared.rc.Rc.{Rc}
 use Rattle.std.specs.declared.alloc.Global.{Global}
 use Rattle.siri_records.specs.declared.key.Key.{Key}
@@ -43,6 +43,12 @@ module _ (cmp : Key → Key → Ordering) (k : Key) where
   lookup_here [] i d here = absurd here
   lookup_here (e ∷ es) zero d here = rw here
   lookup_here (e ∷ es) (suc i) d here = rw (here.0) (lookup_here es i d here.1)
+
+  -- the key there ties with the one that was looked for
+  pub here_key : (es : List (Key × Shared)) (i : ℕ) (d : Key × Shared) → IsHere (cmp k) es i → cmp k (get_or es i d).0 ≡ Equal
+  here_key [] i d here = absurd here
+  here_key (e ∷ es) zero d here = here
+  here_key (e ∷ es) (suc i) d here = here_key es i d here.1
 
 -- ---- where a place is, and that the keys stay in order
 

@@ -24,7 +24,7 @@ module _ {K X : Type 0} (p : K × X → Bool) where
   all_case P e es true h here rest = rw h (here, rest)
   all_case P e es false h here rest = rw h rest
 
-  all_kept : (P : K → Type 0) (es : List (K × X)) → AllByRecursion P (keys_of es) → AllByRecursion P (keys_of (filter p es))
+  pub all_kept : (P : K → Type 0) (es : List (K × X)) → AllByRecursion P (keys_of es) → AllByRecursion P (keys_of (filter p es))
   all_kept P [] a = tt
   all_kept P (e ∷ es) a = all_case P e es (p e) refl a.0 (all_kept P es a.1)
 

@@ -3,13 +3,13 @@ use Rattle.std.proofs.Common.{◌≡◌, None, Some, refl, ap, arith}
 use Rattle.std.specs.declared.cmp.Ordering.{Ordering}
 use Rattle.std.specs.declared.cmp.Ordering.TheVariants.{Less, Equal, Greater}
 use Rattle.std.specs.Ordering.{ordering_then, nat_cmp}
-use Rattle.std.specs.Cmp.{IsTotalOrder, tied_itself, then_total, on_total, nat_cmp_total}
-use Rattle.std.specs.Cmp.Lexicographic.{slice_cmp, lists_total, options_total, nat_list_cmp_total}
+use Rattle.std.specs.Cmp.{tied_itself}
+use Rattle.std.specs.Cmp.Lexicographic.{slice_cmp}
 use Rattle.std.specs.FinMap.{IsAntisymmetric, nat_cmp-IsAntisymmetric, slice_cmp-IsAntisymmetric}
 use Rattle.siri_records.specs.declared.key.Key.{Key}
 use Rattle.siri_records.specs.declared.key.Key.TheVariants.{Visit, Journey, Vehicle, Situation}
 use Rattle.siri_records.specs.contracts.key.KeyOrd.TheImpl.{cmp-value}
-use Rattle.siri_records.specs.Order.{rank, names, name_cmp, key_cmp}
+use Rattle.siri_records.specs.Order.{rank, names, name_cmp, key_cmp, key_cmp_total}
 
 -- an order, and then no more
 last : (o : Ordering) → o ≡ ordering_then o Equal
@@ -39,9 +39,6 @@ same_cmp (Situation p n) (Vehicle v) = refl
 -- what `cmp` of keys answers
 pub cmp_is_key_cmp : cmp-value.it ≡ key_cmp
 cmp_is_key_cmp = λ i a b. same_cmp a b i
-
-pub key_cmp_total : IsTotalOrder key_cmp
-key_cmp_total = then_total (on_total rank nat_cmp_total) (on_total names (lists_total (options_total nat_list_cmp_total)))
 
 -- names that tie are one
 name_cmp_exact : IsAntisymmetric name_cmp

@@ -1,5 +1,7 @@
 pub mod Blank
+pub mod Edges
 pub mod Ends
+pub mod KeyLists
 pub mod Keyed
 pub mod Keys
 pub mod Near

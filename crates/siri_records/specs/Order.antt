@@ -3,7 +3,8 @@ use Rattle.std.specs.Prelude.{ℕ, List, [], ◌∷◌, Option, Some}
 use Rattle.std.specs.declared.cmp.Ordering.{Ordering}
 use Rattle.std.specs.Ordering.{nat_cmp, on, then_cmp}
 use Rattle.std.specs.Option.{option_cmp}
-use Rattle.std.specs.Cmp.Lexicographic.{slice_cmp}
+use Rattle.std.specs.Cmp.{IsTotalOrder, then_total, on_total, nat_cmp_total}
+use Rattle.std.specs.Cmp.Lexicographic.{slice_cmp, lists_total, options_total, nat_list_cmp_total}
 use Rattle.siri_records.specs.declared.key.Key.{Key}
 use Rattle.siri_records.specs.declared.key.Key.TheVariants.{Visit, Journey, Vehicle, Situation}
 
@@ -28,3 +29,7 @@ name_cmp = option_cmp (slice_cmp nat_cmp)
 -- keys in order of their kind and then of their names in turn
 abbrev pub key_cmp : Key → Key → Ordering
 key_cmp = then_cmp (on rank nat_cmp) (on names (slice_cmp name_cmp))
+
+-- it is total, so that shared keys may be ordered by it
+pub key_cmp_total : IsTotalOrder key_cmp
+key_cmp_total = then_total (on_total rank nat_cmp_total) (on_total names (lists_total (options_total nat_list_cmp_total)))

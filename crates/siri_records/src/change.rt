@@ -2,16 +2,16 @@
 
 ghost use Rattle.std.specs.Prelude.{◌≡◌};
 
-use crate::{Item, Key};
+use crate::{Item, SharedKey};
 use siri_base::{Copies, OutOfMemory};
 use std::marker::Model;
 use std::rc::Rc;
 
-/// A key with its new item, which is shared, or with none: then the key is removed. Contracts see the key and the item
-/// itself.
+/// A key with its new item, or with none: then the key is removed. Both are shared. Contracts see the key and the item
+/// themselves.
 #[derive(Drop)]
 pub struct Change {
-    pub key: Key,
+    pub key: SharedKey,
     pub item: Option<Rc<Item>>,
 }
 

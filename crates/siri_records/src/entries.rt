@@ -1,6 +1,6 @@
 //! Shared items in a vector, in order of key.
 
-ghost use Rattle.std.specs.Prelude.{◌≡◌, ◌<◌, ◌≤◌, ◌+◌, vec_len, is_some, IsNone, IsSome, IsOk, OnOk, OnErr, IfOk};
+ghost use Rattle.std.specs.Prelude.{◌≡◌, ◌<◌, ◌≤◌, ◌+◌, vec_len, is_some, option_map, IsNone, IsSome, IfSome, IsOk, OnOk, OnErr, IfOk};
 ghost use Rattle.std.specs.Vec.{vec_capacity};
 ghost use Rattle.std.specs.Map.{remove_entry};
 ghost use Rattle.std.specs.BTreeMap.{insert_entry, is_at};
@@ -8,13 +8,13 @@ ghost use Rattle.siri_records.specs.Order.{key_cmp};
 ghost use Rattle.siri_records.specs.Keyed.{InOrder, item_of, after_change, entries_view};
 ghost use Rattle.siri_records.specs.Places.{Finds, set_value_at};
 
-use crate::{Change, Item, Key};
+use crate::{Change, Item, Key, SharedKey};
 use siri_base::{Copies, OutOfMemory};
 use std::cmp::Ordering;
 use std::rc::Rc;
 
-/// A key and its item, which others may hold too.
-pub(crate) type Entry = (Key, Rc<Item>);
+/// A key and its item, both of which others may hold too: an entry is two pointers.
+pub(crate) type Entry = (SharedKey, Rc<Item>);
 
 /// Where the key stands, or where it would.
 pub(crate) fn find(entries: &Vec<Entry>, key: &Key) -> Result<usize, usize>
@@ -24,7 +24,7 @@ pub(crate) fn find(entries: &Vec<Entry>, key: &Key) -> Result<usize, usize>
     entries.binary_search_by(
         |entry: &Entry| -> Ordering
             ensures { result ≡ key_cmp entry.now.0 key.entry.now }
-        { compare(&entry.0, key) },
+        { compare(entry.0.key(), key) },
     )
 }
 
@@ -51,7 +51,7 @@ pub(crate) fn make(entries: &mut Vec<Entry>, change: Change) -> Result<(), OutOf
     match item {
         Some(item) => put(entries, key, item),
         None => {
-            let _ = remove(entries, &key);
+            let _ = remove(entries, key.key());
             drop(key);
             Ok(())
         }
@@ -59,7 +59,11 @@ pub(crate) fn make(entries: &mut Vec<Entry>, change: Change) -> Result<(), OutOf
 }
 
 /// The item becomes the one of the key. Room for a key that isn't held is taken before anything changes.
-pub(crate) fn put(entries: &mut Vec<Entry>, key: Key, item: Rc<Item>) -> Result<(), OutOfMemory>
+pub(crate) fn put(
+    entries: &mut Vec<Entry>,
+    key: SharedKey,
+    item: Rc<Item>,
+) -> Result<(), OutOfMemory>
     requires { InOrder entries.old.items }
     ensures ok { OnOk result (entries_view entries.new.items ≡ insert_entry key_cmp (entries_view entries.old.items) key item.value) }
     ensures err { OnErr result (entries.new.items ≡ entries.old.items) }
@@ -69,7 +73,7 @@ pub(crate) fn put(entries: &mut Vec<Entry>, key: Key, item: Rc<Item>) -> Result<
     ensures len { vec_len entries.new ≤ vec_len entries.old + 1 }
     ensures capacity { vec_capacity entries.old ≤ vec_capacity entries.new }
 {
-    match find(entries, &key) {
+    match find(entries, key.key()) {
         Ok(at) => {
             drop(key);
             replace(entries, at, item);
@@ -91,12 +95,22 @@ pub(crate) fn remove(entries: &mut Vec<Entry>, key: &Key) -> bool
     ensures len { vec_len entries.new ≤ vec_len entries.old }
     ensures capacity { vec_capacity entries.old ≤ vec_capacity entries.new }
 {
+    take(entries, key).is_some()
+}
+
+/// The entry of a key, which isn't held afterwards.
+pub(crate) fn take(entries: &mut Vec<Entry>, key: &Key) -> Option<Entry>
+    requires { InOrder entries.old.items }
+    ensures rest { entries_view entries.new.items ≡ remove_entry (is_at (key_cmp key.now)) (entries_view entries.old.items) }
+    ensures item { option_map (λ entry. entry.1.value) result ≡ item_of (entries_view entries.old.items) key.now }
+    ensures key { IfSome result (λ entry. entry.0 ≡ key.now) }
+    ensures ordered { InOrder entries.new.items }
+    ensures len { vec_len entries.new ≤ vec_len entries.old }
+    ensures capacity { vec_capacity entries.old ≤ vec_capacity entries.new }
+{
     match find(entries, key) {
-        Ok(at) => {
-            drop(entries.remove(at));
-            true
-        }
-        Err(_) => false,
+        Ok(at) => Some(entries.remove(at)),
+        Err(_) => None,
     }
 }
 
@@ -110,7 +124,7 @@ fn replace(entries: &mut Vec<Entry>, at: usize, item: Rc<Item>)
     entries[at].1 = item;
 }
 
-/// The same shared item under a copy of its key.
+/// The same item under the same key, both shared.
 pub(crate) fn copy_entry(entry: &Entry) -> Result<Entry, OutOfMemory>
     ensures { IfOk result (λ copy. (copy.0 ≡ entry.now.0) × (copy.1.value ≡ entry.now.1.value)) }
 {

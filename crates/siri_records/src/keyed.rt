@@ -1,6 +1,6 @@
 //! Shared items by their keys.
 
-ghost use Rattle.std.specs.Prelude.{◌≡◌, ◌<◌, ◌+◌, ◌^◌, [], ◌∷◌, ◌++◌, length, option_map, is_some, slice_get, not, Some, IsNone, IsSome, IsOk, OnSome, OnOk, OnErr};
+ghost use Rattle.std.specs.Prelude.{◌≡◌, ◌<◌, ◌+◌, ◌^◌, [], ◌∷◌, ◌++◌, length, option_map, is_some, slice_get, not, Some, IsNone, IsSome, IfSome, IsOk, OnSome, OnOk, OnErr};
 ghost use Rattle.std.specs.List.Sorted.{IsStrictlySortedBy};
 ghost use Rattle.std.specs.Map.{keys_of, lookup, remove_entry};
 ghost use Rattle.std.specs.BTreeMap.{insert_entry, is_at};
@@ -8,8 +8,8 @@ ghost use Rattle.siri_records.specs.Ends.{is_dead};
 ghost use Rattle.siri_records.specs.Order.{key_cmp};
 ghost use Rattle.siri_records.specs.Keyed.{InOrder, PlacedAt, living, deref_entry, after_change, apply};
 
-use crate::entries::{copy_entry, find, make, put, remove};
-use crate::{Change, Item, Key, dead};
+use crate::entries::{copy_entry, find, make, put, remove, take};
+use crate::{Change, Item, Key, SharedKey, dead};
 use siri_base::{Copies, List, Moment, OutOfMemory};
 use std::alloc::Global;
 use std::marker::Model;
@@ -17,9 +17,10 @@ use std::rc::Rc;
 
 /// Shared items by their keys, in order of key, each key once. Contracts see the keys with the items themselves.
 ///
-/// A key is found by halves. An item of a key that isn't held moves those behind it up, and a removal moves them down.
+/// A key is found by halves. An item of a key that isn't held moves those behind it up, and a removal moves them down:
+/// each is two pointers, to its key and to its item, which others may hold too. A copy of all is two counts an entry.
 pub struct KeyedItems {
-    entries: Vec<(Key, Rc<Item>)>,
+    entries: Vec<(SharedKey, Rc<Item>)>,
 }
 
 impl Drop for KeyedItems {
@@ -58,7 +59,7 @@ impl KeyedItems {
 
     /// The key and the item at a place in order of key, counted from 0, or `None` exactly where the place isn't below
     /// the length.
-    pub fn entry(&self, place: usize) -> Option<&(Key, Rc<Item>)>
+    pub fn entry(&self, place: usize) -> Option<&(SharedKey, Rc<Item>)>
         ensures entry { option_map deref_entry result ≡ slice_get self.now place }
         ensures onward { PlacedAt self.now place (option_map deref_entry result) }
         ensures small { OnSome result (place + 1 < 2 ^ 64) }
@@ -80,6 +81,16 @@ impl KeyedItems {
         }
     }
 
+    /// The entry of a key, or `None` exactly where the key isn't held.
+    pub fn find(&self, key: &Key) -> Option<&(SharedKey, Rc<Item>)>
+        ensures { option_map deref_entry result ≡ option_map (λ item. (key.now, item)) (lookup (is_at (key_cmp key.now)) self.now) }
+    {
+        match find(&self.entries, key) {
+            Ok(at) => Some(&self.entries[at]),
+            Err(_) => None,
+        }
+    }
+
     /// Whether a key is held.
     pub fn has(&self, key: &Key) -> bool
         ensures { result ≡ is_some (lookup (is_at (key_cmp key.now)) self.now) }
@@ -88,16 +99,17 @@ impl KeyedItems {
     }
 
     /// An item becomes the one of a key. After want of memory all is as before; an item of a held key takes none.
-    pub fn put(&mut self, key: Key, item: Rc<Item>) -> Result<(), OutOfMemory>
+    pub fn put(&mut self, key: SharedKey, item: Rc<Item>) -> Result<(), OutOfMemory>
         ensures ok { OnOk result (self.new ≡ insert_entry key_cmp self.old key item.value) }
         ensures err { OnErr result (self.new ≡ self.old) }
         ensures held { IsSome (lookup (is_at (key_cmp key)) self.old) → IsOk result }
+        ensures ordered { InOrder self.new }
     {
         put(&mut self.entries, key, item)
     }
 
     /// Puts an item at the end: its key is above those that are held. After want of memory all is as before.
-    pub fn push_last(&mut self, key: Key, item: Rc<Item>) -> Result<(), OutOfMemory>
+    pub fn push_last(&mut self, key: SharedKey, item: Rc<Item>) -> Result<(), OutOfMemory>
         requires { IsStrictlySortedBy key_cmp (keys_of self.old ++ key ∷ []) }
         ensures ok { OnOk result (self.new ≡ self.old ++ (key, item.value) ∷ []) }
         ensures err { OnErr result (self.new ≡ self.old) }
@@ -114,8 +126,18 @@ impl KeyedItems {
         remove(&mut self.entries, key)
     }
 
+    /// Takes out the entry of a key, where it is held. It takes no memory.
+    pub fn take(&mut self, key: &Key) -> Option<(SharedKey, Rc<Item>)>
+        ensures rest { self.new ≡ remove_entry (is_at (key_cmp key.now)) self.old }
+        ensures item { option_map (λ entry. entry.1.value) result ≡ lookup (is_at (key_cmp key.now)) self.old }
+        ensures key { IfSome result (λ entry. entry.0 ≡ key.now) }
+        ensures ordered { InOrder self.new }
+    {
+        take(&mut self.entries, key)
+    }
+
     /// Takes out the entry at a place, and gives its key. It takes no memory.
-    pub fn remove_at(&mut self, place: usize) -> Key
+    pub fn remove_at(&mut self, place: usize) -> SharedKey
         requires { place < length self.old }
         ensures key { option_map (λ e. e.0) (slice_get self.old place) ≡ Some result }
         ensures rest { self.new ≡ remove_entry (is_at (key_cmp result)) self.old }
@@ -130,7 +152,7 @@ impl KeyedItems {
         ensures { self.new ≡ living now self.old }
     {
         self.entries.retain(
-            |entry: &(Key, Rc<Item>)| -> bool
+            |entry: &(SharedKey, Rc<Item>)| -> bool
                 ensures { result ≡ not (is_dead entry.now.1.value now) }
             { !dead(&entry.1, now) },
         );

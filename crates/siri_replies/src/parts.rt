@@ -113,7 +113,7 @@ fn removals_in(alloc: Global, changes: &[Change]) -> Result<List<Key>, OutOfMemo
     let mut removals = List::new(alloc);
     for change in changes {
         if change.item.is_none() {
-            removals.push(change.key.copy()?)?;
+            removals.push(change.key.key().copy()?)?;
         }
     }
     Ok(removals)

@@ -53,7 +53,7 @@ period_is_out begins now near None le closed below = cc
 period_is_out false now near (Some e) le closed below = refl
 period_is_out true now near (Some e) le closed below = rw (ended_ends_before now near (Some e) le below) refl
 
-none_of_both : (a b : Bool) → (a || b) ≡ false → (a ≡ false) × (b ≡ false)
+pub none_of_both : (a b : Bool) → (a || b) ≡ false → (a ≡ false) × (b ≡ false)
 none_of_both false b h = (refl, h)
 none_of_both true b h = cc
 

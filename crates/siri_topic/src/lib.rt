@@ -19,7 +19,7 @@ mod topics;
 mod windows;
 
 pub use agreement::matches;
-pub use shown_items::{dead_items_are_never_shown, shown, window};
+pub use shown_items::{dead_items_are_never_shown, shown, uncrossed_items_stay_as_shown, window};
 pub use subscription::Subscription;
 pub use topics::{LineDirection, SituationTopic, StopTopic, TimetableTopic, Topic, VehicleTopic};
 pub use windows::Window;

@@ -1,6 +1,7 @@
 //! The items that are shown to a topic.
 
 ghost use Rattle.std.specs.Prelude.{◌≡◌};
+ghost use Rattle.siri_topic.specs.Crossed.{StaysShown};
 ghost use Rattle.siri_topic.specs.Shown.{DeadAreNeverShown, ends_before, has_period_in, is_before, is_from, is_in, is_period_in, is_shown, preview_of, start_of, window_of};
 
 use crate::{Topic, Window, matches};
@@ -38,6 +39,12 @@ pub fn shown(topic: &Topic, item: &Item, now: Moment) -> bool
 /// The law that an item that is dead at a moment is shown to no topic at that moment.
 pub fn dead_items_are_never_shown()
     ensures { DeadAreNeverShown }
+{}
+
+/// The law that an item that isn't dead, and of which no end of a topic's window passed an edge since a moment, is shown to
+/// the topic exactly where it was shown then.
+pub fn uncrossed_items_stay_as_shown()
+    ensures { StaysShown }
 {}
 
 /// The StartTime of a topic; timetables and vehicles have none.

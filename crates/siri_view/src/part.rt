@@ -9,15 +9,15 @@ ghost use Rattle.siri_view.specs.Hearing.{carried_by};
 use siri_base::{Copies, List, OutOfMemory};
 use siri_change::Change;
 use siri_messages::FunctionalDelivery;
-use siri_records::{Item, Key, key_of};
+use siri_records::{Item, Key, SharedKey};
 use std::alloc::Global;
 use std::marker::Model;
 use std::rc::Rc;
 
-/// What a functional delivery carries. Its items are shared from here on.
+/// What a functional delivery carries. Its items and its removals' keys are shared from here on.
 pub(crate) struct Part {
     items: Vec<Rc<Item>>,
-    removals: List<Key>,
+    removals: List<SharedKey>,
 }
 
 impl Drop for Part {
@@ -45,7 +45,7 @@ impl Part {
     {
         Ok(Part {
             items: shared(alloc, delivery.items.slice())?,
-            removals: delivery.removals.copy()?,
+            removals: shared_keys(alloc, delivery.removals.slice())?,
         })
     }
 
@@ -80,6 +80,17 @@ fn share(alloc: Global, item: &Item) -> Result<Rc<Item>, OutOfMemory>
     Ok(Rc::new(alloc, item.copy()?)?)
 }
 
+/// Copies of keys, to be shared.
+fn shared_keys(alloc: Global, keys: &[Key]) -> Result<List<SharedKey>, OutOfMemory>
+    ensures { IfOk result (λ shared. shared ≡ keys.now) }
+{
+    let mut shared = List::new(alloc);
+    for key in keys {
+        shared.push(SharedKey::new(alloc, key.copy()?)?)?;
+    }
+    Ok(shared)
+}
+
 /// Puts items at the end, each under its own key.
 fn push_items(alloc: Global, items: &[Rc<Item>], into: &mut List<Change>) -> Result<(), OutOfMemory>
     ensures { OnOk result (into.new ≡ into.old ++ map (λ item. (key_of_item item, Some item)) (unshared items.now)) }
@@ -96,13 +107,13 @@ fn change_of(alloc: Global, item: &Rc<Item>) -> Result<Change, OutOfMemory>
 {
     let shared = item.clone()?;
     Ok(Change {
-        key: key_of(item)?,
+        key: SharedKey::of(alloc, item)?,
         item: Some(shared),
     })
 }
 
 /// Puts the removals of keys at the end.
-fn push_removals(keys: &[Key], into: &mut List<Change>) -> Result<(), OutOfMemory>
+fn push_removals(keys: &[SharedKey], into: &mut List<Change>) -> Result<(), OutOfMemory>
     ensures { OnOk result (into.new ≡ into.old ++ map (λ key. (key, None)) keys.now) }
 {
     for key in keys {

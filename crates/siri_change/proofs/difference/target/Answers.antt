@@ -21,7 +21,7 @@ loop-target-preserved c =
     let e = deref_entry c.in-Some.entry in
     let which = c.in_ok-clone-in-Some.ensures.cases
     ∙ (c.acknowledged_if_near-item.ensures ∙ ap (λ held. acknowledged_if_near c.args.slack held e.1)
-    c.get.ensures) in
+    (rw c.key.ensures at c.get.ensures)) in
     chosen_next c.args.slack c.args.acknowledged.now c.args.direct.now c.loop-target.target _ c.loop-target.place e
     c.in_ok-copy-in-Some.field-0 c.in_ok-clone-in-Some.field-0.value
     c.in-Some.ensures.entry c.loop-target.invariant c.in_ok-push_last-in-Some.ensures.ok c.in_ok-copy-in-Some.ensures which

@@ -1,7 +1,7 @@
 use Rattle.std.proofs.Common.{◌≡◌, subst, ap}
 use Rattle.std.specs.declared.cmp.Ordering.TheVariants.{Equal}
-use Rattle.siri_records.specs.Order.{key_cmp}
-use Rattle.siri_records.proofs.Order.{cmp_is_key_cmp, key_cmp_total, key_cmp_exact, key_cmp_same}
+use Rattle.siri_records.specs.Order.{key_cmp, key_cmp_total}
+use Rattle.siri_records.proofs.Order.{cmp_is_key_cmp, key_cmp_exact, key_cmp_same}
 use Rattle.siri_records.proofs.key.keys_are_in_order.Goals as goal
 
 pub returns-clause-stated : goal.returns-clause-stated

@@ -1,7 +1,6 @@
 use Rattle.std.proofs.Common.{arith, sym, ap, ◌∙◌, Some}
 use Rattle.std.proofs.lemmas.Map.{lookup-none}
-use Rattle.siri_records.specs.Order.{key_cmp}
-use Rattle.siri_records.proofs.Order.{key_cmp_total}
+use Rattle.siri_records.specs.Order.{key_cmp, key_cmp_total}
 use Rattle.siri_records.specs.declared.key.Key.{Key}
 use Rattle.siri_records.proofs.Edited.{Shared, here_below, lookup_here, none_held}
 use Rattle.siri_records.proofs.keyed.KeyedItems.get.Goals as goal

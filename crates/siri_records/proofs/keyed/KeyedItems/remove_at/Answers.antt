@@ -1,6 +1,5 @@
 use Rattle.std.proofs.Common.{arith, ap, ◌∙◌, option_map, length, ◌<◌}
-use Rattle.siri_records.specs.Order.{key_cmp}
-use Rattle.siri_records.proofs.Order.{key_cmp_total}
+use Rattle.siri_records.specs.Order.{key_cmp, key_cmp_total}
 use Rattle.siri_records.specs.declared.key.Key.{Key}
 use Rattle.siri_records.specs.declared.item.Item.{Item}
 use Rattle.siri_records.specs.Keyed.{entries_view}
