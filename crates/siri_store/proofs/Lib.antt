@@ -4,3 +4,10 @@ pub mod Gathered
 pub mod OwnKeys
 pub mod Ranges
 pub mod Sides
+pub mod LookUps
+pub mod Tied
+pub mod Orders
+pub mod FirstEnd
+pub mod LeastEdge
+pub mod Inserted
+pub mod Crossed

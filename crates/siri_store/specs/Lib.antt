@@ -2,5 +2,9 @@ pub mod Held
 pub mod Calls
 pub mod Candidates
 pub mod Walk
-pub mod Leaving
+pub mod Crossing
 pub mod Sides
+pub mod Stamped
+pub mod Between
+pub mod Ended
+pub mod CrossWalk

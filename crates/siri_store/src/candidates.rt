@@ -38,7 +38,7 @@ fn first_from(items: &KeyedItems, topic: &Topic, least: Ordering) -> usize
     while low < high {
         let middle = low + (high - low) / 2;
         match items.entry(middle) {
-            Some(entry) if side(topic, &entry.0) < least => low = middle + 1,
+            Some(entry) if side(topic, entry.0.key()) < least => low = middle + 1,
             _ => high = middle,
         }
     }

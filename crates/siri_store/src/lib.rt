@@ -3,16 +3,17 @@
 //! ```text
 //!     item          -> observe   ---+
 //!     key           -> withdraw  ---+--> the items in order of key
-//!     a later moment -> advance, expire
+//!     a later moment -> advance, expire_one
 //!
 //!     key           -> look      ---> the item of that key         one step
 //!     topic         -> select    ---> the items that are shown     a step for each item that is looked at
 //!     topic         -> shown     ---> all of them in one call      a step for each that may be shown by its key
+//!     service, range -> crossing ---> the items with an edge there a step for each of them
+//!     service, range -> crossed  ---> all of them in one call      a step for each of them
 //! ```
 //!
 //! An item leaves once it is dead at the store's moment: the store's owner moves the moment by `advance` and then lets
-//! the dead items go by `expire` (or one by one by `expire_one`), before it observes again. No more than 20,000 keys
-//! are held.
+//! the dead items go one by one by `expire_one`, before it observes again. No more than 20,000 keys are held.
 //!
 //! Each held item that a caller gets or that is tested for a topic is counted as a step, by a counter that never falls.
 //! No other crate gets hold of the counter or of the items beside it.
@@ -22,10 +23,13 @@
 
 mod candidates;
 mod counter;
-mod leaving;
+mod crossing;
+mod indexed;
 mod selected;
+mod stamps;
 mod store;
 mod walk;
 
+pub use crossing::Crossing;
 pub use selected::Selected;
 pub use store::{MOST_LIVE, ObserveError, Store};

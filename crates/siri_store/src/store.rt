@@ -3,20 +3,22 @@
 ghost use Rattle.std.specs.Prelude.{◌≡◌, ◌↔◌, ◌+◌, ◌≤◌, max, [], length, slice_range, option_map, true, false, None, IfOk, OnOk, OnErr, IsErrOf, ⊤};
 ghost use mathlib.Core.Option.{none};
 ghost use Rattle.std.specs.Borrow.{sem, follows, follows_so};
-ghost use Rattle.siri_records.specs.Keyed.{InOrder, item_of, dead_of, living, unshared};
+ghost use Rattle.siri_records.specs.Keyed.{InOrder, item_of, unshared, entries_view};
 ghost use Rattle.siri_store.specs.Calls.{NoneDead, is_held, without, refuses, observed, IsNextToLeave, after_expiry};
 ghost use Rattle.siri_store.specs.Candidates.{candidates};
 ghost use Rattle.siri_store.specs.Held.{counted};
+ghost use Rattle.siri_store.specs.Crossing.{crossed_entries, crossed_of};
+ghost use Rattle.siri_store.specs.CrossWalk.{to_cross};
 ghost use Rattle.siri_store.specs.Walk.{shown_entries, shown_of, to_lend};
 ghost use Rattle.siri_store.specs.contracts.counter.Counter.{the_row as counter_row};
 ghost use Rattle.siri_store.specs.contracts.store.Store.{the_row};
 
 use crate::candidates::candidates;
 use crate::counter::Counter;
-use crate::leaving::first_to_leave;
-use crate::{Selected, walk};
+use crate::indexed::IndexedItems;
+use crate::{Crossing, Selected, walk};
 use siri_base::{Moment, OutOfMemory};
-use siri_records::{Item, Key, KeyedItems, dead, key_of};
+use siri_records::{Item, Key, KeyedItems, Service, SharedKey, dead};
 use siri_topic::Topic;
 use std::alloc::Global;
 use std::marker::Model;
@@ -51,7 +53,7 @@ impl From<OutOfMemory> for ObserveError {
 /// Current items in order of key, each under its own key, a moment, and a counter of steps. Contracts see the keys with
 /// the items themselves, the moment and the counter.
 pub struct Store {
-    entries: KeyedItems,
+    items: IndexedItems,
     moment: Moment,
     counter: Counter,
 }
@@ -59,7 +61,7 @@ pub struct Store {
 impl Drop for Store {
     fn drop(self) {
         let Store {
-            entries: _,
+            items: _,
             moment: _,
             counter: _,
         } = self;
@@ -68,13 +70,14 @@ impl Drop for Store {
 
 impl Model for Store {
     ghost use Rattle.siri_store.specs.Candidates.{UnderOwnKeys};
+    ghost use Rattle.siri_store.specs.Ended.{NoneClosed};
     ghost use Rattle.siri_store.specs.Held.{Held};
 
     ghost Value = { Held };
 
-    ghost view = { λ s. record { entries = s.entries; moment = s.moment; reads = s.counter } };
+    ghost view = { λ s. record { entries = s.items; moment = s.moment; reads = s.counter } };
 
-    ghost invariant = { λ s. UnderOwnKeys s.entries };
+    ghost invariant = { λ s. record { own : UnderOwnKeys s.items; none_closed : NoneClosed s.items } };
 }
 
 impl Store {
@@ -84,7 +87,7 @@ impl Store {
         ensures alive { IfOk result (λ store. NoneDead store) }
     {
         Ok(Store {
-            entries: KeyedItems::new(alloc),
+            items: IndexedItems::new(alloc),
             moment: now,
             counter: Counter::new(),
         })
@@ -97,28 +100,14 @@ impl Store {
         self.moment = self.moment.max(now);
     }
 
-    /// Lets all dead items go at once, and tells how many there were. It goes over the items once and takes no memory.
-    pub fn expire(&mut self) -> usize
-        ensures rest { self.new ≡ record self.old { entries = living self.old.moment self.old.entries } }
-        ensures number { result ≡ length (dead_of self.old.moment self.old.entries) }
-        ensures alive { NoneDead self.new }
-    {
-        let before = self.entries.len();
-        self.entries.keep_living(self.moment);
-        before - self.entries.len()
-    }
-
     /// Lets the dead item go that leaves first, by end and then by key, and gives its key: `None` exactly where none is
     /// dead. A closed item that has no end counts as ended at moment 0. It takes no memory.
-    pub fn expire_one(&mut self) -> Option<Key>
+    pub fn expire_one(&mut self) -> Option<SharedKey>
         ensures key { IsNextToLeave self.old result }
         ensures rest { self.new ≡ after_expiry self.old result }
         ensures none { (result ≡ None) ↔ NoneDead self.old }
     {
-        match first_to_leave(&self.entries, self.moment) {
-            None => None,
-            Some(place) => Some(self.entries.remove_at(place)),
-        }
+        self.items.remove_first_ended(self.moment)
     }
 
     /// The item becomes the one of its key; a dead item removes its key instead. After `StoreFull` and after want of
@@ -131,7 +120,7 @@ impl Store {
         ensures full { IsErrOf result ObserveError.StoreFull → refuses self.old item.value ≡ true }
         ensures alive { NoneDead self.new }
     {
-        let key = match key_of(&item) {
+        let key = match SharedKey::of(self.items.entries().allocator(), &item) {
             Ok(key) => key,
             Err(_) => {
                 drop(item);
@@ -139,17 +128,17 @@ impl Store {
             }
         };
         if dead(&item, self.moment) {
-            let _ = self.entries.remove(&key);
+            let _ = self.items.remove(key.key());
             drop(key);
             drop(item);
             return Ok(());
         }
-        if self.entries.len() >= MOST_LIVE && !self.entries.has(&key) {
+        if self.items.entries().len() >= MOST_LIVE && !self.items.entries().has(key.key()) {
             drop(key);
             drop(item);
             return Err(ObserveError::StoreFull);
         }
-        self.entries.put(key, item)?;
+        self.items.put(key, item)?;
         Ok(())
     }
 
@@ -159,7 +148,7 @@ impl Store {
         ensures held { result ≡ is_held self.old key.now }
         ensures alive { NoneDead self.old → NoneDead self.new }
     {
-        self.entries.remove(key)
+        self.items.remove(key)
     }
 
     /// The steps that were counted, 0 in a new store. A step is one held item that `look`, `select`,
@@ -176,7 +165,7 @@ impl Store {
         ensures item { option_map (λ item. item.now.value) result ≡ item_of self.old.entries key.now }
     {
         self.counter.count();
-        self.entries.get(key)
+        self.items.entries().get(key)
     }
 
     /// Lends, in order of key, the held items that are shown to a topic at the store's moment. The walk looks only at
@@ -193,12 +182,13 @@ impl Store {
         ensures within { (result.place ≤ result.end) × (result.end ≤ length self.old.entries) }
     {
         let moment = self.moment;
-        let places = candidates(&self.entries, topic);
+        let entries = self.items.entries();
+        let places = candidates(entries, topic);
         Selected {
             counter: &mut self.counter,
             topic,
             moment,
-            entries: &self.entries,
+            entries,
             place: places.start,
             end: places.end,
         }
@@ -216,7 +206,13 @@ impl Store {
         ensures ordered { InOrder self.old.entries }
     {
         let moment = self.moment;
-        walk::shown_items(alloc, &self.entries, &mut self.counter, topic, moment)
+        walk::shown_items(
+            alloc,
+            self.items.entries(),
+            &mut self.counter,
+            topic,
+            moment,
+        )
     }
 
     /// The same items with their keys.
@@ -229,7 +225,54 @@ impl Store {
         ensures ordered { InOrder self.old.entries }
     {
         let moment = self.moment;
-        walk::shown_entries(alloc, &self.entries, &mut self.counter, topic, moment)
+        walk::shown_entries(
+            alloc,
+            self.items.entries(),
+            &mut self.counter,
+            topic,
+            moment,
+        )
+    }
+
+    /// Lends the held items of a service that have an edge at or after one number of milliseconds since 1970 and before
+    /// another, each once, in order of the least such edge and then of key. Each that it lends is a step. The store
+    /// holds still as long as the walk is alive.
+    pub fn crossing<'a>(&'a mut self, service: Service, from: i64, to: i64) -> Crossing<'a>
+        ensures* keeps { sem 𝓛 (follows the_row counter_row self.entry.ghost_name result.counter.ghost_name (λ steps. record self.old { reads = steps })) }
+        ensures counter { result.counter.now ≡ self.old.reads }
+        ensures entries { result.entries.now ≡ self.old.entries }
+        ensures from { result.from ≡ from }
+        ensures lends { to_cross result ≡ crossed_of service from to self.old.entries }
+    {
+        let items = &self.items;
+        let stamps = items.edges(service, from, to);
+        let entries = items.entries();
+        Crossing {
+            counter: &mut self.counter,
+            entries,
+            stamps,
+            from,
+        }
+    }
+
+    /// All of them in one call, with their keys, shared with the store: the held items of a service that have an edge at
+    /// or after one number of milliseconds since 1970 and before another, each once, in order of the least such edge
+    /// and then of key. Each of them is a step. After want of memory nothing but the counter has changed.
+    pub fn crossed(
+        &mut self,
+        alloc: Global,
+        service: Service,
+        from: i64,
+        to: i64,
+    ) -> Result<Vec<(SharedKey, Rc<Item>)>, OutOfMemory>
+        ensures ok { IfOk result (λ found. entries_view found.items ≡ crossed_entries service from to self.old.entries) }
+        ensures steps { OnOk result (self.new.reads ≡ counted self.old.reads (length (crossed_entries service from to self.old.entries))) }
+        ensures at_most { self.new.reads ≤ self.old.reads + length (crossed_entries service from to self.old.entries) }
+        ensures risen { self.old.reads ≤ self.new.reads }
+        ensures rest { self.new ≡ record self.old { reads = self.new.reads } }
+    {
+        let stamps = self.items.edges(service, from, to);
+        walk::crossed_entries(alloc, self.items.entries(), &mut self.counter, stamps, from)
     }
 
     /// How many keys are held. Items are held in order of key, each key once.
@@ -237,7 +280,7 @@ impl Store {
         ensures number { result ≡ length self.now.entries }
         ensures ordered { InOrder self.now.entries }
     {
-        self.entries.len()
+        self.items.entries().len()
     }
 
     /// The store's moment.

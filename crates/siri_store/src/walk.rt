@@ -2,17 +2,21 @@
 //! step.
 
 ghost use Rattle.std.specs.Prelude.{◌≡◌, ◌+◌, ◌≤◌, length, IfOk, OnOk};
-ghost use Rattle.siri_records.specs.Keyed.{InOrder, unshared};
+ghost use Rattle.siri_records.specs.Keyed.{InOrder, unshared, entries_view};
+ghost use Rattle.siri_store.specs.CrossWalk.{led};
 ghost use Rattle.siri_store.specs.Candidates.{UnderOwnKeys, candidates};
 ghost use Rattle.siri_store.specs.Held.{counted};
 ghost use Rattle.siri_store.specs.Walk.{shown_entries, shown_of};
 
 use crate::candidates::candidates;
 use crate::counter::Counter;
+use crate::crossing::led;
+use crate::stamps::Stamp;
 use siri_base::{Copies, Moment, OutOfMemory};
-use siri_records::{Item, KeyedItems};
+use siri_records::{Item, KeyedItems, SharedKey};
 use siri_topic::{Topic, shown};
 use std::alloc::Global;
+use std::collections::btree_set::Range;
 use std::rc::Rc;
 
 /// Those that are shown to a topic at a moment.
@@ -69,6 +73,31 @@ pub(crate) fn shown_entries(
                 let key = entry.0.copy()?;
                 found.push_last(key, item)?;
             }
+        }
+    }
+    Ok(found)
+}
+
+/// The entries of a service's items that have an edge in a range of moments, by the stamps there.
+pub(crate) fn crossed_entries(
+    alloc: Global,
+    items: &KeyedItems,
+    counter: &mut Counter,
+    stamps: Range<'_, Stamp>,
+    from: i64,
+) -> Result<Vec<(SharedKey, Rc<Item>)>, OutOfMemory>
+    ensures ok { IfOk result (λ found. entries_view found.items ≡ led from items.now stamps.entry) }
+    ensures steps { OnOk result (counter.new ≡ counted counter.old (length (led from items.now stamps.entry))) }
+    ensures risen { counter.old ≤ counter.new }
+    ensures at_most { counter.new ≤ counter.old + length (led from items.now stamps.entry) }
+{
+    let mut found = Vec::new(alloc);
+    for stamp in stamps {
+        if let Some(entry) = led(items, from, stamp) {
+            counter.count();
+            let item = entry.1.clone()?;
+            let key = entry.0.copy()?;
+            found.push((key, item))?;
         }
     }
     Ok(found)

@@ -16,7 +16,7 @@ loop-low-preserved-then-lt c =
     let es = c.args.items.now in
     let middle : ℕ = c.loop-low.low + (c.loop-low.high - c.loop-low.low) / 2 in
     let e : Key × Item = (c.in-Some.entry.now.0, c.in-Some.entry.now.1.value) in
-    let below : is_below topic least e.0 ≡ true = ap (λ o. is_lt (nat_cmp (ordering_index o) (ordering_index least)))
+    let below : is_below topic least e.0 ≡ true = ap (is_below topic least) (sym c.key.ensures) ∙ ap (λ o. is_lt (nat_cmp (ordering_index o) (ordering_index least)))
     (sym c.side.ensures) ∙ (sym c.lt.ensures ∙ c.if-lt.true) in
     record {
       below = holds_to key_cmp (is_below topic least) (below_before topic least) es middle e
@@ -33,7 +33,7 @@ loop-low-preserved-in_default c =
     let es = c.args.items.now in
     let middle : ℕ = c.loop-low.low + (c.loop-low.high - c.loop-low.low) / 2 in
     let e : Key × Item = (c.in-Some.entry.now.0, c.in-Some.entry.now.1.value) in
-    let above : is_below topic least e.0 ≡ false = ap (λ o. is_lt (nat_cmp (ordering_index o) (ordering_index least)))
+    let above : is_below topic least e.0 ≡ false = ap (is_below topic least) (sym c.key.ensures) ∙ ap (λ o. is_lt (nat_cmp (ordering_index o) (ordering_index least)))
     (sym c.side.ensures) ∙ (sym c.lt.ensures ∙ c.if-lt.false) in
     record {
       below = c.loop-low.invariant.below;

@@ -1,28 +1,30 @@
-use Rattle.std.proofs.Common.{refl, subst}
-use Rattle.std.specs.Prelude.{slice_get}
-use Rattle.siri_records.specs.Keyed.{Items}
-use Rattle.siri_store.specs.Leaving.{IsFirst}
-use Rattle.siri_store.proofs.Alive.{none_dead, alive_no_dead}
-use Rattle.siri_store.proofs.Earliest.{first_of_none}
-use Rattle.siri_store.proofs.OwnKeys.{own_removed}
+use Rattle.std.proofs.Common.{refl}
+use Rattle.siri_store.specs.Held.{Held}
+use Rattle.siri_store.proofs.Earliest.{next_leaves, none_leaves, expired_rest, expired_own, expired_unclosed}
 use Rattle.siri_store.proofs.store.Store.expire_one.Goals as goal
 
-pub returns-in-None-clause-key : goal.returns-in-None-clause-key
-returns-in-None-clause-key c = rw (← c.self.view_is) (none_dead c.self.inside.moment c.self.inside.entries c.in-None.ensures.first)
+pub returns-clause-key : goal.returns-clause-key
+returns-clause-key c =
+    let s : Held = record { entries = c.self.inside.items; moment = c.self.inside.moment; reads = c.self.inside.counter } in
+    rw (← c.self.view_is) (next_leaves s c.remove_first_ended.ensures.ordered c.self.invariant.none_closed
+    c.remove_first_ended.result c.remove_first_ended.ensures.first c.remove_first_ended.ensures.none)
 
-pub returns-in-None-clause-none : goal.returns-in-None-clause-none
-returns-in-None-clause-none c =
-    let alive = none_dead c.self.inside.moment c.self.inside.entries c.in-None.ensures.first in
-    rw (← c.self.view_is) ((λ none. alive), (λ alive. refl))
+pub returns-clause-none : goal.returns-clause-none
+returns-clause-none c =
+    let s : Held = record { entries = c.self.inside.items; moment = c.self.inside.moment; reads = c.self.inside.counter } in
+    rw (← c.self.view_is) (none_leaves s c.remove_first_ended.ensures.ordered c.self.invariant.none_closed
+    c.remove_first_ended.result c.remove_first_ended.ensures.first c.remove_first_ended.ensures.none)
 
-pub returns-in-Some-clause-none : goal.returns-in-Some-clause-none
-returns-in-Some-clause-none c = (
-  (λ none. absurd (cc none)),
-  (λ alive.
-      let no_dead = alive_no_dead c.self.inside.moment c.self.inside.entries (rw (← c.self.view_is) at alive) in
-      let first = subst (λ (es : Items). IsFirst es (slice_get c.self.inside.entries c.in-Some.place)) no_dead c.in-Some.ensures.first in
-      absurd (first_of_none (slice_get c.self.inside.entries c.in-Some.place) c.remove_at.result c.remove_at.ensures.key first)),
-)
+pub returns-clause-rest : goal.returns-clause-rest
+returns-clause-rest c =
+    let s : Held = record { entries = c.self.inside.items; moment = c.self.inside.moment; reads = c.self.inside.counter } in
+    let t : Held = record { entries = c.remove_first_ended.new.self; moment = c.self.inside.moment; reads = c.self.inside.counter } in
+    rw (← c.self.view_is) (expired_rest s t c.remove_first_ended.result refl c.remove_first_ended.ensures.rest c.remove_first_ended.ensures.same)
 
 pub invariant_of-self : goal.invariant_of-self
-invariant_of-self c = rw c.remove_at.ensures.rest (own_removed c.self.inside.entries c.remove_at.result c.self.invariant)
+invariant_of-self c = record {
+  own = expired_own c.self.inside.items c.remove_first_ended.new.self c.remove_first_ended.result c.self.invariant.own
+      c.remove_first_ended.ensures.rest c.remove_first_ended.ensures.same;
+  none_closed = expired_unclosed c.self.inside.items c.remove_first_ended.new.self c.remove_first_ended.result c.self.invariant.none_closed
+      c.remove_first_ended.ensures.rest c.remove_first_ended.ensures.same;
+}

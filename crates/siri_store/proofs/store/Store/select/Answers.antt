@@ -8,10 +8,11 @@ pub returns : goal.returns
 returns c =
     let topic = c.args.topic.now in
     let moment = c.self.inside.moment in
-    let es = c.self.inside.entries in
+    let es = c.self.inside.items in
     let places = c.candidates-places in
+    let there = rw c.entries-entries.ensures at places.ensures.places in
     let lends : shown_of topic moment (slice_range es places.result.start places.result.end) ≡ shown_of topic moment es =
-    ap values_of (shown_there topic moment es places.result.start places.result.end c.self.invariant places.ensures.places) in
+    ap values_of (shown_there topic moment es places.result.start places.result.end c.self.invariant.own there) in
     rw (← c.self.view_is) (
       (refl, λ w. refl),
       record {
@@ -19,9 +20,9 @@ returns c =
         counter = refl;
         topic = refl;
         moment = refl;
-        entries = refl;
-        lends = lends;
-        places = places.ensures.places;
-        within = (places.ensures.rising, places.ensures.within);
+        entries = c.entries-entries.ensures;
+        lends = rw c.entries-entries.ensures lends;
+        places = there;
+        within = (places.ensures.rising, rw c.entries-entries.ensures at places.ensures.within);
       },
     )

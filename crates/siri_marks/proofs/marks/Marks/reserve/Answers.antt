@@ -1,0 +1,17 @@
+use Rattle.std.proofs.Common.{ap, sym, ◌∙◌, subst, List, ℕ}
+use Rattle.siri_records.specs.declared.key.Key.{Key}
+use Rattle.siri_marks.specs.Marked.{Marked, Rises, keys_since}
+use Rattle.siri_marks.proofs.Lasting.{same_since, rises_last}
+use Rattle.siri_marks.proofs.marks.Marks.reserve.Goals as goal
+
+pub invariant_of-self-2 : goal.invariant_of-self-2
+invariant_of-self-2 c =
+    let log = c.in_ok-reserve-2.ensures.items ∙ c.in_ok-log.ensures in
+    subst (λ (log : List (ℕ × Key)). Rises c.self.inside.number log) (sym log) (rises_last c.self.inside.number c.self.inside.log.items c.self.invariant)
+
+pub returns-clause-same : goal.returns-clause-same
+returns-clause-same c =
+    let log = c.in_ok-reserve-2.ensures.items ∙ c.in_ok-log.ensures in
+    λ n le. ap (λ (log : List (ℕ × Key)). keys_since log n) log
+    ∙ (same_since c.self.inside.number c.self.inside.log.items n c.self.invariant
+    ∙ ap (λ (m : Marked). keys_since m.log n) c.self.view_is)

@@ -1,0 +1,242 @@
+//! Keys in order of moments: by when their items end, and by the edges at which these may come into a window or leave
+//! it.
+
+ghost use Rattle.std.specs.Prelude.{◌≡◌, ℕ, pos, nat_lt, int_lt, [], ◌∷◌, ◌&&◌, ◌||◌, not, Some, IsSome, option_map, IfSome, IfNone, OnOk, OnErr};
+ghost use Rattle.std.specs.List.Sorted.{IsStrictlySortedBy};
+ghost use Rattle.siri_store.specs.Stamped.{Stamp, stamp_cmp, has_stamp, has, moments_of, moments_held, is_one_at, is_one_of, by_edge, service_of, has_ended, IsFirstEnd, NoneEnded, AllKeyed};
+ghost use Rattle.siri_store.specs.Between.{between};
+
+use siri_base::{Copies, Moment, OutOfMemory};
+use siri_records::{Item, Moments, Service, SharedKey, edges_of, ends_of};
+use std::alloc::Global;
+use std::collections::BTreeSet;
+use std::collections::btree_set::Range;
+use std::marker::Model;
+
+/// The order of all items by their ends. It is before those by edges.
+pub(crate) const BY_END: u8 = 0;
+
+/// The number of an order, a moment and a key. The bounds of a range have no key, which comes before all keys.
+pub(crate) type Stamp = (u8, u64, Option<SharedKey>);
+
+/// Stamps by order, then by moment and then by key, each once.
+pub(crate) struct Stamps {
+    set: BTreeSet<Stamp>,
+}
+
+impl Drop for Stamps {
+    fn drop(self) {
+        let Stamps { set: _ } = self;
+    }
+}
+
+impl Model for Stamps {
+    ghost use Rattle.std.specs.Prelude.{List};
+    ghost use Rattle.siri_store.specs.Stamped.{Stamp};
+
+    ghost Value = { List Stamp };
+
+    ghost view = { λ s. s.set.keys };
+}
+
+impl Stamps {
+    /// No stamps. It takes no memory.
+    pub(crate) fn new(alloc: Global) -> Stamps
+        ensures { result ≡ [] }
+    {
+        Stamps {
+            set: BTreeSet::new(alloc),
+        }
+    }
+
+    /// The stamps of an item more. After want of memory there may be some of them more.
+    pub(crate) fn add(&mut self, item: &Item, key: &SharedKey) -> Result<(), OutOfMemory>
+        ensures ok { OnOk result ((stamp : Stamp) → has_stamp self.new stamp ≡ (is_one_of key.now (Some item.now) stamp || has_stamp self.old stamp)) }
+        ensures some { (stamp : Stamp) → has_stamp self.new stamp ≡ (has_stamp self.old stamp || (is_one_of key.now (Some item.now) stamp && has_stamp self.new stamp)) }
+    {
+        self.put_all(BY_END, ends_of(item), key)?;
+        self.put_all(by_edge(service_of(item)), edges_of(item), key)
+    }
+
+    /// Without the stamps of an item, but for those of one that stays under its key. It takes no memory.
+    pub(crate) fn take_out(
+        &mut self,
+        item: Option<&Item>,
+        kept: Option<&Item>,
+        key: SharedKey,
+    ) -> SharedKey
+        ensures rest { (stamp : Stamp) → has_stamp self.new stamp ≡ (has_stamp self.old stamp && not (is_one_of key (option_map (λ item. item.now) item.entry) stamp && not (is_one_of key (option_map (λ item. item.now) kept.entry) stamp))) }
+        ensures key { result ≡ key }
+    {
+        match item {
+            None => key,
+            Some(item) => {
+                let key = self.remove_all(BY_END, ends_of(item), kept, key);
+                self.remove_all(by_edge(service_of(item)), edges_of(item), kept, key)
+            }
+        }
+    }
+
+    /// A stamp more for each moment. After want of memory there may be some of them more.
+    fn put_all(&mut self, order: u8, moments: Moments, key: &SharedKey) -> Result<(), OutOfMemory>
+        ensures ok { OnOk result ((stamp : Stamp) → has_stamp self.new stamp ≡ (is_one_at order key.now moments.entry stamp || has_stamp self.old stamp)) }
+        ensures some { (stamp : Stamp) → has_stamp self.new stamp ≡ (has_stamp self.old stamp || (is_one_at order key.now moments.entry stamp && has_stamp self.new stamp)) }
+    {
+        for moment in moments {
+            self.put(order, moment, key)?;
+        }
+        Ok(())
+    }
+
+    /// One stamp more. After want of memory all is as before.
+    fn put(&mut self, order: u8, moment: Moment, key: &SharedKey) -> Result<(), OutOfMemory>
+        ensures ok { OnOk result ((stamp : Stamp) → has_stamp self.new stamp ≡ (is_one_at order key.now (moment ∷ []) stamp || has_stamp self.old stamp)) }
+        ensures err { OnErr result (self.new ≡ self.old) }
+    {
+        self.set.insert(stamp(order, moment, key.copy()?))?;
+        Ok(())
+    }
+
+    /// Without the stamps at these moments, but for those of an item that stays. It takes no memory.
+    fn remove_all(
+        &mut self,
+        order: u8,
+        moments: Moments,
+        kept: Option<&Item>,
+        key: SharedKey,
+    ) -> SharedKey
+        ensures rest { (stamp : Stamp) → has_stamp self.new stamp ≡ (has_stamp self.old stamp && not (is_one_at order key moments.entry stamp && not (is_one_of key (option_map (λ item. item.now) kept.entry) stamp))) }
+        ensures key { result ≡ key }
+    {
+        let mut key = key;
+        for moment in moments {
+            if !is_kept(kept, order, moment) {
+                key = self.remove(order, moment, key);
+            }
+        }
+        key
+    }
+
+    /// Without a stamp. A set is asked by a stamp that one has, so the key is lent to it and given back: it takes no
+    /// memory.
+    fn remove(&mut self, order: u8, moment: Moment, key: SharedKey) -> SharedKey
+        ensures rest { (stamp : Stamp) → has_stamp self.new stamp ≡ (has_stamp self.old stamp && not (is_one_at order key (moment ∷ []) stamp)) }
+        ensures key { result ≡ key }
+    {
+        let stamp = stamp(order, moment, key);
+        let _ = self.set.remove(&stamp);
+        key_in(stamp)
+    }
+
+    /// The stamps of an order, at or after one number of milliseconds since 1970 and before another.
+    pub(crate) fn between(&self, order: u8, from: i64, to: i64) -> Range<'_, Stamp>
+        ensures stamps { result ≡ between order from to self.now }
+        ensures ordered { IsStrictlySortedBy stamp_cmp self.now }
+    {
+        let low = bound(from);
+        let high = bound(to).max(low);
+        self.set.range((order, low, None)..(order, high, None))
+    }
+
+    /// The key of the first stamp, where that is of an end before a moment.
+    pub(crate) fn first_ended(&self, now: Moment) -> Option<&SharedKey>
+        requires { AllKeyed self.now }
+        ensures first { IfSome result (λ key. IsFirstEnd now self.now key.now) }
+        ensures none { IfNone result (NoneEnded now self.now) }
+    {
+        let first = self.set.first()?;
+        if ended(first, now) {
+            first.2.as_ref()
+        } else {
+            None
+        }
+    }
+}
+
+/// The first moment that isn't before a number of milliseconds since 1970.
+fn bound(ms: i64) -> u64
+    ensures { (moment : ℕ) → nat_lt moment result ≡ int_lt (pos moment) ms }
+{
+    if ms < 0 { 0 } else { ms as u64 }
+}
+
+/// The stamp of a key at a moment of an order.
+fn stamp(order: u8, moment: Moment, key: SharedKey) -> Stamp
+    ensures { result ≡ (order, moment, Some key) }
+{
+    (order, moment.ms() as u64, Some(key))
+}
+
+/// Whether a stamp is of an end before a moment.
+fn ended(stamp: &Stamp, now: Moment) -> bool
+    ensures { result ≡ has_ended now stamp.now }
+{
+    stamp.0 == BY_END && stamp.1 < now.ms() as u64
+}
+
+/// The key of a stamp that has one.
+fn key_in(stamp: Stamp) -> SharedKey
+    requires { IsSome stamp.2 }
+    ensures { Some result ≡ stamp.2 }
+{
+    stamp.2.unwrap()
+}
+
+/// Whether an item that stays has a moment in an order.
+fn is_kept(kept: Option<&Item>, order: u8, moment: Moment) -> bool
+    ensures { result ≡ has moment (moments_held order (option_map (λ item. item.now) kept.entry)) }
+{
+    match kept {
+        Some(item) => has(moments(item, order), moment),
+        None => false,
+    }
+}
+
+/// Whether a moment is one of these.
+fn has(moments: Moments, moment: Moment) -> bool
+    ensures { result ≡ has moment moments.entry }
+{
+    for one in moments {
+        if moment.ms() == one.ms() {
+            return true;
+        }
+    }
+    false
+}
+
+/// The moments of an item in an order: its end in the one, its edges in the one of its service.
+fn moments(item: &Item, order: u8) -> Moments<'_>
+    ensures { result ≡ moments_of order item.now }
+{
+    if order == BY_END {
+        ends_of(item)
+    } else if order == by_edge(service_of(item)) {
+        edges_of(item)
+    } else {
+        Moments::none()
+    }
+}
+
+/// The order of a service's items by their edges.
+pub(crate) fn by_edge(service: Service) -> u8
+    ensures { result ≡ by_edge service }
+{
+    match service {
+        Service::Stop => 1,
+        Service::Timetable => 2,
+        Service::Vehicle => 3,
+        Service::Situation => 4,
+    }
+}
+
+/// The service that an item is of.
+pub(crate) fn service_of(item: &Item) -> Service
+    ensures { result ≡ service_of item.now }
+{
+    match item {
+        Item::Visit(_) => Service::Stop,
+        Item::Journey(_) => Service::Timetable,
+        Item::Vehicle(_) => Service::Vehicle,
+        Item::Situation(_) => Service::Situation,
+    }
+}
