@@ -5,3 +5,6 @@ pub mod Direct
 pub mod Meaning
 pub mod Lives
 pub mod Rows
+pub mod Looks
+pub mod Followed
+pub mod Facts

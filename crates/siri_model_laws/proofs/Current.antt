@@ -18,8 +18,8 @@ use Rattle.siri_records.specs.declared.item.Item.{Item}
 use Rattle.siri_records.specs.declared.key.Key.{Key}
 use Rattle.siri_records.specs.Ends.{is_dead}
 use Rattle.siri_records.specs.Keys.{key_of}
-use Rattle.siri_records.specs.Order.{key_cmp}
-use Rattle.siri_records.proofs.Order.{key_cmp_total, key_cmp_exact}
+use Rattle.siri_records.specs.Order.{key_cmp, key_cmp_total}
+use Rattle.siri_records.proofs.Order.{key_cmp_exact}
 use Rattle.siri_records.specs.Keyed.{Items, living, InOrder, most_live}
 use Rattle.siri_model.specs.Fed.{refuses, taken}
 use Rattle.siri_model.specs.History.{Entry, Observed, Withdrawn, IsKeyed, Step, Start, Clock, Feed, Take, Settle, History, State, nothing}

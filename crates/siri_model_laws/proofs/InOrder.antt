@@ -9,8 +9,7 @@ use Rattle.siri_records.specs.declared.item.Item.{Item}
 use Rattle.siri_records.specs.declared.key.Key.{Key}
 use Rattle.siri_records.specs.Ends.{is_dead, is_closed, end_of}
 use Rattle.siri_records.specs.Keys.{key_of}
-use Rattle.siri_records.specs.Order.{key_cmp}
-use Rattle.siri_records.proofs.Order.{key_cmp_total}
+use Rattle.siri_records.specs.Order.{key_cmp, key_cmp_total}
 use Rattle.siri_records.specs.Keyed.{Items, living, InOrder}
 use Rattle.siri_model.specs.History.{Entry, Observed, Withdrawn, is_refused, Step, Start, Clock, Feed, Take, Settle, History, State}
 use Rattle.siri_model.specs.History.{nothing, after_entry, after_step, entries_fed, state_of, current}

@@ -1,8 +1,15 @@
+pub mod AllRows
+pub mod Apart
 pub mod Current
 pub mod Entries
+pub mod Facts
+pub mod FactsHold
+pub mod FollowedRows
 pub mod Histories
 pub mod InOrder
 pub mod Lawful
 pub mod Moves
+pub mod Outside
 pub mod Serves
 pub mod Tables
+pub mod Touched

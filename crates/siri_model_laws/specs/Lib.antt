@@ -1,1 +1,4 @@
+pub mod Apart
+pub mod Followed
 pub mod Histories
+pub mod Looks

@@ -5,6 +5,7 @@
 //!     a history --current--> items: in order of key, each under its own, few of them live, each the last that was taken
 //!               --direct---> a view --target, parts--> the target: what lives ask of views and parts holds of items
 //!               --table----> lives: their rows change as a subscription table does
+//!               --looks----> of each life, which keys its next look needs: those touched since its last one, and few more
 //! ```
 //!
 //! Stands on `siri_base`, `siri_records`, `siri_topic`, `siri_messages`, `siri_change`, `siri_subs`, `siri_life` and
@@ -12,14 +13,22 @@
 //! `small_histories` has small ones, run by the definitions.
 #![tactic(auto)]
 
+mod followed_laws;
 mod history_laws;
+mod look_laws;
 mod meaning_laws;
 mod small_histories;
 mod table_laws;
 
+pub use followed_laws::facts_hold_of_all_subscriptions;
 pub use history_laws::{
     an_entry_is_of_its_key_alone, current_items_are_in_order, current_items_stand_under_their_keys,
     few_keys_are_live, the_last_observation_is_current,
+};
+pub use look_laws::{
+    bounds_of_looks_add_up, facts_tell_a_look, followed_rows_are_those_of_the_table,
+    looks_tell_which_keys_are_kept_apart, steps_keep_the_facts, unmarked_keys_stay_as_shown,
+    what_is_found_tells,
 };
 pub use meaning_laws::{direct_responses_are_views, lives_of_items_are_lawful};
 pub use small_histories::{

@@ -1,0 +1,190 @@
+-- What is known of the last look at each subscription of a history, and how many stored items a look may read.
+use Rattle.std.specs.Prelude.{ℕ, ℤ, ◌+◌, max, List, [], ◌∷◌, length, map, filter, fold, count_by, Bool, true, false, not, ◌&&◌, Option, Some, None, is_some, option_map, if◌then◌else◌}
+use Rattle.std.specs.List.{sum_by}
+use Rattle.std.specs.Map.{keys_of}
+use Rattle.siri_records.specs.declared.item.Item.{Item}
+use Rattle.siri_records.specs.declared.item.Item.TheVariants as item
+use Rattle.siri_records.specs.declared.key.Key.{Key}
+use Rattle.siri_records.specs.Near.{is_near}
+use Rattle.siri_records.specs.KeyLists.{with_keys}
+use Rattle.siri_records.specs.Keyed.{Items, dead_of, living}
+use Rattle.siri_topic.specs.declared.topics.Topic.{Topic}
+use Rattle.siri_topic.specs.declared.topics.Topic.TheVariants as topic
+use Rattle.siri_topic.specs.Shown.{window_of}
+use Rattle.siri_messages.specs.Asked.{Asked, asked_in}
+use Rattle.siri_messages.specs.declared.message.Message.{Message}
+use Rattle.siri_messages.specs.declared.message.Message.TheVariants as message
+use Rattle.siri_messages.specs.declared.supplies.Mark.{Mark as MarkOf}
+use Rattle.siri_change.specs.Changes.{agree_on, keys_of_both}
+use Rattle.siri_change.specs.Parts.{Carried}
+use Rattle.siri_life.specs.Life.{Outstanding}
+use Rattle.siri_life.specs.Named.{Name}
+use Rattle.siri_life.specs.Slot.{Slot, opens_round}
+use Rattle.siri_subs.specs.declared.entry.Row.{Row}
+use Rattle.siri_subs.specs.Mapped.{mapped_row}
+use Rattle.siri_subs.specs.Table.{is_of, accepted, ended, expired}
+use Rattle.siri_model.specs.History.{State, Step, Start, Clock, Feed, Take, Settle, History, nothing, after_step, entries_fed}
+use Rattle.siri_model.specs.Last.{entry_key}
+use Rattle.siri_model.specs.Lives.{mark_of}
+use Rattle.siri_model.specs.Meaning.{meaning}
+use Rattle.siri_model.specs.Rows.{KeptLife, asked_of, nothing_kept, settled_row, acknowledged_row, supplied_row}
+use Rattle.siri_records.specs.Edges.{has_edge}
+use Rattle.siri_model.specs.Direct.{shown}
+
+-- ---- the last look
+
+-- the last look at a life: its moment; the keys that an entry named, or whose current item became dead, since then, in order, each
+-- once; and the keys on which the view that its consumer is led to and the direct response as it was then don't agree, which are
+-- none unless the numbers of rounds are used up
+pub record Look : Type 0 where
+  pub moment : ℕ
+  pub touched : List Key
+  pub apart : List Key
+
+-- what is kept of a life, and its last look, none before the first
+pub record Followed : Type 0 where
+  pub life : KeptLife
+  pub look : Option Look
+
+-- the row of a followed life, as it is kept
+abbrev pub life_row : Row Followed → Row KeptLife
+life_row row = mapped_row (λ followed. followed.life) row
+
+-- ---- the view that a consumer is led to: the target of the outstanding round, else the acknowledged view
+
+abbrev pub goal_by : Items → Option (Outstanding Items Carried) → Items
+goal_by acknowledged None = acknowledged
+goal_by acknowledged (Some outstanding) = outstanding.round.target
+
+abbrev pub goal_of : Slot Items Carried → Items
+goal_of rounds = goal_by rounds.acknowledged rounds.outstanding
+
+-- ---- what a step does to it
+
+-- these keys were touched
+abbrev pub touched_look : List Key → Look → Look
+touched_look keys look = record look { touched = with_keys look.touched keys }
+
+abbrev pub touch : List Key → Row Followed → Row Followed
+touch keys row = record row { slot = record row.slot { look = option_map (touched_look keys) row.slot.look } }
+
+-- the rows with what is kept of the lives changed, and their looks as they were
+abbrev pub lifted : (Row KeptLife → Row KeptLife) → Row Followed → Row Followed
+lifted change row = record row { slot = record row.slot { life = (change (life_row row)).slot } }
+
+abbrev pub with_row_of : Name → Name → (Row KeptLife → Row KeptLife) → List (Row Followed) → List (Row Followed)
+with_row_of subscriber identifier change rows = map (λ row. if is_of subscriber identifier row then lifted change row else row) rows
+
+-- a subscription that is accepted wasn't looked at yet
+abbrev pub new_row : ℕ → ℕ → Asked → Row Followed
+new_row now number asked = record {
+  wanted = asked.subscription;
+  number = number;
+  address = asked.address;
+  beat = asked.beat;
+  slot = record { life = nothing_kept now asked; look = None };
+}
+
+abbrev pub rows_acknowledged : ℕ → ℕ → Bool → Option Name → Option MarkOf → List (Row Followed) → List (Row Followed)
+rows_acknowledged start now true (Some consumer) (Some mark) rows = with_row_of consumer mark.subscription (acknowledged_row start now (mark_of mark)) rows
+rows_acknowledged start now status consumer mark rows = rows
+
+unfoldable pub rows_taken : ℕ → ℕ → Message → List (Row Followed) → List (Row Followed)
+rows_taken start now (message.SubscriptionRequest r) rows = fold (λ rows asked. accepted now (new_row now r.message_identifier asked) rows) rows (asked_in r)
+rows_taken start now (message.TerminateSubscriptionRequest r) rows = fold (λ rows identifier. ended r.message_identifier r.subscriber_ref identifier rows) rows r.subscription_ref
+rows_taken start now (message.DataReceivedAcknowledgement a) rows = rows_acknowledged start now a.status a.consumer_ref a.extensions rows
+rows_taken start now (message.DataSupplyRequest r) rows = with_row_of r.consumer_ref r.extensions.subscription (supplied_row start now (mark_of r.extensions)) rows
+rows_taken start now other rows = rows
+
+-- ---- a look
+
+-- the keys on which a view and what is shown don't agree
+abbrev pub keys_apart : ℤ → Items → Items → List Key
+keys_apart slack view direct = filter (λ key. not (agree_on (is_near slack) view direct key)) (keys_of_both view direct)
+
+-- a round opens at a look
+abbrev pub opens : Items → Row KeptLife → Bool
+opens direct row = opens_round meaning row.slot.rounds.outstanding row.slot.rounds (asked_of row) direct
+
+-- a look by the current items at a moment: after a round opened, the view that the consumer is led to meets what is shown
+abbrev pub look_at : ℕ → Items → Row KeptLife → Look
+look_at now items row =
+    let direct = shown now items row.wanted.topic in
+    record {
+      moment = now;
+      touched = [];
+      apart = if opens direct row then [] else keys_apart row.wanted.slack row.slot.rounds.acknowledged direct;
+    }
+
+-- a settle is a look where nothing is outstanding
+abbrev pub look_by : Option (Outstanding Items Carried) → (before : Option Look) → (now : Look) → Option Look
+look_by None before now = Some now
+look_by (Some outstanding) before now = before
+
+abbrev pub followed_settled : ℕ → Items → Row Followed → Row Followed
+followed_settled now items row = record row {
+  slot = record {
+    life = (settled_row now items (life_row row)).slot;
+    look = look_by row.slot.life.rounds.outstanding row.slot.look (look_at now items (life_row row));
+  };
+}
+
+-- ---- the followed rows of a history
+
+-- the keys whose item is dead at a later moment, and wasn't before
+abbrev pub keys_dying : State → ℕ → List Key
+keys_dying state moment = keys_of (dead_of (max state.now moment) (living state.now state.current))
+
+unfoldable pub followed_after : State → Step → List (Row Followed) → List (Row Followed)
+followed_after state (Start number moment) rows = []
+followed_after state (Clock moment) rows = map (touch (keys_dying state moment)) (expired (max state.now moment) rows)
+followed_after state (Feed entries) rows = map (touch (map entry_key entries)) rows
+followed_after state (Take m) rows = map (touch (map entry_key (entries_fed m))) (rows_taken state.start state.now m rows)
+followed_after state Settle rows = map (followed_settled state.now state.current) rows
+
+abbrev pub followed_from : State → List (Row Followed) → History → List (Row Followed)
+followed_from state rows [] = rows
+followed_from state rows (step ∷ steps) = followed_from (after_step state step) (followed_after state step rows) steps
+
+abbrev pub followed_of : History → List (Row Followed)
+followed_of history = followed_from nothing [] history
+
+-- ---- how many stored items a look may read
+
+abbrev pub is_served : Topic → Item → Bool
+is_served (topic.Stop t) (item.Visit v) = true
+is_served (topic.Timetable t) (item.Journey j) = true
+is_served (topic.Vehicle t) (item.Vehicle v) = true
+is_served (topic.Situation t) (item.Situation s) = true
+is_served t i = false
+
+-- how many of these items, of the topic's service, have an edge from one moment on and before another
+abbrev pub edges_passed : Topic → Items → ℤ → ℤ → ℕ
+edges_passed topic items from to = count_by (λ entry. is_served topic entry.1 && has_edge from to entry.1) items
+
+abbrev pub far_edges_passed : Topic → Items → Option ℤ → Option ℤ → ℕ
+far_edges_passed topic items (Some from) (Some to) = edges_passed topic items from to
+far_edges_passed topic items from to = 0
+
+-- how many of these items the two ends of a topic's window passed between two moments
+abbrev pub items_passed : Topic → Items → ℕ → ℕ → ℕ
+items_passed topic items before now =
+    let old = window_of topic before in
+    let new = window_of topic now in
+    edges_passed topic items old.from new.from + far_edges_passed topic items old.to new.to
+
+-- of a complete set the items of its target
+abbrev pub complete_set : Row KeptLife → Items → ℕ
+complete_set row direct = if not row.wanted.incremental && opens direct row then length direct else 0
+
+abbrev pub bound_since : ℕ → Items → Row KeptLife → Option Look → ℕ
+bound_since now live row None = length live
+bound_since now live row (Some look) =
+    length look.touched + items_passed row.wanted.topic live look.moment now + complete_set row (shown now live row.wanted.topic)
+
+-- where a round is outstanding a settle is no look
+abbrev pub look_bound : ℕ → Items → Row Followed → ℕ
+look_bound now live row = if is_some row.slot.life.rounds.outstanding then 0 else bound_since now live (life_row row) row.slot.look
+
+abbrev pub look_bounds : ℕ → Items → List (Row Followed) → ℕ
+look_bounds now live rows = sum_by (look_bound now live) rows
