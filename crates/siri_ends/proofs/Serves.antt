@@ -34,7 +34,7 @@ answers_one outs asked response first taken last old new before read after earli
       let message = message_asked asked in
       let one = takes h stands in (
         h ++ turn_steps message,
-        subst (StandsFor last) (append_assoc h (taking message) (Settle ∷ [])) (settles (h ++ taking message) one),
+        subst (StandsFor last) (append_assoc h (taking message) (Settle ∷ [])) (settles.stands (h ++ taking message) one),
         record {
           asked = asked;
           read = surroundings old read between;

@@ -1,3 +1,5 @@
+pub mod Follows
+pub mod Noted
 pub mod Stands
 pub mod Quiet
 pub mod Takes

@@ -1,5 +1,5 @@
 -- What a producer knows, and the histories that it stands for.
-use Rattle.std.specs.Prelude.{◌≡◌, ℕ, List, ◌∷◌, [], ◌++◌, take, Bool, true, false, Result, IfOk, OnOk, OnErr}
+use Rattle.std.specs.Prelude.{◌≡◌, ℕ, List, ◌∷◌, [], ◌++◌, map, take, Bool, true, false, Option, Result, IfOk, OnOk, OnErr}
 use Rattle.siri_base.specs.declared.errors.OutOfMemory.{OutOfMemory}
 use Rattle.siri_messages.specs.declared.deliveries.ServiceDelivery.{ServiceDelivery}
 use Rattle.siri_messages.specs.declared.message.Message.{Message}
@@ -7,6 +7,7 @@ use Rattle.siri_messages.specs.declared.requests.ServiceRequest.{ServiceRequest}
 use Rattle.siri_subs.specs.declared.entry.Row.{Row}
 use Rattle.siri_model.specs.Direct.{response}
 use Rattle.siri_model.specs.Fed.{counts_of}
+use Rattle.siri_model.specs.Followed.{Look, followed_of}
 use Rattle.siri_model.specs.History.{Entry, Feed, Take, History, Step, entries_fed, now_of, current}
 use Rattle.siri_model.specs.Lives.{table_of, is_settled}
 use Rattle.siri_model.specs.Rows.{KeptLife, rows_of}
@@ -18,10 +19,12 @@ use Rattle.siri_producer.specs.declared.answers.Answer.{Answer}
 use Rattle.siri_producer.specs.Answers.{answer_to, is_feed}
 use Rattle.siri_producer.specs.Sends.{sends}
 
--- what its responder knows, the rows of its subscriptions in order of first acceptance, and whether it settled last
+-- what its responder knows, the rows of its subscriptions in order of first acceptance, the last look at each of them in
+-- the same order, and whether it settled last
 pub record Known : Type 0 where
   pub responder : responder.Known
   pub table : List (Row KeptLife)
+  pub looks : List (Option Look)
   pub is_settled : Bool
 
 -- a producer stands for a history where its responder does, its rows are those of the history's lives, and it knows whether
@@ -31,9 +34,21 @@ pub record StandsFor (known : Known) (history : History) : Type 0 where
   pub table : known.table ≡ rows_of (table_of history)
   pub settled : known.is_settled ≡ is_settled history
 
--- whatever history a producer stood for before a call, it stands for that history and one more step after it
-abbrev pub GoesOn : Known → Known → Step → Type 0
-GoesOn old new step = (h : History) → StandsFor old h → StandsFor new (h ++ step ∷ [])
+-- the last look at each subscription of a history, none before the first
+abbrev pub looks_of : History → List (Option Look)
+looks_of history = map (λ row. row.slot.look) (followed_of history)
+
+-- a producer follows a history that it stands for where it also knows the last look at each subscription: its moment, the
+-- keys that were touched since then, and those that are kept apart
+pub record Follows (known : Known) (history : History) : Type 0 where
+  pub stands : StandsFor known history
+  pub looks : known.looks ≡ looks_of history
+
+-- whatever history a producer stood for before a call, it stands for that history and one more step after it, and so it
+-- follows that one where it followed it before
+pub record GoesOn (old new : Known) (step : Step) : Type 0 where
+  pub stands : (h : History) → StandsFor old h → StandsFor new (h ++ step ∷ [])
+  pub follows : (h : History) → Follows old h → Follows new (h ++ step ∷ [])
 
 -- some first entries of a feed were taken, and no other
 abbrev pub TookSome : Known → Known → List Entry → Type 0

@@ -3,4 +3,5 @@ pub mod Answers
 pub mod Sends
 pub mod Standing
 pub mod Quiet
+pub mod Oldest
 pub mod Reads

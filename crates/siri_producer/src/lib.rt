@@ -12,13 +12,13 @@
 //! ```
 //!
 //! A producer stands for the history of its steps: what it holds are the current items of that history that aren't
-//! dead, and its table is that of the lives of the subscriptions in it. An event is a `clock`, a `feed` or a `take`,
-//! and a `settle` after it.
+//! dead, and its table is that of the lives of the subscriptions in it. It also follows that history: of each
+//! subscription it knows the last look, and which keys were touched since then, so that a settle reads few items. An
+//! event is a `clock`, a `feed` or a `take`, and a `settle` after it.
 //!
-//! Stands on `siri_base`, `siri_messages`, `siri_subs`, `siri_rounds`, `siri_replies`, `siri_responder`,
-//! `siri_subscriptions`, `siri_subscriptions` and `siri_subscriptions`; its contracts cite the histories and lives of
-//! `siri_model`, and its proofs what follows of them in `siri_model_laws`. It reads and writes no text, and knows no
-//! wire and no clock.
+//! Stands on `siri_base`, `siri_messages`, `siri_subs`, `siri_rounds`, `siri_replies`, `siri_responder` and
+//! `siri_subscriptions`; its contracts cite the histories and lives of `siri_model`, and its proofs what follows of
+//! them in `siri_model_laws`. It reads and writes no text, and knows no wire and no clock.
 #![tactic(auto)]
 
 mod answers;

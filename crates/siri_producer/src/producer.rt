@@ -2,12 +2,14 @@
 
 ghost use Rattle.std.specs.Prelude.{◌≡◌, ◌+◌, ◌*◌, ◌≤◌, [], ◌∷◌, length, IfOk, OnOk, OnErr};
 ghost use Rattle.siri_responder.specs.Topics.{topics_in};
-ghost use Rattle.siri_model.specs.History.{History, Start, Clock, Feed, Take, Settle, entries_of};
+ghost use Rattle.siri_model.specs.Followed.{followed_of, look_bounds};
+ghost use Rattle.siri_model.specs.History.{History, Start, Clock, Feed, Take, Settle, current, entries_of, now_of};
 ghost use Rattle.siri_model.specs.Lives.{quiet_number};
 ghost use Rattle.siri_producer.specs.Quiet.{is_quiet};
-ghost use Rattle.siri_producer.specs.Known.{StandsFor, GoesOn, TookSome, CountsFor, ResponseFor, AnswerFor, RefusedAt, SameButReads, SendsFor};
+ghost use Rattle.siri_producer.specs.Known.{StandsFor, Follows, GoesOn, TookSome, CountsFor, ResponseFor, AnswerFor, RefusedAt, SameButReads, SendsFor};
+ghost use Rattle.siri_producer.specs.Oldest.{oldest_look};
 ghost use Rattle.siri_producer.specs.Reads.{ReadsFor};
-ghost use Rattle.siri_records.specs.Keyed.{most_live};
+ghost use Rattle.siri_records.specs.Keyed.{living, most_live};
 ghost use Rattle.siri_base.specs.Numbers.{greatest_number};
 ghost use Rattle.siri_subs.specs.Table.{most_subscriptions};
 
@@ -44,11 +46,11 @@ impl Drop for Producer {
 impl Model for Producer {
     ghost use Rattle.siri_subscriptions.specs.Courses.{kept_rows};
     ghost use Rattle.siri_producer.specs.Known.{Known};
-    ghost use Rattle.siri_producer.specs.Standing.{IsProducer};
+    ghost use Rattle.siri_producer.specs.Standing.{IsProducer, looks_in};
 
     ghost Value = { Known };
 
-    ghost view = { λ p. record { responder = p.responder; table = kept_rows p.table; is_settled = p.is_settled } };
+    ghost view = { λ p. record { responder = p.responder; table = kept_rows p.table; looks = looks_in p.responder.marks p.table; is_settled = p.is_settled } };
 
     ghost invariant = { λ p. IsProducer p.responder p.table p.is_settled };
 }
@@ -59,6 +61,7 @@ impl Producer {
         requires from_one { 1 ≤ start }
         requires to_eighteen_digits { start ≤ greatest_number }
         ensures stands { IfOk result (λ producer. StandsFor producer (Start start now ∷ [])) }
+        ensures follows { IfOk result (λ producer. Follows producer (Start start now ∷ [])) }
         ensures name { IfOk result (λ producer. producer.responder.name ≡ name) }
         ensures reads { IfOk result (λ producer. producer.responder.reads ≡ 0) }
     {
@@ -146,15 +149,26 @@ impl Producer {
 
     /// The end of an event: each subscription in the order of the table looks whether a round is due and opens it, and
     /// what is due is sent: the message of its wanted part, and then a heartbeat. All memory is taken before anything
-    /// changes, so after want of memory nothing but the counter of steps did.
+    /// changes, so after want of memory nothing but the counter of steps did. That rises, also then, by at most the sum
+    /// of what each subscription may look at: nothing while a round is outstanding, all held items at its first look,
+    /// and then the keys that were touched since its last look, the items of which an end of its window passed an edge
+    /// since then, and the target of a complete set. After the greatest number of settles, 2^64 - 1, it always answers
+    /// `OutOfMemory`.
     pub fn settle(&mut self) -> Result<List<Out>, OutOfMemory>
         ensures ok { OnOk result (GoesOn self.old self.new Settle) }
         ensures sends { IfOk result (SendsFor self.old) }
         ensures err { OnErr result (SameButReads self.old self.new) }
         ensures name { self.new.responder.name ≡ self.old.responder.name }
         ensures risen { self.old.responder.reads ≤ self.new.responder.reads }
+        ensures bound { (h : History) → Follows self.old h
+            → self.new.responder.reads ≤ self.old.responder.reads + look_bounds (now_of h) (living (now_of h) (current h)) (followed_of h) }
     {
+        let number = self.responder.number();
+        if number == u64::MAX {
+            return Err(OutOfMemory);
+        }
         let outs = settle(self.alloc, &mut self.responder, &mut self.table)?;
+        self.responder.turn(oldest_look(&self.table, number + 1));
         self.is_settled = true;
         Ok(outs)
     }
@@ -226,6 +240,22 @@ impl Producer {
     {
         self.responder.reads()
     }
+}
+
+/// The least number of the last looks at the subscriptions of a table, at most this one.
+fn oldest_look(table: &Table<Course>, most: u64) -> u64
+    ensures { result ≡ oldest_look most table.now }
+{
+    let mut oldest = most;
+    for place in 0..table.len() {
+        let Some(row) = table.at(place) else {
+            break;
+        };
+        if let Some(looked) = &row.slot.looked {
+            oldest = oldest.min(looked.number);
+        }
+    }
+    oldest
 }
 
 /// Whether a subscription is quiet, by what its last look found.

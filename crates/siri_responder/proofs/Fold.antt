@@ -8,14 +8,13 @@ use Rattle.std.specs.BTreeMap.{insert_entry, is_at}
 use Rattle.siri_records.specs.declared.item.Item.{Item}
 use Rattle.siri_records.specs.Ends.{is_dead}
 use Rattle.siri_records.specs.Keys.{key_of}
-use Rattle.siri_records.specs.Order.{key_cmp}
-use Rattle.siri_records.proofs.Order.{key_cmp_total, key_cmp_exact}
+use Rattle.siri_records.specs.Order.{key_cmp, key_cmp_total}
+use Rattle.siri_records.proofs.Order.{key_cmp_exact}
 use Rattle.siri_records.specs.Keyed.{Items, living, InOrder, most_live}
 use Rattle.siri_model.specs.History.{Entry, Observed, Withdrawn, is_refused, after_entry}
 use Rattle.siri_model.specs.Fed.{Counts, is_observation, refuses as is_refusing, met, counts_of}
 use Rattle.siri_store.specs.Calls.{refuses, observed}
-use Rattle.siri_responder.specs.declared.feeding.Feeding.{Feeding}
-use Rattle.siri_responder.specs.Feeding.{more, after, after_all}
+use Rattle.siri_responder.specs.Feeding.{Filling, more, after, after_all}
 use Rattle.siri_responder.specs.FedCounts.{at_most_greatest, fed_counts}
 use Rattle.siri_model_laws.proofs.Entries.{passing_removed, passing_inserted, passing_inserted_failing}
 use Rattle.siri_model_laws.proofs.InOrder.{in_order_after}
@@ -132,7 +131,7 @@ one_first now items (Withdrawn key) counts rest = λ i.
     }
 
 -- a store with the live items of these, that told so much
-abbrev pub fitting : ℕ → ℕ → Items → Counts → Feeding
+abbrev pub fitting : ℕ → ℕ → Items → Counts → Filling
 fitting now reads items counts = record { store = record { entries = living now items; moment = now; reads = reads }; fed = fed_counts counts }
 
 observes_alike_at : (now reads : ℕ) (items : Items) (counts : Counts) (item : Item) (refused : Bool) → InOrder items

@@ -18,8 +18,7 @@ use Rattle.std.proofs.lemmas.Map.Keys.{Less-from_sorted}
 use Rattle.siri_records.specs.declared.item.Item.{Item}
 use Rattle.siri_records.specs.declared.key.Key.{Key}
 use Rattle.siri_records.specs.Ends.{entry_of}
-use Rattle.siri_records.specs.Order.{key_cmp}
-use Rattle.siri_records.proofs.Order.{key_cmp_total}
+use Rattle.siri_records.specs.Order.{key_cmp, key_cmp_total}
 use Rattle.siri_records.specs.Keyed.{Items, InOrder}
 use Rattle.siri_model.specs.Direct.{soonest_cmp, items_before, soonest}
 use Rattle.siri_responder.specs.Answering.{Rank, rank_cmp, rank_of, ranks_of, up_to, up_to_from}

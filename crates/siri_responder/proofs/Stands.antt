@@ -1,14 +1,18 @@
 -- A responder goes on standing for its history.
-use Rattle.std.proofs.Common.{◌≡◌, ℕ, List, [], ◌∷◌, ◌++◌, length, take, fold, max, refl, sym, ap, ◌∙◌, arith}
+use Rattle.std.proofs.Common.{◌≡◌, ℕ, List, [], ◌∷◌, ◌++◌, length, take, map, fold, max, refl, sym, ap, ◌∙◌, arith}
 use Rattle.std.proofs.Math.Seq.{take-append_seam}
 use Rattle.siri_records.specs.Keyed.{Items, living}
+use Rattle.siri_records.specs.declared.key.Key.{Key}
+use Rattle.siri_records.specs.KeyLists.{with_keys}
+use Rattle.siri_marks.specs.Marked.{Marked, keys_since, unmarked}
 use Rattle.siri_model.specs.History.{Entry, Start, Clock, Feed, History, State, after_entry, after_step, state_of, now_of, current}
 use Rattle.siri_model.specs.Fed.{counts_of}
+use Rattle.siri_model.specs.Last.{entry_key}
 use Rattle.siri_store.specs.Held.{Held}
 use Rattle.siri_responder.specs.declared.feeding.Fed.{Fed}
 use Rattle.siri_responder.specs.declared.feeding.Feeding.{Feeding}
-use Rattle.siri_responder.specs.Feeding.{after_all, ReachesSome}
-use Rattle.siri_responder.specs.Known.{Known, StandsFor, TookSome}
+use Rattle.siri_responder.specs.Feeding.{Filling, filling, after_all, AreMarked, Takes, ReachesSome}
+use Rattle.siri_responder.specs.Known.{Known, StandsFor, GoesOn, Touches, TookSome, CountsFor}
 use Rattle.siri_responder.specs.Standing.{HasHistory}
 use Rattle.siri_responder.specs.FedCounts.{fed_counts}
 use Rattle.siri_model_laws.proofs.InOrder.{current_in_order, more_steps, live_later}
@@ -62,7 +66,7 @@ abbrev pub nothing_told : Fed
 nothing_told = record { observed = 0; withdrawn = 0; full = 0 }
 
 -- what a responder holds, as a store that told nothing yet
-abbrev pub store_of : Known → Feeding
+abbrev pub store_of : Known → Filling
 store_of k = record { store = record { entries = k.held; moment = k.moment; reads = k.reads }; fed = nothing_told }
 
 told_none : fed_counts none_fed ≡ nothing_told
@@ -84,7 +88,7 @@ pub stands_fed : (old new : Known) (entries : List Entry) (h : History) → Stan
     } ≡ (after_all (store_of old) entries).store → StandsFor new (h ++ Feed entries ∷ [])
 unfolding after_step
 stands_fed old new entries h s start started is =
-    let fed = is ∙ ap (λ (f : Feeding). f.store) (fed_is old h entries s) in
+    let fed = is ∙ ap (λ (f : Filling). f.store) (fed_is old h entries s) in
     stands_as new (h ++ Feed entries ∷ []) (after_step (state_of h) (Feed entries)) (more_steps h (Feed entries))
     (start ∙ s.start)
     (started ∙ s.started)
@@ -93,36 +97,61 @@ stands_fed old new entries h s start started is =
 
 pub told_fed : (old : Known) (fed : Fed) (entries : List Entry) (h : History) → StandsFor old h
     → fed ≡ (after_all (store_of old) entries).fed → fed ≡ fed_counts (counts_of (now_of h) (current h) entries)
-told_fed old fed entries h s is = is ∙ ap (λ (f : Feeding). f.fed) (fed_is old h entries s)
+told_fed old fed entries h s is = is ∙ ap (λ (f : Filling). f.fed) (fed_is old h entries s)
 
-pub took_some : (old new : Known) (fed : Fed) (entries : List Entry) → new.start ≡ old.start → new.started ≡ old.started
-    → ReachesSome (store_of old) (record {
-      store =
-          record { entries = new.held; moment = new.moment; reads = new.reads };
-      fed = fed;
-    }) entries
-    → TookSome old new entries
-took_some old new fed entries start started some =
+-- what a responder knows before a feed and after it, and what feeds it, which is told of nothing yet
+pub record IsFed (old new : Known) (before after : Feeding) : Type 0 where
+  pub start : new.start ≡ old.start
+  pub started : new.started ≡ old.started
+  pub before_is : filling before ≡ store_of old
+  pub marks_are : before.marks ≡ old.marks
+  pub store_is : record { entries = new.held; moment = new.moment; reads = new.reads } ≡ after.store
+  pub marked_is : new.marks ≡ after.marks
+
+-- the entries that were taken
+pub goes_on : (old new : Known) (before after : Feeding) (entries : List Entry) → IsFed old new before after → Takes before after entries
+    → GoesOn old new (Feed entries)
+goes_on old new before after entries is takes = λ h s.
+    stands_fed old new entries h s is.start is.started
+    (is.store_is ∙ ap (λ (f : Filling). f.store) (takes.stands ∙ ap (λ f. after_all f entries) is.before_is))
+
+pub tells : (old : Known) (before after : Feeding) (entries : List Entry) → filling before ≡ store_of old → Takes before after entries
+    → CountsFor old entries after.fed
+tells old before after entries is takes = λ h s.
+    told_fed old after.fed entries h s (ap (λ (f : Filling). f.fed) (takes.stands ∙ ap (λ f. after_all f entries) is))
+
+-- some keys were marked
+pub touches : (old new : Known) (before after : Marked) (keys : List Key) → before ≡ old.marks → new.marks ≡ after → AreMarked before after keys
+    → Touches old new keys
+touches old new before after keys b a marked = record {
+  number = ap (λ (m : Marked). m.number) a ∙ marked.number ∙ ap (λ (m : Marked). m.number) b;
+  touched = λ n le. ap (λ (m : Marked). keys_since m.log n) a
+      ∙ marked.touched n (rw b le)
+      ∙ ap (λ (m : Marked). with_keys (keys_since m.log n) keys) b;
+}
+
+pub took_some : (old new : Known) (before after : Feeding) (entries : List Entry) → IsFed old new before after
+    → ReachesSome before after entries → TookSome old new entries
+took_some old new before after entries is some =
     let r = some.1 in
-    let front = ap (take (length r.taken)) r.apart ∙ take-append_seam r.taken some.0 in (
-      length r.taken,
-      λ h s. stands_fed old new (take (length r.taken) entries) h s start started
-          (ap (λ (f : Feeding). f.store) r.stands ∙ ap (λ es. (after_all (store_of old) es).store) (sym front)),
-    )
-
--- nothing was fed
-pub took_none : (known : Known) (entries : List Entry) → TookSome known known entries
-took_none known entries = (0, λ h s. stands_fed known known [] h s refl refl refl)
+    let front : r.taken ≡ take (length r.taken) entries = sym (ap (take (length r.taken)) r.apart ∙ take-append_seam r.taken some.0) in
+    let takes : Takes before after (take (length r.taken) entries) = rw (← front) r.takes in
+    record {
+      n = length r.taken;
+      goes_on = goes_on old new before after (take (length r.taken) entries) is takes;
+      touched = touches old new before.marks after.marks (map entry_key (take (length r.taken) entries)) is.marks_are is.marked_is takes.marked;
+    }
 
 -- ---- some history that a responder stands for
 
--- neither the name nor the counter matters
-pub stands_named : (known : Known) (name : List ℕ) (reads : ℕ) (h : History) → StandsFor known h → StandsFor (record known { name = name; reads = reads }) h
-stands_named known name reads h s = record { start = s.start; started = s.started; moment = s.moment; held = s.held }
+-- neither the name nor the counter nor the marks matter
+pub stands_named : (known : Known) (name : List ℕ) (reads : ℕ) (marks : Marked) (h : History) → StandsFor known h
+    → StandsFor (record known { name = name; reads = reads; marks = marks }) h
+stands_named known name reads marks h s = record { start = s.start; started = s.started; moment = s.moment; held = s.held }
 
--- what a responder knows, but for its name and its counter
+-- what a responder knows, but for its name, its counter and its marks
 abbrev unnamed : ℕ → ℕ → ℕ → Items → Known
-unnamed start started moment held = record { name = []; start = start; started = started; moment = moment; held = held; reads = 0 }
+unnamed start started moment held = record { name = []; start = start; started = started; moment = moment; held = held; reads = 0; marks = unmarked }
 
 pub history_new : (number now : ℕ) → HasHistory number now now []
 history_new number now = (Start number now ∷ [], stands_new (unnamed number now now []) number now refl refl refl refl)
@@ -135,24 +164,30 @@ history_clock start started moment held now has = (
       (unnamed start started (max moment now) (living (max moment now) held)) now has.0 has.1 refl refl refl refl,
 )
 
-pub history_fed : (start started : ℕ) (old new : Feeding) (entries : List Entry)
+pub history_fed : (start started : ℕ) (old before new : Feeding) (entries : List Entry)
     → HasHistory start started old.store.moment old.store.entries
-    → new ≡ after_all (record old { fed = nothing_told }) entries
+    → before ≡ record old { fed = nothing_told }
+    → Takes before new entries
     → HasHistory start started new.store.moment new.store.entries
-history_fed start started old new entries has is =
-    let before = record (unnamed start started old.store.moment old.store.entries) { reads = old.store.reads } in
-    let after = record (unnamed start started new.store.moment new.store.entries) { reads = new.store.reads } in
-    let from = stands_named (unnamed start started old.store.moment old.store.entries) [] old.store.reads has.0 has.1 in (
+history_fed start started old before new entries has is takes =
+    let from = record (unnamed start started old.store.moment old.store.entries) { reads = old.store.reads } in
+    let to = record (unnamed start started new.store.moment new.store.entries) { reads = new.store.reads } in
+    let stands = stands_named (unnamed start started old.store.moment old.store.entries) [] old.store.reads unmarked has.0 has.1 in
+    let fed = takes.stands ∙ ap (λ f. after_all (filling f) entries) is in (
       has.0 ++ Feed entries ∷ [],
-      stands_named after [] 0 (has.0 ++ Feed entries ∷ [])
-          (stands_fed before after entries has.0 from refl refl (ap (λ (f : Feeding). f.store) is)),
+      stands_named to [] 0 unmarked (has.0 ++ Feed entries ∷ [])
+          (stands_fed from to entries has.0 stands refl refl (ap (λ (f : Filling). f.store) fed)),
     )
 
-pub history_some : (start started : ℕ) (old new : Feeding) (entries : List Entry)
+pub history_some : (start started : ℕ) (old before new : Feeding) (entries : List Entry)
     → HasHistory start started old.store.moment old.store.entries
-    → ReachesSome (record old { fed = nothing_told }) new entries
+    → before ≡ record old { fed = nothing_told }
+    → ReachesSome before new entries
     → HasHistory start started new.store.moment new.store.entries
-history_some start started old new entries has some = history_fed start started old new some.1.taken has some.1.stands
+history_some start started old before new entries has is some = history_fed start started old before new some.1.taken has is some.1.takes
 
 pub history_known : (known : Known) → HasHistory known.start known.started known.moment known.held → (h : History) × StandsFor known h
-history_known known has = (has.0, stands_named (unnamed known.start known.started known.moment known.held) known.name known.reads has.0 has.1)
+history_known known has = (
+  has.0,
+  stands_named (unnamed known.start known.started known.moment known.held) known.name known.reads known.marks has.0 has.1,
+)

@@ -3,4 +3,5 @@ pub mod FedCounts
 pub mod Standing
 pub mod Feeding
 pub mod Answering
+pub mod Looking
 pub mod Topics

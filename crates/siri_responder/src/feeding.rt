@@ -1,13 +1,16 @@
 //! What a delivery that is fed does to the store.
 
-ghost use Rattle.std.specs.Prelude.{◌≡◌, OnOk, OnErr, map, flat_map};
+ghost use Rattle.std.specs.Prelude.{◌≡◌, OnOk, OnErr, [], ◌∷◌, map, flat_map};
+ghost use Rattle.std.specs.Map.{keys_of};
+ghost use Rattle.siri_records.specs.Keyed.{InOrder, dead_of, living};
 ghost use Rattle.siri_model.specs.History.{Observed, Withdrawn, entries_in, entries_of};
 ghost use Rattle.siri_store.specs.Calls.{NoneDead};
-ghost use Rattle.siri_responder.specs.Feeding.{after, after_all, ReachesSome};
+ghost use Rattle.siri_responder.specs.Feeding.{AreMarked, HasRoom, ReachesSome, Takes};
 
-use siri_base::{Copies, OutOfMemory};
+use siri_base::{Copies, OutOfMemory, beside};
+use siri_marks::Marks;
 use siri_messages::{FunctionalDelivery, ServiceDelivery};
-use siri_records::{Item, Key};
+use siri_records::{Item, Key, SharedKey};
 use siri_store::{ObserveError, Store};
 use std::alloc::Global;
 use std::rc::Rc;
@@ -23,27 +26,34 @@ pub struct Fed {
     pub full: u64,
 }
 
-/// The store of a responder, with what is told of the feed that it is given. After want of memory the entries before
-/// the refused one stand.
+/// The store of a responder, with the marks of the keys that entries named, and what is told of the feed that it is
+/// given. After want of memory the entries before the refused one stand. There is room for the mark of each held key.
 pub(crate) struct Feeding {
     pub(crate) store: Store,
+    pub(crate) marks: Marks,
     pub(crate) fed: Fed,
 }
 
 impl Drop for Feeding {
     fn drop(self) {
-        let Feeding { store: _, fed: _ } = self;
+        let Feeding {
+            store: _,
+            marks: _,
+            fed: _,
+        } = self;
     }
 }
 
 impl Feeding {
     /// Nothing was fed yet.
-    pub(crate) fn new(store: Store) -> Feeding
+    pub(crate) fn new(store: Store, marks: Marks) -> Feeding
         ensures store { result.store ≡ store }
+        ensures marks { result.marks ≡ marks }
         ensures fed { result.fed ≡ record { observed = 0; withdrawn = 0; full = 0 } }
     {
         Feeding {
             store,
+            marks,
             fed: Fed {
                 observed: 0,
                 withdrawn: 0,
@@ -63,6 +73,20 @@ impl Feeding {
         };
     }
 
+    /// Items that are dead leave, and their keys are marked. It takes no memory.
+    pub(crate) fn expire(&mut self)
+        requires ordered { InOrder self.old.store.entries }
+        requires room { HasRoom self.old }
+        ensures store { self.new.store ≡ record self.old.store { entries = living self.old.store.moment self.old.store.entries } }
+        ensures marked { AreMarked self.old.marks self.new.marks (keys_of (dead_of self.old.store.moment self.old.store.entries)) }
+        ensures alive { NoneDead self.new.store }
+        ensures room { HasRoom self.new }
+    {
+        while let Some(left) = self.store.expire_one() {
+            self.marks.mark(left);
+        }
+    }
+
     /// The entries of a delivery, in the order Stop Monitoring, Estimated Timetable, Vehicle Monitoring, Situation
     /// Exchange. Each item is copied as it comes.
     pub(crate) fn feed(
@@ -70,10 +94,12 @@ impl Feeding {
         alloc: Global,
         delivery: &ServiceDelivery,
     ) -> Result<(), OutOfMemory>
-        requires { NoneDead self.old.store }
-        ensures ok { OnOk result (self.new ≡ after_all self.old (entries_of delivery.now)) }
+        requires alive { NoneDead self.old.store }
+        requires room { HasRoom self.old }
+        ensures ok { OnOk result (Takes self.old self.new (entries_of delivery.now)) }
         ensures err { OnErr result (ReachesSome self.old self.new (entries_of delivery.now)) }
         ensures alive { NoneDead self.new.store }
+        ensures room { HasRoom self.new }
     {
         self.feed_all(alloc, delivery.stop_monitoring_delivery.slice())?;
         self.feed_all(alloc, delivery.estimated_timetable_delivery.slice())?;
@@ -88,10 +114,12 @@ impl Feeding {
         alloc: Global,
         deliveries: &[FunctionalDelivery],
     ) -> Result<(), OutOfMemory>
-        requires { NoneDead self.old.store }
-        ensures ok { OnOk result (self.new ≡ after_all self.old (flat_map entries_in deliveries.now)) }
+        requires alive { NoneDead self.old.store }
+        requires room { HasRoom self.old }
+        ensures ok { OnOk result (Takes self.old self.new (flat_map entries_in deliveries.now)) }
         ensures err { OnErr result (ReachesSome self.old self.new (flat_map entries_in deliveries.now)) }
         ensures alive { NoneDead self.new.store }
+        ensures room { HasRoom self.new }
     {
         for delivery in deliveries {
             self.feed_one(alloc, delivery)?;
@@ -101,22 +129,25 @@ impl Feeding {
 
     /// Items before removals.
     fn feed_one(&mut self, alloc: Global, delivery: &FunctionalDelivery) -> Result<(), OutOfMemory>
-        requires { NoneDead self.old.store }
-        ensures ok { OnOk result (self.new ≡ after_all self.old (entries_in delivery.now)) }
+        requires alive { NoneDead self.old.store }
+        requires room { HasRoom self.old }
+        ensures ok { OnOk result (Takes self.old self.new (entries_in delivery.now)) }
         ensures err { OnErr result (ReachesSome self.old self.new (entries_in delivery.now)) }
         ensures alive { NoneDead self.new.store }
+        ensures room { HasRoom self.new }
     {
         self.observe_all(alloc, delivery.items.slice())?;
-        self.withdraw_all(delivery.removals.slice());
-        Ok(())
+        self.withdraw_all(alloc, delivery.removals.slice())
     }
 
     /// Copies of the items are observed in order; after want of memory the first few of them are.
     fn observe_all(&mut self, alloc: Global, items: &[Item]) -> Result<(), OutOfMemory>
-        requires { NoneDead self.old.store }
-        ensures ok { OnOk result (self.new ≡ after_all self.old (map Observed items.now)) }
+        requires alive { NoneDead self.old.store }
+        requires room { HasRoom self.old }
+        ensures ok { OnOk result (Takes self.old self.new (map Observed items.now)) }
         ensures err { OnErr result (ReachesSome self.old self.new (map Observed items.now)) }
         ensures alive { NoneDead self.new.store }
+        ensures room { HasRoom self.new }
     {
         for item in items {
             let copy = item.copy()?;
@@ -125,45 +156,67 @@ impl Feeding {
         Ok(())
     }
 
-    /// An item that isn't dead, and whose key isn't live, is refused where as many keys are live as may be.
+    /// An item that isn't dead, and whose key isn't live, is refused where as many keys are live as may be. Its key is
+    /// marked, also where it is refused; after want of memory it isn't.
     pub(crate) fn observe(&mut self, alloc: Global, item: Item) -> Result<(), OutOfMemory>
-        requires { NoneDead self.old.store }
-        ensures ok { OnOk result (self.new ≡ after self.old (Observed item)) }
-        ensures err { OnErr result (self.new ≡ self.old) }
+        requires alive { NoneDead self.old.store }
+        requires room { HasRoom self.old }
+        ensures ok { OnOk result (Takes self.old self.new (Observed item ∷ [])) }
+        ensures err { OnErr result (Takes self.old self.new []) }
         ensures alive { NoneDead self.new.store }
+        ensures room { HasRoom self.new }
     {
+        let (key, item) = beside(SharedKey::of(alloc, &item), item)?;
         let item = Rc::new(alloc, item)?;
+        self.marks.reserve(self.store.held() + 2)?;
         match self.store.observe(item) {
             Ok(()) => {
                 self.fed.observed = self.fed.observed.saturating_add(1);
+                self.marks.mark(key);
                 Ok(())
             }
             Err(ObserveError::StoreFull) => {
                 self.fed.full = self.fed.full.saturating_add(1);
+                self.marks.mark(key);
                 Ok(())
             }
             Err(ObserveError::OutOfMemory) => Err(OutOfMemory),
         }
     }
 
-    /// The keys are withdrawn in order. It takes no memory.
-    pub(crate) fn withdraw_all(&mut self, removals: &[Key])
-        requires { NoneDead self.old.store }
-        ensures now { self.new ≡ after_all self.old (map Withdrawn removals.now) }
+    /// The keys are withdrawn in order; after want of memory the first few of them are.
+    pub(crate) fn withdraw_all(
+        &mut self,
+        alloc: Global,
+        removals: &[Key],
+    ) -> Result<(), OutOfMemory>
+        requires alive { NoneDead self.old.store }
+        requires room { HasRoom self.old }
+        ensures ok { OnOk result (Takes self.old self.new (map Withdrawn removals.now)) }
+        ensures err { OnErr result (ReachesSome self.old self.new (map Withdrawn removals.now)) }
         ensures alive { NoneDead self.new.store }
+        ensures room { HasRoom self.new }
     {
         for key in removals {
-            self.withdraw(key);
+            self.withdraw(alloc, key)?;
         }
+        Ok(())
     }
 
-    /// The key has no item afterwards, whether it had one or not.
-    fn withdraw(&mut self, key: &Key)
-        requires { NoneDead self.old.store }
-        ensures now { self.new ≡ after self.old (Withdrawn key.now) }
+    /// The key has no item afterwards, whether it had one or not, and is marked; after want of memory all is as it was.
+    fn withdraw(&mut self, alloc: Global, key: &Key) -> Result<(), OutOfMemory>
+        requires alive { NoneDead self.old.store }
+        requires room { HasRoom self.old }
+        ensures ok { OnOk result (Takes self.old self.new (Withdrawn key.now ∷ [])) }
+        ensures err { OnErr result (Takes self.old self.new []) }
         ensures alive { NoneDead self.new.store }
+        ensures room { HasRoom self.new }
     {
+        let shared = SharedKey::new(alloc, key.copy()?)?;
+        self.marks.reserve(self.store.held() + 1)?;
         let _ = self.store.withdraw(key);
+        self.marks.mark(shared);
         self.fed.withdrawn = self.fed.withdrawn.saturating_add(1);
+        Ok(())
     }
 }

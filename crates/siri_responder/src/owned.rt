@@ -3,7 +3,7 @@
 ghost use Rattle.std.specs.Prelude.{◌≡◌, OnOk, OnErr, map, flat_map};
 ghost use Rattle.siri_model.specs.History.{Observed, entries_in, entries_of};
 ghost use Rattle.siri_store.specs.Calls.{NoneDead};
-ghost use Rattle.siri_responder.specs.Feeding.{after_all, ReachesSome};
+ghost use Rattle.siri_responder.specs.Feeding.{HasRoom, ReachesSome, Takes};
 
 use crate::feeding::Feeding;
 use siri_base::{List, OutOfMemory};
@@ -18,10 +18,12 @@ impl Feeding {
         alloc: Global,
         delivery: ServiceDelivery,
     ) -> Result<(), OutOfMemory>
-        requires { NoneDead self.old.store }
-        ensures ok { OnOk result (self.new ≡ after_all self.old (entries_of delivery)) }
+        requires alive { NoneDead self.old.store }
+        requires room { HasRoom self.old }
+        ensures ok { OnOk result (Takes self.old self.new (entries_of delivery)) }
         ensures err { OnErr result (ReachesSome self.old self.new (entries_of delivery)) }
         ensures alive { NoneDead self.new.store }
+        ensures room { HasRoom self.new }
     {
         let ServiceDelivery {
             stop_monitoring_delivery,
@@ -43,10 +45,12 @@ impl Feeding {
         alloc: Global,
         deliveries: List<FunctionalDelivery>,
     ) -> Result<(), OutOfMemory>
-        requires { NoneDead self.old.store }
-        ensures ok { OnOk result (self.new ≡ after_all self.old (flat_map entries_in deliveries)) }
+        requires alive { NoneDead self.old.store }
+        requires room { HasRoom self.old }
+        ensures ok { OnOk result (Takes self.old self.new (flat_map entries_in deliveries)) }
         ensures err { OnErr result (ReachesSome self.old self.new (flat_map entries_in deliveries)) }
         ensures alive { NoneDead self.new.store }
+        ensures room { HasRoom self.new }
     {
         for delivery in deliveries.into_vec() {
             self.feed_one_owned(alloc, delivery)?;
@@ -60,23 +64,26 @@ impl Feeding {
         alloc: Global,
         delivery: FunctionalDelivery,
     ) -> Result<(), OutOfMemory>
-        requires { NoneDead self.old.store }
-        ensures ok { OnOk result (self.new ≡ after_all self.old (entries_in delivery)) }
+        requires alive { NoneDead self.old.store }
+        requires room { HasRoom self.old }
+        ensures ok { OnOk result (Takes self.old self.new (entries_in delivery)) }
         ensures err { OnErr result (ReachesSome self.old self.new (entries_in delivery)) }
         ensures alive { NoneDead self.new.store }
+        ensures room { HasRoom self.new }
     {
         let (items, removals) = delivery.into_entries();
         self.observe_all_owned(alloc, items)?;
-        self.withdraw_all(removals.slice());
-        Ok(())
+        self.withdraw_all(alloc, removals.slice())
     }
 
     /// The items are observed in order, without copies; after want of memory the first few of them are.
     fn observe_all_owned(&mut self, alloc: Global, items: List<Item>) -> Result<(), OutOfMemory>
-        requires { NoneDead self.old.store }
-        ensures ok { OnOk result (self.new ≡ after_all self.old (map Observed items)) }
+        requires alive { NoneDead self.old.store }
+        requires room { HasRoom self.old }
+        ensures ok { OnOk result (Takes self.old self.new (map Observed items)) }
         ensures err { OnErr result (ReachesSome self.old self.new (map Observed items)) }
         ensures alive { NoneDead self.new.store }
+        ensures room { HasRoom self.new }
     {
         for item in items.into_vec() {
             self.observe(alloc, item)?;

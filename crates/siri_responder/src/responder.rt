@@ -1,22 +1,30 @@
 //! The responder.
 
-ghost use Rattle.std.specs.Prelude.{◌≡◌, ◌+◌, ◌*◌, ◌≤◌, [], ◌∷◌, length, IfOk, OnOk, OnErr};
-ghost use Rattle.siri_records.specs.Keyed.{InOrder, most_live};
+ghost use Rattle.std.specs.Prelude.{◌≡◌, ◌+◌, ◌*◌, ◌^◌, ◌<◌, ◌≤◌, [], ◌∷◌, length, map, option_map, IfOk, OnOk, OnErr};
+ghost use Rattle.std.specs.Map.{keys_of};
+ghost use Rattle.siri_records.specs.Keyed.{InOrder, dead_of, item_of, most_live};
+ghost use Rattle.siri_marks.specs.Marked.{SameFrom, keys_since, unmarked};
+ghost use Rattle.siri_model.specs.Looks.{crossed_items, found_of};
+ghost use Rattle.siri_model.specs.Followed.{items_passed};
 ghost use Rattle.siri_responder.specs.Topics.{topics_in};
 ghost use Rattle.siri_model.specs.Direct.{response, shown};
 ghost use Rattle.siri_model.specs.History.{History, Start, Clock, Feed, IsKeyed, entries_of};
-ghost use Rattle.siri_responder.specs.Known.{StandsFor, GoesOn, TookSome, CountsFor, ResponseFor};
+ghost use Rattle.siri_model.specs.Last.{entry_key};
+ghost use Rattle.siri_responder.specs.Known.{StandsFor, GoesOn, Touches, TookSome, CountsFor, ResponseFor};
 ghost use Rattle.siri_base.specs.Numbers.{greatest_number};
 
 use crate::feeding::{Fed, Feeding};
+use crate::looks::{crossed, found, held_item};
 use crate::response::response_to;
-use siri_base::{Moment, Name, OutOfMemory};
+use siri_base::{List, Moment, Name, OutOfMemory};
+use siri_marks::Marks;
 use siri_messages::{ServiceDelivery, ServiceRequest};
-use siri_records::KeyedItems;
+use siri_records::{Change, Item, Key, KeyedItems};
 use siri_store::Store;
 use siri_topic::Topic;
 use std::alloc::Global;
 use std::marker::Model;
+use std::rc::Rc;
 
 /// A producer without its subscriptions, with a name, the number of its start and the moment of it, which is its
 /// ServiceStartedTime: it is fed, and answers requests. It has a moment, which is the greatest that it was given, and
@@ -44,13 +52,14 @@ impl Drop for Responder {
 impl Model for Responder {
     ghost use Rattle.siri_responder.specs.Known.{Known};
     ghost use Rattle.siri_responder.specs.Standing.{HasHistory};
+    ghost use Rattle.siri_responder.specs.Feeding.{HasRoom};
     ghost use Rattle.siri_store.specs.Calls.{NoneDead};
 
     ghost Value = { Known };
 
-    ghost view = { λ p. record { name = p.name; start = p.start; started = p.started; moment = p.feeding.store.moment; held = p.feeding.store.entries; reads = p.feeding.store.reads } };
+    ghost view = { λ p. record { name = p.name; start = p.start; started = p.started; moment = p.feeding.store.moment; held = p.feeding.store.entries; reads = p.feeding.store.reads; marks = p.feeding.marks } };
 
-    ghost invariant = { λ p. record { alive : NoneDead p.feeding.store; stands : HasHistory p.start p.started p.feeding.store.moment p.feeding.store.entries } };
+    ghost invariant = { λ p. record { alive : NoneDead p.feeding.store; room : HasRoom p.feeding; stands : HasHistory p.start p.started p.feeding.store.moment p.feeding.store.entries } };
 }
 
 impl Responder {
@@ -61,24 +70,26 @@ impl Responder {
         ensures stands { IfOk result (λ responder. StandsFor responder (Start start now ∷ [])) }
         ensures name { IfOk result (λ responder. responder.name ≡ name) }
         ensures reads { IfOk result (λ responder. responder.reads ≡ 0) }
+        ensures marks { IfOk result (λ responder. responder.marks ≡ unmarked) }
     {
         Ok(Responder {
             alloc,
             name,
             start,
             started: now,
-            feeding: Feeding::new(Store::new(alloc, now)?),
+            feeding: Feeding::new(Store::new(alloc, now)?, Marks::new(alloc)),
         })
     }
 
-    /// Its moment becomes the later one, and dead items leave. It takes no memory.
+    /// Its moment becomes the later one, and dead items leave, each with its key marked. It takes no memory.
     pub fn clock(&mut self, now: Moment)
         ensures stands { GoesOn self.old self.new (Clock now) }
+        ensures touched { Touches self.old self.new (keys_of (dead_of self.new.moment self.old.held)) }
         ensures name { self.new.name ≡ self.old.name }
         ensures reads { self.new.reads ≡ self.old.reads }
     {
         self.feeding.store.advance(now);
-        let _ = self.feeding.store.expire();
+        self.feeding.expire();
     }
 
     /// Takes the items and removals of a delivery, in the order Stop Monitoring, Estimated Timetable, Vehicle
@@ -86,6 +97,7 @@ impl Responder {
     /// copied as it comes. After want of memory the entries before the refused one stand.
     pub fn feed(&mut self, delivery: &ServiceDelivery) -> Result<Fed, OutOfMemory>
         ensures ok { OnOk result (GoesOn self.old self.new (Feed (entries_of delivery.now))) }
+        ensures touched { OnOk result (Touches self.old self.new (map entry_key (entries_of delivery.now))) }
         ensures counts { IfOk result (CountsFor self.old (entries_of delivery.now)) }
         ensures err { OnErr result (TookSome self.old self.new (entries_of delivery.now)) }
         ensures name { self.new.name ≡ self.old.name }
@@ -99,6 +111,7 @@ impl Responder {
     /// As `feed`, of a delivery that is handed over: its items are kept and none is copied.
     pub fn feed_owned(&mut self, delivery: ServiceDelivery) -> Result<Fed, OutOfMemory>
         ensures ok { OnOk result (GoesOn self.old self.new (Feed (entries_of delivery))) }
+        ensures touched { OnOk result (Touches self.old self.new (map entry_key (entries_of delivery))) }
         ensures counts { IfOk result (CountsFor self.old (entries_of delivery)) }
         ensures err { OnErr result (TookSome self.old self.new (entries_of delivery)) }
         ensures name { self.new.name ≡ self.old.name }
@@ -131,6 +144,61 @@ impl Responder {
         ensures reads { self.new.reads ≤ self.old.reads + length self.old.held }
     {
         self.feeding.store.shown_entries(self.alloc, topic)
+    }
+
+    /// Of each key that was marked under a number or a later one, in order, the item that is held of it, or none.
+    /// Nothing but the counter changes, and that rises by at most a step a key.
+    pub fn marked(&mut self, number: u64) -> Result<List<Change>, OutOfMemory>
+        ensures ok { IfOk result (λ found. found ≡ found_of self.old.held (keys_since self.old.marks.log number)) }
+        ensures rest { self.new ≡ record self.old { reads = self.new.reads } }
+        ensures risen { self.old.reads ≤ self.new.reads }
+        ensures reads { self.new.reads ≤ self.old.reads + length (keys_since self.old.marks.log number) }
+    {
+        let keys = self.feeding.marks.since(self.alloc, number)?;
+        found(self.alloc, &mut self.feeding.store, keys)
+    }
+
+    /// The held items of a topic's service of which an end of its window passed an edge since a moment, such that they
+    /// may be shown now and weren't then, or were and aren't; in order of key. Nothing but the counter changes, and
+    /// that rises by at most a step for each item of which the near end passed an edge, and for each of which the far
+    /// end did.
+    pub fn crossed(&mut self, topic: &Topic, before: Moment) -> Result<KeyedItems, OutOfMemory>
+        ensures ok { IfOk result (λ items. items ≡ crossed_items topic.now before self.old.moment self.old.held) }
+        ensures rest { self.new ≡ record self.old { reads = self.new.reads } }
+        ensures risen { self.old.reads ≤ self.new.reads }
+        ensures reads { self.new.reads ≤ self.old.reads + items_passed topic.now self.old.held before self.old.moment }
+    {
+        crossed(self.alloc, &mut self.feeding.store, topic, before)
+    }
+
+    /// The item that is held of a key, or none. Nothing but the counter changes, and that rises by at most one step.
+    pub fn item(&mut self, key: &Key) -> Result<Option<Rc<Item>>, OutOfMemory>
+        ensures ok { IfOk result (λ item. option_map (λ item. item.value) item ≡ item_of self.old.held key.now) }
+        ensures rest { self.new ≡ record self.old { reads = self.new.reads } }
+        ensures risen { self.old.reads ≤ self.new.reads }
+        ensures reads { self.new.reads ≤ self.old.reads + 1 }
+    {
+        held_item(&mut self.feeding.store, key)
+    }
+
+    /// The number under which keys are marked now.
+    pub fn number(&self) -> u64
+        ensures { result ≡ self.now.marks.number }
+    {
+        self.feeding.marks.number()
+    }
+
+    /// From now on keys are marked under the next number. Marks before a number may go, since they are asked for no
+    /// more. It takes no memory.
+    pub fn turn(&mut self, oldest: u64)
+        requires { self.old.marks.number + 1 < 2 ^ 64 }
+        ensures number { self.new.marks.number ≡ self.old.marks.number + 1 }
+        ensures same { SameFrom oldest self.old.marks self.new.marks }
+        ensures fresh { keys_since self.new.marks.log self.new.marks.number ≡ [] }
+        ensures rest { self.new ≡ record self.old { marks = self.new.marks } }
+    {
+        self.feeding.marks.turn();
+        self.feeding.marks.forget(oldest);
     }
 
     /// Its name.

@@ -25,7 +25,7 @@ pub turn_made : (first timed last : Known) (old new : Tally) (before accepted af
 turn_made first timed last old new before accepted after clock later keeper moment accepts tells takes named serves = record {
   name = serves.name ∙ named;
   goes = λ h stands.
-      let one = serves.goes (h ++ Clock moment ∷ []) (takes h stands) in
+      let one = serves.goes (h ++ Clock moment ∷ []) (takes.stands h stands) in
       let from : Serving = record { history = h; tally = old } in
       let to : Serving = record { history = one.0; tally = new } in (
         one.0,
@@ -56,7 +56,7 @@ turn_stopped first timed old before accepted after clock later keeper moment e i
       moment = moment;
       accepts = accepts;
       tells = tells;
-      stops = subst (λ name. ServesFirst name (end_at (given moment from) accepted) after.tells) named (some (h ++ Clock moment ∷ []) (takes h stands));
+      stops = subst (λ name. ServesFirst name (end_at (given moment from) accepted) after.tells) named (some (h ++ Clock moment ∷ []) (takes.stands h stands));
       keeper = refl;
     }))
 

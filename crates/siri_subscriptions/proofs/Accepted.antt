@@ -18,12 +18,13 @@ use Rattle.siri_subs.proofs.Mapped.{answer_mapped, accepted_mapped}
 use Rattle.siri_model.specs.Rows.{KeptLife, new_row, nothing_kept, row_with, rows_asked}
 use Rattle.siri_subscriptions.specs.declared.course.Course.{Course}
 use Rattle.siri_subscriptions.specs.Courses.{kept, kept_rows}
+use Rattle.siri_subscriptions.specs.Noted.{Noted, noted, noted_rows, new_noted, noted_asked}
 use Rattle.siri_replies.specs.declared.refusal.Refusal.TheVariants as refused
 use Rattle.siri_replies.specs.Refusals.{not_accepted_as}
 use Rattle.siri_replies.specs.Responses.{accepted_status, refused_status}
 use Rattle.siri_subscriptions.specs.declared.prepared.Candidate.{Candidate}
 use Rattle.siri_subscriptions.specs.Requests.{termination_in, status_by, status_of, rows_with, statuses_of}
-use Rattle.siri_subscriptions.specs.Prepared.{asked_by, accept_status, accept_rows, refusal_by, refusal_of, candidate_of, candidate_status}
+use Rattle.siri_subscriptions.specs.Prepared.{asked_by, accept_status, accept_rows, refusal_by, refusal_of, candidate_of, candidate_status, accept_noted, all_noted}
 use Rattle.siri_subscriptions.specs.Prepared.{all_statuses, all_rows}
 
 -- the number of each subscription is what it was, or this one
@@ -157,6 +158,11 @@ module _ (now number : ℕ) (old : List (Row KeptLife)) where
   rows_ready [] rows = refl
   rows_ready (x ∷ asked) rows = rows_ready asked (accepted now (new_row now number x) rows)
 
+  noted_ready : (asked : List Asked) (rows : List (Row Noted))
+      → all_noted now number (map (candidate_of now number old) asked) rows ≡ noted_asked now number asked rows
+  noted_ready [] rows = refl
+  noted_ready (x ∷ asked) rows = noted_ready asked (accepted now (new_noted now number x) rows)
+
 -- what a request is answered, and the rows after it
 pub answered : (now number : ℕ) (asked : List Asked) (rows : List (Row KeptLife))
     → all_statuses now number (map (candidate_of now number rows) asked) rows ≡ statuses_of now number asked rows
@@ -165,6 +171,10 @@ answered now number asked rows = statuses_ready now number rows asked rows (λ s
 pub rows_answered : (now number : ℕ) (asked : List Asked) (rows : List (Row KeptLife))
     → all_rows now number (map (candidate_of now number rows) asked) rows ≡ rows_asked now number asked rows
 rows_answered now number asked rows = rows_ready now number rows asked rows
+
+pub noted_answered : (now number : ℕ) (asked : List Asked) (rows : List (Row KeptLife)) (noted : List (Row Noted))
+    → all_noted now number (map (candidate_of now number rows) asked) noted ≡ noted_asked now number asked noted
+noted_answered now number asked rows noted = noted_ready now number rows asked noted
 
 -- ---- one that the table is asked for
 
@@ -188,6 +198,14 @@ module _ (now number : ℕ) (candidate : Candidate) (course : Course) (table : L
 
   pub rows_kept : (rows : List (Row Course)) → rows ≡ accepted now row_by table → kept_rows rows ≡ accept_rows now number (kept_rows table) candidate
   rows_kept rows is = ap kept_rows is ∙ (sym (accepted_mapped kept now row_by table) ∙ ap (λ h. accepted now h (kept_rows table)) row_kept)
+
+  row_noted : course.looked ≡ None → mapped_row noted row_by ≡ new_noted now number (asked_by candidate)
+  row_noted none = λ i. record (new_noted now number (asked_by candidate)) { slot = record { life = new i; looked = none i } }
+
+  pub noted_kept : course.looked ≡ None → (rows : List (Row Course)) → rows ≡ accepted now row_by table
+      → noted_rows rows ≡ accept_noted now number (noted_rows table) candidate
+  noted_kept none rows is =
+      ap noted_rows is ∙ (sym (accepted_mapped noted now row_by table) ∙ ap (λ h. accepted now h (noted_rows table)) (row_noted none))
 
 -- ---- the one refusal, by what is held
 

@@ -42,8 +42,8 @@ sent_if_due_carried now rounds =
     by true = sent_carried rounds now
     by false = refl
 
-pub settled_carried : (now : ℕ) (items : Items) (row : Row Course) → kept_row (settled_row now items row) ≡ model.settled_row now items (kept_row row)
-settled_carried now items row =
+pub settled_carried : (now : ℕ) (items : Items) (next : ℕ) (row : Row Course) → kept_row (settled_row now items next row) ≡ model.settled_row now items (kept_row row)
+settled_carried now items next row =
     let asked = model.asked_of (kept_row row) in
     let direct = shown now items row.wanted.topic in
     let settled = model.settled_row now items (kept_row row) in

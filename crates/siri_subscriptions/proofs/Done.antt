@@ -1,5 +1,5 @@
 -- A table of which the first rows have settled.
-use Rattle.std.proofs.Common.{◌≡◌, ℕ, ◌<◌, suc, zero, List, [], ◌∷◌, map, length, Option, Some, None, slice_get, option_map, ap, subst, ◌∙◌, arith}
+use Rattle.std.proofs.Common.{◌≡◌, ℕ, ◌<◌, suc, zero, List, [], ◌∷◌, map, length, Option, Some, None, slice_get, option_map, ap, subst, ◌∙◌, arith, add-one, ◌+◌}
 use Rattle.siri_records.specs.Keyed.{Items}
 use Rattle.siri_subs.specs.declared.entry.Row.{Row}
 use Rattle.siri_subs.specs.Loans.{with_slot}
@@ -13,11 +13,11 @@ use Rattle.siri_subscriptions.specs.Settled.{settled_row}
 abbrev slot_at : List (Row Course) → ℕ → Option Course
 slot_at table place = option_map (λ (row : Row Course). row.slot) (slice_get table place)
 
-module _ (now : ℕ) (items : Items) where
+module _ (now : ℕ) (items : Items) (next : ℕ) where
   -- the rows before a place have settled; those from there on are as they were, and this is due to them
   abbrev pub AreSettled : (old : List (Row Course)) → (place : ℕ) → (table : List (Row Course)) → List Due → Type 0
-  AreSettled old zero table dues = (table ≡ old) × AreDue now items old dues
-  AreSettled (row ∷ old) (suc place) (settled ∷ table) dues = (settled ≡ settled_row now items row) × AreSettled old place table dues
+  AreSettled old zero table dues = (table ≡ old) × AreDue now items next old dues
+  AreSettled (row ∷ old) (suc place) (settled ∷ table) dues = (settled ≡ settled_row now items next row) × AreSettled old place table dues
   AreSettled [] (suc place) table dues = ⊥
   AreSettled (row ∷ old) (suc place) [] dues = ⊥
 
@@ -52,7 +52,7 @@ module _ (now : ℕ) (items : Items) where
 
   pub settle_more : (old : List (Row Course)) (place : ℕ) (table : List (Row Course)) (due : Due) (dues : List Due) (course : Course)
       → AreSettled old place table (due ∷ dues) → slot_at table place ≡ Some course
-      → AreSettled old (suc place) (with_slot table place (course_after now due course)) dues
+      → AreSettled old (suc place) (with_slot table place (course_after now next due course)) dues
   settle_more [] zero table due dues course so_far at = absurd so_far.1
   settle_more [] (suc place) table due dues course so_far at = absurd so_far
   settle_more (row ∷ old) zero [] due dues course so_far at = absurd (cc at)
@@ -60,11 +60,16 @@ module _ (now : ℕ) (items : Items) where
       let is : same ≡ row = cc (so_far.0) in
       let kept : course ≡ row.slot = cc in
       let rest : table ≡ old = cc in
-      ((λ j. record (is j) { slot = (ap (course_after now due) kept ∙ so_far.1.0.settles) j }), (rest, so_far.1.1))
+      ((λ j. record (is j) { slot = (ap (course_after now next due) kept ∙ so_far.1.0.settles) j }), (rest, so_far.1.1))
   settle_more (row ∷ old) (suc place) [] due dues course so_far at = absurd so_far
   settle_more (row ∷ old) (suc place) (settled ∷ table) due dues course so_far at = (so_far.0, settle_more old place table due dues course so_far.1 at)
 
-  all_settled : (old : List (Row Course)) (place : ℕ) (table : List (Row Course)) → AreSettled old place table [] → table ≡ map (settled_row now items) old
+  pub settle_next : (old : List (Row Course)) (place : ℕ) (table : List (Row Course)) (due : Due) (dues : List Due) (course : Course)
+      → AreSettled old place table (due ∷ dues) → slot_at table place ≡ Some course
+      → AreSettled old (place + 1) (with_slot table place (course_after now next due course)) dues
+  settle_next old place table due dues course so_far at = rw add-one (settle_more old place table due dues course so_far at)
+
+  all_settled : (old : List (Row Course)) (place : ℕ) (table : List (Row Course)) → AreSettled old place table [] → table ≡ map (settled_row now items next) old
   all_settled [] zero table so_far = so_far.0
   all_settled [] (suc place) table so_far = absurd so_far
   all_settled (row ∷ old) zero table so_far = absurd so_far.1
@@ -72,6 +77,6 @@ module _ (now : ℕ) (items : Items) where
   all_settled (row ∷ old) (suc place) (settled ∷ table) so_far = λ j. so_far.0 j ∷ all_settled old place table so_far.1 j
 
   pub none_left : (old : List (Row Course)) (place : ℕ) (table : List (Row Course)) (dues : List Due) → length dues ≡ 0
-      → AreSettled old place table dues → table ≡ map (settled_row now items) old
+      → AreSettled old place table dues → table ≡ map (settled_row now items next) old
   none_left old place table [] none so_far = all_settled old place table so_far
   none_left old place table (due ∷ dues) none so_far = absurd (omega (arith, none))

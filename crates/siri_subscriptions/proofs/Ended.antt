@@ -6,8 +6,9 @@ use Rattle.siri_subs.proofs.Mapped.{is_ended_mapped, ended_mapped}
 use Rattle.siri_model.specs.Rows.{KeptLife, rows_ended}
 use Rattle.siri_subscriptions.specs.declared.course.Course.{Course}
 use Rattle.siri_subscriptions.specs.Courses.{kept, kept_rows}
+use Rattle.siri_subscriptions.specs.Noted.{Noted, noted, noted_rows, noted_ended}
 use Rattle.siri_subscriptions.specs.Terminations.{end_status, end_statuses}
-use Rattle.siri_subscriptions.specs.Endings.{Sayings, sayings, said, rows_left, all_said, all_left}
+use Rattle.siri_subscriptions.specs.Endings.{Sayings, sayings, said, rows_left, noted_left, all_said, all_left, all_noted_left}
 
 module _ (number : ℕ) (subscriber : List ℕ) where
   pub ended_statuses : (identifiers : List (List ℕ)) (rows : List (Row KeptLife))
@@ -23,6 +24,11 @@ module _ (number : ℕ) (subscriber : List ℕ) where
   ended_rows [] rows = refl
   ended_rows (identifier ∷ identifiers) rows = ended_rows identifiers (ended number subscriber identifier rows)
 
+  pub ended_noted : (identifiers : List (List ℕ)) (rows : List (Row Noted))
+      → all_noted_left number subscriber (map (sayings subscriber) identifiers) rows ≡ noted_ended number subscriber identifiers rows
+  ended_noted [] rows = refl
+  ended_noted (identifier ∷ identifiers) rows = ended_noted identifiers (ended number subscriber identifier rows)
+
 -- ---- one of them
 
 module _ (number : ℕ) (subscriber : List ℕ) (e : Sayings) (table : List (Row Course)) where
@@ -31,3 +37,7 @@ module _ (number : ℕ) (subscriber : List ℕ) (e : Sayings) (table : List (Row
 
   pub is_left : (new : List (Row Course)) → new ≡ ended number subscriber e.identifier table → kept_rows new ≡ rows_left number subscriber (kept_rows table) e
   is_left new is = ap kept_rows is ∙ sym (ended_mapped kept number subscriber e.identifier table)
+
+  pub is_noted_left : (new : List (Row Course)) → new ≡ ended number subscriber e.identifier table
+      → noted_rows new ≡ noted_left number subscriber (noted_rows table) e
+  is_noted_left new is = ap noted_rows is ∙ sym (ended_mapped noted number subscriber e.identifier table)

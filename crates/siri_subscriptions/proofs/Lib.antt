@@ -11,3 +11,15 @@ pub mod Found
 pub mod Rows
 pub mod Planned
 pub mod Done
+pub mod Merged
+pub mod ByKeys
+pub mod Shown
+pub mod Apart
+pub mod Bounds
+pub mod Live
+pub mod Sought
+pub mod Changed
+pub mod Opened
+pub mod Told
+pub mod Others
+pub mod LookAt

@@ -12,6 +12,7 @@ use Rattle.siri_model.specs.Rows.{KeptLife, is_numbered, with_rounds, with_row_o
 use Rattle.siri_rounds.specs.Wanted.{KeptRounds, RoundsOfChanges, rounds_carried}
 use Rattle.siri_subscriptions.specs.declared.course.Course.{Course}
 use Rattle.siri_subscriptions.specs.Courses.{kept, kept_row, kept_rows}
+use Rattle.siri_subscriptions.specs.Noted.{looked_in}
 use Rattle.siri_subscriptions.proofs.Kept.{unchanged, same_there, changed_there}
 
 -- ---- the row of the subscription that a mark names
@@ -40,6 +41,20 @@ pub slot_here : (s i : List ℕ) (table : List (Row Course)) (k : ℕ) (h : Row 
     → IsHere s i table k h → Some slot ≡ option_map (λ (g : Row Course). g.slot) (slice_get table k) → slot ≡ h.slot
 slot_here s i table k h slot here lent =
     let both : Some slot ≡ Some h.slot = lent ∙ ap (option_map (λ (g : Row Course). g.slot)) here.row in cc both
+
+looked_with : (table : List (Row Course)) (k : ℕ) (h : Row Course) (slot : Course) → slice_get table k ≡ Some h
+    → slot.looked ≡ h.slot.looked → looked_in (with_slot table k slot) ≡ looked_in table
+looked_with [] k h slot row same = refl
+looked_with (g ∷ table) zero h slot row same =
+    let first : g ≡ h = cc row in
+    ap (λ looked. looked ∷ looked_in table) (same ∙ sym (ap (λ (r : Row Course). r.slot.looked) first))
+looked_with (g ∷ table) (suc k) h slot row same = ap (λ looked. g.slot.looked ∷ looked) (looked_with table k h slot row same)
+
+-- other rounds leave its last look
+pub looked_here : (s i : List ℕ) (table : List (Row Course)) (k : ℕ) (h : Row Course) → IsHere s i table k h
+    → (was : Course) → was ≡ h.slot → (rounds : RoundsOfChanges) → looked_in (with_slot table k (record was { rounds = rounds })) ≡ looked_in table
+looked_here s i table k h here was same rounds =
+    looked_with table k h (record was { rounds = rounds }) here.row (ap (λ (course : Course). course.looked) same)
 
 module _ (start : ℕ) (s : List ℕ) (m : Mark) (move : KeptRounds → KeptRounds) where
   -- a row of the mark's number moves, in its start

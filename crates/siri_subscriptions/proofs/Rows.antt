@@ -32,9 +32,9 @@ same_acknowledged false now opened rounds o opens level none = rw level refl
 abbrev with_outstanding : Option (Outstanding Items (List KeyChange)) → Row Course → Row Course
 with_outstanding o row = record row { slot = record row.slot { rounds = record row.slot.rounds { outstanding = o } } }
 
-knows_with : (now : ℕ) (items : Items) (o : Option (Outstanding Items (List KeyChange))) (row : Row Course)
-    → KnowsLevel now items (settled_row now items (with_outstanding o row))
-knows_with now items None row none =
+knows_with : (now : ℕ) (items : Items) (next : ℕ) (o : Option (Outstanding Items (List KeyChange))) (row : Row Course)
+    → KnowsLevel now items (settled_row now items next (with_outstanding o row))
+knows_with now items next None row none =
     let rounds = record row.slot.rounds { outstanding = None } in
     let asked = asked_of (kept_row row) in
     let direct = shown now items row.wanted.topic in
@@ -42,10 +42,10 @@ knows_with now items None row none =
     ap (λ a. change.meets row.wanted.slack a direct)
     (sym (same_acknowledged (opens_round meaning None (rounds_carried rounds) asked direct) now
     (begun rounds round) rounds (first_part_wanted round) refl refl none))
-knows_with now items (Some o) row none =
+knows_with now items next (Some o) row none =
     absurd (stays_outstanding (is_due o.last_sent now) now (record row.slot.rounds { outstanding = Some o }) o refl none)
 
-pub know_settled : (now : ℕ) (items : Items) (rows : List (Row Course)) → KnowLevels now items (map (settled_row now items) rows)
-know_settled now items rows =
-    All-map (KnowsLevel now items) (settled_row now items) rows
-    (λ k d lt. let row = get_or rows k d in knows_with now items row.slot.rounds.outstanding row)
+pub know_settled : (now : ℕ) (items : Items) (next : ℕ) (rows : List (Row Course)) → KnowLevels now items (map (settled_row now items next) rows)
+know_settled now items next rows =
+    All-map (KnowsLevel now items) (settled_row now items next) rows
+    (λ k d lt. let row = get_or rows k d in knows_with now items next row.slot.rounds.outstanding row)

@@ -8,6 +8,7 @@ use Rattle.siri_subs.specs.Table.{ended, is_ended_by}
 use Rattle.siri_model.specs.Rows.{KeptLife}
 use Rattle.siri_replies.specs.Responses.{ended_status, unknown_status}
 use Rattle.siri_subscriptions.specs.declared.terminations.Ending.{Ending}
+use Rattle.siri_subscriptions.specs.Noted.{Noted}
 
 -- its identifier, and both statuses
 pub record Sayings : Type 0 where
@@ -38,3 +39,10 @@ all_said number subscriber endings rows = scan (rows_left number subscriber) (sa
 
 abbrev pub all_left : (number : ℕ) → (subscriber : List ℕ) → List Sayings → List (Row KeptLife) → List (Row KeptLife)
 all_left number subscriber endings rows = fold (rows_left number subscriber) rows endings
+
+-- what is noted after one, and after all
+abbrev pub noted_left : (number : ℕ) → (subscriber : List ℕ) → List (Row Noted) → Sayings → List (Row Noted)
+noted_left number subscriber rows e = ended number subscriber e.identifier rows
+
+abbrev pub all_noted_left : (number : ℕ) → (subscriber : List ℕ) → List Sayings → List (Row Noted) → List (Row Noted)
+all_noted_left number subscriber endings rows = fold (noted_left number subscriber) rows endings

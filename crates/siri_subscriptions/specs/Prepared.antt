@@ -15,6 +15,7 @@ use Rattle.siri_replies.specs.declared.refusal.Refusal.{Refusal}
 use Rattle.siri_replies.specs.declared.refusal.Refusal.TheVariants as refused
 use Rattle.siri_replies.specs.Responses.{accepted_status, refused_status}
 use Rattle.siri_subscriptions.specs.declared.prepared.Candidate.{Candidate}
+use Rattle.siri_subscriptions.specs.Noted.{Noted, new_noted}
 use Rattle.siri_subscriptions.specs.Requests.{termination_in}
 
 -- ---- before the first is accepted
@@ -72,3 +73,10 @@ all_statuses now number all rows = scan (accept_rows now number) (accept_status 
 
 abbrev pub all_rows : (now number : ℕ) → List Candidate → List (Row KeptLife) → List (Row KeptLife)
 all_rows now number all rows = fold (accept_rows now number) rows all
+
+-- what is noted after one, and after all
+abbrev pub accept_noted : (now number : ℕ) → List (Row Noted) → Candidate → List (Row Noted)
+accept_noted now number rows candidate = accepted now (new_noted now number (asked_by candidate)) rows
+
+abbrev pub all_noted : (now number : ℕ) → List Candidate → List (Row Noted) → List (Row Noted)
+all_noted now number all rows = fold (accept_noted now number) rows all

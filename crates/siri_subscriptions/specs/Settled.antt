@@ -5,8 +5,10 @@ use Rattle.siri_change.specs.Changes as change
 use Rattle.siri_life.specs.Life.{Outstanding}
 use Rattle.siri_subs.specs.declared.entry.Row.{Row}
 use Rattle.siri_model.specs.Direct.{shown}
+use Rattle.siri_model.specs.Followed.{look_at}
 use Rattle.siri_model.specs.Rows as model
 use Rattle.siri_subscriptions.specs.declared.course.Course.{Course}
+use Rattle.siri_subscriptions.specs.declared.course.Looked.{Looked}
 use Rattle.siri_subscriptions.specs.Courses.{kept_row}
 use Rattle.siri_subscriptions.specs.Rounds.{looked, sent_if_due}
 
@@ -15,9 +17,18 @@ abbrev pub level_by : Option (Outstanding Items (List KeyChange)) → (found bef
 level_by None found before = found
 level_by (Some outstanding) found before = before
 
--- what is kept of a subscription after a settle, by the current items at a moment
-abbrev pub settled_course : ℕ → Items → Row Course → Course
-settled_course now items row =
+-- the look of a settle at a moment, after which keys are marked under the next number
+abbrev pub look_now : (now : ℕ) → Items → (next : ℕ) → Row Course → Looked
+look_now now items next row = record { moment = now; number = next; apart = (look_at now items (kept_row row)).apart }
+
+-- where nothing is outstanding it is the last look
+abbrev pub looked_by : Option (Outstanding Items (List KeyChange)) → (before : Option Looked) → (now : Looked) → Option Looked
+looked_by None before now = Some now
+looked_by (Some outstanding) before now = before
+
+-- what is kept of a subscription after a settle, by the current items at a moment; its looks get the next number
+abbrev pub settled_course : (now : ℕ) → Items → (next : ℕ) → Row Course → Course
+settled_course now items next row =
     let settled = model.settled_row now items (kept_row row) in
     record {
       rounds = sent_if_due now (looked (model.asked_of (kept_row row)) (shown now items row.wanted.topic) now row.slot.rounds);
@@ -25,7 +36,8 @@ settled_course now items row =
       is_level = level_by row.slot.rounds.outstanding
           (change.meets row.wanted.slack row.slot.rounds.acknowledged (shown now items row.wanted.topic))
           row.slot.is_level;
+      looked = looked_by row.slot.rounds.outstanding row.slot.looked (look_now now items next row);
     }
 
-abbrev pub settled_row : ℕ → Items → Row Course → Row Course
-settled_row now items row = record row { slot = settled_course now items row }
+abbrev pub settled_row : (now : ℕ) → Items → (next : ℕ) → Row Course → Row Course
+settled_row now items next row = record row { slot = settled_course now items next row }

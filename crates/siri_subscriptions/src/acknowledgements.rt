@@ -3,6 +3,7 @@
 ghost use Rattle.std.specs.Prelude.{◌≡◌, ◌↔◌, true, Some};
 ghost use Rattle.siri_model.specs.Rows.{rows_acknowledged};
 ghost use Rattle.siri_subscriptions.specs.Courses.{kept_rows};
+ghost use Rattle.siri_subscriptions.specs.Noted.{looked_in};
 ghost use Rattle.siri_subscriptions.specs.Acknowledgements.{counts, counts_by};
 
 use crate::course::Course;
@@ -22,6 +23,7 @@ pub fn acknowledge(
 ) -> Taken
     ensures taken { (result ≡ Taken.Taken) ↔ (counts start message.now (kept_rows table.old) ≡ true) }
     ensures rows { kept_rows table.new ≡ rows_acknowledged start now message.now.status message.now.consumer_ref message.now.extensions (kept_rows table.old) }
+    ensures looked { looked_in table.new ≡ looked_in table.old }
 {
     if !message.status {
         return Taken::NotThis;
@@ -42,6 +44,7 @@ fn acknowledge_part(
 ) -> Taken
     ensures taken { (result ≡ Taken.Taken) ↔ (counts_by start true (Some consumer.now) (Some mark.now) (kept_rows table.old) ≡ true) }
     ensures rows { kept_rows table.new ≡ rows_acknowledged start now true (Some consumer.now) (Some mark.now) (kept_rows table.old) }
+    ensures looked { looked_in table.new ≡ looked_in table.old }
 {
     let Some(place) = table.place_of(consumer, &mark.subscription) else {
         return Taken::NotThis;

@@ -1,11 +1,12 @@
 //! What is kept of a subscription.
 
-ghost use Rattle.std.specs.Prelude.{◌≡◌, false};
+ghost use Rattle.std.specs.Prelude.{◌≡◌, false, None};
 ghost use Rattle.siri_messages.specs.Asked.{Asked};
 ghost use Rattle.siri_model.specs.Rows.{nothing_kept};
 ghost use Rattle.siri_subscriptions.specs.Courses.{kept};
 
-use siri_base::Moment;
+use siri_base::{List, Moment};
+use siri_records::SharedKey;
 use siri_rounds::Rounds;
 use siri_topic::Subscription;
 use std::alloc::Global;
@@ -18,6 +19,20 @@ pub struct Course {
     pub last_heartbeat: Moment,
     /// Whether the last look found that the acknowledged view meets what is shown.
     pub is_level: bool,
+    /// The last look, none before the first.
+    pub looked: Option<Looked>,
+}
+
+/// A look at a subscription.
+#[derive(Drop)]
+pub struct Looked {
+    /// Its moment.
+    pub moment: Moment,
+    /// The number under which keys are marked after it.
+    pub number: u64,
+    /// The keys on which the view that its consumer is led to and what was shown don't agree: none, unless the numbers
+    /// of rounds are used up.
+    pub apart: List<SharedKey>,
 }
 
 impl Drop for Course {
@@ -26,6 +41,7 @@ impl Drop for Course {
             rounds: _,
             last_heartbeat: _,
             is_level: _,
+            looked: _,
         } = self;
     }
 }
@@ -35,11 +51,13 @@ impl Course {
     pub fn new(alloc: Global, wanted: &Subscription, now: Moment) -> Course
         ensures kept { (asked : Asked) → asked.subscription ≡ wanted.now → kept result ≡ nothing_kept now asked }
         ensures level { result.is_level ≡ false }
+        ensures looked { result.looked ≡ None }
     {
         Course {
             rounds: Rounds::new(alloc, wanted.fetched),
             last_heartbeat: now,
             is_level: false,
+            looked: None,
         }
     }
 }

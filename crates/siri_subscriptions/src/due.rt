@@ -1,19 +1,25 @@
 //! What is due of one subscription at a settle.
 
-ghost use Rattle.std.specs.Prelude.{◌≡◌, ◌≤◌, ◌++◌, is_some, IfOk, OnOk};
+ghost use Rattle.std.specs.Prelude.{◌≡◌, ◌≤◌, ◌+◌, ◌++◌, None, is_some, length, IfOk, OnOk};
 ghost use Rattle.siri_subs.specs.Lent.{entry_of};
 ghost use Rattle.siri_subscriptions.specs.Courses.{kept_row};
+ghost use Rattle.siri_model.specs.Followed.{look_bound};
 ghost use Rattle.siri_model.specs.Rows.{is_heartbeat_due};
-ghost use Rattle.siri_subscriptions.specs.Due.{course_after, IsDue, IsFound};
+ghost use Rattle.siri_subscriptions.specs.Again.{AreTouched};
+ghost use Rattle.siri_subscriptions.specs.Due.{apart_at, course_after, IsDue, IsFound};
+ghost use Rattle.siri_subscriptions.specs.Looked.{RowFollows, followed_row};
 ghost use Rattle.siri_subscriptions.specs.Openings.{CanOpen};
 ghost use Rattle.siri_subscriptions.specs.Sends.{outs_with, at_of, heartbeat_due, part_due, row_sends};
 
-use crate::course::Course;
+use crate::again::look_again;
+use crate::course::{Course, Looked};
 use crate::outs::push_out;
+use crate::touched::Touched;
 use crate::{Finding, Out, look, message_due, move_on};
 use siri_base::{List, Moment, OutOfMemory};
 use siri_change::View;
 use siri_messages::Message;
+use siri_records::SharedKey;
 use siri_replies::heartbeat;
 use siri_responder::Responder;
 use siri_status::Beats;
@@ -24,7 +30,17 @@ use std::alloc::Global;
 #[derive(Drop)]
 pub(crate) struct Due {
     pub finding: Finding,
+    /// The keys that are kept apart after the look, where there is one.
+    pub apart: Option<List<SharedKey>>,
     pub has_heartbeat: bool,
+}
+
+/// What a settle sees of a subscription: there is no look where a round of it is outstanding.
+#[derive(Drop)]
+pub(crate) struct Seen {
+    pub finding: Finding,
+    /// The keys that are kept apart after the look, where there is one.
+    pub apart: Option<List<SharedKey>>,
 }
 
 /// Looks at a subscription, puts what is sent of it at the end, and tells what is due. Of the responder nothing but the
@@ -33,18 +49,24 @@ pub(crate) fn find_due(
     alloc: Global,
     responder: &mut Responder,
     entry: &Entry<'_, Course>,
+    touched: &mut Touched,
     outs: &mut List<Out>,
 ) -> Result<Due, OutOfMemory>
-    ensures due { IfOk result (IsDue responder.old.moment responder.old.held (entry_of entry.now)) }
+    requires follows { RowFollows responder.old (entry_of entry.now) }
+    requires touched { AreTouched responder.old touched.old }
+    ensures due { IfOk result (IsDue responder.old.moment responder.old.held (responder.old.marks.number + 1) (entry_of entry.now)) }
     ensures outs { OnOk result (outs.new ≡ outs.old ++ row_sends (at_of responder.old) responder.old.held (kept_row (entry_of entry.now))) }
+    ensures touched { AreTouched responder.new touched.new }
     ensures rest { responder.new ≡ record responder.old { reads = responder.new.reads } }
     ensures risen { responder.old.reads ≤ responder.new.reads }
+    ensures bound { responder.new.reads ≤ responder.old.reads + look_bound responder.old.moment responder.old.held (followed_row responder.old.marks (entry_of entry.now)) }
 {
-    let finding = look_at(alloc, responder, entry)?;
+    let Seen { finding, apart } = look_at(alloc, responder, entry, touched)?;
     push_part(alloc, responder, entry, &finding, outs)?;
     let has_heartbeat = push_heartbeat(responder, entry, outs)?;
     Ok(Due {
         finding,
+        apart,
         has_heartbeat,
     })
 }
@@ -84,20 +106,53 @@ fn look_at(
     alloc: Global,
     responder: &mut Responder,
     entry: &Entry<'_, Course>,
-) -> Result<Finding, OutOfMemory>
-    ensures found { IfOk result (IsFound responder.old.moment responder.old.held (entry_of entry.now)) }
+    touched: &mut Touched,
+) -> Result<Seen, OutOfMemory>
+    requires follows { RowFollows responder.old (entry_of entry.now) }
+    requires touched { AreTouched responder.old touched.old }
+    ensures found { IfOk result (λ seen. IsFound responder.old.moment responder.old.held (entry_of entry.now) seen.finding) }
+    ensures apart { IfOk result (λ seen. seen.apart ≡ apart_at responder.old.moment responder.old.held (entry_of entry.now)) }
+    ensures touched { AreTouched responder.new touched.new }
     ensures rest { responder.new ≡ record responder.old { reads = responder.new.reads } }
     ensures risen { responder.old.reads ≤ responder.new.reads }
+    ensures bound { responder.new.reads ≤ responder.old.reads + look_bound responder.old.moment responder.old.held (followed_row responder.old.marks (entry_of entry.now)) }
 {
     let course = entry.slot;
     if course.rounds.outstanding().is_some() {
-        return Ok(Finding {
-            opening: None,
-            is_level: course.is_level,
+        return Ok(Seen {
+            finding: Finding {
+                opening: None,
+                is_level: course.is_level,
+            },
+            apart: None,
         });
     }
+    match &course.looked {
+        Some(looked) => look_again(alloc, responder, entry, looked, touched),
+        None => look_first(alloc, responder, entry),
+    }
+}
+
+/// Looks at a subscription for the first time: a round opens, so no key is kept apart.
+fn look_first(
+    alloc: Global,
+    responder: &mut Responder,
+    entry: &Entry<'_, Course>,
+) -> Result<Seen, OutOfMemory>
+    requires level { (entry_of entry.now).slot.rounds.outstanding ≡ None }
+    requires first { (entry_of entry.now).slot.rounds.rounds_opened ≡ 0 }
+    ensures found { IfOk result (λ seen. IsFound responder.old.moment responder.old.held (entry_of entry.now) seen.finding) }
+    ensures apart { IfOk result (λ seen. seen.apart ≡ apart_at responder.old.moment responder.old.held (entry_of entry.now)) }
+    ensures rest { responder.new ≡ record responder.old { reads = responder.new.reads } }
+    ensures risen { responder.old.reads ≤ responder.new.reads }
+    ensures bound { responder.new.reads ≤ responder.old.reads + length responder.old.held }
+{
     let shown = responder.shown(&entry.wanted.topic)?;
-    look(alloc, entry.wanted, &course.rounds, View::of(shown))
+    let finding = look(alloc, entry.wanted, &entry.slot.rounds, View::of(shown))?;
+    Ok(Seen {
+        finding,
+        apart: Some(List::new(alloc)),
+    })
 }
 
 /// The message of the wanted part, where one is due once the round has opened that a look found.
@@ -139,14 +194,26 @@ fn heartbeat_due(
     Ok(Some(Message::HeartbeatNotification(heartbeat)))
 }
 
-/// Does what is due at a moment. It takes no memory.
-pub(crate) fn do_due(course: &mut Course, now: Moment, due: Due)
+/// Does what is due at a moment; after a look keys are marked under the next number. It takes no memory.
+pub(crate) fn do_due(course: &mut Course, now: Moment, next: u64, due: Due)
     requires { CanOpen due.finding.opening course.old.rounds }
-    ensures { course.new ≡ course_after now due course.old }
+    ensures { course.new ≡ course_after now next due course.old }
 {
-    move_on(&mut course.rounds, now, due.finding.opening);
-    course.is_level = due.finding.is_level;
-    if due.has_heartbeat {
+    let Due {
+        finding,
+        apart,
+        has_heartbeat,
+    } = due;
+    move_on(&mut course.rounds, now, finding.opening);
+    course.is_level = finding.is_level;
+    if let Some(apart) = apart {
+        course.looked = Some(Looked {
+            moment: now,
+            number: next,
+            apart,
+        });
+    }
+    if has_heartbeat {
         course.last_heartbeat = now;
     }
 }

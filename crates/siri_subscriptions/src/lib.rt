@@ -24,6 +24,11 @@
 //! A request may ask for many subscriptions. All memory that its answer may need is taken before the first is accepted,
 //! and the part that is supplied is made before it counts as sent, so after want of memory the table is as it was.
 //!
+//! The first look at a subscription goes over all that is shown to its topic. Each later one reads only the stored
+//! items whose keys were touched since the last and those of which an end of the topic's window passed an edge, and
+//! where a round opens that has all items, those of its target. A [`Looked`] keeps the moment of the last look and the
+//! number of marks after it. Where nothing changed, a look reads nothing and takes no memory.
+//!
 //! A settle is two passes over the table. In the first each subscription looks and says what is to be sent, which takes
 //! all memory and changes nothing of the table; in the second each moves on, which takes none. So after want of memory
 //! the table is as it was.
@@ -35,6 +40,7 @@
 #![tactic(auto)]
 
 mod acknowledgements;
+mod again;
 mod course;
 mod due;
 mod looks;
@@ -45,9 +51,10 @@ mod requests;
 mod settling;
 mod supplies;
 mod terminations;
+mod touched;
 
 pub use acknowledgements::acknowledge;
-pub use course::Course;
+pub use course::{Course, Looked};
 pub use looks::{Finding, Opening, look, move_on};
 pub use messages::message_due;
 pub use outs::Out;

@@ -10,7 +10,7 @@ ghost use Rattle.siri_subscriptions.specs.Rounds.{looked, sent_if_due};
 
 use siri_base::{Copies, List, Moment, OutOfMemory};
 use siri_change::{Change, View, changes, differ, target};
-use siri_records::{Item, Key};
+use siri_records::{Item, SharedKey};
 use siri_rounds::{GREATEST_ROUND, Rounds};
 use siri_topic::Subscription;
 use std::alloc::Global;
@@ -57,7 +57,7 @@ pub fn look(
 }
 
 /// Whether a round is due after the last one, where the acknowledged view meets what is shown or not.
-fn is_round_due(last: u64, is_level: bool) -> bool
+pub(crate) fn is_round_due(last: u64, is_level: bool) -> bool
     ensures due { result ≡ (nat_lt last greatest_round && (last == 0 || not is_level)) }
     ensures room { result ≡ true → last < greatest_round }
 {
@@ -84,7 +84,7 @@ fn round_to_open(
 }
 
 /// All of a view, as changes of the empty view.
-fn whole(alloc: Global, view: &View) -> Result<List<Change>, OutOfMemory>
+pub(crate) fn whole(alloc: Global, view: &View) -> Result<List<Change>, OutOfMemory>
     ensures { IfOk result (λ list. list ≡ part.whole view.now) }
 {
     let mut list = List::new(alloc);
@@ -99,7 +99,7 @@ fn whole(alloc: Global, view: &View) -> Result<List<Change>, OutOfMemory>
 }
 
 /// The change that makes an entry's item the one of its key.
-fn addition(entry: &(Key, Rc<Item>)) -> Result<Change, OutOfMemory>
+pub(crate) fn addition(entry: &(SharedKey, Rc<Item>)) -> Result<Change, OutOfMemory>
     ensures { IfOk result (λ change. change ≡ (entry.now.0, Some entry.now.1.value)) }
 {
     let item = entry.1.clone()?;

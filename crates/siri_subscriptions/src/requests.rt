@@ -4,8 +4,9 @@ ghost use Rattle.std.specs.Prelude.{◌≡◌, IfOk, OnOk, OnErr, Some};
 ghost use Rattle.siri_messages.specs.Asked.{asked_in};
 ghost use Rattle.siri_model.specs.Rows.{rows_asked};
 ghost use Rattle.siri_subscriptions.specs.Courses.{kept_rows};
+ghost use Rattle.siri_subscriptions.specs.Noted.{noted_asked, noted_rows};
 ghost use Rattle.siri_subscriptions.specs.Requests.{subscription_answer, termination_in};
-ghost use Rattle.siri_subscriptions.specs.Prepared.{accept_rows, accept_status, all_rows, all_statuses, candidate_status, with_valid_until};
+ghost use Rattle.siri_subscriptions.specs.Prepared.{accept_noted, accept_rows, accept_status, all_noted, all_rows, all_statuses, candidate_status, with_valid_until};
 
 use crate::course::Course;
 use crate::prepared::{Candidate, held, prepare_all};
@@ -28,6 +29,7 @@ pub fn subscribe(
 ) -> Result<SubscriptionResponse, OutOfMemory>
     ensures answer { IfOk result (λ response. response ≡ subscription_answer now request.now (kept_rows table.old)) }
     ensures rows { OnOk result (kept_rows table.new ≡ rows_asked now request.now.message_identifier (asked_in request.now) (kept_rows table.old)) }
+    ensures noted { OnOk result (noted_rows table.new ≡ noted_asked now request.now.message_identifier (asked_in request.now) (noted_rows table.old)) }
     ensures err { OnErr result (table.new ≡ table.old) }
 {
     let number = request.message_identifier;
@@ -47,6 +49,7 @@ fn accept_all(
 ) -> Result<List<ResponseStatus>, OutOfMemory>
     ensures ok { IfOk result (λ statuses. statuses ≡ all_statuses now number candidates.items (kept_rows table.old)) }
     ensures rows { OnOk result (kept_rows table.new ≡ all_rows now number candidates.items (kept_rows table.old)) }
+    ensures noted { OnOk result (noted_rows table.new ≡ all_noted now number candidates.items (noted_rows table.old)) }
     ensures err { OnErr result (table.new ≡ table.old) }
 {
     let mut statuses = Vec::with_capacity(alloc, candidates.len())?;
@@ -66,6 +69,7 @@ fn accept(
 ) -> ResponseStatus
     ensures status { result ≡ accept_status now number (kept_rows table.old) candidate }
     ensures rows { kept_rows table.new ≡ accept_rows now number (kept_rows table.old) candidate }
+    ensures noted { noted_rows table.new ≡ accept_noted now number (noted_rows table.old) candidate }
 {
     let termination = termination_held(table, &candidate.wanted);
     let course = Course::new(alloc, &candidate.wanted, now);

@@ -7,6 +7,7 @@ ghost use Rattle.siri_subs.specs.Lent.{entry_of};
 ghost use Rattle.siri_subs.specs.Loans.{with_slot};
 ghost use Rattle.siri_subscriptions.specs.declared.course.Course.{Course};
 ghost use Rattle.siri_subscriptions.specs.Courses.{kept_row, kept_rows};
+ghost use Rattle.siri_subscriptions.specs.Noted.{looked_in};
 ghost use Rattle.siri_subscriptions.specs.Acknowledgements.{names_wanted};
 ghost use Rattle.siri_subscriptions.specs.Supplies.{not_supplied, rows_supplied, supply_answer, supply_of};
 
@@ -42,6 +43,7 @@ pub fn supply(
 ) -> Result<SupplyAnswer, OutOfMemory>
     ensures answer { IfOk result (λ answer. answer ≡ supply_answer producer.now start now request.now (kept_rows table.old)) }
     ensures rows { OnOk result (kept_rows table.new ≡ rows_supplied start now request.now.consumer_ref request.now.extensions (kept_rows table.old)) }
+    ensures looked { OnOk result (looked_in table.new ≡ looked_in table.old) }
     ensures err { OnErr result (table.new ≡ table.old) }
 {
     let mark = &request.extensions;

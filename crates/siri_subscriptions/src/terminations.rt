@@ -3,8 +3,9 @@
 ghost use Rattle.std.specs.Prelude.{◌≡◌, IfOk, OnOk, OnErr, map};
 ghost use Rattle.siri_model.specs.Rows.{rows_ended};
 ghost use Rattle.siri_subscriptions.specs.Courses.{kept_rows};
+ghost use Rattle.siri_subscriptions.specs.Noted.{noted_ended, noted_rows};
 ghost use Rattle.siri_subscriptions.specs.Terminations.{termination_answer};
-ghost use Rattle.siri_subscriptions.specs.Endings.{sayings_of, sayings, said, rows_left, all_said, all_left};
+ghost use Rattle.siri_subscriptions.specs.Endings.{sayings_of, sayings, said, rows_left, noted_left, all_said, all_left, all_noted_left};
 
 use crate::course::Course;
 use siri_base::{List, Moment, Name, OutOfMemory};
@@ -27,6 +28,7 @@ pub fn terminate(
 ) -> Result<TerminateSubscriptionResponse, OutOfMemory>
     ensures answer { IfOk result (λ response. response ≡ termination_answer now request.now (kept_rows table.old)) }
     ensures rows { OnOk result (kept_rows table.new ≡ rows_ended request.now.message_identifier request.now.subscriber_ref request.now.subscription_ref (kept_rows table.old)) }
+    ensures noted { OnOk result (noted_rows table.new ≡ noted_ended request.now.message_identifier request.now.subscriber_ref request.now.subscription_ref (noted_rows table.old)) }
     ensures err { OnErr result (table.new ≡ table.old) }
 {
     let number = request.message_identifier;
@@ -74,6 +76,7 @@ fn end_all(
 ) -> Result<List<TerminationResponseStatus>, OutOfMemory>
     ensures ok { IfOk result (λ statuses. statuses ≡ all_said number subscriber.now (map sayings_of endings.entry.items) (kept_rows table.old)) }
     ensures rows { OnOk result (kept_rows table.new ≡ all_left number subscriber.now (map sayings_of endings.entry.items) (kept_rows table.old)) }
+    ensures noted { OnOk result (noted_rows table.new ≡ all_noted_left number subscriber.now (map sayings_of endings.entry.items) (noted_rows table.old)) }
     ensures err { OnErr result (table.new ≡ table.old) }
 {
     let mut statuses = Vec::with_capacity(alloc, endings.len())?;
@@ -92,6 +95,7 @@ fn end(
 ) -> TerminationResponseStatus
     ensures status { result ≡ said number subscriber.now (kept_rows table.old) (sayings_of ending.entry) }
     ensures rows { kept_rows table.new ≡ rows_left number subscriber.now (kept_rows table.old) (sayings_of ending.entry) }
+    ensures noted { noted_rows table.new ≡ noted_left number subscriber.now (noted_rows table.old) (sayings_of ending.entry) }
 {
     match table.end(number, subscriber, ending.identifier) {
         Ok(()) => ending.ended,

@@ -2,7 +2,7 @@
 
 use siri_base::Name;
 use siri_change::{Change, View, changes, patch};
-use siri_records::{Item, Key, Vehicle, VehicleJourney};
+use siri_records::{Item, Key, SharedKey, Vehicle, VehicleJourney};
 use std::alloc::{AllocError, Global};
 use std::rc::Rc;
 use std::test::Fail;
@@ -20,7 +20,7 @@ fn addition(alloc: Global, name: &str) -> Result<Change, Fail> {
     let vehicle = Name::new(alloc, name)?;
     let item = Rc::new(alloc, vehicle_of(Name::new(alloc, name)?))?;
     Ok(Change {
-        key: Key::Vehicle { vehicle },
+        key: SharedKey::new(alloc, Key::Vehicle { vehicle })?,
         item: Some(item),
     })
 }
@@ -38,12 +38,20 @@ fn view(alloc: Global, names: &[&str]) -> Result<View, Fail> {
 fn told(alloc: Global, view: &View) -> Result<String, AllocError> {
     let mut text = String::new(alloc);
     for place in 0..view.len() {
-        if let Some((Key::Vehicle { vehicle }, _)) = view.entry(place) {
-            text.push_str(" ")?;
-            text.push_str(vehicle.text())?;
+        if let Some((key, _)) = view.entry(place) {
+            push_name(&mut text, key.key())?;
         }
     }
     Ok(text)
+}
+
+/// Puts the name of a vehicle at the end, with a space before it.
+fn push_name(text: &mut String, key: &Key) -> Result<(), AllocError> {
+    if let Key::Vehicle { vehicle } = key {
+        text.push_str(" ")?;
+        text.push_str(vehicle.text())?;
+    }
+    Ok(())
 }
 
 /// The first view with the changes that lead to the second.

@@ -26,7 +26,7 @@ use Rattle.siri_world.proofs.Starts.{goes_length, goes_latest, last_start}
 -- one more step
 pub serves_on : (old new : producing.Known) (h : History) (step : Step) → GoesOn old new step
     → new.responder.name ≡ old.responder.name → Serves old h → Serves new (h ++ step ∷ [])
-serves_on old new h step goes name serves = record { name = name ∙ serves.name; stands = goes h serves.stands }
+serves_on old new h step goes name serves = record { name = name ∙ serves.name; stands = goes.stands h serves.stands }
 
 -- the counter doesn't matter
 pub serves_counted : (old new : producing.Known) (h : History) → SameButReads old new → Serves old h → Serves new h

@@ -2,7 +2,7 @@ use Rattle.std.proofs.Common.{sym, ap, ◌∙◌, option_map}
 use Rattle.siri_life.specs.Slot.{wants}
 use Rattle.siri_subs.specs.Lent.{entry_of}
 use Rattle.siri_subscriptions.specs.declared.course.Course.{Course}
-use Rattle.siri_subscriptions.proofs.Marked.{row_there, here_at, slot_here, is_own, other_number, other_start}
+use Rattle.siri_subscriptions.proofs.Marked.{row_there, here_at, slot_here, looked_here, is_own, other_number, other_start}
 use Rattle.siri_subscriptions.proofs.Acknowledged.{none_counts, none_changes, other_counts, other_changes, own_counts, own_changes, isnt_taken, taken_by}
 use Rattle.siri_subscriptions.proofs.acknowledgements.acknowledge_part.Goals as goal
 
@@ -78,3 +78,14 @@ returns-in-Some-at_mut-clause-rows c =
     own_changes c.args.start c.args.now c.args.consumer.now m c.args.table.now c.in-Some.place h here
     (is_own m h.number c.args.start c.if-mark-at.true c.if-mark-start.true) c.in-Some-at_mut.course.now same
     c.acknowledge.new.self c.acknowledge.ensures.rounds
+
+pub returns-in-Some-at_mut-clause-looked : goal.returns-in-Some-at_mut-clause-looked
+returns-in-Some-at_mut-clause-looked c =
+    let m = c.args.mark.now in
+    let h = entry_of c.in-Some-at.row in
+    let here = here_at c.args.consumer.now m.subscription c.args.table.now c.in-Some.place h c.place_of.ensures.once
+    (sym c.place_of.ensures.place ∙ c.in-Some.is) (sym (ap (option_map entry_of) c.in-Some-at.is) ∙ c.at.ensures) in
+    let same = slot_here c.args.consumer.now m.subscription c.args.table.now c.in-Some.place h
+    c.in-Some-at_mut.course.now here c.in-Some-at_mut.ensures.value in
+    looked_here c.args.consumer.now m.subscription c.args.table.now c.in-Some.place h here
+    c.in-Some-at_mut.course.now same c.acknowledge.new.self

@@ -2,9 +2,10 @@ use Rattle.std.proofs.Common.{ap, ◌∙◌}
 use Rattle.siri_messages.specs.Asked.{asked_in}
 use Rattle.siri_replies.specs.Responses.{subscription_response}
 use Rattle.siri_subscriptions.specs.Courses.{kept_rows}
+use Rattle.siri_subscriptions.specs.Noted.{noted_rows}
 use Rattle.siri_subscriptions.specs.Requests.{subscription_answer}
-use Rattle.siri_subscriptions.specs.Prepared.{all_statuses, all_rows}
-use Rattle.siri_subscriptions.proofs.Accepted.{answered, rows_answered}
+use Rattle.siri_subscriptions.specs.Prepared.{all_statuses, all_rows, all_noted}
+use Rattle.siri_subscriptions.proofs.Accepted.{answered, rows_answered, noted_answered}
 use Rattle.siri_subscriptions.proofs.requests.subscribe.Goals as goal
 
 pub returns-clause-answer : goal.returns-clause-answer
@@ -23,3 +24,10 @@ returns-clause-rows c =
     let rows = kept_rows c.args.table.now in
     c.in_ok-statuses.ensures.rows ∙ (ap (λ l. all_rows c.args.now r.message_identifier l rows)
     c.in_ok-candidates.ensures ∙ rows_answered c.args.now r.message_identifier (asked_in r) rows)
+
+pub returns-clause-noted : goal.returns-clause-noted
+returns-clause-noted c =
+    let r = c.args.request.now in
+    let noted = noted_rows c.args.table.now in
+    c.in_ok-statuses.ensures.noted ∙ (ap (λ l. all_noted c.args.now r.message_identifier l noted)
+    c.in_ok-candidates.ensures ∙ noted_answered c.args.now r.message_identifier (asked_in r) (kept_rows c.args.table.now) noted)

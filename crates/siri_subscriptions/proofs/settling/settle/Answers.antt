@@ -1,4 +1,4 @@
-use Rattle.std.proofs.Common.{List, map, ap, sym, subst, ◌∙◌}
+use Rattle.std.proofs.Common.{◌+◌, List, map, ap, sym, subst, ◌∙◌}
 use Rattle.siri_subs.specs.declared.entry.Row.{Row}
 use Rattle.siri_responder.specs.Known.{Known}
 use Rattle.siri_subscriptions.specs.declared.course.Course.{Course}
@@ -11,5 +11,5 @@ pub returns-clause-levels : goal.returns-clause-levels
 returns-clause-levels c =
     let known = c.args.responder.now in
     let rows = c.args.table.now in
-    let is = c.carry_out.ensures ∙ ap (λ (k : Known). map (settled_row k.moment k.held) rows) c.in_ok-outs.ensures.rest in
-    subst (λ (table : List (Row Course)). KnowLevels known.moment known.held table) (sym is) (know_settled known.moment known.held rows)
+    let is = c.carry_out.ensures ∙ ap (λ (k : Known). map (settled_row k.moment k.held (k.marks.number + 1)) rows) c.in_ok-outs.ensures.rest in
+    subst (λ (table : List (Row Course)). KnowLevels known.moment known.held table) (sym is) (know_settled known.moment known.held (known.marks.number + 1) rows)

@@ -1,9 +1,11 @@
-use Rattle.std.proofs.Common.{◌≡◌, not, Result, Ok, Err, sym, ap, ◌∙◌, subst, option_map}
+use Rattle.std.proofs.Common.{◌≡◌, not, Result, Ok, Err, refl, sym, ap, ◌∙◌, subst, option_map}
 use Rattle.std.specs.Prelude.{IfOk, OnOk}
+use Rattle.siri_life.specs.Slot.{with_supply}
 use Rattle.siri_subs.specs.Lent.{entry_of}
 use Rattle.siri_subscriptions.specs.Courses.{kept_rows}
+use Rattle.siri_subscriptions.specs.Noted.{looked_in}
 use Rattle.siri_subscriptions.specs.Supplies.{supply_in, supply_answer}
-use Rattle.siri_subscriptions.proofs.Marked.{row_there, here_at}
+use Rattle.siri_subscriptions.proofs.Marked.{row_there, here_at, looked_here}
 use Rattle.siri_subscriptions.proofs.Supplied.{finds_none, finds_row, none_supplied, same_supplied, own_supplied}
 use Rattle.siri_subscriptions.proofs.supplies.supply.Goals as goal
 
@@ -84,3 +86,15 @@ returns-clause-rows c =
     let supplied = sym c.in_ok-answer.ensures.supplied ∙ c.is_err.ensures.negation ∙ ap not c.if-is_err.false in
     ap kept_rows (c.supply_part.ensures h here.row)
     ∙ own_supplied c.args.start c.args.now r.consumer_ref r.extensions c.args.table.now c.in-Some.place h here supplied
+
+pub returns-clause-looked : goal.returns-clause-looked
+returns-clause-looked c =
+    let r = c.args.request.now in
+    let m = r.extensions in
+    let h = entry_of c.in-Some-at.row in
+    let place = sym c.place_of.ensures.place ∙ c.in-Some.is in
+    let here = here_at r.consumer_ref m.subscription c.args.table.now c.in-Some.place h c.place_of.ensures.once
+    place (sym (ap (option_map entry_of) c.in-Some-at.is) ∙ c.at.ensures) in
+    ap looked_in (c.supply_part.ensures h here.row)
+    ∙ looked_here r.consumer_ref m.subscription c.args.table.now c.in-Some.place h here h.slot refl
+    (with_supply h.slot.rounds m.round m.part c.args.now)

@@ -1,6 +1,6 @@
 use Rattle.std.proofs.Common.{true, false}
 use Rattle.siri_subscriptions.specs.Endings.{sayings_of}
-use Rattle.siri_subscriptions.proofs.Ended.{is_said, is_left}
+use Rattle.siri_subscriptions.proofs.Ended.{is_said, is_left, is_noted_left}
 use Rattle.siri_subscriptions.proofs.terminations.end.Goals as goal
 
 pub returns-in-Ok-clause-status : goal.returns-in-Ok-clause-status
@@ -17,3 +17,10 @@ returns-in-Err-UnknownSubscription-clause-status c = is_said c.args.number c.arg
 pub returns-in-Err-UnknownSubscription-clause-rows :
     goal.returns-in-Err-UnknownSubscription-clause-rows
 returns-in-Err-UnknownSubscription-clause-rows c = is_left c.args.number c.args.subscriber.now (sayings_of c.args.ending) c.args.table.now _ c.end.ensures.table
+
+pub returns-in-Ok-clause-noted : goal.returns-in-Ok-clause-noted
+returns-in-Ok-clause-noted c = is_noted_left c.args.number c.args.subscriber.now (sayings_of c.args.ending) c.args.table.now _ c.end.ensures.table
+
+pub returns-in-Err-UnknownSubscription-clause-noted :
+    goal.returns-in-Err-UnknownSubscription-clause-noted
+returns-in-Err-UnknownSubscription-clause-noted c = is_noted_left c.args.number c.args.subscriber.now (sayings_of c.args.ending) c.args.table.now _ c.end.ensures.table

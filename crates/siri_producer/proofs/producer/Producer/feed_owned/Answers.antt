@@ -1,31 +1,26 @@
 use Rattle.std.proofs.Common.{false, subst}
-use Rattle.std.proofs.lemmas.Result.{on_ok_weaker, on_err_weaker}
 use Rattle.siri_model.specs.History.{Feed, entries_of}
 use Rattle.siri_producer.specs.Known.{Known, GoesOn, TookSome}
 use Rattle.siri_producer.specs.Standing.{known_of}
-use Rattle.siri_producer.proofs.Stands.{goes_fed, is_fed, took_fed}
+use Rattle.siri_producer.proofs.Stands.{fed_ok, fed_some, is_fed}
 use Rattle.siri_producer.proofs.producer.Producer.feed_owned.Goals as goal
 
 pub invariant_of-self : goal.invariant_of-self
 invariant_of-self c =
     let inside = c.self.inside in
-    is_fed c.feed_owned.result inside.responder c.feed_owned.new.self inside.table inside.is_settled
-    (entries_of c.args.delivery) c.self.invariant.stands c.feed_owned.ensures.ok c.feed_owned.ensures.err
+    is_fed inside.responder c.feed_owned.new.self inside.table inside.is_settled c.self.invariant.numbered c.feed_owned.result
+    (entries_of c.args.delivery) c.self.invariant.follows c.feed_owned.ensures.ok c.feed_owned.ensures.touched c.feed_owned.ensures.err
 
 pub returns-clause-ok : goal.returns-clause-ok
 returns-clause-ok c =
     let inside = c.self.inside in
     let entries = entries_of c.args.delivery in
-    on_ok_weaker c.feed_owned.result (λ goes. subst
-    (λ (k : Known). GoesOn k (known_of c.feed_owned.new.self inside.table false) (Feed entries)) c.self.view_is
-    (goes_fed inside.responder c.feed_owned.new.self inside.table inside.is_settled entries goes))
-    c.feed_owned.ensures.ok
+    fed_ok inside.responder c.feed_owned.new.self inside.table inside.is_settled c.self.invariant.numbered c.feed_owned.result
+    c.args.self.now entries c.self.view_is c.feed_owned.ensures.ok c.feed_owned.ensures.touched
 
 pub returns-clause-err : goal.returns-clause-err
 returns-clause-err c =
     let inside = c.self.inside in
     let entries = entries_of c.args.delivery in
-    on_err_weaker c.feed_owned.result (λ some. subst
-    (λ (k : Known). TookSome k (known_of c.feed_owned.new.self inside.table false) entries) c.self.view_is
-    (took_fed inside.responder c.feed_owned.new.self inside.table inside.is_settled entries some))
-    c.feed_owned.ensures.err
+    fed_some inside.responder c.feed_owned.new.self inside.table inside.is_settled c.self.invariant.numbered c.feed_owned.result
+    c.args.self.now entries c.self.view_is c.feed_owned.ensures.err

@@ -8,7 +8,7 @@ use Rattle.siri_producer.proofs.producer.Producer.ignore.Goals as goal
 pub invariant_of-self : goal.invariant_of-self
 invariant_of-self c =
     let inside = c.self.inside in
-    some_ignored inside.responder inside.table inside.is_settled c.self.invariant.stands
+    some_ignored inside.responder inside.table inside.is_settled c.self.invariant
 
 pub returns-clause-stands : goal.returns-clause-stands
 returns-clause-stands c = λ m other.

@@ -1,25 +1,63 @@
-use Rattle.std.proofs.Common.{true, subst}
+use Rattle.std.proofs.Common.{◌≡◌, ◌+◌, ◌≤◌, true, sym, ap, subst, arith}
+use Rattle.siri_marks.specs.Marked.{SameFrom}
+use Rattle.siri_model.specs.Followed.{look_bounds}
 use Rattle.siri_model.specs.History.{Settle}
+use Rattle.siri_responder.specs.Known as responder
+use Rattle.siri_subscriptions.specs.Looked.{followed_rows}
 use Rattle.siri_producer.specs.Known.{Known, GoesOn, SendsFor}
+use Rattle.siri_producer.specs.Oldest.{oldest_look}
 use Rattle.siri_producer.specs.Standing.{known_of}
-use Rattle.siri_producer.proofs.Settles.{goes_settled, is_settled, sends_settled}
+use Rattle.siri_producer.proofs.Follows.{all_follow}
+use Rattle.siri_producer.proofs.Settles.{bound_seen, goes_settled, is_settled, is_turned, sends_settled}
 use Rattle.siri_producer.proofs.producer.Producer.settle.Goals as goal
+
+pub settle-requires : goal.settle-requires
+settle-requires c =
+    let inside = c.self.inside in
+    record {
+      follows = all_follow inside.responder inside.table inside.is_settled c.self.invariant;
+      numbers = omega arith;
+    }
+
+pub returns-in_err-outs-clause-bound : goal.returns-in_err-outs-clause-bound
+returns-in_err-outs-clause-bound c =
+    let inside = c.self.inside in
+    bound_seen inside.responder inside.table inside.is_settled c.settle.new.responder.reads c.args.self.now c.self.view_is c.settle.ensures.bound
 
 pub invariant_of-self-2 : goal.invariant_of-self-2
 invariant_of-self-2 c =
     let inside = c.self.inside in
-    is_settled inside.responder c.settle.new.responder inside.table c.settle.new.table inside.is_settled
-    c.settle.ensures.rest c.self.invariant.stands c.in_ok-outs.ensures.table c.in_ok-outs.ensures.levels
+    let most = c.number-number.result + 1 in
+    let oldest = oldest_look most c.settle.new.table in
+    let same = subst (λ n. SameFrom n c.settle.new.responder.marks c.turn.new.self.marks) c.oldest_look.ensures c.turn.ensures.same in
+    is_settled inside.responder c.turn.new.self inside.table c.settle.new.table inside.is_settled most
+    (is_turned inside.responder c.settle.new.responder c.turn.new.self oldest c.settle.ensures.rest c.turn.ensures.rest
+    c.turn.ensures.number same c.turn.ensures.fresh)
+    c.in_ok-outs.ensures.table c.self.invariant c.in_ok-outs.ensures.levels
 
 pub returns-clause-ok : goal.returns-clause-ok
 returns-clause-ok c =
     let inside = c.self.inside in
-    subst (λ (k : Known). GoesOn k (known_of c.settle.new.responder c.settle.new.table true) Settle) c.self.view_is
-    (goes_settled inside.responder c.settle.new.responder inside.table c.settle.new.table inside.is_settled
-    c.settle.ensures.rest c.in_ok-outs.ensures.table)
+    let most = c.number-number.result + 1 in
+    let oldest = oldest_look most c.settle.new.table in
+    let same = subst (λ n. SameFrom n c.settle.new.responder.marks c.turn.new.self.marks) c.oldest_look.ensures c.turn.ensures.same in
+    subst (λ (k : Known). GoesOn k (known_of c.turn.new.self c.settle.new.table true) Settle) c.self.view_is
+    (goes_settled inside.responder c.turn.new.self inside.table c.settle.new.table inside.is_settled most
+    (is_turned inside.responder c.settle.new.responder c.turn.new.self oldest c.settle.ensures.rest c.turn.ensures.rest
+    c.turn.ensures.number same c.turn.ensures.fresh)
+    c.in_ok-outs.ensures.table)
 
 pub returns-clause-sends : goal.returns-clause-sends
 returns-clause-sends c =
     let inside = c.self.inside in
     subst (λ (k : Known). SendsFor k c.in_ok-outs.outs) c.self.view_is
     (sends_settled inside.responder inside.table inside.is_settled c.in_ok-outs.outs c.in_ok-outs.ensures.sends)
+
+pub returns-clause-bound : goal.returns-clause-bound
+returns-clause-bound c =
+    let inside = c.self.inside in
+    let known = inside.responder in
+    let reads = ap (λ (k : responder.Known). k.reads) c.turn.ensures.rest in
+    bound_seen known inside.table inside.is_settled c.turn.new.self.reads c.args.self.now c.self.view_is
+    (subst (λ n. n ≤ known.reads + look_bounds known.moment known.held (followed_rows known.marks inside.table))
+    (sym reads) c.settle.ensures.bound)

@@ -5,18 +5,14 @@ use Rattle.siri_producer.specs.declared.answers.Note.TheVariants as note
 use Rattle.siri_producer.specs.Answers.{replied}
 use Rattle.siri_producer.specs.Known.{Known, GoesOn, AnswerFor}
 use Rattle.siri_producer.specs.Standing.{known_of}
-use Rattle.siri_producer.proofs.Stands.{is_producer, went}
-use Rattle.siri_producer.proofs.Takes.{answer_asked, goes_asked}
+use Rattle.siri_producer.proofs.Takes.{answer_asked, goes_asked, is_asked}
 use Rattle.siri_producer.proofs.producer.Producer.take_service_request.Goals as goal
 
 pub invariant_of-self-2 : goal.invariant_of-self-2
 invariant_of-self-2 c =
     let inside = c.self.inside in
     let request = c.args.request.now in
-    is_producer c.direct.new.self inside.table
-    (went (known_of inside.responder inside.table inside.is_settled) (known_of c.direct.new.self inside.table false)
-    (Take (message.ServiceRequest request)) c.self.invariant.stands
-    (goes_asked inside.responder inside.table inside.is_settled c.direct.new.self request c.direct.ensures.rest))
+    is_asked inside.responder inside.table inside.is_settled c.direct.new.self request c.direct.ensures.rest c.self.invariant
 
 pub returns-clause-takes : goal.returns-clause-takes
 returns-clause-takes c =

@@ -5,18 +5,16 @@ use Rattle.siri_producer.specs.declared.answers.Note.TheVariants as note
 use Rattle.siri_producer.specs.Answers.{replied}
 use Rattle.siri_producer.specs.Known.{Known, GoesOn, AnswerFor}
 use Rattle.siri_producer.specs.Standing.{known_of}
-use Rattle.siri_producer.proofs.Stands.{is_producer, went}
-use Rattle.siri_producer.proofs.Takes.{answer_checked, goes_checked}
+use Rattle.siri_producer.proofs.Takes.{answer_checked, goes_checked, is_taken}
 use Rattle.siri_producer.proofs.producer.Producer.take_status_request.Goals as goal
 
 pub invariant_of-self : goal.invariant_of-self
 invariant_of-self c =
     let inside = c.self.inside in
     let request = c.args.request.now in
-    is_producer inside.responder inside.table
-    (went (known_of inside.responder inside.table inside.is_settled) (known_of inside.responder inside.table false)
-    (Take (message.CheckStatusRequest request)) c.self.invariant.stands
-    (goes_checked inside.responder inside.table inside.is_settled request))
+    is_taken inside.responder inside.table inside.is_settled (message.CheckStatusRequest request) inside.table
+    c.self.invariant.follows
+    (goes_checked inside.responder inside.table inside.is_settled request) c.self.invariant.numbered
 
 pub returns-clause-takes : goal.returns-clause-takes
 returns-clause-takes c =

@@ -5,8 +5,8 @@ use Rattle.siri_producer.specs.declared.answers.Note.TheVariants as note
 use Rattle.siri_producer.specs.Answers.{replied}
 use Rattle.siri_producer.specs.Known.{Known, GoesOn, AnswerFor}
 use Rattle.siri_producer.specs.Standing.{known_of}
-use Rattle.siri_producer.proofs.Stands.{is_producer, went}
-use Rattle.siri_producer.proofs.Takes.{answer_ended, goes_ended}
+use Rattle.siri_producer.proofs.Noted.{ended_numbered}
+use Rattle.siri_producer.proofs.Takes.{answer_ended, goes_ended, is_taken}
 use Rattle.siri_producer.proofs.producer.Producer.take_terminations.Goals as goal
 
 pub invariant_of-self-2 : goal.invariant_of-self-2
@@ -14,22 +14,27 @@ invariant_of-self-2 c =
     let inside = c.self.inside in
     let request = c.args.request.now in
     let after = c.terminate.new.table in
-    is_producer inside.responder after (went (known_of inside.responder inside.table inside.is_settled)
-    (known_of inside.responder after false) (Take (message.TerminateSubscriptionRequest request))
-    c.self.invariant.stands (goes_ended inside.responder inside.table inside.is_settled after request
-    c.in_ok-response.ensures.rows))
+    let noted = c.in_ok-response.ensures.noted in
+    let numbered = ended_numbered inside.responder.marks.number inside.table after c.self.invariant.numbered
+    request.message_identifier request.subscriber_ref request.subscription_ref noted in
+    is_taken inside.responder inside.table inside.is_settled
+    (message.TerminateSubscriptionRequest request) after c.self.invariant.follows
+    (goes_ended inside.responder inside.table inside.is_settled after request
+    c.in_ok-response.ensures.rows noted) numbered
 
 pub returns-clause-takes : goal.returns-clause-takes
 returns-clause-takes c =
     let inside = c.self.inside in
     let request = c.args.request.now in
     let after = c.terminate.new.table in
+    let noted = c.in_ok-response.ensures.noted in
     let response = c.in_ok-response.response in
     record {
       ok = subst (λ (k : Known). GoesOn k (known_of inside.responder after false)
           (Take (message.TerminateSubscriptionRequest request))) c.self.view_is
-          (goes_ended inside.responder inside.table inside.is_settled after request c.in_ok-response.ensures.rows);
-      answer = λ h s. c.replied.ensures ∙ subst (λ (k : Known). AnswerFor k (message.TerminateSubscriptionRequest request)
+          (goes_ended inside.responder inside.table inside.is_settled after request c.in_ok-response.ensures.rows noted);
+      answer = λ h s. c.replied.ensures
+          ∙ subst (λ (k : Known). AnswerFor k (message.TerminateSubscriptionRequest request)
           (replied note.Ended (message.TerminateSubscriptionResponse response))) c.self.view_is
           (answer_ended inside.responder inside.table inside.is_settled c.now.result request response c.now.ensures
           c.in_ok-response.ensures.answer) h s;

@@ -7,6 +7,7 @@ loop-delivery-preserved c =
     let next = drop_here c.args.deliveries.now c.loop-delivery.delivery-index c.delivery-item.result c.loop-delivery-test.true c.delivery-item.is in
     record {
       alive = c.in_ok-feed_one.ensures.alive;
+      room = c.in_ok-feed_one.ensures.room;
       reached = reached_more _ _ _ _ (entries_in c.delivery-item.result) _ (rw next at c.loop-delivery.invariant.reached) c.in_ok-feed_one.ensures.ok;
     }
 

@@ -5,6 +5,7 @@ use Rattle.siri_responder.proofs.feeding.Feeding.feed_all_owned.Goals as goal
 pub loop-delivery-preserved : goal.loop-delivery-preserved
 loop-delivery-preserved c = record {
   alive = c.in_ok-feed_one_owned.ensures.alive;
+  room = c.in_ok-feed_one_owned.ensures.room;
   reached = reached_more _ _ _ _ (entries_in c.in-Some.delivery) _
       (rw (c.in-Some.ensures.steps.0) at c.loop-delivery.invariant.reached) c.in_ok-feed_one_owned.ensures.ok;
 }

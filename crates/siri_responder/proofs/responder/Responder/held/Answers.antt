@@ -16,6 +16,7 @@ returns-clause-stands c =
       moment = store.moment;
       held = store.entries;
       reads = store.reads;
+      marks = inside.feeding.marks;
     } in
     subst (λ (k : Known). (h : History) × StandsFor k h) c.self.view_is (history_known known c.self.invariant.stands)
 

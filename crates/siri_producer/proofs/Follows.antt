@@ -1,0 +1,176 @@
+-- What a producer knows of the last looks goes on with its history.
+use Rattle.std.proofs.Common.{◌≡◌, ℕ, ◌+◌, ◌≤◌, List, [], ◌∷◌, ◌++◌, map, Bool, Option, None, Some, refl, sym, ap, ◌∙◌, subst}
+use Rattle.std.specs.Prelude.{option_map}
+use Rattle.std.proofs.lemmas.List.Elements.{All-nil, All-cons, All-head, All-tail}
+use Rattle.siri_records.specs.declared.key.Key.{Key}
+use Rattle.siri_records.specs.Keyed.{Items, living}
+use Rattle.siri_subs.specs.declared.entry.Row.{Row}
+use Rattle.siri_subs.specs.Mapped.{mapped_row}
+use Rattle.siri_marks.specs.Marked.{Marked}
+use Rattle.siri_model.specs.Followed.{Followed, Look, followed_after, followed_of, life_row, look_bounds, touch, touched_look}
+use Rattle.siri_model.specs.History.{Step, History, state_of, now_of, current}
+use Rattle.siri_model_laws.specs.Followed.{HoldsBy, RowHolds, AllHold}
+use Rattle.siri_model_laws.proofs.FactsHold.{facts_hold}
+use Rattle.siri_model_laws.proofs.FollowedRows.{are_the_rows, go_on}
+use Rattle.siri_responder.specs.Known as responder
+use Rattle.siri_subscriptions.specs.declared.course.Course.{Course}
+use Rattle.siri_subscriptions.specs.declared.course.Looked.{Looked}
+use Rattle.siri_subscriptions.specs.Courses.{kept, kept_row, kept_rows}
+use Rattle.siri_subscriptions.specs.Looked.{look_of, followed, followed_rows, FollowsBy, RowFollows, AllFollow}
+use Rattle.siri_producer.specs.Known.{StandsFor, Follows, GoesOn, looks_of}
+use Rattle.siri_producer.specs.Standing.{IsNumbered, AreNumbered, IsProducer, known_of, looks_in}
+
+-- ---- rows with their last looks
+
+abbrev look_in : Row Followed → Option Look
+look_in row = row.slot.look
+
+row_same : (a b : Row Followed) → life_row a ≡ life_row b → look_in a ≡ look_in b → a ≡ b
+row_same a b life look = λ i. record {
+  wanted = (life i).wanted;
+  number = (life i).number;
+  address = (life i).address;
+  beat = (life i).beat;
+  slot = record { life = (life i).slot; look = look i };
+}
+
+-- rows with the same lives and the same looks are the same
+pub rows_same : (xs ys : List (Row Followed)) → map life_row xs ≡ map life_row ys → map look_in xs ≡ map look_in ys
+    → xs ≡ ys
+rows_same [] [] lives looks = refl
+rows_same [] (y ∷ ys) lives looks = absurd (cc)
+rows_same (x ∷ xs) [] lives looks = absurd (cc)
+rows_same (x ∷ xs) (y ∷ ys) lives looks =
+    let life : life_row x ≡ life_row y = cc in
+    let look : look_in x ≡ look_in y = cc in
+    let rest = rows_same xs ys (cc) (cc) in
+    λ i. row_same x y life look i ∷ rest i
+
+pub lives_in : (marks : Marked) (rows : List (Row Course)) → map life_row (followed_rows marks rows) ≡ kept_rows rows
+lives_in marks [] = refl
+lives_in marks (row ∷ rows) = ap (λ l. kept_row row ∷ l) (lives_in marks rows)
+
+pub looks_are : (marks : Marked) (rows : List (Row Course))
+    → map look_in (followed_rows marks rows) ≡ looks_in marks rows
+looks_are marks [] = refl
+looks_are marks (row ∷ rows) = ap (λ l. option_map (look_of marks) row.slot.looked ∷ l) (looks_are marks rows)
+
+-- the rows that a producer keeps are the followed ones of a history that it follows
+pub followed_is : (known : responder.Known) (rows : List (Row Course)) (settled : Bool) (h : History)
+    → Follows (known_of known rows settled) h → followed_rows known.marks rows ≡ followed_of h
+followed_is known rows settled h f = rows_same (followed_rows known.marks rows) (followed_of h)
+    (lives_in known.marks rows ∙ f.stands.table ∙ sym (are_the_rows h)) (looks_are known.marks rows ∙ f.looks)
+
+-- ---- one more step
+
+looks_go_on : (known new : responder.Known) (rows after : List (Row Course)) (settled : Bool) (h : History)
+    (step : Step)
+    → followed_rows new.marks after ≡ followed_after (state_of h) step (followed_rows known.marks rows)
+    → Follows (known_of known rows settled) h → looks_in new.marks after ≡ looks_of (h ++ step ∷ [])
+looks_go_on known new rows after settled h step is f =
+    sym (looks_are new.marks after)
+    ∙ ap (map look_in) (is ∙ ap (followed_after (state_of h) step) (followed_is known rows settled h f)
+    ∙ sym (go_on h step))
+
+-- it stands for its history, and the followed rows change as the step says
+pub goes : (known new : responder.Known) (rows after : List (Row Course)) (settled later : Bool) (step : Step)
+    → ((h : History) → StandsFor (known_of known rows settled) h
+    → StandsFor (known_of new after later) (h ++ step ∷ []))
+    → ((h : History) → StandsFor (known_of known rows settled) h
+    → followed_rows new.marks after ≡ followed_after (state_of h) step (followed_rows known.marks rows))
+    → GoesOn (known_of known rows settled) (known_of new after later) step
+goes known new rows after settled later step stands is = record {
+  stands = stands;
+  follows = λ h f. record {
+    stands = stands h f.stands;
+    looks = looks_go_on known new rows after settled h step
+        (is h f.stands) f;
+  };
+}
+
+-- ---- keys are touched
+
+module _ (old new : responder.Known) (keys : List Key) (touches : responder.Touches old new keys) where
+  look_touched : (l : Looked) → l.number ≤ old.marks.number
+      → look_of new.marks l ≡ touched_look keys (look_of old.marks l)
+  look_touched l le = λ i. record { moment = l.moment; touched = touches.touched l.number le i; apart = l.apart }
+
+  row_touched : (row : Row Course) → IsNumbered old.marks.number row
+      → mapped_row (followed new.marks) row ≡ touch keys (mapped_row (followed old.marks) row)
+  row_touched row numbered =
+      ap (λ look. record (mapped_row (followed old.marks) row) { slot = record { life = kept row.slot; look = look } })
+      (by row.slot.looked refl)
+    where
+      by : (o : Option Looked) → row.slot.looked ≡ o
+          → option_map (look_of new.marks) o ≡ option_map (touched_look keys) (option_map (look_of old.marks) o)
+      by None e = refl
+      by (Some l) e = ap Some (look_touched l (numbered l e))
+
+  pub rows_touched : (rows : List (Row Course)) → AreNumbered old.marks.number rows
+      → followed_rows new.marks rows ≡ map (touch keys) (followed_rows old.marks rows)
+  rows_touched [] numbered = refl
+  rows_touched (row ∷ rows) numbered = λ i.
+      row_touched row (All-head (IsNumbered old.marks.number) row rows numbered)
+      i ∷ rows_touched rows (All-tail (IsNumbered old.marks.number) row rows numbered) i
+
+  pub still_numbered : (rows : List (Row Course)) → AreNumbered old.marks.number rows
+      → AreNumbered new.marks.number rows
+  still_numbered rows numbered = subst (λ n. AreNumbered n rows) (sym touches.number) numbered
+
+-- none is touched
+touched_none : (o : Option Look) → option_map (touched_look []) o ≡ o
+touched_none None = refl
+touched_none (Some look) = refl
+
+pub untouched : (rows : List (Row Followed)) → map (touch []) rows ≡ rows
+untouched [] = refl
+untouched (row ∷ rows) = λ i.
+    record row { slot = record row.slot { look = touched_none row.slot.look i } } ∷ untouched rows i
+
+-- ---- the two facts
+
+follows_row : (known : responder.Known) (row : Row Course) → IsNumbered known.marks.number row
+    → RowHolds known.moment known.held (mapped_row (followed known.marks) row) → RowFollows known row
+follows_row known row numbered holds = by row.slot.looked refl holds
+  where
+    by : (o : Option Looked) → row.slot.looked ≡ o
+        → HoldsBy known.moment known.held row.wanted (kept row.slot).rounds (option_map (look_of known.marks) o)
+        → FollowsBy known row o
+    by None e holds = holds
+    by (Some looked) e holds = record { number = numbered looked e; facts = holds.facts; used_up = holds.used_up }
+
+rows_follow : (known : responder.Known) (rows : List (Row Course)) → AreNumbered known.marks.number rows
+    → AllHold known.moment known.held (followed_rows known.marks rows) → AllFollow known rows
+rows_follow known [] numbered hold = All-nil (RowFollows known)
+rows_follow known (row ∷ rows) numbered hold =
+    let first = mapped_row (followed known.marks) row in
+    let rest = followed_rows known.marks rows in
+    let holds = RowHolds known.moment known.held in
+    All-cons (RowFollows known) row rows
+    (follows_row known row (All-head (IsNumbered known.marks.number) row rows numbered)
+    (All-head holds first rest hold))
+    (rows_follow known rows (All-tail (IsNumbered known.marks.number) row rows numbered)
+    (All-tail holds first rest hold))
+
+-- they hold of what a producer keeps
+pub all_follow : (known : responder.Known) (rows : List (Row Course)) (settled : Bool) → IsProducer known rows settled
+    → AllFollow known rows
+all_follow known rows settled is =
+    let h = is.follows.0 in
+    let f = is.follows.1 in
+    let knows = f.stands.responder in
+    let live = living (now_of h) (current h) in
+    rows_follow known rows is.numbered
+    (subst (λ now. AllHold now known.held (followed_rows known.marks rows)) (sym knows.moment)
+    (subst (λ (held : Items). AllHold (now_of h) held (followed_rows known.marks rows)) (sym knows.held)
+    (subst (λ rows. AllHold (now_of h) live rows) (sym (followed_is known rows settled h f)) (facts_hold h))))
+
+-- ---- how many stored items a settle may read
+
+pub bounds_are : (known : responder.Known) (rows : List (Row Course)) (settled : Bool) (h : History)
+    → Follows (known_of known rows settled) h
+    → look_bounds known.moment known.held (followed_rows known.marks rows)
+    ≡ look_bounds (now_of h) (living (now_of h) (current h)) (followed_of h)
+bounds_are known rows settled h f =
+    let knows = f.stands.responder in
+    λ i. look_bounds (knows.moment i) (knows.held i) (followed_is known rows settled h f i)

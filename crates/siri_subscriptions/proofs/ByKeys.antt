@@ -1,0 +1,155 @@
+-- What a look finds that isn't the first, by the keys that may have changed.
+use Rattle.std.proofs.Common.{◌≡◌, ℕ, List, [], ◌∷◌, ◌++◌, map, filter, length, nat_eq}
+use Rattle.std.proofs.Common.{Bool, true, false, not, ◌&&◌, ◌||◌, Option, Some, None, refl, ap, sym, ◌∙◌}
+use Rattle.std.proofs.Common.{subst}
+use Rattle.std.specs.Option.{option_eq}
+use Rattle.std.specs.Map.{keys_of}
+use Rattle.siri_records.specs.declared.item.Item.{Item}
+use Rattle.siri_records.specs.declared.key.Key.{Key}
+use Rattle.siri_records.specs.Near.{is_near}
+use Rattle.siri_records.specs.Keyed.{Items, InOrder, KeyChange, item_of}
+use Rattle.siri_records.specs.KeyLists.{is_among, KeysInOrder, in_order}
+use Rattle.siri_records.proofs.ItemsPassing.{kept_if, item_kept, none_out}
+use Rattle.siri_records.proofs.KeyLists.{among_with, order_with, order_in_order}
+use Rattle.siri_topic.specs.declared.topics.Topic.{Topic}
+use Rattle.siri_topic.specs.Crossed.{is_crossed}
+use Rattle.siri_change.specs.Changes.{agree_on, meets}
+use Rattle.siri_change.specs.Looks.{AgreeOutside, changes_among}
+use Rattle.siri_marks.specs.Marked.{is_since, keys_since}
+use Rattle.siri_subs.specs.declared.entry.Row.{Row}
+use Rattle.siri_model.specs.Direct.{shown}
+use Rattle.siri_model.specs.Followed.{goal_of, keys_apart}
+use Rattle.siri_model.specs.Looks.{IsUncrossed, crossed_items, found_of, changes_found}
+use Rattle.siri_responder.specs.Known.{Known}
+use Rattle.siri_subscriptions.specs.declared.course.Course.{Course}
+use Rattle.siri_subscriptions.specs.declared.course.Looked.{Looked}
+use Rattle.siri_subscriptions.specs.Again.{AreLive, is_other, keys_looked_at}
+use Rattle.siri_subscriptions.specs.Courses.{kept}
+use Rattle.siri_subscriptions.specs.Looked.{FollowsLook}
+use Rattle.siri_model_laws.proofs.Apart.{looks_tell_apart}
+use Rattle.siri_model_laws.proofs.Outside.{same_shown, found_tell}
+use Rattle.siri_model_laws.specs.Apart.{AgreeElsewhere, TellApart, still_apart}
+
+-- ---- lists of keys
+
+or_none : (a b : Bool) → (a || b) ≡ false → (a ≡ false) × (b ≡ false)
+or_none false b h = (refl, h)
+or_none true b h = absurd (cc h)
+
+pub keys_found : (items : Items) (keys : List Key) → keys_of (found_of items keys) ≡ keys
+keys_found items [] = refl
+keys_found items (k ∷ keys) = ap (λ ks. k ∷ ks) (keys_found items keys)
+
+-- ---- the keys that aren't looked at
+
+-- none that is held of a key outside those of crossed items is crossed
+uncrossed_by : (topic : Topic) (before now : ℕ) (held : Option Item)
+    → kept_if (λ i. is_crossed topic before now i) held ≡ None
+    → (i : Item) → held ≡ Some i → is_crossed topic before now i ≡ false
+uncrossed_by topic before now None none i is = absurd (cc is)
+uncrossed_by topic before now (Some j) none i is = by (is_crossed topic before now j) refl
+  where
+    same : j ≡ i
+    same = cc is
+
+    by : (b : Bool) → is_crossed topic before now j ≡ b → is_crossed topic before now i ≡ false
+    by true h = absurd (cc (rw h at none))
+    by false h = ap (is_crossed topic before now) (sym same) ∙ h
+
+module _ (known : Known) (row : Row Course) (looked : Looked) (live : AreLive known)
+    (follows : FollowsLook known row looked)
+    (level : row.slot.rounds.outstanding ≡ None) where
+  abbrev view : Items
+  view = row.slot.rounds.acknowledged
+
+  abbrev direct : Items
+  direct = shown known.moment known.held row.wanted.topic
+
+  abbrev keys : List Key
+  keys = keys_looked_at known row.wanted.topic looked
+
+  abbrev earlier : Items
+  earlier = shown looked.moment follows.facts.then row.wanted.topic
+
+  -- nothing is outstanding: the view that the consumer is led to is the acknowledged one
+  goal_is : goal_of (kept row.slot).rounds ≡ view
+  goal_is = rw level refl
+
+  module _ (key : Key) (out : is_among key keys ≡ false) where
+    parts : (is_among key (keys_since known.marks.log looked.number) ≡ false)
+        × (is_among key (keys_of (crossed_items row.wanted.topic looked.moment known.moment known.held)) ≡ false)
+    parts =
+        let touched = keys_since known.marks.log looked.number in
+        let crossed = keys_of (crossed_items row.wanted.topic looked.moment known.moment known.held) in
+        or_none _ _ (sym (among_with key touched crossed) ∙ out)
+
+    uncrossed : IsUncrossed row.wanted.topic looked.moment known.moment (item_of known.held key)
+    uncrossed = λ i is. (
+      live.alive key i is,
+      uncrossed_by row.wanted.topic looked.moment known.moment (item_of known.held key)
+          (sym (item_kept (λ i. is_crossed row.wanted.topic looked.moment known.moment i) key known.held live.ordered)
+          ∙ none_out (crossed_items row.wanted.topic looked.moment known.moment known.held) key parts.1) i is,
+    )
+
+    -- the same is shown of it as at the last look
+    same_then : item_of direct key ≡ item_of earlier key
+    same_then = same_shown row.wanted.topic looked.moment known.moment follows.facts.then known.held key follows.facts.ordered live.ordered
+        follows.facts.earlier (follows.facts.untouched key parts.0) uncrossed
+
+    agree_then : agree_on (is_near row.wanted.slack) view direct key
+        ≡ agree_on (is_near row.wanted.slack) (goal_of (kept row.slot).rounds) earlier key
+    agree_then = λ i. option_eq (is_near row.wanted.slack) (item_of (sym goal_is i) key) (same_then i)
+
+  -- a key that isn't looked at agrees exactly where it isn't kept apart
+  elsewhere : AgreeElsewhere row.wanted.slack view direct keys looked.apart
+  elsewhere key out = by (is_among key looked.apart) refl
+    where
+      by : (b : Bool) → is_among key looked.apart ≡ b → agree_on (is_near row.wanted.slack) view direct key ≡ not b
+      by true on = agree_then key out ∙ follows.facts.differs key on
+      by false off = agree_then key out ∙ follows.facts.agrees key off
+
+  pub outside : looked.apart ≡ [] → AgreeOutside row.wanted.slack view direct keys
+  outside none key out = elsewhere key out ∙ ap (λ ks. not (is_among key ks)) none
+
+  -- ---- the keys that are kept apart after it
+
+  -- the keys looked at on which they disagree, and those kept apart that weren't looked at
+  abbrev changes : List KeyChange
+  changes = changes_found row.wanted.slack view row.wanted.topic known.moment (found_of known.held keys)
+
+  abbrev left : List Key
+  left = filter (is_other (found_of known.held keys)) looked.apart
+
+  pub changes_are : changes ≡ changes_among row.wanted.slack view direct keys
+  changes_are = found_tell row.wanted.slack view known.held row.wanted.topic known.moment keys live.ordered
+
+  left_are : left ≡ still_apart keys looked.apart
+  left_are = ap (λ ks. filter (λ key. not (is_among key ks)) looked.apart) (keys_found known.held keys)
+
+  told : InOrder view → TellApart row.wanted.slack view direct keys looked.apart
+  told s = looks_tell_apart row.wanted.slack view direct keys looked.apart s elsewhere
+
+  pub apart_is : InOrder view → in_order (keys_of changes ++ left) ≡ keys_apart row.wanted.slack view direct
+  apart_is s = (λ i. in_order (keys_of (changes_are i) ++ left_are i)) ∙ (told s).apart_again
+
+  -- the view is level where there are none
+  pub level_is : InOrder view → (nat_eq (length changes) 0 && nat_eq (length left) 0)
+      ≡ meets row.wanted.slack view direct
+  level_is s = (λ i. nat_eq (length (changes_are i)) 0 && nat_eq (length (left_are i)) 0) ∙ sym (told s).level
+
+  -- what was found of them is in order
+  pub keys_are : (found : List KeyChange) → found ≡ found_of known.held keys → keys_of found ≡ keys
+  keys_are found is = ap keys_of is ∙ keys_found known.held keys
+
+  keys_ordered : KeysInOrder keys
+  keys_ordered =
+      order_with (keys_since known.marks.log looked.number)
+      (keys_of (crossed_items row.wanted.topic looked.moment known.moment known.held))
+      (order_in_order (map (λ mark. mark.1) (filter (is_since looked.number) known.marks.log)))
+
+  pub found_ordered : (found : List KeyChange) → found ≡ found_of known.held keys → KeysInOrder (keys_of found)
+  found_ordered found is = subst KeysInOrder (sym (keys_are found is)) keys_ordered
+
+  pub found_again : (found : List KeyChange) → found ≡ found_of known.held keys
+      → found ≡ found_of known.held (keys_of found)
+  found_again found is = is ∙ ap (found_of known.held) (sym (keys_are found is))

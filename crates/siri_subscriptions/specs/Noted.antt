@@ -1,0 +1,45 @@
+-- What is noted of a subscription: what belongs to its life, and its last look.
+use Rattle.std.specs.Prelude.{ℕ, List, map, fold, Option, None}
+use Rattle.siri_messages.specs.Asked.{Asked}
+use Rattle.siri_life.specs.Named.{Name}
+use Rattle.siri_subs.specs.declared.entry.Row.{Row}
+use Rattle.siri_subs.specs.Mapped.{with_mapped_slots}
+use Rattle.siri_subs.specs.Table.{accepted, ended}
+use Rattle.siri_model.specs.Rows.{KeptLife, nothing_kept}
+use Rattle.siri_subscriptions.specs.declared.course.Course.{Course}
+use Rattle.siri_subscriptions.specs.declared.course.Looked.{Looked}
+use Rattle.siri_subscriptions.specs.Courses.{kept}
+
+pub record Noted : Type 0 where
+  pub life : KeptLife
+  pub looked : Option Looked
+
+abbrev pub noted : Course → Noted
+noted course = record { life = kept course; looked = course.looked }
+
+abbrev pub noted_rows : List (Row Course) → List (Row Noted)
+noted_rows rows = with_mapped_slots noted rows
+
+-- the last look at each row of a table
+abbrev pub looked_in : List (Row Course) → List (Option Looked)
+looked_in rows = map (λ row. row.slot.looked) rows
+
+-- ---- what requests do to it
+
+-- a subscription that is accepted at a moment wasn't looked at yet
+abbrev pub new_noted : ℕ → ℕ → Asked → Row Noted
+new_noted now number asked = record {
+  wanted = asked.subscription;
+  number = number;
+  address = asked.address;
+  beat = asked.beat;
+  slot = record { life = nothing_kept now asked; looked = None };
+}
+
+-- after requests for subscriptions under a number, one after the other
+abbrev pub noted_asked : ℕ → ℕ → List Asked → List (Row Noted) → List (Row Noted)
+noted_asked now number asked rows = fold (λ rows wanted. accepted now (new_noted now number wanted) rows) rows asked
+
+-- after terminations under a number, one after the other
+abbrev pub noted_ended : ℕ → Name → List Name → List (Row Noted) → List (Row Noted)
+noted_ended number subscriber identifiers rows = fold (λ rows identifier. ended number subscriber identifier rows) rows identifiers

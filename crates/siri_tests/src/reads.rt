@@ -1,0 +1,89 @@
+//! How many stored items a settle reads, by the producer's own counter.
+
+use siri_base::{Moment, Name};
+use siri_producer::Producer;
+use siri_wire::decode;
+use std::alloc::Global;
+use std::rc::Rc;
+use std::test::Fail;
+
+/// 1 May 2024 at 08:00 in UTC, in milliseconds since 1970.
+const EIGHT: i64 = 1_714_550_400_000;
+
+const SUBSCRIBE: &str =
+    "{\"Siri\":{\"SubscriptionRequest\":{\"MessageIdentifier\":\"1\",\"RequestTimestamp\":\"2024-05-01T08:00:00Z\",\"RequestorRef\":\"c1\",\"StopMonitoringSubscriptionRequest\":[{\"ChangeBeforeUpdates\":\"PT1M\",\"IncrementalUpdates\":true,\"InitialTerminationTime\":\"2024-05-01T20:00:00Z\",\"StopMonitoringRequest\":{\"MonitoringRef\":\"S1\",\"PreviewInterval\":\"PT1H\"},\"SubscriberRef\":\"c1\",\"SubscriptionIdentifier\":\"S\"}]}}}";
+
+/// Whatever a producer answers is let go.
+fn take(alloc: Global, producer: &mut Producer, document: &str) -> Result<(), Fail> {
+    let message = Rc::new(alloc, decode(alloc, document.as_bytes())?)?;
+    let answer = Rc::new(alloc, producer.take(&message)?)?;
+    drop(answer);
+    Ok(())
+}
+
+/// How far the counter rises by a settle, whose messages are let go.
+fn settle(alloc: Global, producer: &mut Producer) -> Result<u64, Fail> {
+    let before = producer.reads();
+    let outs = Rc::new(alloc, producer.settle()?)?;
+    drop(outs);
+    Ok(producer.reads().saturating_sub(before))
+}
+
+/// A feed of so many visits of one stop, from 08:30 on, a second apart, fifty to a minute.
+fn visits(alloc: Global, count: u32) -> Result<String, Fail> {
+    let mut text = String::new(alloc);
+    text.push_str(
+        "{\"Siri\":{\"ServiceDelivery\":{\"StopMonitoringDelivery\":[{\"MonitoredStopVisit\":[",
+    )?;
+    for number in 0..count {
+        if number > 0 {
+            text.push_str(",")?;
+        }
+        let minute = 30 + number / 50;
+        let second = number % 50;
+        let visit = format!(in alloc;
+            "{{\"ItemIdentifier\":\"{number}\",\"MonitoredVehicleJourney\":{{\"MonitoredCall\":{{\"AimedDepartureTime\":\"2024-05-01T08:{minute}:{}{}Z\"}}}},\"MonitoringRef\":\"S1\"}}",
+            second / 10,
+            second % 10
+        )?;
+        text.push_str(visit.as_str())?;
+    }
+    text.push_str("]}]}}}")?;
+    Ok(text)
+}
+
+/// An acknowledgement of a part of the first round.
+fn acknowledgement(alloc: Global, part: u32) -> Result<String, Fail> {
+    Ok(format!(in alloc;
+        "{{\"Siri\":{{\"DataReceivedAcknowledgement\":{{\"ConsumerRef\":\"c1\",\"Extensions\":{{\"Number\":1,\"Part\":{part},\"Round\":1,\"Start\":1,\"SubscriptionRef\":\"S\"}},\"Status\":true}}}}}}"
+    )?)
+}
+
+#[test]
+fn a_settle_reads_what_changed(rt: HostRuntime) -> Result<(), Fail> {
+    let alloc = rt.alloc();
+    let eight = Moment::new(EIGHT).ok_or("no moment")?;
+    let later = Moment::new(EIGHT + 60_000).ok_or("no moment")?;
+    let mut producer = Producer::new(alloc, Name::new(alloc, "p")?, 1, eight)?;
+    take(alloc, &mut producer, visits(alloc, 1000)?.as_str())?;
+    take(alloc, &mut producer, SUBSCRIBE)?;
+    let first = settle(alloc, &mut producer)?;
+    assert_eq!(rt; first, 1000);
+    for part in 1..=10 {
+        take(alloc, &mut producer, acknowledgement(alloc, part)?.as_str())?;
+        let outstanding = settle(alloc, &mut producer)?;
+        assert_eq!(rt; outstanding, 0);
+    }
+    let name = Name::new(alloc, "c1")?;
+    let identifier = Name::new(alloc, "S")?;
+    assert_eq!(rt; producer.quiet(&name, &identifier), Some(1));
+    let quiet = settle(alloc, &mut producer)?;
+    assert_eq!(rt; quiet, 0);
+    take(alloc, &mut producer, visits(alloc, 1)?.as_str())?;
+    let fed = settle(alloc, &mut producer)?;
+    assert!(rt; fed <= 1);
+    producer.clock(later);
+    let clocked = settle(alloc, &mut producer)?;
+    assert_eq!(rt; clocked, 0);
+    Ok(())
+}
