@@ -4,7 +4,9 @@ one with N visits fed in four lines and asked for once, `make.py delivery N` a S
 that feeds have, about 600 bytes each, and `make.py stops N A` a script that feeds N such visits, 200 to a stop and 100 to a
 line, and asks A times for those of a stop; `make.py sorted N A` the same with visits that come in order of their keys;
 `make.py subscribed N S C` a script of N such visits, 100 to a stop, of S subscriptions to one stop each, and of C changes of one
-visit each, in which every packet is delivered in order. It goes to standard output."""
+visit each, in which every packet is delivered in order; `make.py shared N S C` the same with subscriptions to one stop, the first, so
+that each shows each change; `make.py wide N S C` with one stop of all visits; `make.py ticks N S C` as `subscribed`, with clock lines
+that pass no departure in the place of changes. It goes to standard output."""
 import json
 import sys
 
@@ -105,11 +107,13 @@ def in_order(count, asks):
     stops(count, asks, in_order=True)
 
 
-def subscribed(count, subscriptions, changes):
-    """Every packet is delivered as soon as it is sent: a request, its response, the first round and its acknowledgement; and
-    of each change the round and its acknowledgement."""
+def subscribed(count, subscriptions, changes, number_of_stops=0, stops_asked=0, ticks=False):
+    """Every packet is delivered as soon as it is sent: a request, its response, the parts of the first round, each with its
+    acknowledgement; and of each change the round and its acknowledgement for each subscription that shows it."""
     print("start 2024-05-01T04:00:00Z")
-    number_of_stops = count // 100
+    number_of_stops = number_of_stops or count // 100
+    stops_asked = stops_asked or number_of_stops
+    a_stop = count // number_of_stops
     visits = sorted((realistic_visit(number, number_of_stops) for number in range(count)), key=by_key)
     for first in range(0, count, 100):
         put("feed", {"ServiceDelivery": {"StopMonitoringDelivery": [{"MonitoredStopVisit": visits[first : first + 100]}]}})
@@ -122,17 +126,33 @@ def subscribed(count, subscriptions, changes):
             print("deliver", sent)
     for number in range(subscriptions):
         wanted = {"SubscriptionIdentifier": "s%d" % number, "InitialTerminationTime": "2024-05-31T00:00:00Z"}
-        wanted["StopMonitoringRequest"] = {"MonitoringRef": stop_name(number % number_of_stops)}
+        wanted["StopMonitoringRequest"] = {"MonitoringRef": stop_name(number % stops_asked), "PreviewInterval": "P1D"}
         print("subscribe c%d" % (number % 16), json.dumps({"StopMonitoringSubscriptionRequest": wanted}, separators=(",", ":")))
-        deliver(4)
+        deliver(2 + 2 * -(-a_stop // 100))
+    if ticks:
+        for tick in range(changes):
+            print("clock 2024-05-01T04:00:%02d.%03dZ" % (tick // 1000 % 60, tick % 1000))
+        return
     for change in range(changes):
-        place = change % subscriptions % number_of_stops * 100 + change // subscriptions % 100
+        place = change % subscriptions % stops_asked * a_stop + change // subscriptions % a_stop
         visit = visits[place]
         # (half a second, which no visit has before)
         expected = clock(6 * 3600 + change * 61 % (16 * 3600)).replace("+", ".5+")
         visit["MonitoredVehicleJourney"]["MonitoredCall"]["ExpectedDepartureTime"] = expected
         put("feed", {"ServiceDelivery": {"StopMonitoringDelivery": [{"MonitoredStopVisit": [visit]}]}})
-        deliver(2)
+        deliver(2 * len([number for number in range(subscriptions) if number % stops_asked == change % subscriptions % stops_asked]))
 
 
-{"lines": lines, "visits": visits, "delivery": delivery, "stops": stops, "sorted": in_order, "subscribed": subscribed}[sys.argv[1]](*map(int, sys.argv[2:]))
+def shared(count, subscriptions, changes):
+    subscribed(count, subscriptions, changes, stops_asked=1)
+
+
+def wide(count, subscriptions, changes):
+    subscribed(count, subscriptions, changes, number_of_stops=1)
+
+
+def ticks(count, subscriptions, changes):
+    subscribed(count, subscriptions, changes, ticks=True)
+
+
+{"lines": lines, "visits": visits, "delivery": delivery, "stops": stops, "sorted": in_order, "subscribed": subscribed, "shared": shared, "wide": wide, "ticks": ticks}[sys.argv[1]](*map(int, sys.argv[2:]))

@@ -125,8 +125,15 @@ def producer(program, yardstick, folder):
         print(row % (name, "%.1f" % ours, "%.1f" % theirs, "%.2f" % (ours / theirs)))
 
 
-# Visits, subscriptions, changes.
-LOADS = [(2_000, 20, 2_000), (20_000, 20, 200), (20_000, 200, 20)]
+# What changes, visits, subscriptions, visits that a subscription shows, changes, and packets that a change leaves.
+LOADS = [
+    ("subscribed", 1_000, 20, 100, 2_000, 4),
+    ("subscribed", 20_000, 20, 100, 2_000, 2),
+    ("subscribed", 20_000, 200, 100, 2_000, 2),
+    ("shared", 20_000, 200, 100, 20, 400),
+    ("wide", 10_000, 1, 10_000, 200, 2),
+    ("ticks", 20_000, 200, 100, 2_000, 0),
+]
 
 # Reads and writes each document of a script and of its report.
 DOCUMENTS = """
@@ -140,11 +147,11 @@ for line in sys.stdin:
 
 def subscriptions(program, folder):
     """What a change of one visit takes, by the visits and the subscriptions: it is fed, settled, sent, taken, acknowledged and settled
-    again, as the difference between so many changes and none, beside python's json over the documents of the changes; and memory:
-    of a visit that is shown to a subscription, which stands in the producer's and in the consumer's view and in a packet, and of
-    the two packets of a change."""
-    def path(visits, wanted, changes):
-        return os.path.join(folder, "subscribed.%d.%d.%d" % (visits, wanted, changes))
+    again, as the difference between so many changes and none, beside python's json over the documents of the changes; and what a
+    clock line takes that passes no departure. And memory: of a visit that is shown to a subscription, which stands in the
+    producer's and in the consumer's view and in a packet, and of a packet of a change."""
+    def path(kind, visits, wanted, changes):
+        return os.path.join(folder, "%s.%d.%d.%d" % (kind, visits, wanted, changes))
 
     def with_report(script):
         with open(script + ".documents", "wb") as both:
@@ -153,19 +160,20 @@ def subscriptions(program, folder):
                     both.write(source.read())
         return script + ".documents"
     replay, reads_json = [program, "replay"], [sys.executable, "-S", "-c", DOCUMENTS]
-    row = "%8s %14s %9s %12s %18s %8s %20s %15s"
-    print(row % ("visits", "subscriptions", "changes", "ms a change", "ms python's json", "ratio", "bytes a shown visit", "bytes a packet"))
-    for visits, wanted, changes in LOADS:
-        scripts = [path(visits, 0, 0), path(visits, wanted, 0), path(visits, wanted, changes)]
+    row = "%-10s %7s %14s %8s %12s %18s %7s %20s %15s"
+    print(row % ("changes", "visits", "subscriptions", "changes", "ms a change", "ms python's json", "ratio", "bytes a shown visit", "bytes a packet"))
+    for kind, visits, wanted, shown, changes, packets in LOADS:
+        scripts = [path(kind, visits, 0, 0), path(kind, visits, wanted, 0), path(kind, visits, wanted, changes)]
         runs = [[run_once(replay, script) for script in scripts] for _ in range(SLOW_RUNS)]
         beside = [[run_once(reads_json, with_report(script)) for script in scripts[1:]] for _ in range(SLOW_RUNS)]
         before, after = [min(run[place][0] for run in runs) for place in (1, 2)]
         least, most = [min(run[place][0] for run in beside) for place in (0, 1)]
         bare, subscribed, changed = [max(run[place][1] for run in runs) for place in range(3)]
         ours, theirs = [(later - first) / changes * 1e3 for first, later in ((before, after), (least, most))]
-        held = (subscribed - bare) * 1e6 / (wanted * 100)
-        packet = (changed - subscribed) * 1e6 / (2 * changes)
-        print(row % (visits, wanted, changes, "%.3f" % ours, "%.3f" % theirs, "%.1f" % (ours / theirs), "%.0f" % held, "%.0f" % packet))
+        held = "%.0f" % ((subscribed - bare) * 1e6 / (wanted * shown))
+        packet = "%.0f" % ((changed - subscribed) * 1e6 / (packets * changes)) if packets else "-"
+        ratio = "%.1f" % (ours / theirs) if packets else "-"
+        print(row % (kind, visits, wanted, changes, "%.3f" % ours, "%.3f" % theirs, ratio, held, packet))
 
 
 def load(program, folder):

@@ -31,9 +31,12 @@ python3 "$here/make.py" delivery 8000 >"$inputs/delivery.8000"
 python3 "$here/make.py" stops 10000 0 >"$inputs/stops.10000.0"
 for asks in 0 100; do python3 "$here/make.py" stops 20000 "$asks" >"$inputs/stops.20000.$asks"; done
 for size in 10000 20000; do python3 "$here/make.py" sorted "$size" 0 >"$inputs/sorted.$size.0"; done
-for load in "2000 0 0" "2000 20 0" "2000 20 2000" "20000 0 0" "20000 20 0" "20000 20 200" "20000 200 0" "20000 200 20"; do
-  # (each word of a load is an argument, and a part of the file's name)
-  python3 "$here/make.py" subscribed $load >"$inputs/subscribed.${load// /.}"
+# (each word of a load is an argument, and a part of the file's name)
+for load in subscribed,1000,20,2000 subscribed,20000,20,2000 subscribed,20000,200,2000 shared,20000,200,20 wide,10000,1,200 ticks,20000,200,2000; do
+  IFS=, read -r kind visits wanted changes <<<"$load"
+  for size in "0 0" "$wanted 0" "$wanted $changes"; do
+    python3 "$here/make.py" "$kind" "$visits" $size >"$inputs/$kind.$visits.${size/ /.}"
+  done
 done
 
 echo "commit $(git -C "$here" rev-parse --short HEAD); $(nproc) cores, load $(cut -d' ' -f1 /proc/loadavg)"
