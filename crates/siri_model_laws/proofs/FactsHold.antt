@@ -24,7 +24,7 @@ use Rattle.siri_life.specs.Slot.{Slot, acknowledgement_if, acknowledgement_of, b
 use Rattle.siri_subs.specs.declared.entry.Row.{Row}
 use Rattle.siri_subs.specs.Table.{is_of, expired}
 use Rattle.siri_model.specs.Facts.{Follows}
-use Rattle.siri_model.specs.Followed.{Followed, Look, followed_after, followed_from, followed_of, followed_settled, goal_by, goal_of, life_row, lifted}
+use Rattle.siri_model.specs.Followed.{Followed, Look, followed_after, followed_from, followed_settled, goal_by, goal_of, life_row, lifted}
 use Rattle.siri_model.specs.Followed.{keys_apart, keys_dying, look_at, look_by, new_row, opens, rows_acknowledged, rows_taken, touch, touched_look, with_row_of}
 use Rattle.siri_model.specs.History.{Entry, State, Step, Start, Clock, Feed, Take, Settle, History, after_step, entries_fed, nothing}
 use Rattle.siri_model.specs.Last.{entry_key}

@@ -1,21 +1,10 @@
 -- What stays where some entries are dropped.
-use Rattle.std.proofs.Common.{◌≡◌, List, [], ◌∷◌, map, Bool, true, false, not, refl, ap}
+use Rattle.std.proofs.Common.{◌≡◌, List, [], ◌∷◌, Bool, true, false, not, refl}
 use Rattle.std.specs.List.{filter, AllByRecursion}
 use Rattle.std.specs.List.Sorted.{IsStrictlySortedBy}
 use Rattle.std.specs.Map.{keys_of, values_of}
 use Rattle.std.specs.declared.cmp.Ordering.{Ordering}
 use Rattle.std.specs.declared.cmp.Ordering.TheVariants.{Less}
-
--- a test of what is seen of the elements
-module _ {A B : Type 0} (f : A → B) (q : B → Bool) where
-  view_case : (x : A) (xs : List A) (b : Bool) → q (f x) ≡ b → map f (filter (λ y. q (f y)) xs) ≡ filter q (map f xs)
-      → map f (filter (λ y. q (f y)) (x ∷ xs)) ≡ filter q (map f (x ∷ xs))
-  view_case x xs true h rest = rw h (ap (λ l. f x ∷ l) rest)
-  view_case x xs false h rest = rw h rest
-
-  pub kept_view : (xs : List A) → map f (filter (λ y. q (f y)) xs) ≡ filter q (map f xs)
-  kept_view [] = refl
-  kept_view (x ∷ xs) = view_case x xs (q (f x)) refl (kept_view xs)
 
 -- keys stay in order
 module _ {K X : Type 0} (p : K × X → Bool) where

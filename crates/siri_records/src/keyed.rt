@@ -1,16 +1,15 @@
 //! Shared items by their keys.
 
-ghost use Rattle.std.specs.Prelude.{◌≡◌, ◌<◌, ◌+◌, ◌^◌, [], ◌∷◌, ◌++◌, length, option_map, is_some, slice_get, not, Some, IsNone, IsSome, IfSome, IsOk, OnSome, OnOk, OnErr};
+ghost use Rattle.std.specs.Prelude.{◌≡◌, ◌<◌, ◌+◌, ◌^◌, [], ◌∷◌, ◌++◌, length, option_map, is_some, slice_get, IsNone, IsSome, IfSome, IsOk, OnSome, OnOk, OnErr};
 ghost use Rattle.std.specs.List.Sorted.{IsStrictlySortedBy};
 ghost use Rattle.std.specs.Map.{keys_of, lookup, remove_entry};
 ghost use Rattle.std.specs.BTreeMap.{insert_entry, is_at};
-ghost use Rattle.siri_records.specs.Ends.{is_dead};
 ghost use Rattle.siri_records.specs.Order.{key_cmp};
-ghost use Rattle.siri_records.specs.Keyed.{InOrder, PlacedAt, living, deref_entry, after_change, apply};
+ghost use Rattle.siri_records.specs.Keyed.{InOrder, PlacedAt, deref_entry, after_change, apply};
 
 use crate::entries::{copy_entry, find, make, put, remove, take};
-use crate::{Change, Item, Key, SharedKey, dead};
-use siri_base::{Copies, List, Moment, OutOfMemory};
+use crate::{Change, Item, Key, SharedKey};
+use siri_base::{Copies, List, OutOfMemory};
 use std::alloc::Global;
 use std::marker::Model;
 use std::rc::Rc;
@@ -134,28 +133,6 @@ impl KeyedItems {
         ensures ordered { InOrder self.new }
     {
         take(&mut self.entries, key)
-    }
-
-    /// Takes out the entry at a place, and gives its key. It takes no memory.
-    pub fn remove_at(&mut self, place: usize) -> SharedKey
-        requires { place < length self.old }
-        ensures key { option_map (λ e. e.0) (slice_get self.old place) ≡ Some result }
-        ensures rest { self.new ≡ remove_entry (is_at (key_cmp result)) self.old }
-    {
-        let (key, item) = self.entries.remove(place);
-        drop(item);
-        key
-    }
-
-    /// Lets those go that are dead at a moment. It goes over them once and takes no memory.
-    pub fn keep_living(&mut self, now: Moment)
-        ensures { self.new ≡ living now self.old }
-    {
-        self.entries.retain(
-            |entry: &(SharedKey, Rc<Item>)| -> bool
-                ensures { result ≡ not (is_dead entry.now.1.value now) }
-            { !dead(&entry.1, now) },
-        );
     }
 
     /// Makes a change: an item becomes the one of its key, and a removal removes the key, where it is held. After want

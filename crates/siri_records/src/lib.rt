@@ -29,7 +29,7 @@ pub use item::{Item, Service};
 pub use journey::Journey;
 pub use key::{Key, key_of, keys_are_in_order};
 pub use keyed::KeyedItems;
-pub use moments::{Moments, edges_of, ends_of, has_edge};
+pub use moments::{Moments, edges_of, ends_of};
 pub use nearness::{near, near_items_agree};
 pub use shared_key::SharedKey;
 pub use situation::{Period, Situation};

@@ -1,7 +1,7 @@
 //! The moments at which items may come into a window or leave it.
 
 ghost use Rattle.std.specs.Prelude.{◌≡◌, []};
-ghost use Rattle.siri_records.specs.Edges.{listed, edges_of, is_within, has_edge};
+ghost use Rattle.siri_records.specs.Edges.{listed, edges_of};
 ghost use Rattle.siri_records.specs.Ends as ends_spec;
 
 use crate::{Item, Period, end_of, entry_of};
@@ -92,23 +92,4 @@ pub fn edges_of(item: &Item) -> Moments<'_>
             periods: &[],
         },
     }
-}
-
-/// Whether an item has an edge at or after one number of milliseconds since 1970, and before another.
-pub fn has_edge(item: &Item, from: i64, to: i64) -> bool
-    ensures { result ≡ has_edge from to item.now }
-{
-    for edge in edges_of(item) {
-        if within(from, to, edge) {
-            return true;
-        }
-    }
-    false
-}
-
-/// Whether a moment is at or after one, and before another.
-fn within(from: i64, to: i64, moment: Moment) -> bool
-    ensures { result ≡ is_within from to moment }
-{
-    from <= moment.ms() && moment.ms() < to
 }

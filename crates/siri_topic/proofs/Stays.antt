@@ -1,5 +1,5 @@
 -- An item that isn't dead, and of which no end of a window passed an edge, stays as it was shown.
-use Rattle.std.proofs.Common.{◌≡◌, ℕ, ℤ, pos, ◌≤◌, List, [], ◌∷◌, ◌++◌, Bool, true, false, ◌&&◌, ◌||◌, not, Option}
+use Rattle.std.proofs.Common.{◌≡◌, ℕ, ℤ, pos, ◌≤◌, List, [], ◌∷◌, ◌++◌, Bool, false, ◌&&◌, ◌||◌, not, Option}
 use Rattle.std.proofs.Common.{None, Some, refl, ap, sym, ◌∙◌, arith, flat_map, nat_lt}
 use Rattle.std.specs.Prelude.{◌+ℤ◌, int_lt, option_map}
 use Rattle.std.specs.List.{list_any}
