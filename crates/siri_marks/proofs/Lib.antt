@@ -1,3 +1,4 @@
 pub mod Lasting
 pub mod Marking
 pub mod Touching
+mod Few

@@ -2,7 +2,7 @@
 ghost use Rattle.std.specs.Prelude.{◌≡◌, ℕ, ◌+◌, ◌<◌, ◌≤◌, ◌^◌, ◌∷◌, ◌++◌, [], drop, map, filter, length, IfOk, OnOk};
 ghost use Rattle.std.specs.Vec.{vec_capacity, vec_len};
 ghost use Rattle.siri_records.specs.KeyLists.{in_order};
-ghost use Rattle.siri_marks.specs.Marked.{keys_since, is_since, last_of_each, Rises, SameFrom, MarksTouch, unmarked};
+ghost use Rattle.siri_marks.specs.Marked.{keys_since, is_since, last_of_each, IsFew, Rises, SameFrom, MarksTouch, unmarked};
 
 use siri_base::{Copies, OutOfMemory};
 use siri_records::SharedKey;
@@ -10,8 +10,8 @@ use std::alloc::{AllocFailed, Global};
 use std::collections::BTreeSet;
 use std::marker::Model;
 
-/// Marks in the order in which they were set, each under a number, and the number under which keys are marked now. Contracts
-/// see the marks, that number, and for how many marks more there is room.
+/// Marks in the order in which they were set, each under a number, and the number under which keys are marked now.
+/// Contracts see the marks, that number, and for how many marks more there is room.
 pub struct Marks {
     log: Vec<(u64, SharedKey)>,
     number: u64,
@@ -63,11 +63,14 @@ impl Marks {
     }
 
     /// Takes the memory of so many marks more. Where there are more marks than that, it takes none before of each key
-    /// the last mark stays alone. The same keys are marked from each number on, also after want of memory.
+    /// the last mark stays alone, so then there are no more marks than keys that are marked. The same keys are marked
+    /// from each number on, also after want of memory.
     pub fn reserve(&mut self, more: usize) -> Result<(), OutOfMemory>
         ensures ok { OnOk result (more ≤ self.new.room) }
         ensures risen { self.old.room ≤ self.new.room }
         ensures same { SameFrom 0 self.old self.new }
+        ensures few { OnOk result (IsFew more self.old self.new) }
+        ensures no_more { length self.new.log ≤ length self.old.log }
         ensures number { self.new.number ≡ self.old.number }
     {
         let held = self.log.len();
@@ -101,10 +104,13 @@ impl Marks {
         keys_from(alloc, &self.log, first)
     }
 
-    /// Marks before a number may go, since they are asked for no more: they go where there are no others. It takes no memory.
+    /// Marks before a number may go, since they are asked for no more: they go where there are no others. It takes no
+    /// memory.
     pub fn forget(&mut self, number: u64)
         ensures same { SameFrom number self.old self.new }
         ensures fresh { (n : ℕ) → keys_since self.old.log n ≡ [] → keys_since self.new.log n ≡ [] }
+        ensures few { filter (is_since number) self.old.log ≡ [] → self.new.log ≡ [] }
+        ensures no_more { length self.new.log ≤ length self.old.log }
         ensures number { self.new.number ≡ self.old.number }
         ensures room { self.old.room ≤ self.new.room }
     {
@@ -186,8 +192,8 @@ fn first_since(log: &Vec<(u64, SharedKey)>, top: u64, number: u64) -> usize
     first
 }
 
-/// A law: a mark touches its key from each number on that isn't after the mark's, and no other key; under a new number there
-/// are no marks yet.
+/// A law: a mark touches its key from each number on that isn't after the mark's, and no other key; under a new number
+/// there are no marks yet.
 pub fn marks_touch_their_keys()
     ensures { MarksTouch }
 {}

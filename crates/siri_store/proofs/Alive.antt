@@ -15,18 +15,23 @@ use Rattle.siri_records.proofs.Kept.{passing, none_passes, all_fail}
 abbrev pub AllAlive : ℕ → Items → Type 0
 AllAlive now es = All (λ i. is_dead i now ≡ false) (values_of es)
 
-pub alive_removed : (now : ℕ) (es : Items) (k : Key) → AllAlive now es → AllAlive now (remove_entry (is_at (key_cmp k)) es)
+pub alive_removed : (now : ℕ) (es : Items) (k : Key) → AllAlive now es
+    → AllAlive now (remove_entry (is_at (key_cmp k)) es)
 alive_removed now es k alive = All-map-remove_entry (is_at (key_cmp k)) (λ e. e.1) (λ i. is_dead i now ≡ false) es alive
 
-pub alive_put : (now : ℕ) (es : Items) (k : Key) (i : Item) → AllAlive now es → is_dead i now ≡ false → AllAlive now (insert_entry key_cmp es k i)
+pub alive_put : (now : ℕ) (es : Items) (k : Key) (i : Item) → AllAlive now es → is_dead i now ≡ false
+    → AllAlive now (insert_entry key_cmp es k i)
 alive_put now es k i alive live = All-values-insert_entry key_cmp k i (λ i. is_dead i now ≡ false) es alive live
 
 pub alive_living : (now : ℕ) (es : Items) → AllAlive now (living now es)
-alive_living now es = All-from_recursion (λ i. is_dead i now ≡ false) (values_of (living now es)) (passing (λ i. is_dead i now) es)
+alive_living now es =
+    All-from_recursion (λ i. is_dead i now ≡ false) (values_of (living now es)) (passing (λ i. is_dead i now) es)
 
 -- where no entry is dead no item is
 pub none_dead : (now : ℕ) (es : Items) → dead_of now es ≡ [] → AllAlive now es
-none_dead now es none = All-from_recursion (λ i. is_dead i now ≡ false) (values_of es) (none_passes (λ i. is_dead i now) es none)
+none_dead now es none =
+    All-from_recursion (λ i. is_dead i now ≡ false) (values_of es) (none_passes (λ i. is_dead i now) es none)
 
 pub alive_no_dead : (now : ℕ) (es : Items) → AllAlive now es → dead_of now es ≡ []
-alive_no_dead now es alive = all_fail (λ i. is_dead i now) es (recursion_from_All (λ i. is_dead i now ≡ false) (values_of es) alive)
+alive_no_dead now es alive =
+    all_fail (λ i. is_dead i now) es (recursion_from_All (λ i. is_dead i now ≡ false) (values_of es) alive)

@@ -1,5 +1,6 @@
 -- The stamps of a range lead to the items that have an edge there, each at its least.
-use Rattle.std.proofs.Common.{◌≡◌, ℕ, ◌+◌, ◌≤◌, Bool, true, false, cond, ◌&&◌, ◌||◌, List, [], ◌∷◌, ◌++◌, map, filter, fold, length, length-append, Option, Some, None, refl, ap, ◌∙◌, sym, subst, arith}
+use Rattle.std.proofs.Common.{◌≡◌, ℕ, ◌+◌, ◌≤◌, Bool, true, false, cond, ◌&&◌, ◌||◌, List, [], ◌∷◌, ◌++◌, map, filter}
+use Rattle.std.proofs.Common.{fold, Option, Some, None, refl, ap, ◌∙◌, sym, subst, arith}
 use Rattle.std.specs.Prelude.{ℤ, pos, not, nat_eq, flat_map}
 use Rattle.std.specs.BTreeMap.{insert_entry, is_at}
 use Rattle.std.specs.Cmp.{IsTotalOrder, Equal-is, tied_itself, then_total, on_total, nat_cmp_total}
@@ -27,7 +28,7 @@ use Rattle.siri_records.proofs.Order.{key_cmp_exact}
 use Rattle.siri_store.specs.Between.{is_between, between}
 use Rattle.siri_store.specs.Crossing.{is_of, least_edge, edge_cmp, under_edge, in_order_of_edges, crossed_entries}
 use Rattle.siri_store.specs.Held.{counted}
-use Rattle.siri_store.specs.CrossWalk.{led_at, led_by, entry_list, led}
+use Rattle.siri_store.specs.CrossWalk.{led_at, entry_list, led}
 use Rattle.siri_store.specs.Stamped.{Stamp, stamp_cmp, has_stamp, has, by_edge, moments_of, moments_held, Tied}
 use Rattle.siri_store.proofs.LeastEdge.{least_in_range}
 use Rattle.siri_store.proofs.LookUps.{by_bool, lookup-insert_entry, later_apart}
@@ -37,13 +38,16 @@ abbrev Edged : Type 0
 Edged = List ((ℕ × Key) × Item)
 
 edge_total : IsTotalOrder edge_cmp
-edge_total = then_total (on_total (λ (place : ℕ × Key). place.0) nat_cmp_total) (on_total (λ (place : ℕ × Key). place.1) key_cmp_total)
+edge_total =
+    then_total (on_total (λ (place : ℕ × Key). place.0) nat_cmp_total)
+    (on_total (λ (place : ℕ × Key). place.1) key_cmp_total)
 
 edge_exact : CmpEqualImpliesEq edge_cmp
 edge_exact = exact_pairs nat_cmp key_cmp exact_unsigned key_cmp_exact
 
 stamp_edge : (order m n : ℕ) (k l : Key) → stamp_cmp (order, m, Some k) (order, n, Some l) ≡ edge_cmp (m, k) (n, l)
-stamp_edge order m n k l = ap (λ o. ordering_then (ordering_then o (nat_cmp m n)) (key_cmp k l)) (tied_itself nat_cmp_total order)
+stamp_edge order m n k l =
+    ap (λ o. ordering_then (ordering_then o (nat_cmp m n)) (key_cmp k l)) (tied_itself nat_cmp_total order)
 
 never : (o : Ordering) → is_eq (ordering_then o Greater) ≡ false
 never Less = refl
@@ -94,23 +98,28 @@ module _ (from : ℤ) (es : Items) where
   abbrev edged : List Stamp → Edged
   edged stamps = flat_map keyed stamps
 
-  unkeyed_one : (m : ℕ) (k : Key) (h : Option Item) (rest : Edged) (rest' : Items) → map (λ f. (f.0.1, f.1)) rest ≡ rest'
+  unkeyed_one : (m : ℕ) (k : Key) (h : Option Item) (rest : Edged) (rest' : Items)
+      → map (λ f. (f.0.1, f.1)) rest ≡ rest'
       → map (λ f. (f.0.1, f.1)) (keyed_at from m k h ++ rest) ≡ entry_list (led_at from m k h) ++ rest'
   unkeyed_one m k None rest rest' is = is
-  unkeyed_one m k (Some i) rest rest' is = by_bool (has_edge from (pos m) i) (λ h. rw h is) (λ h. rw h (ap (λ l. (k, i) ∷ l) is))
+  unkeyed_one m k (Some i) rest rest' is =
+      by_bool (has_edge from (pos m) i) (λ h. rw h is) (λ h. rw h (ap (λ l. (k, i) ∷ l) is))
 
   unkeyed : (stamps : List Stamp) → map (λ f. (f.0.1, f.1)) (edged stamps) ≡ led from es stamps
   unkeyed [] = refl
   unkeyed ((order, m, None) ∷ stamps) = unkeyed stamps
-  unkeyed ((order, m, Some k) ∷ stamps) = unkeyed_one m k (item_of es k) (edged stamps) (led from es stamps) (unkeyed stamps)
+  unkeyed ((order, m, Some k) ∷ stamps) =
+      unkeyed_one m k (item_of es k) (edged stamps) (led from es stamps) (unkeyed stamps)
 
   -- they are in order
   above_one : (m : ℕ) (k : Key) (n : ℕ) (l : Key) (h : Option Item) (rest : Edged) → edge_cmp (m, k) (n, l) ≡ Less
-      → AllByRecursion (λ q. edge_cmp (m, k) q ≡ Less) (keys_of rest) → AllByRecursion (λ q. edge_cmp (m, k) q ≡ Less) (keys_of (keyed_at from n l h ++ rest))
+      → AllByRecursion (λ q. edge_cmp (m, k) q ≡ Less) (keys_of rest)
+      → AllByRecursion (λ q. edge_cmp (m, k) q ≡ Less) (keys_of (keyed_at from n l h ++ rest))
   above_one m k n l None rest less a = a
   above_one m k n l (Some i) rest less a = by_bool (has_edge from (pos n) i) (λ h. rw h a) (λ h. rw h (less, a))
 
-  above_all : (order m : ℕ) (k : Key) (stamps : List Stamp) → AllByRecursion (λ s. stamp_cmp (order, m, Some k) s ≡ Less) stamps → AllByRecursion (λ s. s.0 ≡ order) stamps
+  above_all : (order m : ℕ) (k : Key) (stamps : List Stamp)
+      → AllByRecursion (λ s. stamp_cmp (order, m, Some k) s ≡ Less) stamps → AllByRecursion (λ s. s.0 ≡ order) stamps
       → AllByRecursion (λ q. edge_cmp (m, k) q ≡ Less) (keys_of (edged stamps))
   above_all order m k [] a p = tt
   above_all order m k ((o, n, None) ∷ stamps) a p = above_all order m k stamps a.1 p.1
@@ -119,25 +128,29 @@ module _ (from : ℤ) (es : Items) where
       (sym (stamp_edge order m n k l) ∙ (ap (λ x. stamp_cmp (order, m, Some k) (x, n, Some l)) (sym p.0) ∙ a.0))
       (above_all order m k stamps a.1 p.1)
 
-  sorted_one : (m : ℕ) (k : Key) (h : Option Item) (rest : Edged) → AllByRecursion (λ q. edge_cmp (m, k) q ≡ Less) (keys_of rest)
+  sorted_one : (m : ℕ) (k : Key) (h : Option Item) (rest : Edged)
+      → AllByRecursion (λ q. edge_cmp (m, k) q ≡ Less) (keys_of rest)
       → IsStrictlySortedBy edge_cmp (keys_of rest) → IsStrictlySortedBy edge_cmp (keys_of (keyed_at from m k h ++ rest))
   unfolding IsStrictlySortedBy
   sorted_one m k None rest a s = s
   sorted_one m k (Some i) rest a s = by_bool (has_edge from (pos m) i) (λ h. rw h s) (λ h. rw h (a, s))
 
-  sorted_edged : (order : ℕ) (stamps : List Stamp) → IsStrictlySortedBy stamp_cmp stamps → AllByRecursion (λ s. s.0 ≡ order) stamps
+  sorted_edged : (order : ℕ) (stamps : List Stamp) → IsStrictlySortedBy stamp_cmp stamps
+      → AllByRecursion (λ s. s.0 ≡ order) stamps
       → IsStrictlySortedBy edge_cmp (keys_of (edged stamps))
   unfolding IsStrictlySortedBy
   sorted_edged order [] s p = tt
   sorted_edged order ((o, m, None) ∷ stamps) s p = sorted_edged order stamps s.1 p.1
   sorted_edged order ((o, m, Some k) ∷ stamps) s p =
       sorted_one m k (item_of es k) (edged stamps)
-      (above_all order m k stamps (subst (λ x. AllByRecursion (λ y. stamp_cmp (x, m, Some k) y ≡ Less) stamps) p.0 s.0) p.1)
+      (above_all order m k stamps
+      (subst (λ x. AllByRecursion (λ y. stamp_cmp (x, m, Some k) y ≡ Less) stamps) p.0 s.0) p.1)
       (sorted_edged order stamps s.1 p.1)
 
   -- what is found there
   found_here : (q m : ℕ) (k l : Key) (h : Option Item) (rest : Edged) (b : Bool) → is_eq (edge_cmp (q, k) (m, l)) ≡ true
-      → lookup (is_at (edge_cmp (q, k))) rest ≡ cond b (value from m h) None → lookup (is_at (edge_cmp (q, k))) (keyed_at from m l h ++ rest) ≡ value from m h
+      → lookup (is_at (edge_cmp (q, k))) rest ≡ cond b (value from m h) None
+      → lookup (is_at (edge_cmp (q, k))) (keyed_at from m l h ++ rest) ≡ value from m h
   found_here q m k l None rest b same is = is ∙ none_both b
   found_here q m k l (Some i) rest b same is = by_bool (has_edge from (pos m) i)
       (λ h. rw h ((rw h at is) ∙ none_both b))
@@ -151,11 +164,13 @@ module _ (from : ℤ) (es : Items) where
       (λ h. rw h (ap (λ c. cond c (Some i) (lookup (is_at (edge_cmp (q, k))) rest)) apart))
 
   found_edged : (order q : ℕ) (k : Key) (stamps : List Stamp) → AllByRecursion (λ s. s.0 ≡ order) stamps
-      → lookup (is_at (edge_cmp (q, k))) (edged stamps) ≡ cond (has_stamp stamps (order, q, Some k)) (value from q (item_of es k)) None
+      → lookup (is_at (edge_cmp (q, k))) (edged stamps)
+      ≡ cond (has_stamp stamps (order, q, Some k)) (value from q (item_of es k)) None
   found_edged order q k [] p = refl
   found_edged order q k ((o, m, None) ∷ stamps) p =
       found_edged order q k stamps p.1
-      ∙ ap (λ b. cond (b || has_stamp stamps (order, q, Some k)) (value from q (item_of es k)) None) (sym (never (ordering_then (nat_cmp order o) (nat_cmp q m))))
+      ∙ ap (λ b. cond (b || has_stamp stamps (order, q, Some k)) (value from q (item_of es k)) None)
+      (sym (never (ordering_then (nat_cmp order o) (nat_cmp q m))))
   found_edged order q k ((o, m, Some l) ∷ stamps) p =
       let rest = found_edged order q k stamps p.1 in
       let head : is_eq (stamp_cmp (order, q, Some k) (o, m, Some l)) ≡ is_eq (edge_cmp (q, k) (m, l)) =
@@ -163,12 +178,15 @@ module _ (from : ℤ) (es : Items) where
       by_bool (is_eq (edge_cmp (q, k) (m, l)))
       (λ h.
       let same : (q, k) ≡ (m, l) = edge_exact (q, k) (m, l) ((Equal-is (edge_cmp (q, k) (m, l))).0 h) in
-      let its : value from q (item_of es k) ≡ value from m (item_of es l) = ap (λ (x : ℕ × Key). value from x.0 (item_of es x.1)) same in
+      let its : value from q (item_of es k) ≡ value from m (item_of es l) =
+      ap (λ (x : ℕ × Key). value from x.0 (item_of es x.1)) same in
       found_here q m k l (item_of es l) (edged stamps) (has_stamp stamps (order, q, Some k)) h
       (rest ∙ ap (λ v. cond (has_stamp stamps (order, q, Some k)) v None) its)
-      ∙ (sym its ∙ ap (λ b. cond (b || has_stamp stamps (order, q, Some k)) (value from q (item_of es k)) None) (sym (head ∙ h))))
+      ∙ (sym its
+      ∙ ap (λ b. cond (b || has_stamp stamps (order, q, Some k)) (value from q (item_of es k)) None) (sym (head ∙ h))))
       (λ h. passed_over q m k l (item_of es l) (edged stamps) h
-      ∙ (rest ∙ ap (λ b. cond (b || has_stamp stamps (order, q, Some k)) (value from q (item_of es k)) None) (sym (head ∙ h))))
+      ∙ (rest ∙ ap (λ b. cond (b || has_stamp stamps (order, q, Some k)) (value from q (item_of es k)) None)
+      (sym (head ∙ h))))
 
 -- ---- what the definition gathers
 
@@ -184,7 +202,8 @@ module _ (s : Service) (from to : ℤ) where
   edge_of i = option_map_or (λ edge. edge) (least_edge from to i) 0
 
   abbrev placed : Edged → Items → Edged
-  placed found es = fold (λ found e. insert_entry edge_cmp found (under_edge from to e) e.1) found (filter (λ e. crosses e.1) es)
+  placed found es =
+      fold (λ found e. insert_entry edge_cmp found (under_edge from to e) e.1) found (filter (λ e. crosses e.1) es)
 
   abbrev at : ℕ → Option Item → Option Item
   at q None = None
@@ -192,43 +211,54 @@ module _ (s : Service) (from to : ℤ) where
 
   -- they are in order
   sorted_fold : (found : Edged) (es : Items) → IsStrictlySortedBy edge_cmp (keys_of found)
-      → IsStrictlySortedBy edge_cmp (keys_of (fold (λ found e. insert_entry edge_cmp found (under_edge from to e) e.1) found es))
+      → IsStrictlySortedBy edge_cmp
+      (keys_of (fold (λ found e. insert_entry edge_cmp found (under_edge from to e) e.1) found es))
   sorted_fold found [] sorted = sorted
-  sorted_fold found (e ∷ es) sorted = sorted_fold (insert_entry edge_cmp found (under_edge from to e) e.1) es (sorted_inserted edge_total (under_edge from to e) e.1 found sorted)
+  sorted_fold found (e ∷ es) sorted =
+      sorted_fold (insert_entry edge_cmp found (under_edge from to e) e.1) es
+      (sorted_inserted edge_total (under_edge from to e) e.1 found sorted)
 
   -- what is found of an edge and a key
-  tie : (q : ℕ) (k : Key) (e : Key × Item) → is_eq (edge_cmp (q, k) (under_edge from to e)) ≡ (nat_eq q (edge_of e.1) && is_eq (key_cmp k e.0))
-  tie q k e = eq_then (nat_cmp q (edge_of e.1)) (key_cmp k e.0) ∙ ap (λ b. b && is_eq (key_cmp k e.0)) (eq_nat q (edge_of e.1))
+  tie : (q : ℕ) (k : Key) (e : Key × Item)
+      → is_eq (edge_cmp (q, k) (under_edge from to e)) ≡ (nat_eq q (edge_of e.1) && is_eq (key_cmp k e.0))
+  tie q k e =
+      eq_then (nat_cmp q (edge_of e.1)) (key_cmp k e.0) ∙ ap (λ b. b && is_eq (key_cmp k e.0)) (eq_nat q (edge_of e.1))
 
   here_bits : (crossing edge : Bool) (i : Item) (before : Option Item) → crossing ≡ true
       → cond (edge && true) (Some i) before ≡ or_else (cond (crossing && edge) (Some i) None) before
   here_bits crossing true i before h = rw h refl
   here_bits crossing false i before h = rw h refl
 
-  apart_bits : (edge : Bool) (i : Item) (found before : Option Item) → or_else found (cond (edge && false) (Some i) before) ≡ or_else found before
+  apart_bits : (edge : Bool) (i : Item) (found before : Option Item)
+      → or_else found (cond (edge && false) (Some i) before) ≡ or_else found before
   apart_bits true i found before = refl
   apart_bits false i found before = refl
 
-  unlike_bits : (crossing edge : Bool) (i : Item) (before : Option Item) → crossing ≡ false → before ≡ or_else (cond (crossing && edge) (Some i) None) before
+  unlike_bits : (crossing edge : Bool) (i : Item) (before : Option Item) → crossing ≡ false
+      → before ≡ or_else (cond (crossing && edge) (Some i) None) before
   unlike_bits crossing edge i before h = rw h refl
 
   none_first : (before : Option Item) → before ≡ or_else None before
   none_first before = refl
 
   found_placed : (q : ℕ) (k : Key) (es : Items) (found : Edged) → InOrder es
-      → lookup (is_at (edge_cmp (q, k))) (placed found es) ≡ or_else (at q (item_of es k)) (lookup (is_at (edge_cmp (q, k))) found)
+      → lookup (is_at (edge_cmp (q, k))) (placed found es)
+      ≡ or_else (at q (item_of es k)) (lookup (is_at (edge_cmp (q, k))) found)
   unfolding IsStrictlySortedBy
   found_placed q k [] found sorted = none_first (lookup (is_at (edge_cmp (q, k))) found)
   found_placed q k (e ∷ es) found sorted =
       let before = lookup (is_at (edge_cmp (q, k))) found in
       let absent : is_eq (key_cmp k e.0) ≡ true → item_of es k ≡ None =
-      λ h. lookup-none (is_at (key_cmp k)) es (later_apart key_cmp_total k e es ((Equal-is (key_cmp k e.0)).0 h) sorted.0) in
+      λ h. lookup-none (is_at (key_cmp k)) es
+      (later_apart key_cmp_total k e es ((Equal-is (key_cmp k e.0)).0 h) sorted.0) in
       by_bool (crosses e.1)
       (λ c.
       let rest = found_placed q k es (insert_entry edge_cmp found (under_edge from to e) e.1) sorted.1
       ∙ ap (or_else (at q (item_of es k))) (lookup-insert_entry edge_total (under_edge from to e) e.1 (q, k) found
       ∙ ap (λ b. cond b (Some e.1) before) (tie q k e)) in
-      ap (λ b. lookup (is_at (edge_cmp (q, k))) (fold (λ found e. insert_entry edge_cmp found (under_edge from to e) e.1) found (cond b (e ∷ filter (λ e. crosses e.1) es) (filter (λ e. crosses e.1) es)))) c
+      ap (λ b. lookup (is_at (edge_cmp (q, k)))
+      (fold (λ found e. insert_entry edge_cmp found (under_edge from to e) e.1) found
+      (cond b (e ∷ filter (λ e. crosses e.1) es) (filter (λ e. crosses e.1) es)))) c
       ∙ (rest
       ∙ by_bool (is_eq (key_cmp k e.0))
       (λ h. (λ i. or_else (at q (absent h i)) (cond (nat_eq q (edge_of e.1) && h i) (Some e.1) before))
@@ -239,7 +269,9 @@ module _ (s : Service) (from to : ℤ) where
       ∙ (apart_bits (nat_eq q (edge_of e.1)) e.1 (at q (item_of es k)) before
       ∙ ap (λ b. or_else (at q (cond b (Some e.1) (item_of es k))) before) (sym h)))))
       (λ c.
-      ap (λ b. lookup (is_at (edge_cmp (q, k))) (fold (λ found e. insert_entry edge_cmp found (under_edge from to e) e.1) found (cond b (e ∷ filter (λ e. crosses e.1) es) (filter (λ e. crosses e.1) es)))) c
+      ap (λ b. lookup (is_at (edge_cmp (q, k)))
+      (fold (λ found e. insert_entry edge_cmp found (under_edge from to e) e.1) found
+      (cond b (e ∷ filter (λ e. crosses e.1) es) (filter (λ e. crosses e.1) es)))) c
       ∙ (found_placed q k es found sorted.1
       ∙ by_bool (is_eq (key_cmp k e.0))
       (λ h. ap (λ held. or_else (at q held) before) (absent h)
@@ -268,7 +300,8 @@ service_moments service.Situation (item.Journey j) = refl
 service_moments service.Situation (item.Vehicle v) = refl
 service_moments service.Situation (item.Situation x) = refl
 
-lead_bits : (a b c : Bool) (i : Item) → (a && not b) ≡ c → cond a (cond b None (Some i)) None ≡ or_else (cond (true && c) (Some i) None) None
+lead_bits : (a b c : Bool) (i : Item) → (a && not b) ≡ c
+    → cond a (cond b None (Some i)) None ≡ or_else (cond (true && c) (Some i) None) None
 lead_bits true true c i h = rw (← h) refl
 lead_bits true false c i h = rw (← h) refl
 lead_bits false b c i h = rw (← h) refl
@@ -279,32 +312,51 @@ none_bits false x = refl
 
 module _ (s : Service) (from to : ℤ) (q : ℕ) where
   of_item : (i : Item) (b : Bool) → is_of s i ≡ b
-      → cond (is_within from to q && has q (cond b (edges_of i) [])) (value from q (Some i)) None ≡ or_else (cond ((b && has_edge from to i) && nat_eq q (edge_of s from to i)) (Some i) None) None
-  of_item i true is = lead_bits (is_within from to q && has q (edges_of i)) (has_edge from (pos q) i) (has_edge from to i && nat_eq q (edge_of s from to i)) i
+      → cond (is_within from to q && has q (cond b (edges_of i) [])) (value from q (Some i)) None
+      ≡ or_else (cond ((b && has_edge from to i) && nat_eq q (edge_of s from to i)) (Some i) None) None
+  of_item i true is =
+      lead_bits (is_within from to q && has q (edges_of i)) (has_edge from (pos q) i)
+      (has_edge from to i && nat_eq q (edge_of s from to i)) i
       (least_in_range from to q (edges_of i))
   of_item i false is = none_bits (is_within from to q) (cond (has_edge from (pos q) i) None (Some i))
 
-  of_held : (h : Option Item) → cond (is_within from to q && has q (moments_held (by_edge s) h)) (value from q h) None ≡ or_else (at s from to q h) None
+  of_held : (h : Option Item)
+      → cond (is_within from to q && has q (moments_held (by_edge s) h)) (value from q h) None
+      ≡ or_else (at s from to q h) None
   of_held None = none_bits (is_within from to q) None
-  of_held (Some i) = ap (λ ms. cond (is_within from to q && has q ms) (value from q (Some i)) None) (service_moments s i)
+  of_held (Some i) =
+      ap (λ ms. cond (is_within from to q && has q ms) (value from q (Some i)) None) (service_moments s i)
       ∙ (of_item i (is_of s i) refl)
 
 module _ (s : Service) (from to : ℤ) (es : Items) (stamps : List Stamp) (tied : Tied es stamps) where
-  stamp_between : (q : ℕ) (k : Key) → has_stamp (between (by_edge s) from to stamps) (by_edge s, q, Some k) ≡ (is_within from to q && has q (moments_held (by_edge s) (item_of es k)))
+  stamp_between : (q : ℕ) (k : Key)
+      → has_stamp (between (by_edge s) from to stamps) (by_edge s, q, Some k)
+      ≡ (is_within from to q && has q (moments_held (by_edge s) (item_of es k)))
   stamp_between q k =
-      any-filter_same (is_at (stamp_cmp (by_edge s, q, Some k))) (is_between (by_edge s) from to) (is_within from to q) same stamps
+      any-filter_same (is_at (stamp_cmp (by_edge s, q, Some k))) (is_between (by_edge s) from to)
+      (is_within from to q) same stamps
       ∙ ap (λ b. is_within from to q && b) (tied (by_edge s, q, Some k))
     where
-      same : (x : Stamp) → is_eq (stamp_cmp (by_edge s, q, Some k) x) ≡ true → is_between (by_edge s) from to x ≡ is_within from to q
+      same : (x : Stamp) → is_eq (stamp_cmp (by_edge s, q, Some k) x) ≡ true
+          → is_between (by_edge s) from to x ≡ is_within from to q
       same x h =
-          let parts = eq_then (ordering_then (nat_cmp (by_edge s) x.0) (nat_cmp q x.1)) (option_cmp key_cmp (Some k) x.2) in
-          let both = left_true (is_eq (ordering_then (nat_cmp (by_edge s) x.0) (nat_cmp q x.1))) (is_eq (option_cmp key_cmp (Some k) x.2)) (sym parts ∙ h) in
+          let parts =
+          eq_then (ordering_then (nat_cmp (by_edge s) x.0) (nat_cmp q x.1)) (option_cmp key_cmp (Some k) x.2) in
+          let both =
+          left_true (is_eq (ordering_then (nat_cmp (by_edge s) x.0) (nat_cmp q x.1)))
+          (is_eq (option_cmp key_cmp (Some k) x.2)) (sym parts ∙ h) in
           let each = sym (eq_then (nat_cmp (by_edge s) x.0) (nat_cmp q x.1)) ∙ both in
-          let order : by_edge s ≡ x.0 = equal_numbers (by_edge s) x.0 (sym (eq_nat (by_edge s) x.0) ∙ left_true (is_eq (nat_cmp (by_edge s) x.0)) (is_eq (nat_cmp q x.1)) each) in
-          let moment : q ≡ x.1 = equal_numbers q x.1 (sym (eq_nat q x.1) ∙ right_true (is_eq (nat_cmp (by_edge s) x.0)) (is_eq (nat_cmp q x.1)) each) in
-          ap (λ b. b && is_within from to x.1) (ap (λ o. nat_eq o (by_edge s)) (sym order) ∙ itself (by_edge s)) ∙ ap (is_within from to) (sym moment)
+          let order : by_edge s ≡ x.0 =
+          equal_numbers (by_edge s) x.0
+          (sym (eq_nat (by_edge s) x.0) ∙ left_true (is_eq (nat_cmp (by_edge s) x.0)) (is_eq (nat_cmp q x.1)) each) in
+          let moment : q ≡ x.1 =
+          equal_numbers q x.1
+          (sym (eq_nat q x.1) ∙ right_true (is_eq (nat_cmp (by_edge s) x.0)) (is_eq (nat_cmp q x.1)) each) in
+          ap (λ b. b && is_within from to x.1) (ap (λ o. nat_eq o (by_edge s)) (sym order) ∙ itself (by_edge s))
+          ∙ ap (is_within from to) (sym moment)
 
-  pub led_crossed : InOrder es → IsStrictlySortedBy stamp_cmp stamps → led from es (between (by_edge s) from to stamps) ≡ crossed_entries s from to es
+  pub led_crossed : InOrder es → IsStrictlySortedBy stamp_cmp stamps
+      → led from es (between (by_edge s) from to stamps) ≡ crossed_entries s from to es
   unfolding IsStrictlySortedBy
   led_crossed ordered sorted =
       let there = between (by_edge s) from to stamps in
@@ -312,7 +364,8 @@ module _ (s : Service) (from to : ℤ) (es : Items) (stamps : List Stamp) (tied 
       let l = edged from es there in
       let r = in_order_of_edges s from to es in
       let same : l ≡ r = same_entries edge_total edge_exact l r
-      (sorted_edged from es (by_edge s) there (IsStrictlySortedBy-filter stamp_cmp (is_between (by_edge s) from to) stamps sorted) all)
+      (sorted_edged from es (by_edge s) there
+      (IsStrictlySortedBy-filter stamp_cmp (is_between (by_edge s) from to) stamps sorted) all)
       (sorted_fold s from to [] (filter (λ e. crosses s from to e.1) es) tt)
       (λ x. found_edged from es (by_edge s) x.0 x.1 there all
       ∙ (ap (λ b. cond b (value from x.0 (item_of es x.1)) None) (stamp_between x.0 x.1)
@@ -322,19 +375,12 @@ module _ (s : Service) (from to : ℤ) (es : Items) (stamps : List Stamp) (tied 
       all_there : (xs : List Stamp) → AllByRecursion (λ x. x.0 ≡ by_edge s) (between (by_edge s) from to xs)
       all_there [] = tt
       all_there (x ∷ xs) = by_bool (is_between (by_edge s) from to x)
-          (λ h. rw h (equal_numbers x.0 (by_edge s) (left_true (nat_eq x.0 (by_edge s)) (is_within from to x.1) h), all_there xs))
+          (λ h. rw h
+          (equal_numbers x.0 (by_edge s) (left_true (nat_eq x.0 (by_edge s)) (is_within from to x.1) h), all_there xs))
           (λ h. rw h (all_there xs))
 
 -- ---- what a walk over them has found
 
-pub found_within : (from : ℤ) (es found : Items) (all pending rest : List Stamp) (stamp : Stamp) (entry : Key × Item)
-    → found ++ led from es pending ≡ led from es all → pending ≡ stamp ∷ rest → Some entry ≡ led_by from es stamp
-    → length found + 1 ≤ length (led from es all)
-found_within from es found all pending rest stamp entry is next leads =
-    let one : led from es pending ≡ entry ∷ led from es rest =
-    ap (led from es) next ∙ ap (λ e. entry_list e ++ led from es rest) (sym leads) in
-    let number : length (found ++ entry ∷ led from es rest) ≡ length (led from es all) = ap length (ap (λ l. found ++ l) (sym one) ∙ is) in
-    omega (arith, number, length-append found (entry ∷ led from es rest))
-
-pub most_counted : (before found now new all : ℕ) → now ≡ counted before found → new ≡ counted now 1 → found + 1 ≤ all → new ≤ before + all
+pub most_counted : (before found now new all : ℕ) → now ≡ counted before found → new ≡ counted now 1 → found + 1 ≤ all
+    → new ≤ before + all
 most_counted before found now new all a b le = omega (arith, a, b, le)

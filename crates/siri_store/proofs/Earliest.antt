@@ -1,5 +1,6 @@
 -- The item that ends first leaves first: no held item is closed.
-use Rattle.std.proofs.Common.{◌≡◌, ℕ, suc, Bool, true, false, [], ◌∷◌, ◌||◌, Option, Some, None, cond, refl, ap, sym, ◌∙◌, arith}
+use Rattle.std.proofs.Common.{◌≡◌, ℕ, suc, Bool, true, false, [], ◌∷◌, ◌||◌, Option, Some, None, cond, refl, ap, sym}
+use Rattle.std.proofs.Common.{◌∙◌, arith}
 use Rattle.std.specs.Prelude.{IfSome, IfNone, nat_lt, ◌↔◌}
 use Rattle.std.specs.List.{All, Contains, AllByRecursion}
 use Rattle.std.specs.Cmp.{IsTotalOrder, Equal-is, then_total, on_total, nat_cmp_total}
@@ -34,17 +35,24 @@ Itself es e = item_of es e.0 ≡ Some e.1
 below_apart : (e f : Key × Item) → key_cmp e.0 f.0 ≡ Less → is_eq (key_cmp f.0 e.0) ≡ false
 below_apart e f less = ap is_eq (key_cmp_total.antisymm f.0 e.0 ∙ ap ordering_reverse less)
 
-later_itself : (e : Key × Item) (whole fs : Items) → AllByRecursion (λ k. key_cmp e.0 k ≡ Less) (keys_of fs) → AllByRecursion (Itself whole) fs
+later_itself : (e : Key × Item) (whole fs : Items) → AllByRecursion (λ k. key_cmp e.0 k ≡ Less) (keys_of fs)
+    → AllByRecursion (Itself whole) fs
     → AllByRecursion (Itself (e ∷ whole)) fs
 later_itself e whole [] above a = tt
-later_itself e whole (f ∷ fs) above a =
-    (ap (λ b. cond b (Some e.1) (item_of whole f.0)) (below_apart e f above.0) ∙ a.0, later_itself e whole fs above.1 a.1)
+later_itself e whole (f ∷ fs) above a = (
+  ap (λ b. cond b (Some e.1) (item_of whole f.0)) (below_apart e f above.0)
+      ∙ a.0,
+  later_itself e whole fs above.1 a.1,
+)
 
 each_itself : (es : Items) → InOrder es → AllByRecursion (Itself es) es
 unfolding IsStrictlySortedBy
 each_itself [] sorted = tt
-each_itself (e ∷ es) sorted =
-    (ap (λ o. cond (is_eq o) (Some e.1) (item_of es e.0)) (tied_itself key_cmp_total e.0), later_itself e es es sorted.0 (each_itself es sorted.1))
+each_itself (e ∷ es) sorted = (
+  ap (λ o. cond (is_eq o) (Some e.1) (item_of es e.0)) (tied_itself key_cmp_total e.0),
+  later_itself e es es sorted.0
+      (each_itself es sorted.1),
+)
 
 -- ---- which are dead
 
@@ -62,17 +70,21 @@ from_values P [] a = tt
 from_values P (e ∷ es) a = (a.0, from_values P es a.1)
 
 each_open : (es : Items) → NoneClosed es → AllByRecursion (λ e. is_closed e.1 ≡ false) es
-each_open es unclosed = from_values (λ i. is_closed i ≡ false) es (recursion_from_All (λ i. is_closed i ≡ false) (values_of es) unclosed)
+each_open es unclosed =
+    from_values (λ i. is_closed i ≡ false) es (recursion_from_All (λ i. is_closed i ≡ false) (values_of es) unclosed)
 
 -- an open item is dead where its end is before now
-dead_open : (i : Item) (now : ℕ) → is_closed i ≡ false → is_dead i now ≡ option_map_or (λ end. nat_lt end now) (end_of i) false
+dead_open : (i : Item) (now : ℕ) → is_closed i ≡ false
+    → is_dead i now ≡ option_map_or (λ end. nat_lt end now) (end_of i) false
 dead_open i now unclosed = ap (λ b. b || option_map_or (λ end. nat_lt end now) (end_of i) false) unclosed
 
-alive_case : (now : ℕ) (held : Option ℕ) → ((m : ℕ) → held ≡ Some m → nat_lt m now ≡ false) → option_map_or (λ end. nat_lt end now) held false ≡ false
+alive_case : (now : ℕ) (held : Option ℕ) → ((m : ℕ) → held ≡ Some m → nat_lt m now ≡ false)
+    → option_map_or (λ end. nat_lt end now) held false ≡ false
 alive_case now None none = refl
 alive_case now (Some m) none = none m refl
 
-pub none_dead_yet : (now : ℕ) (es : Items) → InOrder es → NoneClosed es → NoneHasEnded now es → All (λ i. is_dead i now ≡ false) (values_of es)
+pub none_dead_yet : (now : ℕ) (es : Items) → InOrder es → NoneClosed es → NoneHasEnded now es
+    → All (λ i. is_dead i now ≡ false) (values_of es)
 none_dead_yet now es sorted unclosed none =
     All-from_recursion (λ i. is_dead i now ≡ false) (values_of es) (on_values (λ i. is_dead i now ≡ false) es
     (none_left (Itself es) (λ e. is_closed e.1 ≡ false) (λ e. is_dead e.1 now ≡ false)
@@ -87,33 +99,43 @@ contains_later es e x c = (suc c.0, omega (arith, c.1), c.2)
 some_same : (a b : Item) → Some a ≡ Some b → a ≡ b
 some_same a b same = cc
 
-dead_here : (e : Key × Item) (es : Items) (now : ℕ) (k : Key) (i : Item) → e.0 ≡ k → e.1 ≡ i → is_dead i now ≡ true → Contains (dead_of now (e ∷ es)) (k, i)
+dead_here : (e : Key × Item) (es : Items) (now : ℕ) (k : Key) (i : Item) → e.0 ≡ k → e.1 ≡ i → is_dead i now ≡ true
+    → Contains (dead_of now (e ∷ es)) (k, i)
 dead_here e es now k i key item dead = rw (ap (λ x. is_dead x now) item ∙ dead) (0, omega arith, λ j. (key j, item j))
 
-dead_later : (e : Key × Item) (es : Items) (now : ℕ) (x : Key × Item) → Contains (dead_of now es) x → Contains (dead_of now (e ∷ es)) x
+dead_later : (e : Key × Item) (es : Items) (now : ℕ) (x : Key × Item) → Contains (dead_of now es) x
+    → Contains (dead_of now (e ∷ es)) x
 dead_later e es now x c = by_bool (is_dead e.1 now) (λ h. rw h (contains_later (dead_of now es) e x c)) (λ h. rw h c)
 
-pub held_dead : (es : Items) (now : ℕ) (k : Key) (i : Item) → item_of es k ≡ Some i → is_dead i now ≡ true → Contains (dead_of now es) (k, i)
+pub held_dead : (es : Items) (now : ℕ) (k : Key) (i : Item) → item_of es k ≡ Some i → is_dead i now ≡ true
+    → Contains (dead_of now es) (k, i)
 held_dead [] now k i held dead = absurd (cc held)
 held_dead (e ∷ es) now k i held dead = by_bool (is_eq (key_cmp k e.0))
     (λ h. dead_here e es now k i (sym (key_cmp_exact k e.0 ((Equal-is (key_cmp k e.0)).0 h)))
     (some_same e.1 i (sym (ap (λ b. cond b (Some e.1) (item_of es k)) h) ∙ held)) dead)
-    (λ h. dead_later e es now (k, i) (held_dead es now k i (sym (ap (λ b. cond b (Some e.1) (item_of es k)) h) ∙ held) dead))
+    (λ h. dead_later e es now (k, i)
+    (held_dead es now k i (sym (ap (λ b. cond b (Some e.1) (item_of es k)) h) ∙ held) dead))
 
-all_dead : (Q : Key × Item → Type 0) (now : ℕ) (es : Items) → AllByRecursion (λ e. is_dead e.1 now ≡ true → Q e) es → AllByRecursion Q (dead_of now es)
+all_dead : (Q : Key × Item → Type 0) (now : ℕ) (es : Items) → AllByRecursion (λ e. is_dead e.1 now ≡ true → Q e) es
+    → AllByRecursion Q (dead_of now es)
 all_dead Q now [] a = tt
-all_dead Q now (e ∷ es) a = by_bool (is_dead e.1 now) (λ h. rw h (a.0 h, all_dead Q now es a.1)) (λ h. rw h (all_dead Q now es a.1))
+all_dead Q now (e ∷ es) a =
+    by_bool (is_dead e.1 now) (λ h. rw h (a.0 h, all_dead Q now es a.1)) (λ h. rw h (all_dead Q now es a.1))
 
 leaving_total : IsTotalOrder leaving_cmp
-leaving_total = then_total (on_total (λ (entry : Key × Item). leaves_at entry.1) nat_cmp_total) (on_total (λ (entry : Key × Item). entry.0) key_cmp_total)
+leaving_total =
+    then_total (on_total (λ (entry : Key × Item). leaves_at entry.1) nat_cmp_total)
+    (on_total (λ (entry : Key × Item). entry.0) key_cmp_total)
 
 turned : (o : Ordering) → is_lt (ordering_reverse o) ≡ is_gt o
 turned Less = refl
 turned Equal = refl
 turned Greater = refl
 
-not_before : (now : ℕ) (es : Items) (key : Key) (first : EndsFirst now es key) (e : Key × Item) → Itself es e → is_closed e.1 ≡ false → (held : Option ℕ)
-    → end_of e.1 ≡ held → option_map_or (λ end. nat_lt end now) held false ≡ true → is_lt (leaving_cmp e (key, first.item)) ≡ false
+not_before : (now : ℕ) (es : Items) (key : Key) (first : EndsFirst now es key) (e : Key × Item) → Itself es e
+    → is_closed e.1 ≡ false → (held : Option ℕ)
+    → end_of e.1 ≡ held → option_map_or (λ end. nat_lt end now) held false ≡ true
+    → is_lt (leaving_cmp e (key, first.item)) ≡ false
 not_before now es key first e itself unclosed None is dead = absurd (cc dead)
 not_before now es key first e itself unclosed (Some m) is dead =
     ap is_lt (leaving_total.antisymm e (key, first.item)) ∙ (turned (leaving_cmp (key, first.item) e)
@@ -121,16 +143,21 @@ not_before now es key first e itself unclosed (Some m) is dead =
     (λ j. nat_cmp (option_map_or (λ end. end) (first.its_end j) 0) (option_map_or (λ end. end) (is j) 0))
     ∙ first.first e.0 e.1 m itself is))
 
-its_death : (now : ℕ) (es : Items) (key : Key) (first : EndsFirst now es key) → is_closed first.item ≡ false → is_dead first.item now ≡ true
-its_death now es key first unclosed = dead_open first.item now unclosed ∙ (ap (λ held. option_map_or (λ end. nat_lt end now) held false) first.its_end ∙ first.ended)
+its_death : (now : ℕ) (es : Items) (key : Key) (first : EndsFirst now es key) → is_closed first.item ≡ false
+    → is_dead first.item now ≡ true
+its_death now es key first unclosed =
+    dead_open first.item now unclosed
+    ∙ (ap (λ held. option_map_or (λ end. nat_lt end now) held false) first.its_end ∙ first.ended)
 
-open_held : (es : Items) (k : Key) (i : Item) → AllByRecursion (λ e. is_closed e.1 ≡ false) es → item_of es k ≡ Some i → is_closed i ≡ false
+open_held : (es : Items) (k : Key) (i : Item) → AllByRecursion (λ e. is_closed e.1 ≡ false) es → item_of es k ≡ Some i
+    → is_closed i ≡ false
 open_held [] k i unclosed held = absurd (cc held)
 open_held (e ∷ es) k i unclosed held = by_bool (is_eq (key_cmp k e.0))
     (λ h. ap is_closed (sym (some_same e.1 i (sym (ap (λ b. cond b (Some e.1) (item_of es k)) h) ∙ held))) ∙ unclosed.0)
     (λ h. open_held es k i unclosed.1 (sym (ap (λ b. cond b (Some e.1) (item_of es k)) h) ∙ held))
 
-module _ (now : ℕ) (es : Items) (key : Key) (sorted : InOrder es) (unclosed : NoneClosed es) (first : EndsFirst now es key) where
+module _ (now : ℕ) (es : Items) (key : Key) (sorted : InOrder es) (unclosed : NoneClosed es)
+    (first : EndsFirst now es key) where
   pub dies : is_dead first.item now ≡ true
   dies = its_death now es key first (open_held es key first.item (each_open es unclosed) first.held)
 
@@ -139,55 +166,70 @@ module _ (now : ℕ) (es : Items) (key : Key) (sorted : InOrder es) (unclosed : 
     held = held_dead es now key first.item first.held dies;
     first = All-from_recursion (λ other. is_lt (leaving_cmp other (key, first.item)) ≡ false) (dead_of now es)
         (all_dead (λ other. is_lt (leaving_cmp other (key, first.item)) ≡ false) now es
-        (none_left (Itself es) (λ e. is_closed e.1 ≡ false) (λ e. is_dead e.1 now ≡ true → is_lt (leaving_cmp e (key, first.item)) ≡ false)
-        (λ e itself unclosed dead. not_before now es key first e itself unclosed (end_of e.1) refl (sym (dead_open e.1 now unclosed) ∙ dead))
+        (none_left (Itself es) (λ e. is_closed e.1 ≡ false)
+        (λ e. is_dead e.1 now ≡ true → is_lt (leaving_cmp e (key, first.item)) ≡ false)
+        (λ e itself unclosed dead. not_before now es key first e itself unclosed (end_of e.1) refl
+        (sym (dead_open e.1 now unclosed) ∙ dead))
         es (each_itself es sorted) (each_open es unclosed)));
   }
 
 -- ---- so what the store is told of its items is what it promises
 
-values_alive : (now : ℕ) (es : Items) (k : Key) (i : Item) → AllByRecursion (λ i. is_dead i now ≡ false) (values_of es) → item_of es k ≡ Some i → is_dead i now ≡ false
+values_alive : (now : ℕ) (es : Items) (k : Key) (i : Item) → AllByRecursion (λ i. is_dead i now ≡ false) (values_of es)
+    → item_of es k ≡ Some i → is_dead i now ≡ false
 values_alive now [] k i alive held = absurd (cc held)
 values_alive now (e ∷ es) k i alive held = by_bool (is_eq (key_cmp k e.0))
-    (λ h. ap (λ x. is_dead x now) (sym (some_same e.1 i (sym (ap (λ b. cond b (Some e.1) (item_of es k)) h) ∙ held))) ∙ alive.0)
+    (λ h. ap (λ x. is_dead x now) (sym (some_same e.1 i (sym (ap (λ b. cond b (Some e.1) (item_of es k)) h) ∙ held)))
+    ∙ alive.0)
     (λ h. values_alive now es k i alive.1 (sym (ap (λ b. cond b (Some e.1) (item_of es k)) h) ∙ held))
 
 module _ (s : Held) (sorted : InOrder s.entries) (unclosed : NoneClosed s.entries) where
-  pub next_leaves : (key : Option Key) → IfSome key (EndsFirst s.moment s.entries) → IfNone key (NoneHasEnded s.moment s.entries) → IsNextToLeave s key
+  pub next_leaves : (key : Option Key) → IfSome key (EndsFirst s.moment s.entries)
+      → IfNone key (NoneHasEnded s.moment s.entries) → IsNextToLeave s key
   next_leaves None some none = none_dead_yet s.moment s.entries sorted unclosed none
   next_leaves (Some key) first none = (first.item, leaves_first s.moment s.entries key sorted unclosed first)
 
-  pub none_leaves : (key : Option Key) → IfSome key (EndsFirst s.moment s.entries) → IfNone key (NoneHasEnded s.moment s.entries) → (key ≡ None) ↔ NoneDead s
+  pub none_leaves : (key : Option Key) → IfSome key (EndsFirst s.moment s.entries)
+      → IfNone key (NoneHasEnded s.moment s.entries) → (key ≡ None) ↔ NoneDead s
   none_leaves None some none = ((λ is. none_dead_yet s.moment s.entries sorted unclosed none), (λ alive. refl))
   none_leaves (Some key) first none = (
     (λ is. absurd (cc is)),
     (λ alive. absurd (cc (
       dies s.moment s.entries key sorted unclosed first,
-      values_alive s.moment s.entries key first.item (recursion_from_All (λ i. is_dead i s.moment ≡ false) (values_of s.entries) alive) first.held,
+      values_alive s.moment s.entries key first.item
+          (recursion_from_All (λ i. is_dead i s.moment ≡ false) (values_of s.entries) alive) first.held,
     ))),
   )
 
 pub unclosed_removed : (es : Items) (k : Key) → NoneClosed es → NoneClosed (remove_entry (is_at (key_cmp k)) es)
-unclosed_removed es k unclosed = All-map-remove_entry (is_at (key_cmp k)) (λ e. e.1) (λ i. is_closed i ≡ false) es unclosed
+unclosed_removed es k unclosed =
+    All-map-remove_entry (is_at (key_cmp k)) (λ e. e.1) (λ i. is_closed i ≡ false) es unclosed
 
 -- an item that isn't dead isn't closed
 left_false : (a b : Bool) → (a || b) ≡ false → a ≡ false
 left_false true b h = h
 left_false false b h = refl
 
-pub unclosed_put : (es : Items) (k : Key) (i : Item) (now : ℕ) → NoneClosed es → is_dead i now ≡ false → NoneClosed (insert_entry key_cmp es k i)
-unclosed_put es k i now unclosed live =
-    All-values-insert_entry key_cmp k i (λ i. is_closed i ≡ false) es unclosed (left_false (is_closed i) (option_map_or (λ end. nat_lt end now) (end_of i) false) live)
+pub live_unclosed : (i : Item) (now : ℕ) → is_dead i now ≡ false → is_closed i ≡ false
+live_unclosed i now live = left_false (is_closed i) (option_map_or (λ end. nat_lt end now) (end_of i) false) live
 
-pub expired_own : (es new : Items) (key : Option Key) → UnderOwnKeys es → IfSome key (λ k. new ≡ remove_entry (is_at (key_cmp k)) es) → IfNone key (new ≡ es) → UnderOwnKeys new
+pub unclosed_put : (es : Items) (k : Key) (i : Item) → NoneClosed es → is_closed i ≡ false
+    → NoneClosed (insert_entry key_cmp es k i)
+unclosed_put es k i none_closed unclosed =
+    All-values-insert_entry key_cmp k i (λ i. is_closed i ≡ false) es none_closed unclosed
+
+pub expired_own : (es new : Items) (key : Option Key) → UnderOwnKeys es
+    → IfSome key (λ k. new ≡ remove_entry (is_at (key_cmp k)) es) → IfNone key (new ≡ es) → UnderOwnKeys new
 expired_own es new None own some none = rw none own
 expired_own es new (Some k) own some none = rw some (own_removed es k own)
 
-pub expired_unclosed : (es new : Items) (key : Option Key) → NoneClosed es → IfSome key (λ k. new ≡ remove_entry (is_at (key_cmp k)) es) → IfNone key (new ≡ es) → NoneClosed new
+pub expired_unclosed : (es new : Items) (key : Option Key) → NoneClosed es
+    → IfSome key (λ k. new ≡ remove_entry (is_at (key_cmp k)) es) → IfNone key (new ≡ es) → NoneClosed new
 expired_unclosed es new None unclosed some none = rw none unclosed
 expired_unclosed es new (Some k) unclosed some none = rw some (unclosed_removed es k unclosed)
 
 pub expired_rest : (s t : Held) (key : Option Key) → t ≡ record s { entries = t.entries }
-    → IfSome key (λ k. t.entries ≡ remove_entry (is_at (key_cmp k)) s.entries) → IfNone key (t.entries ≡ s.entries) → t ≡ after_expiry s key
+    → IfSome key (λ k. t.entries ≡ remove_entry (is_at (key_cmp k)) s.entries) → IfNone key (t.entries ≡ s.entries)
+    → t ≡ after_expiry s key
 expired_rest s t None same some none = same ∙ ap (λ es. record s { entries = es }) none
 expired_rest s t (Some k) same some none = same ∙ ap (λ es. record s { entries = es }) some

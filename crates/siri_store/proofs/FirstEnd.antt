@@ -24,9 +24,11 @@ or_none false h = absurd (cc h)
 has_end : (m : ℕ) (end : Option ℕ) → end ≡ Some m → has m (listed end) ≡ true
 has_end m end is = ap (λ e. has m (listed e)) is ∙ ap (λ b. b || false) (itself m)
 
-end_stamp : (es : Items) (stamps : List Stamp) (k : Key) (i : Item) (m : ℕ) → Tied es stamps → item_of es k ≡ Some i → end_of i ≡ Some m
+end_stamp : (es : Items) (stamps : List Stamp) (k : Key) (i : Item) (m : ℕ) → Tied es stamps → item_of es k ≡ Some i
+    → end_of i ≡ Some m
     → has_stamp stamps (by_end, m, Some k) ≡ true
-end_stamp es stamps k i m tied held is = tied (by_end, m, Some k) ∙ (ap (λ h. has m (moments_held by_end h)) held ∙ has_end m (end_of i) is)
+end_stamp es stamps k i m tied held is =
+    tied (by_end, m, Some k) ∙ (ap (λ h. has m (moments_held by_end h)) held ∙ has_end m (end_of i) is)
 
 -- and a stamp of an end is of the end of a held item
 its_end : (m : ℕ) (end : Option ℕ) → has m (listed end) ≡ true → end ≡ Some m
@@ -38,14 +40,17 @@ record Ending (es : Items) (k : Key) (m : ℕ) : Type 0 where
   held : item_of es k ≡ Some item
   ends : end_of item ≡ Some m
 
-ending : (es : Items) (k : Key) (m : ℕ) (h : Option Item) → item_of es k ≡ h → has m (moments_held by_end h) ≡ true → Ending es k m
+ending : (es : Items) (k : Key) (m : ℕ) (h : Option Item) → item_of es k ≡ h → has m (moments_held by_end h) ≡ true
+    → Ending es k m
 ending es k m None is at = absurd (cc at)
 ending es k m (Some i) is at = record { item = i; held = is; ends = its_end m (end_of i) at }
 
-pub none_ended : (now : ℕ) (es : Items) (stamps : List Stamp) → Tied es stamps → NoneEnded now stamps → NoneHasEnded now es
+pub none_ended : (now : ℕ) (es : Items) (stamps : List Stamp) → Tied es stamps → NoneEnded now stamps
+    → NoneHasEnded now es
 none_ended now es stamps tied none k i m held is = none (by_end, m, Some k) (end_stamp es stamps k i m tied held is)
 
-pub ends_first : (now : ℕ) (es : Items) (stamps : List Stamp) (key : Key) → Tied es stamps → IsFirstEnd now stamps key → EndsFirst now es key
+pub ends_first : (now : ℕ) (es : Items) (stamps : List Stamp) (key : Key) → Tied es stamps → IsFirstEnd now stamps key
+    → EndsFirst now es key
 ends_first now es stamps key tied first =
     let own = ending es key first.end (item_of es key) refl (sym (tied (by_end, first.end, Some key)) ∙ first.held) in
     record {

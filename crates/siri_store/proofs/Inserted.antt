@@ -30,28 +30,34 @@ module _ {K X : Type 0} {R : K → K → Ordering} (total : IsTotalOrder R) wher
   inserted j k v (e ∷ es) less below = inserted_at j k v e es (R k e.0) refl less below (inserted j k v es less below.1)
 
   sorted_at : (k : K) (v : X) (e : K × X) (es : List (K × X)) (o : Ordering) → R k e.0 ≡ o
-      → IsStrictlySortedBy R (keys_of (e ∷ es)) → IsStrictlySortedBy R (keys_of (insert_entry R es k v)) → IsStrictlySortedBy R (keys_of (insert_entry R (e ∷ es) k v))
+      → IsStrictlySortedBy R (keys_of (e ∷ es)) → IsStrictlySortedBy R (keys_of (insert_entry R es k v))
+      → IsStrictlySortedBy R (keys_of (insert_entry R (e ∷ es) k v))
   unfolding IsStrictlySortedBy
   sorted_at k v e es Less h s rest = rw h ((h, below_less k e.0 es h s.0), s)
   sorted_at k v e es Equal h s rest = rw h s
-  sorted_at k v e es Greater h s rest = rw h (inserted e.0 k v es (total.antisymm e.0 k ∙ ap ordering_reverse h) s.0, rest)
+  sorted_at k v e es Greater h s rest =
+      rw h (inserted e.0 k v es (total.antisymm e.0 k ∙ ap ordering_reverse h) s.0, rest)
 
-  pub sorted_inserted : (k : K) (v : X) (es : List (K × X)) → IsStrictlySortedBy R (keys_of es) → IsStrictlySortedBy R (keys_of (insert_entry R es k v))
+  pub sorted_inserted : (k : K) (v : X) (es : List (K × X)) → IsStrictlySortedBy R (keys_of es)
+      → IsStrictlySortedBy R (keys_of (insert_entry R es k v))
   unfolding IsStrictlySortedBy
   sorted_inserted k v [] s = (tt, tt)
   sorted_inserted k v (e ∷ es) s = sorted_at k v e es (R k e.0) refl s (sorted_inserted k v es s.1)
 
 -- ---- entries in order by which the same is found are the same
 
-module _ {K X : Type 0} {R : K → K → Ordering} (total : IsTotalOrder R) (exact : (x y : K) → R x y ≡ Equal → x ≡ y) where
-  absent_below : (q : K) (es : List (K × X)) → AllByRecursion (λ y. R q y ≡ Less) (keys_of es) → lookup (is_at (R q)) es ≡ None
+module _ {K X : Type 0} {R : K → K → Ordering} (total : IsTotalOrder R)
+    (exact : (x y : K) → R x y ≡ Equal → x ≡ y) where
+  absent_below : (q : K) (es : List (K × X)) → AllByRecursion (λ y. R q y ≡ Less) (keys_of es)
+      → lookup (is_at (R q)) es ≡ None
   absent_below q [] a = refl
   absent_below q (e ∷ es) a = ap (λ o. cond (is_eq o) (Some e.1) (lookup (is_at (R q)) es)) a.0 ∙ absent_below q es a.1
 
   first_found : (q : K) (e : K × X) (es : List (K × X)) → R q e.0 ≡ Equal → lookup (is_at (R q)) (e ∷ es) ≡ Some e.1
   first_found q e es tie = ap (λ o. cond (is_eq o) (Some e.1) (lookup (is_at (R q)) es)) tie
 
-  not_first : (q : K) (e : K × X) (es : List (K × X)) → is_eq (R q e.0) ≡ false → lookup (is_at (R q)) (e ∷ es) ≡ lookup (is_at (R q)) es
+  not_first : (q : K) (e : K × X) (es : List (K × X)) → is_eq (R q e.0) ≡ false
+      → lookup (is_at (R q)) (e ∷ es) ≡ lookup (is_at (R q)) es
   not_first q e es apart = ap (λ b. cond b (Some e.1) (lookup (is_at (R q)) es)) apart
 
   some_none : (x : X) → Some x ≡ None → ⊥
@@ -60,13 +66,18 @@ module _ {K X : Type 0} {R : K → K → Ordering} (total : IsTotalOrder R) (exa
   same_value : (x y : X) → Some x ≡ Some y → x ≡ y
   same_value x y is = cc
 
-  absurd_below : (e f : K × X) (es fs : List (K × X)) → R e.0 f.0 ≡ Less → AllByRecursion (λ y. R f.0 y ≡ Less) (keys_of fs)
+  absurd_below : (e f : K × X) (es fs : List (K × X)) → R e.0 f.0 ≡ Less
+      → AllByRecursion (λ y. R f.0 y ≡ Less) (keys_of fs)
       → ((q : K) → lookup (is_at (R q)) (e ∷ es) ≡ lookup (is_at (R q)) (f ∷ fs)) → ⊥
   absurd_below e f es fs less below h =
-      some_none e.1 (sym (first_found e.0 e es (tied_itself total e.0)) ∙ (h e.0 ∙ absent_below e.0 (f ∷ fs) (less, below_less total e.0 f.0 fs less below)))
+      some_none e.1
+      (sym (first_found e.0 e es (tied_itself total e.0))
+      ∙ (h e.0 ∙ absent_below e.0 (f ∷ fs) (less, below_less total e.0 f.0 fs less below)))
 
-  tails : (e f : K × X) (es fs : List (K × X)) → e.0 ≡ f.0 → AllByRecursion (λ y. R e.0 y ≡ Less) (keys_of es) → AllByRecursion (λ y. R f.0 y ≡ Less) (keys_of fs)
-      → ((q : K) → lookup (is_at (R q)) (e ∷ es) ≡ lookup (is_at (R q)) (f ∷ fs)) → (q : K) → lookup (is_at (R q)) es ≡ lookup (is_at (R q)) fs
+  tails : (e f : K × X) (es fs : List (K × X)) → e.0 ≡ f.0 → AllByRecursion (λ y. R e.0 y ≡ Less) (keys_of es)
+      → AllByRecursion (λ y. R f.0 y ≡ Less) (keys_of fs)
+      → ((q : K) → lookup (is_at (R q)) (e ∷ es) ≡ lookup (is_at (R q)) (f ∷ fs)) → (q : K)
+      → lookup (is_at (R q)) es ≡ lookup (is_at (R q)) fs
   tails e f es fs key a b h q = by_bool (is_eq (R q e.0))
       (λ tie. let at = (Equal-is (R q e.0)).0 tie in
       lookup-none (is_at (R q)) es (later_apart total q e es at a)
@@ -77,13 +88,16 @@ module _ {K X : Type 0} {R : K → K → Ordering} (total : IsTotalOrder R) (exa
       → ((q : K) → lookup (is_at (R q)) es ≡ lookup (is_at (R q)) fs) → es ≡ fs
   unfolding IsStrictlySortedBy
   same_entries [] [] s t h = refl
-  same_entries [] (f ∷ fs) s t h = absurd (some_none f.1 (sym (first_found f.0 f fs (tied_itself total f.0)) ∙ sym (h f.0)))
+  same_entries [] (f ∷ fs) s t h =
+      absurd (some_none f.1 (sym (first_found f.0 f fs (tied_itself total f.0)) ∙ sym (h f.0)))
   same_entries (e ∷ es) [] s t h = absurd (some_none e.1 (sym (first_found e.0 e es (tied_itself total e.0)) ∙ h e.0))
   same_entries (e ∷ es) (f ∷ fs) s t h = by_ordering (R e.0 f.0)
       (λ less. absurd (absurd_below e f es fs less t.0 h))
       (λ tie.
       let key = exact e.0 f.0 tie in
-      let its = same_value e.1 f.1 (sym (first_found e.0 e es (tied_itself total e.0)) ∙ (h e.0 ∙ first_found e.0 f fs tie)) in
+      let its =
+      same_value e.1 f.1 (sym (first_found e.0 e es (tied_itself total e.0)) ∙ (h e.0 ∙ first_found e.0 f fs tie)) in
       let rest = same_entries es fs s.1 t.1 (tails e f es fs key s.0 t.0 h) in
       λ i. (key i, its i) ∷ rest i)
-      (λ greater. absurd (absurd_below f e fs es (total.antisymm f.0 e.0 ∙ ap ordering_reverse greater) s.0 (λ q. sym (h q))))
+      (λ greater. absurd
+      (absurd_below f e fs es (total.antisymm f.0 e.0 ∙ ap ordering_reverse greater) s.0 (λ q. sym (h q))))

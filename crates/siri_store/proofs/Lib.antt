@@ -11,3 +11,4 @@ pub mod FirstEnd
 pub mod LeastEdge
 pub mod Inserted
 pub mod Crossed
+pub mod Lent

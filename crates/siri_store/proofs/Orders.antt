@@ -1,5 +1,6 @@
 -- Stamps that are put, that are taken out, and that come first.
-use Rattle.std.proofs.Common.{◌≡◌, ℕ, Bool, true, false, cond, ◌&&◌, ◌||◌, List, [], ◌∷◌, Option, Some, None, refl, ap, ◌∙◌, sym, arith}
+use Rattle.std.proofs.Common.{◌≡◌, ℕ, Bool, true, false, cond, ◌&&◌, ◌||◌, List, [], ◌∷◌, Option, Some, None, refl, ap}
+use Rattle.std.proofs.Common.{◌∙◌, sym, arith}
 use Rattle.std.specs.Prelude.{not, nat_eq, nat_lt, nat_le, max, ℤ, pos, int_lt, option_map, IfSome, IfNone}
 use Rattle.std.specs.Borrow.{Bor}
 use Rattle.std.specs.BTreeMap.Range.{range_contains}
@@ -16,7 +17,8 @@ use Rattle.siri_records.specs.declared.key.Key.{Key}
 use Rattle.siri_records.specs.Edges.{listed, edges_of}
 use Rattle.siri_records.specs.Ends.{end_of}
 use Rattle.siri_records.specs.Order.{key_cmp}
-use Rattle.siri_store.specs.Stamped.{Stamp, stamp_cmp, has_stamp, has, moments_of, moments_held, is_one_at, is_one_of, by_end, by_edge, service_of, has_ended, IsFirstEnd, NoneEnded, AllKeyed}
+use Rattle.siri_store.specs.Stamped.{Stamp, stamp_cmp, has_stamp, has, moments_of, moments_held, is_one_at, is_one_of}
+use Rattle.siri_store.specs.Stamped.{by_end, by_edge, service_of, has_ended, IsFirstEnd, NoneEnded, AllKeyed}
 use Rattle.siri_store.specs.Between.{is_between}
 
 -- ---- one stamp
@@ -51,8 +53,11 @@ equal_numbers a b h = grind (arith, nat_tests)
 turned_eq : (a b : ℕ) → nat_eq a b ≡ nat_eq b a
 turned_eq a b = grind (arith, nat_tests)
 
-pub one_stamp : (order moment : ℕ) (key : Key) (s : Stamp) → is_eq (stamp_cmp (order, moment, Some key) s) ≡ is_one_at order key (moment ∷ []) s
-one_stamp order moment key (o, m, None) = eq_then (ordering_then (nat_cmp order o) (nat_cmp moment m)) Greater ∙ none_eq (is_eq (ordering_then (nat_cmp order o) (nat_cmp moment m)))
+pub one_stamp : (order moment : ℕ) (key : Key) (s : Stamp)
+    → is_eq (stamp_cmp (order, moment, Some key) s) ≡ is_one_at order key (moment ∷ []) s
+one_stamp order moment key (o, m, None) =
+    eq_then (ordering_then (nat_cmp order o) (nat_cmp moment m)) Greater
+    ∙ none_eq (is_eq (ordering_then (nat_cmp order o) (nat_cmp moment m)))
 one_stamp order moment key (o, m, Some k) =
     eq_then (ordering_then (nat_cmp order o) (nat_cmp moment m)) (key_cmp key k)
     ∙ (ap (λ b. b && is_eq (key_cmp key k)) (eq_then (nat_cmp order o) (nat_cmp moment m))
@@ -93,7 +98,8 @@ more_bits true true false d = refl
 more_bits true false c d = refl
 more_bits false b c d = refl
 
-pub one_more : (order : ℕ) (key : Key) (m : ℕ) (ms : List ℕ) (s : Stamp) → is_one_at order key (m ∷ ms) s ≡ (is_one_at order key (m ∷ []) s || is_one_at order key ms s)
+pub one_more : (order : ℕ) (key : Key) (m : ℕ) (ms : List ℕ) (s : Stamp)
+    → is_one_at order key (m ∷ ms) s ≡ (is_one_at order key (m ∷ []) s || is_one_at order key ms s)
 one_more order key m ms (o, n, None) = refl
 one_more order key m ms (o, n, Some k) = more_bits (nat_eq order o) (is_eq (key_cmp key k)) (nat_eq n m) (has n ms)
 
@@ -140,13 +146,16 @@ module _ (order : ℕ) (i : Item) where
   at_none h e = rw h (rw e refl)
 
 pub of_item : (key : Key) (i : Item) (s : Stamp)
-    → is_one_of key (Some i) s ≡ (is_one_at by_end key (listed (end_of i)) s || is_one_at (by_edge (service_of i)) key (edges_of i) s)
+    → is_one_of key (Some i) s
+    ≡ (is_one_at by_end key (listed (end_of i)) s || is_one_at (by_edge (service_of i)) key (edges_of i) s)
 of_item key i (o, m, None) = refl
 of_item key i (o, m, Some k) =
-    item_bits (nat_eq o by_end) (nat_eq o (by_edge (service_of i))) (is_eq (key_cmp key k)) (has m (listed (end_of i))) (has m (edges_of i)) (has m (moments_of o i))
+    item_bits (nat_eq o by_end) (nat_eq o (by_edge (service_of i))) (is_eq (key_cmp key k)) (has m (listed (end_of i)))
+    (has m (edges_of i)) (has m (moments_of o i))
     (apart o (service_of i))
     (λ h. ap (has m) (at_end o i h)) (λ h e. ap (has m) (at_edge o i h e)) (λ h e. ap (has m) (at_none o i h e))
-    ∙ (λ j. (turned_eq o by_end j && (is_eq (key_cmp key k) && has m (listed (end_of i)))) || (turned_eq o (by_edge (service_of i)) j && (is_eq (key_cmp key k) && has m (edges_of i))))
+    ∙ (λ j. (turned_eq o by_end j && (is_eq (key_cmp key k) && has m (listed (end_of i)))) ||
+    (turned_eq o (by_edge (service_of i)) j && (is_eq (key_cmp key k) && has m (edges_of i))))
 
 -- ---- one more of many
 
@@ -154,11 +163,13 @@ or_true : (b : Bool) → (b || true) ≡ true
 or_true true = refl
 or_true false = refl
 
-left_bits : (cur one pend pending all old new : Bool) → pending ≡ (one || pend) → new ≡ (one || cur) → (cur || pending) ≡ (all || old) → (new || pend) ≡ (all || old)
+left_bits : (cur one pend pending all old new : Bool) → pending ≡ (one || pend) → new ≡ (one || cur)
+    → (cur || pending) ≡ (all || old) → (new || pend) ≡ (all || old)
 left_bits cur true pend pending all old new p n h = rw n (sym (or_true cur) ∙ rw p at h)
 left_bits cur false pend pending all old new p n h = rw n (rw p at h)
 
-some_bits : (cur one pend pending all old new : Bool) → pending ≡ (one || pend) → new ≡ (one || cur) → (cur || pending) ≡ (all || old)
+some_bits : (cur one pend pending all old new : Bool) → pending ≡ (one || pend) → new ≡ (one || cur)
+    → (cur || pending) ≡ (all || old)
     → cur ≡ (old || (all && cur)) → new ≡ (old || (all && new))
 some_bits cur true pend pending true true new p n h g = n ∙ refl
 some_bits cur true pend pending true false new p n h g = rw n refl
@@ -167,19 +178,28 @@ some_bits true true pend pending false false new p n h g = absurd (cc h)
 some_bits false true pend pending false false new p n h g = absurd (cc (p, h))
 some_bits cur false pend pending all old new p n h g = rw n g
 
-module _ (order : ℕ) (key : Key) (all pending : List ℕ) (m : ℕ) (pend : List ℕ) (is : pending ≡ m ∷ pend) (old cur new : List Stamp) where
-  pending_bits : (s : Stamp) → is_one_at order key pending s ≡ (is_one_at order key (m ∷ []) s || is_one_at order key pend s)
+module _ (order : ℕ) (key : Key) (all pending : List ℕ) (m : ℕ) (pend : List ℕ) (is : pending ≡ m ∷ pend)
+    (old cur new : List Stamp) where
+  pending_bits : (s : Stamp)
+      → is_one_at order key pending s ≡ (is_one_at order key (m ∷ []) s || is_one_at order key pend s)
   pending_bits s = ap (λ ms. is_one_at order key ms s) is ∙ one_more order key m pend s
 
   module _ (more : (s : Stamp) → has_stamp new s ≡ (is_one_at order key (m ∷ []) s || has_stamp cur s))
-      (left : (s : Stamp) → (has_stamp cur s || is_one_at order key pending s) ≡ (is_one_at order key all s || has_stamp old s)) where
-    pub left_next : (s : Stamp) → (has_stamp new s || is_one_at order key pend s) ≡ (is_one_at order key all s || has_stamp old s)
-    left_next s = left_bits (has_stamp cur s) (is_one_at order key (m ∷ []) s) (is_one_at order key pend s) (is_one_at order key pending s)
+      (left : (s : Stamp)
+      → (has_stamp cur s || is_one_at order key pending s) ≡ (is_one_at order key all s || has_stamp old s)) where
+    pub left_next : (s : Stamp)
+        → (has_stamp new s || is_one_at order key pend s) ≡ (is_one_at order key all s || has_stamp old s)
+    left_next s =
+        left_bits (has_stamp cur s) (is_one_at order key (m ∷ []) s) (is_one_at order key pend s)
+        (is_one_at order key pending s)
         (is_one_at order key all s) (has_stamp old s) (has_stamp new s) (pending_bits s) (more s) (left s)
 
-    pub some_next : ((s : Stamp) → has_stamp cur s ≡ (has_stamp old s || (is_one_at order key all s && has_stamp cur s)))
+    pub some_next :
+        ((s : Stamp) → has_stamp cur s ≡ (has_stamp old s || (is_one_at order key all s && has_stamp cur s)))
         → (s : Stamp) → has_stamp new s ≡ (has_stamp old s || (is_one_at order key all s && has_stamp new s))
-    some_next some s = some_bits (has_stamp cur s) (is_one_at order key (m ∷ []) s) (is_one_at order key pend s) (is_one_at order key pending s)
+    some_next some s =
+        some_bits (has_stamp cur s) (is_one_at order key (m ∷ []) s) (is_one_at order key pend s)
+        (is_one_at order key pending s)
         (is_one_at order key all s) (has_stamp old s) (has_stamp new s) (pending_bits s) (more s) (left s) (some s)
 
 first_bits : (b c : Bool) → b ≡ (b || (c && b))
@@ -193,10 +213,12 @@ swap_or true false = refl
 swap_or false true = refl
 swap_or false false = refl
 
-pub left_first : (order : ℕ) (key : Key) (all : List ℕ) (old : List Stamp) (s : Stamp) → (has_stamp old s || is_one_at order key all s) ≡ (is_one_at order key all s || has_stamp old s)
+pub left_first : (order : ℕ) (key : Key) (all : List ℕ) (old : List Stamp) (s : Stamp)
+    → (has_stamp old s || is_one_at order key all s) ≡ (is_one_at order key all s || has_stamp old s)
 left_first order key all old s = swap_or (has_stamp old s) (is_one_at order key all s)
 
-pub some_first : (order : ℕ) (key : Key) (all : List ℕ) (old : List Stamp) (s : Stamp) → has_stamp old s ≡ (has_stamp old s || (is_one_at order key all s && has_stamp old s))
+pub some_first : (order : ℕ) (key : Key) (all : List ℕ) (old : List Stamp) (s : Stamp)
+    → has_stamp old s ≡ (has_stamp old s || (is_one_at order key all s && has_stamp old s))
 some_first order key all old s = first_bits (has_stamp old s) (is_one_at order key all s)
 
 none_or : (b : Bool) → b ≡ (b || false)
@@ -204,15 +226,19 @@ none_or true = refl
 none_or false = refl
 
 pub left_last : (order : ℕ) (key : Key) (all pending : List ℕ) (old cur : List Stamp) → pending ≡ []
-    → ((s : Stamp) → (has_stamp cur s || is_one_at order key pending s) ≡ (is_one_at order key all s || has_stamp old s))
+    → ((s : Stamp)
+    → (has_stamp cur s || is_one_at order key pending s) ≡ (is_one_at order key all s || has_stamp old s))
     → (s : Stamp) → has_stamp cur s ≡ (is_one_at order key all s || has_stamp old s)
 left_last order key all pending old cur none left s =
-    none_or (has_stamp cur s) ∙ (ap (λ b. has_stamp cur s || b) (sym (ap (λ ms. is_one_at order key ms s) none ∙ none_there order key s)) ∙ left s)
+    none_or (has_stamp cur s)
+    ∙ (ap (λ b. has_stamp cur s || b) (sym (ap (λ ms. is_one_at order key ms s) none ∙ none_there order key s))
+    ∙ left s)
 
 -- ---- one less of many
 
 -- a stamp of the key at a moment of the order stays where that is a moment of the item that stays
-pub stays_at : (order moment : ℕ) (key : Key) (kept : Option Item) (s : Stamp) → is_one_at order key (moment ∷ []) s ≡ true
+pub stays_at : (order moment : ℕ) (key : Key) (kept : Option Item) (s : Stamp)
+    → is_one_at order key (moment ∷ []) s ≡ true
     → is_one_of key kept s ≡ has moment (moments_held order kept)
 stays_at order moment key kept (o, m, None) at = absurd (cc at)
 stays_at order moment key kept (o, m, Some k) at =
@@ -229,7 +255,8 @@ stays_at order moment key kept (o, m, Some k) at =
     same : (a b : ℕ) → nat_eq a b ≡ true → a ≡ b
     same a b h = grind (arith, nat_tests)
 
-less_bits : (cur one pend pending kept new : Bool) → pending ≡ (one || pend) → new ≡ (cur && not one) → (one ≡ true → kept ≡ false)
+less_bits : (cur one pend pending kept new : Bool) → pending ≡ (one || pend) → new ≡ (cur && not one)
+    → (one ≡ true → kept ≡ false)
     → (new && not (pend && not kept)) ≡ (cur && not (pending && not kept))
 less_bits cur true pend pending kept new p n k = rw n (rw p (rw (k refl) (both cur (not (pend && true)))))
   where
@@ -247,28 +274,43 @@ kept_bits : (cur one pend pending kept : Bool) → pending ≡ (one || pend) →
 kept_bits cur true pend pending kept p k = rw p (rw (k refl) (ap (λ b. cur && not b) (none_eq pend)))
 kept_bits cur false pend pending kept p k = rw p refl
 
-module _ (order : ℕ) (key : Key) (pending : List ℕ) (m : ℕ) (pend : List ℕ) (is : pending ≡ m ∷ pend) (kept : Option Item) (cur : List Stamp) where
-  pending_are : (s : Stamp) → is_one_at order key pending s ≡ (is_one_at order key (m ∷ []) s || is_one_at order key pend s)
+module _ (order : ℕ) (key : Key) (pending : List ℕ) (m : ℕ) (pend : List ℕ) (is : pending ≡ m ∷ pend)
+    (kept : Option Item) (cur : List Stamp) where
+  pending_are : (s : Stamp)
+      → is_one_at order key pending s ≡ (is_one_at order key (m ∷ []) s || is_one_at order key pend s)
   pending_are s = ap (λ ms. is_one_at order key ms s) is ∙ one_more order key m pend s
 
-  pub less_next : (new : List Stamp) → ((s : Stamp) → has_stamp new s ≡ (has_stamp cur s && not (is_one_at order key (m ∷ []) s))) → has m (moments_held order kept) ≡ false
-      → (s : Stamp) → (has_stamp new s && not (is_one_at order key pend s && not (is_one_of key kept s))) ≡ (has_stamp cur s && not (is_one_at order key pending s && not (is_one_of key kept s)))
-  less_next new less gone s = less_bits (has_stamp cur s) (is_one_at order key (m ∷ []) s) (is_one_at order key pend s) (is_one_at order key pending s) (is_one_of key kept s) (has_stamp new s)
+  pub less_next : (new : List Stamp)
+      → ((s : Stamp) → has_stamp new s ≡ (has_stamp cur s && not (is_one_at order key (m ∷ []) s)))
+      → has m (moments_held order kept) ≡ false
+      → (s : Stamp)
+      → (has_stamp new s && not (is_one_at order key pend s && not (is_one_of key kept s)))
+      ≡ (has_stamp cur s && not (is_one_at order key pending s && not (is_one_of key kept s)))
+  less_next new less gone s =
+      less_bits (has_stamp cur s) (is_one_at order key (m ∷ []) s) (is_one_at order key pend s)
+      (is_one_at order key pending s) (is_one_of key kept s) (has_stamp new s)
       (pending_are s) (less s) (λ at. stays_at order m key kept s at ∙ gone)
 
   pub kept_next : has m (moments_held order kept) ≡ true
-      → (s : Stamp) → (has_stamp cur s && not (is_one_at order key pend s && not (is_one_of key kept s))) ≡ (has_stamp cur s && not (is_one_at order key pending s && not (is_one_of key kept s)))
-  kept_next stays s = kept_bits (has_stamp cur s) (is_one_at order key (m ∷ []) s) (is_one_at order key pend s) (is_one_at order key pending s) (is_one_of key kept s)
+      → (s : Stamp)
+      → (has_stamp cur s && not (is_one_at order key pend s && not (is_one_of key kept s)))
+      ≡ (has_stamp cur s && not (is_one_at order key pending s && not (is_one_of key kept s)))
+  kept_next stays s =
+      kept_bits (has_stamp cur s) (is_one_at order key (m ∷ []) s) (is_one_at order key pend s)
+      (is_one_at order key pending s) (is_one_of key kept s)
       (pending_are s) (λ at. stays_at order m key kept s at ∙ stays)
 
 true_and : (b : Bool) → b ≡ (b && true)
 true_and true = refl
 true_and false = refl
 
-pub less_last : (order : ℕ) (key : Key) (pending : List ℕ) (kept : Option Item) (cur : List Stamp) → pending ≡ [] → (s : Stamp)
+pub less_last : (order : ℕ) (key : Key) (pending : List ℕ) (kept : Option Item) (cur : List Stamp) → pending ≡ []
+    → (s : Stamp)
     → has_stamp cur s ≡ (has_stamp cur s && not (is_one_at order key pending s && not (is_one_of key kept s)))
 less_last order key pending kept cur none s =
-    true_and (has_stamp cur s) ∙ ap (λ b. has_stamp cur s && not (b && not (is_one_of key kept s))) (sym (ap (λ ms. is_one_at order key ms s) none ∙ none_there order key s))
+    true_and (has_stamp cur s)
+    ∙ ap (λ b. has_stamp cur s && not (b && not (is_one_of key kept s)))
+    (sym (ap (λ ms. is_one_at order key ms s) none ∙ none_there order key s))
 
 -- ---- the stamps of an item, added and taken out
 
@@ -293,23 +335,33 @@ module _ (key : Key) (i : Item) (old : List Stamp) where
       → ((s : Stamp) → has_stamp mid s ≡ (is_one_at by_end key (listed (end_of i)) s || has_stamp old s))
       → ((s : Stamp) → has_stamp new s ≡ (is_one_at (by_edge (service_of i)) key (edges_of i) s || has_stamp mid s))
       → (s : Stamp) → has_stamp new s ≡ (is_one_of key (Some i) s || has_stamp old s)
-  added mid new a b s = add_bits (is_one_at by_end key (listed (end_of i)) s) (is_one_at (by_edge (service_of i)) key (edges_of i) s) (has_stamp old s) (has_stamp mid s) (has_stamp new s) (a s) (b s)
+  added mid new a b s =
+      add_bits (is_one_at by_end key (listed (end_of i)) s) (is_one_at (by_edge (service_of i)) key (edges_of i) s)
+      (has_stamp old s) (has_stamp mid s) (has_stamp new s) (a s) (b s)
       ∙ ap (λ x. x || has_stamp old s) (sym (of_item key i s))
 
   pub some_added : (mid new : List Stamp)
       → ((s : Stamp) → has_stamp mid s ≡ (is_one_at by_end key (listed (end_of i)) s || has_stamp old s))
-      → ((s : Stamp) → has_stamp new s ≡ (has_stamp mid s || (is_one_at (by_edge (service_of i)) key (edges_of i) s && has_stamp new s)))
+      → ((s : Stamp)
+      → has_stamp new s
+      ≡ (has_stamp mid s || (is_one_at (by_edge (service_of i)) key (edges_of i) s && has_stamp new s)))
       → (s : Stamp) → has_stamp new s ≡ (has_stamp old s || (is_one_of key (Some i) s && has_stamp new s))
-  some_added mid new a b s = some_two (is_one_at by_end key (listed (end_of i)) s) (is_one_at (by_edge (service_of i)) key (edges_of i) s) (has_stamp old s) (has_stamp mid s) (has_stamp new s) (a s) (b s)
+  some_added mid new a b s =
+      some_two (is_one_at by_end key (listed (end_of i)) s) (is_one_at (by_edge (service_of i)) key (edges_of i) s)
+      (has_stamp old s) (has_stamp mid s) (has_stamp new s) (a s) (b s)
       ∙ ap (λ x. has_stamp old s || (x && has_stamp new s)) (sym (of_item key i s))
 
   pub some_ends : (new : List Stamp)
-      → ((s : Stamp) → has_stamp new s ≡ (has_stamp old s || (is_one_at by_end key (listed (end_of i)) s && has_stamp new s)))
+      → ((s : Stamp)
+      → has_stamp new s ≡ (has_stamp old s || (is_one_at by_end key (listed (end_of i)) s && has_stamp new s)))
       → (s : Stamp) → has_stamp new s ≡ (has_stamp old s || (is_one_of key (Some i) s && has_stamp new s))
-  some_ends new a s = some_one (is_one_at by_end key (listed (end_of i)) s) (is_one_at (by_edge (service_of i)) key (edges_of i) s) (has_stamp old s) (has_stamp new s) (a s)
+  some_ends new a s =
+      some_one (is_one_at by_end key (listed (end_of i)) s) (is_one_at (by_edge (service_of i)) key (edges_of i) s)
+      (has_stamp old s) (has_stamp new s) (a s)
       ∙ ap (λ x. has_stamp old s || (x && has_stamp new s)) (sym (of_item key i s))
 
-out_bits : (a b kept old mid new : Bool) → mid ≡ (old && not (a && not kept)) → new ≡ (mid && not (b && not kept)) → new ≡ (old && not ((a || b) && not kept))
+out_bits : (a b kept old mid new : Bool) → mid ≡ (old && not (a && not kept)) → new ≡ (mid && not (b && not kept))
+    → new ≡ (old && not ((a || b) && not kept))
 out_bits true b kept true mid new m n = rw n (rw m (stay kept b))
   where
     stay : (k b : Bool) → (not (not k) && not (b && not k)) ≡ not (not k)
@@ -320,26 +372,37 @@ out_bits true b kept false mid new m n = rw n (rw m refl)
 out_bits false b kept old mid new m n = rw n (rw m (ap (λ x. x && not (b && not kept)) (sym (true_and old))))
 
 pub taken_out : (key : Key) (i : Item) (kept : Option Item) (old mid new : List Stamp)
-    → ((s : Stamp) → has_stamp mid s ≡ (has_stamp old s && not (is_one_at by_end key (listed (end_of i)) s && not (is_one_of key kept s))))
-    → ((s : Stamp) → has_stamp new s ≡ (has_stamp mid s && not (is_one_at (by_edge (service_of i)) key (edges_of i) s && not (is_one_of key kept s))))
+    → ((s : Stamp)
+    → has_stamp mid s
+    ≡ (has_stamp old s && not (is_one_at by_end key (listed (end_of i)) s && not (is_one_of key kept s))))
+    → ((s : Stamp)
+    → has_stamp new s
+    ≡ (has_stamp mid s && not (is_one_at (by_edge (service_of i)) key (edges_of i) s && not (is_one_of key kept s))))
     → (s : Stamp) → has_stamp new s ≡ (has_stamp old s && not (is_one_of key (Some i) s && not (is_one_of key kept s)))
 taken_out key i kept old mid new a b s =
-    out_bits (is_one_at by_end key (listed (end_of i)) s) (is_one_at (by_edge (service_of i)) key (edges_of i) s) (is_one_of key kept s) (has_stamp old s) (has_stamp mid s) (has_stamp new s) (a s) (b s)
+    out_bits (is_one_at by_end key (listed (end_of i)) s) (is_one_at (by_edge (service_of i)) key (edges_of i) s)
+    (is_one_of key kept s) (has_stamp old s) (has_stamp mid s) (has_stamp new s) (a s) (b s)
     ∙ ap (λ x. has_stamp old s && not (x && not (is_one_of key kept s))) (sym (of_item key i s))
 
-pub none_out : (key : Key) (kept : Option Item) (old : List Stamp) (s : Stamp) → has_stamp old s ≡ (has_stamp old s && not (is_one_of key None s && not (is_one_of key kept s)))
+pub none_out : (key : Key) (kept : Option Item) (old : List Stamp) (s : Stamp)
+    → has_stamp old s ≡ (has_stamp old s && not (is_one_of key None s && not (is_one_of key kept s)))
 none_out key kept old (o, m, None) = true_and (has_stamp old (o, m, None))
-none_out key kept old (o, m, Some k) = true_and (has_stamp old (o, m, Some k)) ∙ ap (λ b. has_stamp old (o, m, Some k) && not (b && not (is_one_of key kept (o, m, Some k)))) (sym (none_eq (is_eq (key_cmp key k))))
+none_out key kept old (o, m, Some k) =
+    true_and (has_stamp old (o, m, Some k))
+    ∙ ap (λ b. has_stamp old (o, m, Some k) && not (b && not (is_one_of key kept (o, m, Some k))))
+    (sym (none_eq (is_eq (key_cmp key k))))
 
 -- ---- the first stamp
 
 module _ (now : ℕ) (stamps : List Stamp) (first : Stamp) (member : has_stamp stamps first ≡ true) where
-  pub first_key : (r : Option (Bor Key)) → option_map (λ key. key.now) r ≡ first.2 → ((s : Stamp) → has_stamp stamps s ≡ true → is_gt (stamp_cmp first s) ≡ false)
+  pub first_key : (r : Option (Bor Key)) → option_map (λ key. key.now) r ≡ first.2
+      → ((s : Stamp) → has_stamp stamps s ≡ true → is_gt (stamp_cmp first s) ≡ false)
       → has_ended now first ≡ true → IfSome r (λ key. IsFirstEnd now stamps key.now)
   first_key None is least ended = tt
   first_key (Some key) is least ended =
       let parts = both_are (nat_eq first.0 by_end) (nat_lt first.1 now) ended in
-      let whole : first ≡ (by_end, first.1, Some key.now) = (λ i. (equal_numbers first.0 by_end parts.0 i, first.1, sym is i)) in
+      let whole : first ≡ (by_end, first.1, Some key.now) =
+      (λ i. (equal_numbers first.0 by_end parts.0 i, first.1, sym is i)) in
       record {
         end = first.1;
         held = ap (has_stamp stamps) (sym whole) ∙ member;
@@ -347,8 +410,10 @@ module _ (now : ℕ) (stamps : List Stamp) (first : Stamp) (member : has_stamp s
         first = λ s held. ap (λ x. is_gt (stamp_cmp x s)) (sym whole) ∙ least s held;
       }
 
-  pub first_has_key : AllKeyed stamps → (r : Option (Bor Key)) → option_map (λ key. key.now) r ≡ first.2 → IfNone r (NoneEnded now stamps)
-  first_has_key keyed None is = absurd (cc (sym member ∙ ap (λ key. has_stamp stamps (first.0, first.1, key)) (sym is) ∙ keyed first.0 first.1))
+  pub first_has_key : AllKeyed stamps → (r : Option (Bor Key)) → option_map (λ key. key.now) r ≡ first.2
+      → IfNone r (NoneEnded now stamps)
+  first_has_key keyed None is =
+      absurd (cc (sym member ∙ ap (λ key. has_stamp stamps (first.0, first.1, key)) (sym is) ∙ keyed first.0 first.1))
   first_has_key keyed (Some key) is = tt
 
 -- ---- a range of moments
@@ -364,7 +429,8 @@ le_key Equal None = refl
 le_key Equal (Some k) = refl
 le_key Greater k = refl
 
-le_case : (a b : ℕ) (lt eq : Bool) → nat_lt a b ≡ lt → nat_eq a b ≡ eq → is_le (cond lt Less (cond eq Equal Greater)) ≡ nat_le a b
+le_case : (a b : ℕ) (lt eq : Bool) → nat_lt a b ≡ lt → nat_eq a b ≡ eq
+    → is_le (cond lt Less (cond eq Equal Greater)) ≡ nat_le a b
 le_case a b true eq l e = grind (arith, l)
 le_case a b false true l e = grind (arith, l, e)
 le_case a b false false l e = grind (arith, l, e)
@@ -380,13 +446,15 @@ lt_case a b false false = refl
 lt_nat : (a b : ℕ) → is_lt (nat_cmp a b) ≡ nat_lt a b
 lt_nat a b = lt_case a b (nat_lt a b) (nat_eq a b)
 
-at_or_above : (order bound : ℕ) (s : Stamp) → is_le (stamp_cmp (order, bound, None) s) ≡ (nat_lt order s.0 || (nat_eq order s.0 && nat_le bound s.1))
+at_or_above : (order bound : ℕ) (s : Stamp)
+    → is_le (stamp_cmp (order, bound, None) s) ≡ (nat_lt order s.0 || (nat_eq order s.0 && nat_le bound s.1))
 at_or_above order bound (o, m, k) =
     le_key (ordering_then (nat_cmp order o) (nat_cmp bound m)) k
     ∙ (le_then (nat_cmp order o) (nat_cmp bound m)
     ∙ (λ i. lt_nat order o i || (eq_nat order o i && le_nat bound m i)))
 
-range_bits : (lt eq low high : Bool) → (lt ≡ true → eq ≡ false) → ((lt || (eq && low)) && not (lt || (eq && high))) ≡ (eq && (low && not high))
+range_bits : (lt eq low high : Bool) → (lt ≡ true → eq ≡ false)
+    → ((lt || (eq && low)) && not (lt || (eq && high))) ≡ (eq && (low && not high))
 range_bits true eq low high unlike = rw (unlike refl) refl
 range_bits false true low high unlike = refl
 range_bits false false low high unlike = refl
@@ -404,9 +472,15 @@ less_unlike a b h = grind (arith, nat_tests)
 capped : (from to m : ℕ) → (not (nat_lt m from) && nat_lt m (max to from)) ≡ (not (nat_lt m from) && nat_lt m to)
 capped from to m = grind arith
 
-pub in_range : (order low high : ℕ) (from to : ℤ) → ((m : ℕ) → nat_lt m low ≡ int_lt (pos m) from) → ((m : ℕ) → nat_lt m high ≡ int_lt (pos m) to)
-    → (s : Stamp) → range_contains stamp_cmp (Included (order, low, None)) (Excluded (order, max high low, None)) s ≡ is_between order from to s
+pub in_range : (order low high : ℕ) (from to : ℤ) → ((m : ℕ) → nat_lt m low ≡ int_lt (pos m) from)
+    → ((m : ℕ) → nat_lt m high ≡ int_lt (pos m) to)
+    → (s : Stamp)
+    → range_contains stamp_cmp (Included (order, low, None)) (Excluded (order, max high low, None)) s
+    ≡ is_between order from to s
 in_range order low high from to lower upper s =
     (λ i. at_or_above order low s i && not (at_or_above order (max high low) s i))
-    ∙ (range_bits (nat_lt order s.0) (nat_eq order s.0) (nat_le low s.1) (nat_le (max high low) s.1) (less_unlike order s.0)
-    ∙ (λ i. turned_eq order s.0 i && ((λ j. le_not low s.1 j && not_le (max high low) s.1 j) ∙ (capped low high s.1 ∙ (λ j. not (lower s.1 j) && upper s.1 j))) i))
+    ∙ (range_bits (nat_lt order s.0) (nat_eq order s.0) (nat_le low s.1) (nat_le (max high low) s.1)
+    (less_unlike order s.0)
+    ∙ (λ i. turned_eq order s.0 i &&
+    ((λ j. le_not low s.1 j && not_le (max high low) s.1 j)
+    ∙ (capped low high s.1 ∙ (λ j. not (lower s.1 j) && upper s.1 j))) i))

@@ -1,5 +1,6 @@
 -- Items under their own keys, and which of them are shown.
-use Rattle.std.proofs.Common.{◌≡◌, ℕ, ◌≤◌, [], ◌∷◌, length, take, drop, Bool, true, false, ◌&&◌, refl, ap, sym, ◌∙◌, slice_range}
+use Rattle.std.proofs.Common.{◌≡◌, ℕ, ◌≤◌, [], ◌∷◌, length, take, drop, Bool, true, false, ◌&&◌, refl, ap, sym, ◌∙◌}
+use Rattle.std.proofs.Common.{slice_range}
 use Rattle.std.specs.List.{All, AllByRecursion}
 use Rattle.std.specs.Map.{remove_entry}
 use Rattle.std.specs.BTreeMap.{insert_entry, is_at}
@@ -35,12 +36,15 @@ put_case es e k i Less is own first rest more = rw is (own, (first, rest))
 put_case es e k i Equal is own first rest more = rw is (sym (key_cmp_exact k e.0 is) ∙ own, rest)
 put_case es e k i Greater is own first rest more = rw is (first, more)
 
-put_own : (es : Items) (k : Key) (i : Item) → k ≡ key_of i → AllByRecursion Own es → AllByRecursion Own (insert_entry key_cmp es k i)
+put_own : (es : Items) (k : Key) (i : Item) → k ≡ key_of i → AllByRecursion Own es
+    → AllByRecursion Own (insert_entry key_cmp es k i)
 put_own [] k i own a = (own, tt)
 put_own (e ∷ es) k i own a = put_case es e k i (key_cmp k e.0) refl own a.0 a.1 (put_own es k i own a.1)
 
-pub own_put : (es : Items) (k : Key) (i : Item) → k ≡ key_of i → UnderOwnKeys es → UnderOwnKeys (insert_entry key_cmp es k i)
-own_put es k i own all = All-from_recursion Own (insert_entry key_cmp es k i) (put_own es k i own (recursion_from_All Own es all))
+pub own_put : (es : Items) (k : Key) (i : Item) → k ≡ key_of i → UnderOwnKeys es
+    → UnderOwnKeys (insert_entry key_cmp es k i)
+own_put es k i own all =
+    All-from_recursion Own (insert_entry key_cmp es k i) (put_own es k i own (recursion_from_All Own es all))
 
 remove_case : (test : Key → Bool) (e : Key × Item) (es : Items) (b : Bool) → test e.0 ≡ b → Own e
     → AllByRecursion Own es → AllByRecursion Own (remove_entry test es)
@@ -53,7 +57,9 @@ remove_own test [] a = tt
 remove_own test (e ∷ es) a = remove_case test e es (test e.0) refl a.0 a.1 (remove_own test es a.1)
 
 pub own_removed : (es : Items) (k : Key) → UnderOwnKeys es → UnderOwnKeys (remove_entry (is_at (key_cmp k)) es)
-own_removed es k all = All-from_recursion Own (remove_entry (is_at (key_cmp k)) es) (remove_own (is_at (key_cmp k)) es (recursion_from_All Own es all))
+own_removed es k all =
+    All-from_recursion Own (remove_entry (is_at (key_cmp k)) es)
+    (remove_own (is_at (key_cmp k)) es (recursion_from_All Own es all))
 
 pub own_living : (now : ℕ) (es : Items) → UnderOwnKeys es → UnderOwnKeys (living now es)
 own_living now es all = All-filter _ Own es all
@@ -75,12 +81,14 @@ agreeing t i is = absurd (cc is)
 showing : (t : Topic) (now : ℕ) (e : Key × Item) → Own e → is_shown t e.1 now ≡ true → may_be_shown t e.0 ≡ true
 showing t now e own is = ap (may_be_shown t) own ∙ agreeing t e.1 (both_left _ _ (both_left _ _ is))
 
-all_showing : (t : Topic) (now : ℕ) (es : Items) → AllByRecursion Own es → AllByRecursion (λ e. is_shown t e.1 now ≡ true → may_be_shown t e.0 ≡ true) es
+all_showing : (t : Topic) (now : ℕ) (es : Items) → AllByRecursion Own es
+    → AllByRecursion (λ e. is_shown t e.1 now ≡ true → may_be_shown t e.0 ≡ true) es
 all_showing t now [] a = tt
 all_showing t now (e ∷ es) a = (showing t now e a.0, all_showing t now es a.1)
 
 -- what is shown of the candidates is what is shown of all
-pub shown_candidates : (t : Topic) (now : ℕ) (es : Items) → UnderOwnKeys es → shown_entries t now (candidates t es) ≡ shown_entries t now es
+pub shown_candidates : (t : Topic) (now : ℕ) (es : Items) → UnderOwnKeys es
+    → shown_entries t now (candidates t es) ≡ shown_entries t now es
 shown_candidates t now es all = filter_through (λ (e : Key × Item). may_be_shown t e.0) (shown_at t now) es
     (all_showing t now es (recursion_from_All Own es all))
 
@@ -107,7 +115,8 @@ places_are t es from to le below not_below not_above above =
     let after = range_after (λ (e : Key × Item). is_below t Equal e.0 ≡ false) es from to not_below in
     let before = range_before (λ (e : Key × Item). is_below t Greater e.0 ≡ true) es from to le not_above in
     range_is_kept (λ (e : Key × Item). may_be_shown t e.0) es from to le
-    (All-weaker (λ (e : Key × Item). is_below t Equal e.0 ≡ true) (λ (e : Key × Item). may_be_shown t e.0 ≡ false) (λ e. below_none t e.0) (take from es) below)
+    (All-weaker (λ (e : Key × Item). is_below t Equal e.0 ≡ true) (λ (e : Key × Item). may_be_shown t e.0 ≡ false)
+    (λ e. below_none t e.0) (take from es) below)
     (λ k d lt. between_all t _ (after k d lt) (before k d lt))
     (All-weaker (λ (e : Key × Item). is_below t Greater e.0 ≡ false) (λ (e : Key × Item). may_be_shown t e.0 ≡ false)
     (λ e. above_none t e.0) (drop to es) above)

@@ -1,5 +1,6 @@
 -- Ranges of entries in order.
-use Rattle.std.proofs.Common.{◌≡◌, ℕ, suc, zero, ◌+◌, ◌-◌, ◌<◌, ◌≤◌, List, [], ◌∷◌, ◌++◌, length, take, drop, Bool, true, false, refl, ap}
+use Rattle.std.proofs.Common.{◌≡◌, ℕ, suc, zero, ◌+◌, ◌-◌, ◌<◌, ◌≤◌, List, [], ◌∷◌, ◌++◌, length, take, drop, Bool}
+use Rattle.std.proofs.Common.{true, false, refl, ap}
 use Rattle.std.proofs.Common.{sym, subst, ◌∙◌, arith, add-one, slice_range}
 use Rattle.std.specs.List.{All, AllByRecursion, filter}
 use Rattle.std.specs.List.Sorted.{IsStrictlySortedBy}
@@ -12,13 +13,16 @@ use Rattle.std.proofs.lemmas.List.Folds.{drop_split}
 
 -- ---- a test that holds of all keys before one of which it holds
 
-module _ {K : Type 0} (cmp : K → K → Ordering) (p : K → Bool) (closed : (a b : K) → cmp a b ≡ Less → p b ≡ true → p a ≡ true) where
+module _ {K : Type 0} (cmp : K → K → Ordering) (p : K → Bool)
+    (closed : (a b : K) → cmp a b ≡ Less → p b ≡ true → p a ≡ true) where
   fails_after : (a b : K) (t : Bool) → p b ≡ t → cmp a b ≡ Less → p a ≡ false → p b ≡ false
   fails_after a b true is less fails = absurd (cc (closed a b less is, fails))
   fails_after a b false is less fails = is
 
-module _ {K X : Type 0} (cmp : K → K → Ordering) (p : K → Bool) (closed : (a b : K) → cmp a b ≡ Less → p b ≡ true → p a ≡ true) where
-  reached : (P : K → Type 0) (es : List (K × X)) (m : ℕ) (e : K × X) (more : List (K × X)) → AllByRecursion P (keys_of es) → drop m es ≡ e ∷ more → P e.0
+module _ {K X : Type 0} (cmp : K → K → Ordering) (p : K → Bool)
+    (closed : (a b : K) → cmp a b ≡ Less → p b ≡ true → p a ≡ true) where
+  reached : (P : K → Type 0) (es : List (K × X)) (m : ℕ) (e : K × X) (more : List (K × X))
+      → AllByRecursion P (keys_of es) → drop m es ≡ e ∷ more → P e.0
   reached P [] zero e more a is = absurd (cc is)
   reached P [] (suc m) e more a is = absurd (cc is)
   reached P (x ∷ es) zero e more a is = let same : x ≡ e = cc is in subst (λ (y : K × X). P y.0) same a.0
@@ -33,7 +37,8 @@ module _ {K X : Type 0} (cmp : K → K → Ordering) (p : K → Bool) (closed : 
   passes_to (x ∷ es) (suc m) e more s is passes =
       (closed x.0 e.0 (reached (λ y. cmp x.0 y ≡ Less) es m e more s.0 is) passes, passes_to es m e more s.1 is passes)
 
-  all_fail : (k : K) (es : List (K × X)) → p k ≡ false → AllByRecursion (λ y. cmp k y ≡ Less) (keys_of es) → AllByRecursion (λ e. p e.0 ≡ false) es
+  all_fail : (k : K) (es : List (K × X)) → p k ≡ false → AllByRecursion (λ y. cmp k y ≡ Less) (keys_of es)
+      → AllByRecursion (λ e. p e.0 ≡ false) es
   all_fail k [] fails a = tt
   all_fail k (x ∷ es) fails a = (fails_after cmp p closed k x.0 (p x.0) refl a.0 fails, all_fail k es fails a.1)
 
@@ -51,11 +56,13 @@ module _ {K X : Type 0} (cmp : K → K → Ordering) (p : K → Bool) (closed : 
   -- it holds of all up to the place of one of which it holds, and fails from the place of one on of which it fails
   pub holds_to : (es : List (K × X)) (m : ℕ) (e : K × X) (more : List (K × X)) → IsStrictlySortedBy cmp (keys_of es)
       → drop m es ≡ e ∷ more → p e.0 ≡ true → All (λ e. p e.0 ≡ true) (take (m + 1) es)
-  holds_to es m e more s is passes = rw add-one (All-from_recursion (λ e. p e.0 ≡ true) (take (suc m) es) (passes_to es m e more s is passes))
+  holds_to es m e more s is passes =
+      rw add-one (All-from_recursion (λ e. p e.0 ≡ true) (take (suc m) es) (passes_to es m e more s is passes))
 
   pub fails_on : (es : List (K × X)) (m : ℕ) (e : K × X) (more : List (K × X)) → IsStrictlySortedBy cmp (keys_of es)
       → drop m es ≡ e ∷ more → p e.0 ≡ false → All (λ e. p e.0 ≡ false) (drop m es)
-  fails_on es m e more s is fails = All-from_recursion (λ e. p e.0 ≡ false) (drop m es) (fails_from es m e more s is fails)
+  fails_on es m e more s is fails =
+      All-from_recursion (λ e. p e.0 ≡ false) (drop m es) (fails_from es m e more s is fails)
 
 -- ---- a range between two places is what a filter keeps
 
@@ -73,14 +80,16 @@ module _ {X : Type 0} (p : X → Bool) where
       → slice_range xs from to ≡ filter p xs
   range_is_kept xs from to le before inside after =
       let front = kept_none (take from xs) (recursion_from_All (λ x. p x ≡ false) (take from xs) before) in
-      let middle = kept_all (slice_range xs from to) (recursion_from_All (λ x. p x ≡ true) (slice_range xs from to) inside) in
+      let middle =
+      kept_all (slice_range xs from to) (recursion_from_All (λ x. p x ≡ true) (slice_range xs from to) inside) in
       let back = kept_none (drop to xs) (recursion_from_All (λ x. p x ≡ false) (drop to xs) after) in
       let rest : filter p (drop from xs) ≡ slice_range xs from to =
       ap (filter p) (drop_split xs from to le)
       ∙ (filter-append p (slice_range xs from to) (drop to xs)
       ∙ ((λ i. middle i ++ back i) ∙ append-nil (slice_range xs from to))) in
       let whole : filter p xs ≡ slice_range xs from to =
-      ap (filter p) (sym (take-append-drop from xs)) ∙ (filter-append p (take from xs) (drop from xs) ∙ (λ i. front i ++ rest i)) in
+      ap (filter p) (sym (take-append-drop from xs))
+      ∙ (filter-append p (take from xs) (drop from xs) ∙ (λ i. front i ++ rest i)) in
       sym whole
 
   -- a filter that lets all through that another one does
@@ -91,7 +100,8 @@ module _ {X : Type 0} (p : X → Bool) where
   twice_case q x xs false true hp hq through rest = absurd (cc (through hq, hp))
   twice_case q x xs false false hp hq through rest = rw (hp, hq) rest
 
-  pub filter_through : (q : X → Bool) (xs : List X) → AllByRecursion (λ x. q x ≡ true → p x ≡ true) xs → filter q (filter p xs) ≡ filter q xs
+  pub filter_through : (q : X → Bool) (xs : List X) → AllByRecursion (λ x. q x ≡ true → p x ≡ true) xs
+      → filter q (filter p xs) ≡ filter q xs
   filter_through q [] a = refl
   filter_through q (x ∷ xs) a = twice_case q x xs (p x) (q x) refl refl a.0 (filter_through q xs a.1)
 
@@ -111,16 +121,19 @@ module _ {X : Type 0} where
   pub in_turn : (P Q : X → Type 0) (xs : List X) (from to : ℕ) → ((x : X) → P x → Q x → ⊥) → from ≤ length xs
       → All P (take from xs) → All Q (drop to xs) → from ≤ to
   in_turn P Q xs from to apart within before after =
-      turned P Q xs from to apart within (recursion_from_All P (take from xs) before) (recursion_from_All Q (drop to xs) after)
+      turned P Q xs from to apart within (recursion_from_All P (take from xs) before)
+      (recursion_from_All Q (drop to xs) after)
 
   -- what holds from one place on, or before another, holds of all between
   pub range_after : (P : X → Type 0) (xs : List X) (from to : ℕ) → All P (drop from xs) → All P (slice_range xs from to)
   range_after P xs from to all = All-take P (to - from) (drop from xs) all
 
-  pub range_before : (P : X → Type 0) (xs : List X) (from to : ℕ) → from ≤ to → All P (take to xs) → All P (slice_range xs from to)
+  pub range_before : (P : X → Type 0) (xs : List X) (from to : ℕ) → from ≤ to → All P (take to xs)
+      → All P (slice_range xs from to)
   range_before P xs from to le all =
       let sum : from + (to - from) ≡ to = omega arith in
-      let same : drop from (take to xs) ≡ slice_range xs from to = ap (λ n. drop from (take n xs)) (sym sum) ∙ drop-take from (to - from) xs in
+      let same : drop from (take to xs) ≡ slice_range xs from to =
+      ap (λ n. drop from (take n xs)) (sym sum) ∙ drop-take from (to - from) xs in
       subst (λ (l : List X). All P l) same (All-drop P from (take to xs) all)
 
   pub range_length : (xs : List X) (from to : ℕ) → to ≤ length xs → length (slice_range xs from to) ≡ to - from

@@ -37,7 +37,8 @@ less_means a b is = grind (arith, nat_tests)
 still_below : (a b c : ℕ) → a ≤ b → is_lt (nat_cmp b c) ≡ true → is_lt (nat_cmp a c) ≡ true
 still_below a b c le is = grind (arith, nat_tests)
 
-ranks_rise : (a b r : ℕ) (p q : Ordering) → a < b → ordering_index (ordering_then (nat_cmp a r) p) ≤ ordering_index (ordering_then (nat_cmp b r) q)
+ranks_rise : (a b r : ℕ) (p q : Ordering) → a < b
+    → ordering_index (ordering_then (nat_cmp a r) p) ≤ ordering_index (ordering_then (nat_cmp b r) q)
 ranks_rise a b r p q lt = elim (cases_lt a r) [
   | inl before ↦ rw (less_is a r before) (omega arith)
   | inr after ↦ let above : r < b = omega arith in rw (greater_is b r above) (highest (ordering_then (nat_cmp a r) p))
@@ -61,13 +62,15 @@ module _ {K : Type 0} {R : K → K → Ordering} (total : IsTotalOrder R) (a b c
 
 points_rise : (t : Topic) (a b : Key) → rank a ≡ rank b → slice_cmp name_cmp (names a) (names b) ≡ Less
     → ordering_index (point_cmp t a) ≤ ordering_index (point_cmp t b)
-points_rise (topic.Stop s) (key.Visit m i) (key.Visit n j) same less = rises nat_list_cmp_total m n s.monitoring_ref (slice_cmp nat_cmp m n) _ refl less
+points_rise (topic.Stop s) (key.Visit m i) (key.Visit n j) same less =
+    rises nat_list_cmp_total m n s.monitoring_ref (slice_cmp nat_cmp m n) _ refl less
 points_rise (topic.Stop s) (key.Visit m i) b same less = absurd (omega arith)
 points_rise (topic.Stop s) a (key.Visit n j) same less = absurd (omega arith)
 points_rise (topic.Stop s) a b same less = omega arith
 points_rise t a b same less = omega arith
 
-then_rises : (o p q : Ordering) → ordering_index p ≤ ordering_index q → ordering_index (ordering_then o p) ≤ ordering_index (ordering_then o q)
+then_rises : (o p q : Ordering) → ordering_index p ≤ ordering_index q
+    → ordering_index (ordering_then o p) ≤ ordering_index (ordering_then o q)
 then_rises Less p q le = omega arith
 then_rises Equal p q le = le
 then_rises Greater p q le = omega arith
@@ -75,16 +78,19 @@ then_rises Greater p q le = omega arith
 side_case : (t : Topic) (a b : Key) (o : Ordering) → nat_cmp (rank a) (rank b) ≡ o
     → ordering_then o (slice_cmp name_cmp (names a) (names b)) ≡ Less
     → ordering_index (side t a) ≤ ordering_index (side t b)
-side_case t a b Less is less = ranks_rise (rank a) (rank b) (rank_asked t) (point_cmp t a) (point_cmp t b) (less_means (rank a) (rank b) is)
+side_case t a b Less is less =
+    ranks_rise (rank a) (rank b) (rank_asked t) (point_cmp t a) (point_cmp t b) (less_means (rank a) (rank b) is)
 side_case t a b Equal is less =
     let same : rank a ≡ rank b = nat_cmp-IsAntisymmetric (rank a) (rank b) is in
     rw same (then_rises (nat_cmp (rank b) (rank_asked t)) (point_cmp t a) (point_cmp t b) (points_rise t a b same less))
 side_case t a b Greater is less = absurd (cc less)
 
 -- a key that comes before one that is below a side is below it too
-pub below_before : (t : Topic) (least : Ordering) (a b : Key) → key_cmp a b ≡ Less → is_below t least b ≡ true → is_below t least a ≡ true
+pub below_before : (t : Topic) (least : Ordering) (a b : Key) → key_cmp a b ≡ Less → is_below t least b ≡ true
+    → is_below t least a ≡ true
 below_before t least a b less below =
-    still_below (ordering_index (side t a)) (ordering_index (side t b)) (ordering_index least) (side_case t a b (nat_cmp (rank a) (rank b)) refl less) below
+    still_below (ordering_index (side t a)) (ordering_index (side t b)) (ordering_index least)
+    (side_case t a b (nat_cmp (rank a) (rank b)) refl less) below
 
 -- ---- the middle side
 
@@ -116,12 +122,14 @@ right_out Less is = refl
 right_out Equal is = absurd (cc is)
 right_out Greater is = refl
 
-between : (o : Ordering) → is_lt (nat_cmp (ordering_index o) 1) ≡ false → is_lt (nat_cmp (ordering_index o) 2) ≡ true → is_eq o ≡ true
+between : (o : Ordering) → is_lt (nat_cmp (ordering_index o) 1) ≡ false → is_lt (nat_cmp (ordering_index o) 2) ≡ true
+    → is_eq o ≡ true
 between Less not_left not_right = absurd (cc not_left)
 between Equal not_left not_right = refl
 between Greater not_left not_right = absurd (cc not_right)
 
-one_side : (o : Ordering) → is_lt (nat_cmp (ordering_index o) 1) ≡ true → is_lt (nat_cmp (ordering_index o) 2) ≡ false → ⊥
+one_side : (o : Ordering) → is_lt (nat_cmp (ordering_index o) 1) ≡ true → is_lt (nat_cmp (ordering_index o) 2) ≡ false
+    → ⊥
 one_side Less left right = cc right
 one_side Equal left right = cc left
 one_side Greater left right = cc left
@@ -132,7 +140,8 @@ below_none t k is = middle_is t k ∙ left_out (side t k) is
 pub above_none : (t : Topic) (k : Key) → is_below t Greater k ≡ false → may_be_shown t k ≡ false
 above_none t k is = middle_is t k ∙ right_out (side t k) is
 
-pub between_all : (t : Topic) (k : Key) → is_below t Equal k ≡ false → is_below t Greater k ≡ true → may_be_shown t k ≡ true
+pub between_all : (t : Topic) (k : Key) → is_below t Equal k ≡ false → is_below t Greater k ≡ true
+    → may_be_shown t k ≡ true
 between_all t k not_left not_right = middle_is t k ∙ between (side t k) not_left not_right
 
 pub not_both : (t : Topic) (k : Key) → is_below t Equal k ≡ true → is_below t Greater k ≡ false → ⊥

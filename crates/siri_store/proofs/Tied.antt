@@ -23,7 +23,9 @@ same_tie a b = by_bool (is_eq (key_cmp a b))
 -- what is held of one key is held of another that ties with it
 held_alike : (es : Items) (key k : Key) (order moment : ℕ) → is_eq (key_cmp key k) ≡ true
     → has moment (moments_held order (item_of es key)) ≡ has moment (moments_held order (item_of es k))
-held_alike es key k order moment same = ap (λ held. has moment (moments_held order held)) (same_look key_cmp_total es key k ((Equal-is (key_cmp key k)).0 same))
+held_alike es key k order moment same =
+    ap (λ held. has moment (moments_held order held))
+    (same_look key_cmp_total es key k ((Equal-is (key_cmp key k)).0 same))
 
 put_bits : (same new old before added after : Bool) → (same ≡ true → old ≡ before)
     → added ≡ ((same && new) || before) → after ≡ (added && not ((same && old) && not (same && new)))
@@ -47,12 +49,14 @@ put_bits false new old before added after alike a b = rw b (rw a (bits before))
 back_bits : (same new old before added after : Bool) → (same ≡ true → old ≡ before)
     → added ≡ (before || ((same && new) && added)) → after ≡ (added && not ((same && new) && not (same && old)))
     → after ≡ before
-back_bits true new true before added after alike a b = rw b (rw (← alike refl) (rw (a ∙ ap (λ x. x || (new && added)) (sym (alike refl))) (bits new)))
+back_bits true new true before added after alike a b =
+    rw b (rw (← alike refl) (rw (a ∙ ap (λ x. x || (new && added)) (sym (alike refl))) (bits new)))
   where
     bits : (new : Bool) → not (new && false) ≡ true
     bits true = refl
     bits false = refl
-back_bits true new false before added after alike a b = rw b (rw (← alike refl) (bits new added (a ∙ ap (λ x. x || (new && added)) (sym (alike refl)))))
+back_bits true new false before added after alike a b =
+    rw b (rw (← alike refl) (bits new added (a ∙ ap (λ x. x || (new && added)) (sym (alike refl)))))
   where
     bits : (new added : Bool) → added ≡ (new && added) → (added && not (new && true)) ≡ false
     bits true true a = refl
@@ -67,7 +71,8 @@ back_bits false new old before added after alike a b = rw b (bits before added a
     bits false true a = a
     bits false false a = refl
 
-taken_bits : (same old before after : Bool) → (same ≡ true → old ≡ before) → after ≡ (before && not ((same && old) && not (same && false)))
+taken_bits : (same old before after : Bool) → (same ≡ true → old ≡ before)
+    → after ≡ (before && not ((same && old) && not (same && false)))
     → after ≡ cond same false before
 taken_bits true old before after alike b = rw b (rw (← alike refl) (bits old))
   where
@@ -83,47 +88,67 @@ taken_bits false old before after alike b = rw b (bits before)
 module _ (es : Items) (key : Key) (i : Item) (before added after : List Stamp) (tied : Tied es before) where
   -- after a put: the stamps of the new item were added, and then those went that only the old one has
   pub tied_put : ((s : Stamp) → has_stamp added s ≡ (is_one_of key (Some i) s || has_stamp before s))
-      → ((s : Stamp) → has_stamp after s ≡ (has_stamp added s && not (is_one_of key (item_of es key) s && not (is_one_of key (Some i) s))))
+      → ((s : Stamp)
+      → has_stamp after s
+      ≡ (has_stamp added s && not (is_one_of key (item_of es key) s && not (is_one_of key (Some i) s))))
       → Tied (insert_entry key_cmp es key i) after
   tied_put more less (order, moment, None) = rw less (rw more (rw tied refl))
   tied_put more less (order, moment, Some k) =
-      put_bits (is_eq (key_cmp key k)) (has moment (moments_held order (Some i))) (has moment (moments_held order (item_of es key)))
-      (has moment (moments_held order (item_of es k))) (has_stamp added (order, moment, Some k)) (has_stamp after (order, moment, Some k))
+      put_bits (is_eq (key_cmp key k)) (has moment (moments_held order (Some i)))
+      (has moment (moments_held order (item_of es key)))
+      (has moment (moments_held order (item_of es k))) (has_stamp added (order, moment, Some k))
+      (has_stamp after (order, moment, Some k))
       (held_alike es key k order moment)
-      (more (order, moment, Some k) ∙ ap (λ b. is_one_of key (Some i) (order, moment, Some k) || b) (tied (order, moment, Some k)))
+      (more (order, moment, Some k)
+      ∙ ap (λ b. is_one_of key (Some i) (order, moment, Some k) || b) (tied (order, moment, Some k)))
       (less (order, moment, Some k))
       ∙ (at_key (is_eq (key_cmp key k)) (item_of es k) ∙ ap (λ held. has moment (moments_held order held))
       (ap (λ b. cond b (Some i) (item_of es k)) (same_tie key k) ∙ sym (lookup-insert_entry key_cmp_total key i k es)))
     where
-      at_key : (b : Bool) (held : Option Item) → cond b (has moment (moments_held order (Some i))) (has moment (moments_held order held)) ≡ has moment (moments_held order (cond b (Some i) held))
+      at_key : (b : Bool) (held : Option Item)
+          → cond b (has moment (moments_held order (Some i))) (has moment (moments_held order held))
+          ≡ has moment (moments_held order (cond b (Some i) held))
       at_key true held = refl
       at_key false held = refl
 
   -- after want of memory: some stamps of the new item were added, and then those went that only it has
-  pub tied_back_again : ((s : Stamp) → has_stamp added s ≡ (has_stamp before s || (is_one_of key (Some i) s && has_stamp added s)))
-      → ((s : Stamp) → has_stamp after s ≡ (has_stamp added s && not (is_one_of key (Some i) s && not (is_one_of key (item_of es key) s))))
+  pub tied_back_again :
+      ((s : Stamp) → has_stamp added s ≡ (has_stamp before s || (is_one_of key (Some i) s && has_stamp added s)))
+      → ((s : Stamp)
+      → has_stamp after s
+      ≡ (has_stamp added s && not (is_one_of key (Some i) s && not (is_one_of key (item_of es key) s))))
       → Tied es after
   tied_back_again more less (order, moment, None) = rw less (rw more (rw tied refl))
   tied_back_again more less (order, moment, Some k) =
-      back_bits (is_eq (key_cmp key k)) (has moment (moments_held order (Some i))) (has moment (moments_held order (item_of es key)))
-      (has moment (moments_held order (item_of es k))) (has_stamp added (order, moment, Some k)) (has_stamp after (order, moment, Some k))
+      back_bits (is_eq (key_cmp key k)) (has moment (moments_held order (Some i)))
+      (has moment (moments_held order (item_of es key)))
+      (has moment (moments_held order (item_of es k))) (has_stamp added (order, moment, Some k))
+      (has_stamp after (order, moment, Some k))
       (held_alike es key k order moment)
-      (more (order, moment, Some k) ∙ ap (λ b. b || (is_one_of key (Some i) (order, moment, Some k) && has_stamp added (order, moment, Some k))) (tied (order, moment, Some k)))
+      (more (order, moment, Some k)
+      ∙ ap (λ b. b || (is_one_of key (Some i) (order, moment, Some k) && has_stamp added (order, moment, Some k)))
+      (tied (order, moment, Some k)))
       (less (order, moment, Some k))
 
 -- after a removal: the stamps of the item went
 pub tied_taken : (es : Items) (key : Key) (before after : List Stamp) → InOrder es → Tied es before
-    → ((s : Stamp) → has_stamp after s ≡ (has_stamp before s && not (is_one_of key (item_of es key) s && not (is_one_of key None s))))
+    → ((s : Stamp)
+    → has_stamp after s ≡ (has_stamp before s && not (is_one_of key (item_of es key) s && not (is_one_of key None s))))
     → Tied (remove_entry (is_at (key_cmp key)) es) after
 tied_taken es key before after sorted tied less (order, moment, None) = rw less (rw tied refl)
 tied_taken es key before after sorted tied less (order, moment, Some k) =
-    taken_bits (is_eq (key_cmp key k)) (has moment (moments_held order (item_of es key))) (has moment (moments_held order (item_of es k)))
+    taken_bits (is_eq (key_cmp key k)) (has moment (moments_held order (item_of es key)))
+    (has moment (moments_held order (item_of es k)))
     (has_stamp after (order, moment, Some k)) (held_alike es key k order moment)
-    (less (order, moment, Some k) ∙ ap (λ b. b && not (is_one_of key (item_of es key) (order, moment, Some k) && not (is_one_of key None (order, moment, Some k)))) (tied (order, moment, Some k)))
+    (less (order, moment, Some k)
+    ∙ ap (λ b. b && not
+    (is_one_of key (item_of es key) (order, moment, Some k) && not (is_one_of key None (order, moment, Some k))))
+    (tied (order, moment, Some k)))
     ∙ (at_key (is_eq (key_cmp key k)) (item_of es k) ∙ ap (λ held. has moment (moments_held order held))
     (ap (λ b. cond b None (item_of es k)) (same_tie key k) ∙ sym (lookup-removed key_cmp_total key k es sorted)))
   where
-    at_key : (b : Bool) (held : Option Item) → cond b false (has moment (moments_held order held)) ≡ has moment (moments_held order (cond b None held))
+    at_key : (b : Bool) (held : Option Item)
+        → cond b false (has moment (moments_held order held)) ≡ has moment (moments_held order (cond b None held))
     at_key true held = refl
     at_key false held = refl
 
@@ -131,14 +156,17 @@ tied_taken es key before after sorted tied less (order, moment, Some k) =
 pub tied_not_held : (es : Items) (key : Key) (stamps : List Stamp) → InOrder es → Tied es stamps → item_of es key ≡ None
     → Tied (remove_entry (is_at (key_cmp key)) es) stamps
 tied_not_held es key stamps sorted tied none =
-    tied_taken es key stamps stamps sorted tied (λ s. none_of s ∙ ap (λ held. has_stamp stamps s && not (is_one_of key held s && not (is_one_of key None s))) (sym none))
+    tied_taken es key stamps stamps sorted tied
+    (λ s. none_of s
+    ∙ ap (λ held. has_stamp stamps s && not (is_one_of key held s && not (is_one_of key None s))) (sym none))
   where
     bits : (a b : Bool) → a ≡ (a && not ((b && false) && not (b && false)))
     bits true true = refl
     bits true false = refl
     bits false b = refl
 
-    none_of : (s : Stamp) → has_stamp stamps s ≡ (has_stamp stamps s && not (is_one_of key None s && not (is_one_of key None s)))
+    none_of : (s : Stamp)
+        → has_stamp stamps s ≡ (has_stamp stamps s && not (is_one_of key None s && not (is_one_of key None s)))
     none_of (order, moment, None) = right (has_stamp stamps (order, moment, None))
       where
         right : (a : Bool) → a ≡ (a && true)

@@ -1,5 +1,6 @@
 -- What the calls of a store do.
-use Rattle.std.specs.Prelude.{◌≡◌, ℕ, Bool, false, not, ◌&&◌, nat_le, length, Option, Some, None, is_some, if◌then◌else◌}
+use Rattle.std.specs.Prelude.{◌≡◌, ℕ, Bool, false, not, ◌&&◌, nat_le, length, Option, Some, None, is_some}
+use Rattle.std.specs.Prelude.{if◌then◌else◌}
 use Rattle.std.specs.List.{All, Contains}
 use Rattle.std.specs.Map.{values_of}
 use Rattle.std.specs.Option.{option_map_or}
@@ -34,7 +35,8 @@ refuses s i = not (is_dead i s.moment) && (is_full s && not (is_held s (key_of i
 
 -- an item that was observed becomes the one of its key; a dead one removes its key instead
 abbrev pub observed : Held → Item → Held
-observed s i = if is_dead i s.moment then without s (key_of i) else record s { entries = with_item s.entries (key_of i, i) }
+observed s i =
+    if is_dead i s.moment then without s (key_of i) else record s { entries = with_item s.entries (key_of i, i) }
 
 -- ---- which dead item leaves first
 

@@ -17,7 +17,8 @@ pub record EndsFirst (now : ℕ) (es : Items) (key : Key) : Type 0 where
   pub end : ℕ
   pub its_end : end_of item ≡ Some end
   pub ended : nat_lt end now ≡ true
-  pub first : (k : Key) (i : Item) (m : ℕ) → item_of es k ≡ Some i → end_of i ≡ Some m → is_gt (ordering_then (nat_cmp end m) (key_cmp key k)) ≡ false
+  pub first : (k : Key) (i : Item) (m : ℕ) → item_of es k ≡ Some i → end_of i ≡ Some m
+      → is_gt (ordering_then (nat_cmp end m) (key_cmp key k)) ≡ false
 
 -- no held item ended before a moment
 abbrev pub NoneHasEnded : ℕ → Items → Type 0

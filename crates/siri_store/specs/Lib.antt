@@ -1,4 +1,5 @@
 pub mod Held
+pub mod Counted
 pub mod Calls
 pub mod Candidates
 pub mod Walk

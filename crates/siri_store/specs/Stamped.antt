@@ -1,5 +1,6 @@
 -- Stamps: at which moments items end, and at which they have an edge.
-use Rattle.std.specs.Prelude.{◌≡◌, ℕ, Bool, true, false, ◌&&◌, nat_eq, nat_lt, if◌then◌else◌, List, [], Option, Some, None}
+use Rattle.std.specs.Prelude.{◌≡◌, ℕ, Bool, true, false, ◌&&◌, nat_eq, nat_lt, if◌then◌else◌, List, [], Option, Some}
+use Rattle.std.specs.Prelude.{None}
 use Rattle.std.specs.BTreeMap.{is_at}
 use Rattle.std.specs.List.{list_any}
 use Rattle.std.specs.Option.{option_cmp, option_map_or}
@@ -53,7 +54,9 @@ service_of (item.Situation s) = service.Situation
 
 -- the moments of an item in an order: its end in the one, its edges in the one of its service
 abbrev pub moments_of : ℕ → Item → List ℕ
-moments_of order i = if nat_eq order by_end then listed (end_of i) else (if nat_eq order (by_edge (service_of i)) then edges_of i else [])
+moments_of order i =
+    if nat_eq order by_end then listed (end_of i) else
+    (if nat_eq order (by_edge (service_of i)) then edges_of i else [])
 
 abbrev pub moments_held : ℕ → Option Item → List ℕ
 moments_held order None = []
@@ -63,11 +66,13 @@ moments_held order (Some i) = moments_of order i
 
 -- a stamp of a key at one of these moments of an order
 abbrev pub is_one_at : ℕ → Key → List ℕ → Stamp → Bool
-is_one_at order key moments stamp = option_map_or (λ k. nat_eq order stamp.0 && (is_eq (key_cmp key k) && has stamp.1 moments)) stamp.2 false
+is_one_at order key moments stamp =
+    option_map_or (λ k. nat_eq order stamp.0 && (is_eq (key_cmp key k) && has stamp.1 moments)) stamp.2 false
 
 -- a stamp of a key at one of the moments of the item that it may have
 abbrev pub is_one_of : Key → Option Item → Stamp → Bool
-is_one_of key held stamp = option_map_or (λ k. is_eq (key_cmp key k) && has stamp.1 (moments_held stamp.0 held)) stamp.2 false
+is_one_of key held stamp =
+    option_map_or (λ k. is_eq (key_cmp key k) && has stamp.1 (moments_held stamp.0 held)) stamp.2 false
 
 -- a stamp at one of the moments of the item that is held of its key
 abbrev pub is_stamped : Items → Stamp → Bool

@@ -24,6 +24,10 @@ shown_entries topic moment es = filter (shown_at topic moment) es
 abbrev pub shown_of : Topic → ℕ → Items → List Item
 shown_of topic moment es = values_of (shown_entries topic moment es)
 
+-- the entries that a walk has still to lend: those that are shown from its place to its end
+abbrev pub entries_to_lend : Selected → Items
+entries_to_lend s = shown_entries s.topic.now s.moment (slice_range s.entries.now s.place s.end)
+
 -- the items that a walk has still to lend: those that are shown from its place to its end
 abbrev pub to_lend : Selected → List Item
 to_lend s = shown_of s.topic.now s.moment (slice_range s.entries.now s.place s.end)
@@ -42,3 +46,14 @@ pub record Steps (s : Selected) (r : Option (Bor (Rc Item Global))) (t : Selecte
 
 abbrev pub steps : Selected → Option (Bor (Rc Item Global)) → Selected → Type 0
 steps s r t = Steps s r t
+
+-- a walk went on: each item that was looked at is a step, and all else is as it was
+pub record Walked (s t : Selected) : Type 0 where
+  pub onward : s.place ≤ t.place
+  pub within : t.place ≤ max s.place s.end
+  pub end : t.end ≡ s.end
+  pub counter : t.counter.now ≡ counted s.counter.now (t.place - s.place)
+  pub same_counter : t.counter.ghost_name ≡ s.counter.ghost_name
+  pub topic : t.topic.now ≡ s.topic.now
+  pub moment : t.moment ≡ s.moment
+  pub entries : t.entries.now ≡ s.entries.now

@@ -1,13 +1,17 @@
 //! The walk over the items that have an edge in a range.
 
 ghost use Rattle.std.specs.Iterator.{at_most};
-ghost use Rattle.std.specs.Prelude.{◌≡◌, length, not, pos, option_map};
+ghost use Rattle.std.specs.Prelude.{◌≡◌, ◌+◌, ◌<◌, ◌≤◌, [], ◌∷◌, length, not, pos, option_map, MatchOption, IfOk, OnOk};
 ghost use Rattle.siri_records.specs.Edges.{has_edge};
-ghost use Rattle.siri_store.specs.CrossWalk.{crosses, led_by};
+ghost use Rattle.siri_records.specs.Keyed.{entries_view};
+ghost use Rattle.siri_store.specs.CrossWalk.{crosses, led, led_by};
+ghost use Rattle.siri_store.specs.Held.{counted};
 
 use crate::counter::Counter;
 use crate::stamps::Stamp;
+use siri_base::{Copies, OutOfMemory};
 use siri_records::{Item, KeyedItems, SharedKey, edges_of};
+use std::alloc::Global;
 use std::collections::btree_set::Range;
 use std::rc::Rc;
 
@@ -16,10 +20,34 @@ use std::rc::Rc;
 #[derive(Drop)]
 pub struct Crossing<'a> {
     // The store's counter and items, the stamps that are still to be looked at, and where the range begins.
-    pub(crate) counter: &'a mut Counter,
-    pub(crate) entries: &'a KeyedItems,
-    pub(crate) stamps: Range<'a, Stamp>,
-    pub(crate) from: i64,
+    counter: &'a mut Counter,
+    entries: &'a KeyedItems,
+    stamps: Range<'a, Stamp>,
+    from: i64,
+}
+
+impl<'a> Crossing<'a> {
+    /// The walk over held items by the stamps of their edges in a range that begins at a moment. It counts by the
+    /// counter that it is lent.
+    pub(crate) fn over(
+        entries: &'a KeyedItems,
+        counter: &'a mut Counter,
+        stamps: Range<'a, Stamp>,
+        from: i64,
+    ) -> Crossing<'a>
+        ensures counter { result.counter.now ≡ counter.old }
+        ensures same_counter { result.counter.ghost_name ≡ counter.entry.ghost_name }
+        ensures entries { result.entries.now ≡ entries.now }
+        ensures from { result.from ≡ from }
+        ensures stamps { result.stamps ≡ stamps.entry }
+    {
+        Crossing {
+            counter,
+            entries,
+            stamps,
+            from,
+        }
+    }
 }
 
 impl<'a> Iterator for Crossing<'a> {
@@ -30,19 +58,58 @@ impl<'a> Iterator for Crossing<'a> {
     ghost remaining = { λ s. at_most (length s.stamps) };
 
     fn next(&mut self) -> Option<&'a Rc<Item>> {
-        let entries = self.entries;
-        loop {
-            let stamp = self.stamps.next()?;
-            if let Some(entry) = led(entries, self.from, stamp) {
-                self.counter.count();
-                return Some(entry.1);
-            }
+        let entry = next_crossed(self.entries, self.counter, &mut self.stamps, self.from)?;
+        Some(entry.1)
+    }
+}
+
+/// The walk itself: the key and the item of the first stamp that leads, counted as a step, and behind it the stamps
+/// that are left.
+fn next_crossed<'a>(
+    entries: &'a KeyedItems,
+    counter: &mut Counter,
+    stamps: &mut Range<'a, Stamp>,
+    from: i64,
+) -> Option<(&'a SharedKey, &'a Rc<Item>)>
+    ensures lent { MatchOption result ((led from entries.now stamps.old ≡ []) × (led from entries.now stamps.new ≡ [])) (λ entry. led from entries.now stamps.old ≡ (entry.0.now, entry.1.now.value) ∷ led from entries.now stamps.new) }
+    ensures counter { MatchOption result (counter.new ≡ counter.old) (λ _. counter.new ≡ counted counter.old 1) }
+    ensures onward { MatchOption result (length stamps.new ≤ length stamps.old) (λ _. length stamps.new < length stamps.old) }
+{
+    loop {
+        let stamp = stamps.next()?;
+        if let Some(entry) = led(entries, from, stamp) {
+            counter.count();
+            return Some(entry);
         }
     }
 }
 
+/// All of them in one call: the entries whose items have an edge in a range of moments, by the stamps there. (A walk
+/// that holds stamps gives the one who lets it go no word of its counter, so the counter is lent to this one itself.)
+pub(crate) fn crossed_entries<'a>(
+    alloc: Global,
+    items: &'a KeyedItems,
+    counter: &mut Counter,
+    stamps: Range<'a, Stamp>,
+    from: i64,
+) -> Result<Vec<(SharedKey, Rc<Item>)>, OutOfMemory>
+    ensures ok { IfOk result (λ found. entries_view found.items ≡ led from items.now stamps.entry) }
+    ensures steps { OnOk result (counter.new ≡ counted counter.old (length (led from items.now stamps.entry))) }
+    ensures risen { counter.old ≤ counter.new }
+    ensures at_most { counter.new ≤ counter.old + length (led from items.now stamps.entry) }
+{
+    let mut stamps = stamps;
+    let mut found = Vec::new(alloc);
+    while let Some(entry) = next_crossed(items, counter, &mut stamps, from) {
+        let item = entry.1.clone()?;
+        let key = entry.0.copy()?;
+        found.push((key, item))?;
+    }
+    Ok(found)
+}
+
 /// The key and the item of a stamp, where the item has no edge in the range before that stamp.
-pub(crate) fn led<'a>(
+fn led<'a>(
     entries: &'a KeyedItems,
     from: i64,
     stamp: &'a Stamp,

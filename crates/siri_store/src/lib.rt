@@ -16,12 +16,14 @@
 //! the dead items go one by one by `expire_one`, before it observes again. No more than 20,000 keys are held.
 //!
 //! Each held item that a caller gets or that is tested for a topic is counted as a step, by a counter that never falls.
-//! No other crate gets hold of the counter or of the items beside it.
+//! No other crate gets hold of the counter or of the items beside it. They lie in one inner type (`counted`), of which
+//! the only calls that lend an item count it, and which lends both to the walks that it makes (`selected`, `crossing`).
 //!
 //! Stands on `siri_base`, `siri_records` and `siri_topic`. It knows no subscription, no message and no clock.
 #![tactic(auto)]
 
 mod candidates;
+mod counted;
 mod counter;
 mod crossing;
 mod indexed;

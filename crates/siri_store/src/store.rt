@@ -3,6 +3,7 @@
 ghost use Rattle.std.specs.Prelude.{◌≡◌, ◌↔◌, ◌+◌, ◌≤◌, max, [], length, slice_range, option_map, true, false, None, IfOk, OnOk, OnErr, IsErrOf, ⊤};
 ghost use mathlib.Core.Option.{none};
 ghost use Rattle.std.specs.Borrow.{sem, follows, follows_so};
+ghost use Rattle.siri_records.specs.Keys.{key_of};
 ghost use Rattle.siri_records.specs.Keyed.{InOrder, item_of, unshared, entries_view};
 ghost use Rattle.siri_store.specs.Calls.{NoneDead, is_held, without, refuses, observed, IsNextToLeave, after_expiry};
 ghost use Rattle.siri_store.specs.Candidates.{candidates};
@@ -13,10 +14,8 @@ ghost use Rattle.siri_store.specs.Walk.{shown_entries, shown_of, to_lend};
 ghost use Rattle.siri_store.specs.contracts.counter.Counter.{the_row as counter_row};
 ghost use Rattle.siri_store.specs.contracts.store.Store.{the_row};
 
-use crate::candidates::candidates;
-use crate::counter::Counter;
-use crate::indexed::IndexedItems;
-use crate::{Crossing, Selected, walk};
+use crate::counted::CountedItems;
+use crate::{Crossing, Selected};
 use siri_base::{Moment, OutOfMemory};
 use siri_records::{Item, Key, KeyedItems, Service, SharedKey, dead};
 use siri_topic::Topic;
@@ -53,9 +52,8 @@ impl From<OutOfMemory> for ObserveError {
 /// Current items in order of key, each under its own key, a moment, and a counter of steps. Contracts see the keys with
 /// the items themselves, the moment and the counter.
 pub struct Store {
-    items: IndexedItems,
+    items: CountedItems,
     moment: Moment,
-    counter: Counter,
 }
 
 impl Drop for Store {
@@ -63,21 +61,16 @@ impl Drop for Store {
         let Store {
             items: _,
             moment: _,
-            counter: _,
         } = self;
     }
 }
 
 impl Model for Store {
-    ghost use Rattle.siri_store.specs.Candidates.{UnderOwnKeys};
-    ghost use Rattle.siri_store.specs.Ended.{NoneClosed};
     ghost use Rattle.siri_store.specs.Held.{Held};
 
     ghost Value = { Held };
 
-    ghost view = { λ s. record { entries = s.items; moment = s.moment; reads = s.counter } };
-
-    ghost invariant = { λ s. record { own : UnderOwnKeys s.items; none_closed : NoneClosed s.items } };
+    ghost view = { λ s. record { entries = s.items.entries; moment = s.moment; reads = s.items.reads } };
 }
 
 impl Store {
@@ -87,9 +80,8 @@ impl Store {
         ensures alive { IfOk result (λ store. NoneDead store) }
     {
         Ok(Store {
-            items: IndexedItems::new(alloc),
+            items: CountedItems::new(alloc),
             moment: now,
-            counter: Counter::new(),
         })
     }
 
@@ -120,20 +112,33 @@ impl Store {
         ensures full { IsErrOf result ObserveError.StoreFull → refuses self.old item.value ≡ true }
         ensures alive { NoneDead self.new }
     {
-        let key = match SharedKey::of(self.items.entries().allocator(), &item) {
+        let key = match SharedKey::of(self.items.allocator(), &item) {
             Ok(key) => key,
             Err(_) => {
                 drop(item);
                 return Err(ObserveError::OutOfMemory);
             }
         };
+        self.observe_under(key, item)
+    }
+
+    /// As `observe`, with the item's own key, which its caller has made.
+    pub fn observe_under(&mut self, key: SharedKey, item: Rc<Item>) -> Result<(), ObserveError>
+        requires alive { NoneDead self.old }
+        requires own { key ≡ key_of item.value }
+        ensures ok { OnOk result (self.new ≡ observed self.old item.value) }
+        ensures err { OnErr result (self.new ≡ self.old) }
+        ensures taken { OnOk result (refuses self.old item.value ≡ false) }
+        ensures full { IsErrOf result ObserveError.StoreFull → refuses self.old item.value ≡ true }
+        ensures alive { NoneDead self.new }
+    {
         if dead(&item, self.moment) {
             let _ = self.items.remove(key.key());
             drop(key);
             drop(item);
             return Ok(());
         }
-        if self.items.entries().len() >= MOST_LIVE && !self.items.entries().has(key.key()) {
+        if self.items.len() >= MOST_LIVE && !self.items.has(key.key()) {
             drop(key);
             drop(item);
             return Err(ObserveError::StoreFull);
@@ -156,7 +161,7 @@ impl Store {
     pub fn reads(&self) -> u64
         ensures { result ≡ self.now.reads }
     {
-        self.counter.steps()
+        self.items.reads()
     }
 
     /// The item of a key. It takes one step.
@@ -164,8 +169,7 @@ impl Store {
         ensures* step { sem 𝓛 (follows_so the_row the_row self.entry.ghost_name none (λ _ _. ⊤) (λ new. new ≡ record self.old { reads = counted self.old.reads 1 })) }
         ensures item { option_map (λ item. item.now.value) result ≡ item_of self.old.entries key.now }
     {
-        self.counter.count();
-        self.items.entries().get(key)
+        self.items.look(key)
     }
 
     /// Lends, in order of key, the held items that are shown to a topic at the store's moment. The walk looks only at
@@ -182,16 +186,7 @@ impl Store {
         ensures within { (result.place ≤ result.end) × (result.end ≤ length self.old.entries) }
     {
         let moment = self.moment;
-        let entries = self.items.entries();
-        let places = candidates(entries, topic);
-        Selected {
-            counter: &mut self.counter,
-            topic,
-            moment,
-            entries,
-            place: places.start,
-            end: places.end,
-        }
+        self.items.select(topic, moment)
     }
 
     /// All held items that are shown to a topic at the store's moment, in order of key, shared with the store. Each
@@ -206,13 +201,7 @@ impl Store {
         ensures ordered { InOrder self.old.entries }
     {
         let moment = self.moment;
-        walk::shown_items(
-            alloc,
-            self.items.entries(),
-            &mut self.counter,
-            topic,
-            moment,
-        )
+        self.items.shown(alloc, topic, moment)
     }
 
     /// The same items with their keys.
@@ -225,13 +214,7 @@ impl Store {
         ensures ordered { InOrder self.old.entries }
     {
         let moment = self.moment;
-        walk::shown_entries(
-            alloc,
-            self.items.entries(),
-            &mut self.counter,
-            topic,
-            moment,
-        )
+        self.items.shown_entries(alloc, topic, moment)
     }
 
     /// Lends the held items of a service that have an edge at or after one number of milliseconds since 1970 and before
@@ -244,15 +227,7 @@ impl Store {
         ensures from { result.from ≡ from }
         ensures lends { to_cross result ≡ crossed_of service from to self.old.entries }
     {
-        let items = &self.items;
-        let stamps = items.edges(service, from, to);
-        let entries = items.entries();
-        Crossing {
-            counter: &mut self.counter,
-            entries,
-            stamps,
-            from,
-        }
+        self.items.crossing(service, from, to)
     }
 
     /// All of them in one call, with their keys, shared with the store: the held items of a service that have an edge at
@@ -271,8 +246,7 @@ impl Store {
         ensures risen { self.old.reads ≤ self.new.reads }
         ensures rest { self.new ≡ record self.old { reads = self.new.reads } }
     {
-        let stamps = self.items.edges(service, from, to);
-        walk::crossed_entries(alloc, self.items.entries(), &mut self.counter, stamps, from)
+        self.items.crossed(alloc, service, from, to)
     }
 
     /// How many keys are held. Items are held in order of key, each key once.
@@ -280,7 +254,7 @@ impl Store {
         ensures number { result ≡ length self.now.entries }
         ensures ordered { InOrder self.now.entries }
     {
-        self.items.entries().len()
+        self.items.len()
     }
 
     /// The store's moment.

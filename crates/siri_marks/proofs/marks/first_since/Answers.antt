@@ -10,9 +10,11 @@ returns-else-index-number-clause-marks c =
     let mark = c.index.result.now in
     let first = c.loop-first.first in
     let before : nat_le c.args.number mark.0 ≡ false = grind (arith, c.if-index-number.false) in
-    let there : nat_le c.args.number (get_or log (first - 1) mark).0 ≡ false = ap (λ (m : ℕ × Key). nat_le c.args.number m.0) (sym c.index.ensures) ∙ before in
+    let there : nat_le c.args.number (get_or log (first - 1) mark).0 ≡ false =
+    ap (λ (m : ℕ × Key). nat_le c.args.number m.0) (sym c.index.ensures) ∙ before in
     rest_since c.args.number log first
-    (none_upto c.args.top c.args.number log first mark c.loop-first-test.true c.loop-first.invariant.within c.requires there)
+    (none_upto c.args.top c.args.number log first mark c.loop-first-test.true c.loop-first.invariant.within
+    c.requires there)
     c.loop-first.invariant.since
 
 pub returns-after-loop-first-clause-marks : goal.returns-after-loop-first-clause-marks

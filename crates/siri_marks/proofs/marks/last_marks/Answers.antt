@@ -16,7 +16,9 @@ loop-place-preserved-in_ok-push c =
     let next = drop_before log c.loop-place.place mark c.loop-place-test.true so_far.within c.index-mark.ensures in
     let seen = c.loop-place.seen.keys in
     let last = c.loop-place.last.items in
-    let anew = ap (λ k. not (is_among k seen)) (sym c.in_ok-copy_key.ensures) ∙ sym c.in_ok-insert.ensures.added ∙ c.if-branch.true in
+    let anew =
+    ap (λ k. not (is_among k seen)) (sym c.in_ok-copy_key.ensures) ∙ sym c.in_ok-insert.ensures.added
+    ∙ c.if-branch.true in
     record {
       log = refl;
       within = omega (arith, so_far.within);
@@ -40,7 +42,9 @@ loop-place-preserved c =
     let next = drop_before log c.loop-place.place mark c.loop-place-test.true so_far.within c.index-mark.ensures in
     let seen = c.loop-place.seen.keys in
     let last = c.loop-place.last.items in
-    let again = ap (λ k. not (is_among k seen)) (sym c.in_ok-copy_key.ensures) ∙ sym c.in_ok-insert.ensures.added ∙ c.if-branch.false in
+    let again =
+    ap (λ k. not (is_among k seen)) (sym c.in_ok-copy_key.ensures) ∙ sym c.in_ok-insert.ensures.added
+    ∙ c.if-branch.false in
     record {
       log = refl;
       within = omega (arith, so_far.within);

@@ -16,7 +16,8 @@ loop-low-preserved-then-lt c =
     let es = c.args.items.now in
     let middle : ℕ = c.loop-low.low + (c.loop-low.high - c.loop-low.low) / 2 in
     let e : Key × Item = (c.in-Some.entry.now.0, c.in-Some.entry.now.1.value) in
-    let below : is_below topic least e.0 ≡ true = ap (is_below topic least) (sym c.key.ensures) ∙ ap (λ o. is_lt (nat_cmp (ordering_index o) (ordering_index least)))
+    let below : is_below topic least e.0 ≡ true =
+    ap (is_below topic least) (sym c.key.ensures) ∙ ap (λ o. is_lt (nat_cmp (ordering_index o) (ordering_index least)))
     (sym c.side.ensures) ∙ (sym c.lt.ensures ∙ c.if-lt.true) in
     record {
       below = holds_to key_cmp (is_below topic least) (below_before topic least) es middle e
@@ -33,7 +34,8 @@ loop-low-preserved-in_default c =
     let es = c.args.items.now in
     let middle : ℕ = c.loop-low.low + (c.loop-low.high - c.loop-low.low) / 2 in
     let e : Key × Item = (c.in-Some.entry.now.0, c.in-Some.entry.now.1.value) in
-    let above : is_below topic least e.0 ≡ false = ap (is_below topic least) (sym c.key.ensures) ∙ ap (λ o. is_lt (nat_cmp (ordering_index o) (ordering_index least)))
+    let above : is_below topic least e.0 ≡ false =
+    ap (is_below topic least) (sym c.key.ensures) ∙ ap (λ o. is_lt (nat_cmp (ordering_index o) (ordering_index least)))
     (sym c.side.ensures) ∙ (sym c.lt.ensures ∙ c.if-lt.false) in
     record {
       below = c.loop-low.invariant.below;
@@ -46,4 +48,5 @@ loop-low-preserved-in_default c =
 pub returns-clause-above : goal.returns-clause-above
 returns-clause-above c =
     let same : c.loop-low.high ≡ c.loop-low.low = omega (arith, c.loop-low-test.false, c.loop-low.invariant.rising) in
-    subst (λ (n : ℕ). All (λ (e : Key × Item). is_below c.args.topic.now c.args.least e.0 ≡ false) (drop n c.args.items.now)) same c.loop-low.invariant.above
+    subst (λ (n : ℕ). All (λ (e : Key × Item). is_below c.args.topic.now c.args.least e.0 ≡ false)
+    (drop n c.args.items.now)) same c.loop-low.invariant.above

@@ -1,74 +1,63 @@
-use Rattle.std.proofs.Common.{◌≡◌, ◌≤◌, ◌+◌, ◌-◌, [], ◌∷◌, ◌++◌, true, false, length, arith, ap, sym, ◌∙◌}
+use Rattle.std.proofs.Common.{◌≡◌, [], ◌∷◌, ◌++◌, refl, ap, arith, ◌∙◌}
+use Rattle.std.specs.Prelude.{length}
 use Rattle.siri_records.specs.declared.key.Key.{Key}
 use Rattle.siri_records.specs.declared.item.Item.{Item}
-use Rattle.siri_topic.specs.Shown.{is_shown}
-use Rattle.siri_store.specs.Candidates.{candidates}
-use Rattle.siri_store.proofs.Gathered.{next_above, shown_next, unshown_next, found_one, counted_none, counted_one}
-use Rattle.siri_store.proofs.OwnKeys.{shown_there}
-use Rattle.siri_store.proofs.Ranges.{range_length, range_next}
-use Rattle.siri_store.proofs.walk.shown_entries.Goals.{in-Some+then-shown+in_ok-item+in_ok-key+in_ok-push_last, in-Some+else-shown, in_default}
+use Rattle.siri_store.specs.Walk.{entries_to_lend}
+use Rattle.siri_store.proofs.Gathered.{next_above, found_one, all_found, walked_none, walked_on}
 use Rattle.siri_store.proofs.walk.shown_entries.Goals as goal
 
-pub loop-place-init : goal.loop-place-init
-loop-place-init c =
-    let topic = c.args.topic.now in
-    let es = c.args.items.now in
-    let places = c.candidates-places in
-    let there = shown_there topic c.args.moment es places.result.start places.result.end c.requires places.ensures.places in
-    let number = sym (ap length places.ensures.places) ∙ range_length es places.result.start places.result.end places.ensures.within in
-    let none : length (candidates topic es) - (places.result.end - places.result.start) ≡ 0 = omega (arith, number) in
-    record {
-      found = rw c.new-found.ensures there;
-      within = places.ensures.within;
-      left = omega (arith, number);
-      counter = counted_none c.args.counter.now _ none;
-    }
+pub loop-entry-init : goal.loop-entry-init
+loop-entry-init c = record {
+  found = rw c.new-found.ensures refl;
+  walked = walked_none c.args.walk.now;
+}
 
-pub loop-place-preserved : goal.loop-place-preserved
-loop-place-preserved c =
-    let topic = c.args.topic.now in
-    let moment = c.args.moment in
-    let es = c.args.items.now in
-    let place = c.loop-place.place in
-    let end = c.candidates-places.result.end in
-    let all = length (candidates topic es) in
-    let now = c.loop-place.invariant in
-    let onward : all - (end - (place + 1)) ≡ all - (end - place) + 1 = omega (arith, now.left, c.loop-place-test.true) in
-    let left : end - (place + 1) ≤ all = omega (arith, now.left) in
-    elim c.match-entry.branch [
-      | in-Some+then-shown+in_ok-item+in_ok-key+in_ok-push_last w ↦
-          let e : Key × Item = (w.in-Some.entry.now.0, w.in-Some.entry.now.1.value) in
-          let shown : is_shown topic e.1 moment ≡ true = ap (λ i. is_shown topic i moment) (sym w.deref.ensures) ∙ (sym w.shown.ensures ∙ w.if-shown.true) in
-          let next = shown_next topic moment es place end e c.loop-place-test.true w.in-Some.ensures.onward.0 shown in
-          let pair : ◌≡◌ {A = Key × Item} (w.in_ok-key.key, w.in_ok-item.item.value) e = λ j. (w.in_ok-key.ensures j, w.in_ok-item.ensures.cases j) in
-          record {
-            found = found_one _ _ _ _ _ e (w.found-is
-                ∙ (w.in_ok-push_last.ensures.ok ∙ ap (λ (x : Key × Item). c.loop-place.found ++ x ∷ []) pair)) next
-                now.found;
-            within = now.within;
-            left = left;
-            counter = counted_one c.args.counter.now c.loop-place.counter c.match-entry.counter _ _ onward now.counter (w.counter-is ∙ w.count.ensures.step);
-          }
-      | in-Some+else-shown w ↦
-          let e : Key × Item = (w.in-Some.entry.now.0, w.in-Some.entry.now.1.value) in
-          let unshown : is_shown topic e.1 moment ≡ false = ap (λ i. is_shown topic i moment) (sym w.deref.ensures)
-          ∙ (sym w.shown.ensures ∙ w.if-shown.false) in
-          let next = unshown_next topic moment es place end e c.loop-place-test.true w.in-Some.ensures.onward.0 unshown in
-          record {
-            found = rw (w.found-is, ← next) now.found;
-            within = now.within;
-            left = left;
-            counter = counted_one c.args.counter.now c.loop-place.counter c.match-entry.counter _ _ onward now.counter (w.counter-is ∙ w.count.ensures.step);
-          }
-      | in_default w ↦ absurd (omega (arith, now.within, c.loop-place-test.true, w.in_default.ensures.onward.1))
-    ]
+pub loop-entry-preserved : goal.loop-entry-preserved
+loop-entry-preserved c =
+    let walk = c.loop-entry.walk in
+    let e : Key × Item = (c.in-Some.entry.0.now, c.in-Some.entry.1.now.value) in
+    let pair : ◌≡◌ {A = Key × Item} (c.in_ok-key.key, c.in_ok-item.item.value) e =
+    λ j. (c.in_ok-key.ensures j, c.in_ok-item.ensures.cases j) in
+    record {
+      found = found_one _ _ _ _ _ e
+          (c.in_ok-push_last.ensures.ok ∙ ap (λ (x : Key × Item). c.loop-entry.found ++ x ∷ []) pair)
+          c.in-Some.ensures.lent c.loop-entry.invariant.found;
+      walked =
+          walked_on c.args.walk.now walk c.next_entry.new.self _ c.loop-entry.invariant.walked c.in-Some.ensures.steps;
+    }
 
 pub push_last-requires : goal.push_last-requires
 push_last-requires c =
-    let topic = c.args.topic.now in
-    let moment = c.args.moment in
-    let es = c.args.items.now in
-    let e : Key × Item = (c.in-Some.entry.now.0, c.in-Some.entry.now.1.value) in
-    let shown : is_shown topic e.1 moment ≡ true = ap (λ i. is_shown topic i moment) (sym c.deref.ensures) ∙ (sym c.shown.ensures ∙ c.if-shown.true) in
-    let next = range_next es c.loop-place.place c.candidates-places.result.end e c.loop-place-test.true c.in-Some.ensures.onward.0 in
-    rw c.in_ok-key.ensures (next_above topic moment es c.loop-place.found _ _ e c.in-Some.ensures.ordered c.loop-place.invariant.found next shown)
+    let e : Key × Item = (c.in-Some.entry.0.now, c.in-Some.entry.1.now.value) in
+    rw c.in_ok-key.ensures
+    (next_above c.loop-entry.found _ _ _ e c.requires c.loop-entry.invariant.found c.in-Some.ensures.lent)
+
+pub returns-in_err-item-clause-walked : goal.returns-in_err-item-clause-walked
+returns-in_err-item-clause-walked c =
+    walked_on c.args.walk.now c.loop-entry.walk c.next_entry.new.self _ c.loop-entry.invariant.walked
+    c.in-Some.ensures.steps
+
+pub returns-in_err-key-clause-walked : goal.returns-in_err-key-clause-walked
+returns-in_err-key-clause-walked c =
+    walked_on c.args.walk.now c.loop-entry.walk c.next_entry.new.self _ c.loop-entry.invariant.walked
+    c.in-Some.ensures.steps
+
+pub returns-in_err-push_last-clause-walked : goal.returns-in_err-push_last-clause-walked
+returns-in_err-push_last-clause-walked c =
+    walked_on c.args.walk.now c.loop-entry.walk c.next_entry.new.self _ c.loop-entry.invariant.walked
+    c.in-Some.ensures.steps
+
+pub returns-clause-ok : goal.returns-clause-ok
+returns-clause-ok c =
+    all_found c.loop-entry.found (entries_to_lend c.loop-entry.walk) (entries_to_lend c.args.walk.now)
+    c.in_default.ensures.lent c.loop-entry.invariant.found
+
+pub returns-clause-over : goal.returns-clause-over
+returns-clause-over c =
+    let walked = c.loop-entry.invariant.walked in
+    omega (arith, ap length walked.entries, walked.end, c.in_default.ensures.over)
+
+pub returns-clause-walked : goal.returns-clause-walked
+returns-clause-walked c =
+    walked_on c.args.walk.now c.loop-entry.walk c.next_entry.new.self _ c.loop-entry.invariant.walked
+    c.in_default.ensures.steps

@@ -1,15 +1,14 @@
-use Rattle.std.proofs.Common.{◌≡◌, ◌≤◌, ◌++◌, ◌-◌, length, slice_range}
+use Rattle.std.proofs.Common.{◌≡◌, ◌++◌, ◌-◌}
 use Rattle.siri_records.specs.Keyed.{unshared}
-use Rattle.siri_store.specs.Candidates.{candidates}
-use Rattle.siri_store.specs.Held.{counted}
-use Rattle.siri_store.specs.Walk.{shown_of}
+use Rattle.siri_store.specs.Walk.{Walked, to_lend}
 use Rattle.siri_store.proofs.walk.shown_items.Given as goal
 
--- those found so far, and those from this place on, are all
-abbrev pub invariant-loop-place : goal.invariant-loop-place
-invariant-loop-place l = record {
-  found : unshared l.found.items ++ shown_of l.topic l.moment (slice_range l.items l.place l.place-end) ≡ shown_of l.topic l.moment l.items;
-  within : l.place-end ≤ length l.items;
-  left : l.place-end - l.place ≤ length (candidates l.topic l.items);
-  counter : l.counter ≡ counted l.fn.counter (length (candidates l.topic l.items) - (l.place-end - l.place));
+-- those found so far, and those that the walk has still to lend, are all
+abbrev pub invariant-loop-entry : goal.invariant-loop-entry
+invariant-loop-entry l = record {
+  found : unshared l.found.items ++ to_lend l.walk ≡ to_lend l.fn.walk;
+  walked : Walked l.fn.walk l.walk;
 }
+
+abbrev pub decreases-loop-entry : goal.decreases-loop-entry
+decreases-loop-entry l = l.walk.end - l.walk.place

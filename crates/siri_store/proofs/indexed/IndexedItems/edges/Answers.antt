@@ -10,8 +10,11 @@ pub returns : goal.returns
 returns c =
     let es = c.self.inside.entries in
     let there : c.between.result ≡ between (by_edge c.args.service) c.args.from c.args.to c.self.inside.stamps =
-    c.between.ensures.stamps ∙ (λ i. between (c.by_edge.ensures i) (to_z-of_z {w = w64} {z = c.args.from} c.ranges.from i) (to_z-of_z {w = w64} {z = c.args.to} c.ranges.to i) c.self.inside.stamps) in
+    c.between.ensures.stamps
+    ∙ (λ i. between (c.by_edge.ensures i) (to_z-of_z {w = w64} {z = c.args.from} c.ranges.from i)
+    (to_z-of_z {w = w64} {z = c.args.to} c.ranges.to i) c.self.inside.stamps) in
     record {
       crossed = rw (← c.self.view_is) (ap (led c.args.from es) there
-          ∙ led_crossed c.args.service c.args.from c.args.to es c.self.inside.stamps c.self.invariant.tied c.self.invariant.ordered c.between.ensures.ordered);
+          ∙ led_crossed c.args.service c.args.from c.args.to es c.self.inside.stamps c.self.invariant.tied
+          c.self.invariant.ordered c.between.ensures.ordered);
     }

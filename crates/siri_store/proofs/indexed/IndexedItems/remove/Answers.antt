@@ -12,14 +12,21 @@ invariant_of-self c =
     let item : Some c.deref.result.now ≡ item_of es c.args.key.now = ap Some c.deref.ensures ∙ c.in-Some.ensures.item in
     record {
       ordered = c.take.ensures.ordered;
-      tied = rw c.take.ensures.rest (tied_taken es c.args.key.now c.self.inside.stamps c.take_out.new.self c.self.invariant.ordered c.self.invariant.tied
+      tied =
+          rw c.take.ensures.rest
+          (tied_taken es c.args.key.now c.self.inside.stamps c.take_out.new.self c.self.invariant.ordered
+          c.self.invariant.tied
           (λ s. c.take_out.ensures.rest s
-          ∙ (λ j. has_stamp c.self.inside.stamps s && not (is_one_of (own j) (item j) s && not (is_one_of (own j) None s)))));
+          ∙ (λ j. has_stamp c.self.inside.stamps s && not
+          (is_one_of (own j) (item j) s && not (is_one_of (own j) None s)))));
     }
 
 pub invariant_of-self-in-None : goal.invariant_of-self-in-None
 invariant_of-self-in-None c = record {
   ordered = c.take.ensures.ordered;
-  tied = rw c.take.ensures.rest (tied_not_held c.self.inside.entries c.args.key.now c.self.inside.stamps c.self.invariant.ordered c.self.invariant.tied
+  tied =
+      rw c.take.ensures.rest
+      (tied_not_held c.self.inside.entries c.args.key.now c.self.inside.stamps c.self.invariant.ordered
+      c.self.invariant.tied
       (sym c.in-None.ensures.item));
 }

@@ -9,13 +9,18 @@ use Rattle.siri_store.proofs.stamps.Stamps.take_out.Goals as goal
 pub returns-in-Some-clause-rest : goal.returns-in-Some-clause-rest
 returns-in-Some-clause-rest c =
     let kept = option_map (λ (item : Bor Item). item.now) c.args.kept in
-    let order : c.by_edge.result ≡ by_edge (service_of c.in-Some.item.now) = c.by_edge.ensures ∙ ap by_edge c.service_of.ensures in
+    let order : c.by_edge.result ≡ by_edge (service_of c.in-Some.item.now) =
+    c.by_edge.ensures ∙ ap by_edge c.service_of.ensures in
     let old = c.args.self.now in
     let mid = c.remove_all-key.new.self in
     λ s. taken_out c.args.key c.in-Some.item.now kept old mid c.remove_all.new.self
     (λ s. c.remove_all-key.ensures.rest s
-    ∙ ap (λ moments. has_stamp old s && not (is_one_at by_end c.args.key moments s && not (is_one_of c.args.key kept s))) c.ends_of.ensures)
+    ∙ ap (λ moments. has_stamp old s && not
+    (is_one_at by_end c.args.key moments s && not (is_one_of c.args.key kept s))) c.ends_of.ensures)
     (λ s. c.remove_all.ensures.rest s
-    ∙ (λ j. has_stamp mid s && not (is_one_at (order j) (c.remove_all-key.ensures.key j) (c.edges_of.ensures j) s && not (is_one_of (c.remove_all-key.ensures.key j) kept s))))
+    ∙ (λ j. has_stamp mid s && not
+    (is_one_at (order j) (c.remove_all-key.ensures.key j) (c.edges_of.ensures j) s && not
+    (is_one_of (c.remove_all-key.ensures.key j) kept s))))
     s
-    ∙ ap (λ (item : Option (Bor Item)). has_stamp old s && not (is_one_of c.args.key (option_map (λ i. i.now) item) s && not (is_one_of c.args.key kept s))) (sym c.in-Some.is)
+    ∙ ap (λ (item : Option (Bor Item)). has_stamp old s && not
+    (is_one_of c.args.key (option_map (λ i. i.now) item) s && not (is_one_of c.args.key kept s))) (sym c.in-Some.is)

@@ -1,30 +1,29 @@
-use Rattle.std.proofs.Common.{refl}
+use Rattle.std.proofs.Common.{ℕ, ap}
 use Rattle.siri_store.specs.Held.{Held}
-use Rattle.siri_store.proofs.Earliest.{next_leaves, none_leaves, expired_rest, expired_own, expired_unclosed}
+use Rattle.siri_store.proofs.Earliest.{next_leaves, none_leaves, expired_rest}
 use Rattle.siri_store.proofs.store.Store.expire_one.Goals as goal
 
 pub returns-clause-key : goal.returns-clause-key
 returns-clause-key c =
-    let s : Held = record { entries = c.self.inside.items; moment = c.self.inside.moment; reads = c.self.inside.counter } in
-    rw (← c.self.view_is) (next_leaves s c.remove_first_ended.ensures.ordered c.self.invariant.none_closed
-    c.remove_first_ended.result c.remove_first_ended.ensures.first c.remove_first_ended.ensures.none)
+    let old = c.self.inside in
+    let s : Held = record { entries = old.items.entries; moment = old.moment; reads = old.items.reads } in
+    let left = c.remove_first_ended in
+    rw (← c.self.view_is)
+    (next_leaves s left.ensures.ordered left.ensures.none_closed left.result left.ensures.first left.ensures.none)
 
 pub returns-clause-none : goal.returns-clause-none
 returns-clause-none c =
-    let s : Held = record { entries = c.self.inside.items; moment = c.self.inside.moment; reads = c.self.inside.counter } in
-    rw (← c.self.view_is) (none_leaves s c.remove_first_ended.ensures.ordered c.self.invariant.none_closed
-    c.remove_first_ended.result c.remove_first_ended.ensures.first c.remove_first_ended.ensures.none)
+    let old = c.self.inside in
+    let s : Held = record { entries = old.items.entries; moment = old.moment; reads = old.items.reads } in
+    let left = c.remove_first_ended in
+    rw (← c.self.view_is)
+    (none_leaves s left.ensures.ordered left.ensures.none_closed left.result left.ensures.first left.ensures.none)
 
 pub returns-clause-rest : goal.returns-clause-rest
 returns-clause-rest c =
-    let s : Held = record { entries = c.self.inside.items; moment = c.self.inside.moment; reads = c.self.inside.counter } in
-    let t : Held = record { entries = c.remove_first_ended.new.self; moment = c.self.inside.moment; reads = c.self.inside.counter } in
-    rw (← c.self.view_is) (expired_rest s t c.remove_first_ended.result refl c.remove_first_ended.ensures.rest c.remove_first_ended.ensures.same)
-
-pub invariant_of-self : goal.invariant_of-self
-invariant_of-self c = record {
-  own = expired_own c.self.inside.items c.remove_first_ended.new.self c.remove_first_ended.result c.self.invariant.own
-      c.remove_first_ended.ensures.rest c.remove_first_ended.ensures.same;
-  none_closed = expired_unclosed c.self.inside.items c.remove_first_ended.new.self c.remove_first_ended.result c.self.invariant.none_closed
-      c.remove_first_ended.ensures.rest c.remove_first_ended.ensures.same;
-}
+    let old = c.self.inside in
+    let left = c.remove_first_ended in
+    let s : Held = record { entries = old.items.entries; moment = old.moment; reads = old.items.reads } in
+    let at : ℕ → Held = λ n. record { entries = left.new.self.entries; moment = old.moment; reads = n } in
+    rw (← c.self.view_is)
+    (expired_rest s (at left.new.self.reads) left.result (ap at left.ensures.reads) left.ensures.rest left.ensures.same)

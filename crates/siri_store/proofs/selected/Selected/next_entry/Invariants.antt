@@ -1,12 +1,12 @@
 use Rattle.std.proofs.Common.{◌≡◌, ◌-◌, ◌≤◌, max}
 use Rattle.siri_store.specs.Held.{counted}
-use Rattle.siri_store.specs.Walk.{to_lend}
-use Rattle.siri_store.proofs.selected.SelectedIterator.next.Given as goal
+use Rattle.siri_store.specs.Walk.{entries_to_lend}
+use Rattle.siri_store.proofs.selected.Selected.next_entry.Given as goal
 
 -- the items passed over so far are counted, and none of them is shown
 abbrev pub invariant-loop-self : goal.invariant-loop-self
 invariant-loop-self l = record {
-  same : to_lend l.self ≡ to_lend l.fn.self;
+  same : entries_to_lend l.self ≡ entries_to_lend l.fn.self;
   onward : l.fn.self.place ≤ l.self.place;
   within : l.self.place ≤ max l.fn.self.place l.fn.self.end;
   counter : l.self.counter.now ≡ counted l.fn.self.counter.now (l.self.place - l.fn.self.place);
