@@ -9,3 +9,6 @@ pub mod Removals
 pub mod Parts
 pub mod Frames
 pub mod Deliveries
+pub mod Layout
+pub mod Pieces
+pub mod Frame

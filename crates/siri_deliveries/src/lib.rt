@@ -17,8 +17,11 @@
 #![tactic(auto)]
 
 mod absence;
+mod frame;
 mod laws;
+mod layout;
 pub mod names;
+mod pieces;
 mod read_deliveries;
 mod read_error;
 mod read_frames;
@@ -31,7 +34,11 @@ mod write_topics;
 mod write_values;
 
 pub use absence::lacks;
+pub use frame::{FramePiece, cut, write_frame};
 pub use laws::members_are_spelled;
+pub use pieces::{
+    ChangePieces, DeliveryHead, ItemPieces, ItemStage, Listed, Stage, change_pieces, item_pieces,
+};
 pub use read_deliveries::ServiceDeliveryTable;
 pub use read_error::error_condition;
 pub use read_topics::{

@@ -1,5 +1,5 @@
 -- What was written of a text.
-use Rattle.std.proofs.Common.{◌≡◌, ◌≤◌, ◌<◌, ◌+◌, ◌-◌, ℕ, List, [], ◌∷◌, ◌++◌, Bool, None, Some, Option, Result, Ok, Err, length, take}
+use Rattle.std.proofs.Common.{◌≡◌, ◌≤◌, ◌<◌, ◌+◌, ◌-◌, ℕ, zero, suc, List, [], ◌∷◌, ◌++◌, Bool, None, Some, Option, Result, Ok, Err, length, take}
 use Rattle.std.proofs.Common.{drop, refl, sym, ap, ◌∙◌, subst, append-nil, append_assoc, take-append-drop, arith, length-append}
 use Rattle.std.specs.Prelude.{codes}
 use Rattle.std.specs.Fmt.{decimal}
@@ -10,9 +10,10 @@ use Rattle.siri_base.specs.declared.errors.OutsideError.TheVariants as outside
 use Rattle.siri_base.specs.Failures.{Passes}
 use Rattle.siri_base.specs.OutsideCalls.{WhereTold}
 use Rattle.siri_base.specs.Wires.{Present, WireState, Writes, PutsBytes}
+use Rattle.siri_http.specs.declared.errors.HttpError.{HttpError}
 use Rattle.siri_http.specs.declared.errors.HttpError.TheVariants as http
 use Rattle.siri_http.specs.Connections.{OnConnection}
-use Rattle.siri_http.specs.Texts.{IsCut, PutsText, head_end, request_text, response_text, phrase_of, type_of}
+use Rattle.siri_http.specs.Texts.{IsCut, Puts, PutsText, head_end, head_text, request_text, phrase_of, type_of}
 use Rattle.siri_base.proofs.MetFailures.{passes_none, passes_more}
 use Rattle.siri_http.proofs.Connections.{on_map, on_then, on_same, told_map}
 
@@ -135,38 +136,121 @@ wrote_nothing text x = on_same (PutsText text (Err http.OutOfMemory)) x (λ a. r
   read_fails = refl;
 })
 
+-- ---- a text in two pieces
+
+takes_both : (a b : List ℕ) (count : ℕ) → length a ≤ count → take count (a ++ b) ≡ a ++ take (count - length a) b
+takes_both [] b count le = ap (λ n. take n b) (omega arith)
+takes_both (x ∷ a) b zero le = absurd (omega (arith, le))
+takes_both (x ∷ a) b (suc count) le =
+    let same : suc count - suc (length a) ≡ count - length a = omega arith in
+    rw same (ap (λ l. x ∷ l) (takes_both a b count (omega (arith, le))))
+
+cut_later : (a b old mid new before between after : List ℕ) → Passes old mid (length a) → between ≡ before ++ a
+    → IsCut b mid new between after → IsCut (a ++ b) old new before after
+cut_later a b [] [] new before between after p w c = absurd c
+cut_later a b [] (y ∷ mid) new before between after p w c = absurd (cc p)
+cut_later a b (x ∷ old) [] new before between after p w c = absurd c
+cut_later a b (x ∷ old) (y ∷ mid) new before between after p w c =
+    let left : y ≡ x - length a = ap first_of p.1 in (
+      omega (arith, length-append a b, left, p.0, c.0),
+      c.1 ∙ ap later_of p.1,
+      c.2
+          ∙ ap (λ l. l ++ take y b) w
+          ∙ append_assoc before a (take y b)
+          ∙ ap (λ n. before ++ (a ++ take n b)) left
+          ∙ ap (λ l. before ++ l) (sym (takes_both a b x p.0)),
+    )
+
+puts_later : (a b : List ℕ) (r : Result (Unit {0}) HttpError) (old mid new before between after : List ℕ)
+    → Puts a (Ok tt) old mid before between → Puts b r mid new between after → Puts (a ++ b) r old new before after
+puts_later a b (Ok tt) old mid new before between after p q = (
+  subst (Passes old new) (sym (length-append a b)) (passes_more _ _ _ _ _ p.0 q.0),
+  q.1 ∙ ap (λ l. l ++ b) p.1 ∙ append_assoc before a b,
+)
+puts_later a b (Err http.WriteFault) old mid new before between after p q = cut_later a b old mid new before between after p.0 p.1 q
+puts_later a b (Err http.OutOfMemory) old mid new before between after p q = record {
+  front = a ++ q.front;
+  rest = q.rest;
+  parts = ap (λ l. a ++ l) q.parts ∙ sym (append_assoc a q.front q.rest);
+  fails = subst (Passes old new) (sym (length-append a q.front)) (passes_more _ _ _ _ _ p.0 q.fails);
+  written = q.written ∙ ap (λ l. l ++ q.front) p.1 ∙ append_assoc before a q.front;
+}
+puts_later a b (Err other) old mid new before between after p q = absurd q
+
+-- one piece was written, and then another as far as this says
+pub puts_both : (a b : List ℕ) (r : Result (Unit {0}) HttpError) (x y z : Option WireState)
+    → OnConnection (PutsText a (Ok tt)) x y → OnConnection (PutsText b r) y z → OnConnection (PutsText (a ++ b) r) x z
+puts_both a b r x y z p q = on_then (PutsText a (Ok tt)) (PutsText b r) (PutsText (a ++ b) r) x y z (λ k l m s t. record {
+  puts = puts_later a b r _ _ _ _ _ _ s.puts t.puts;
+  unread = t.unread ∙ s.unread;
+  read_fails = t.read_fails ∙ s.read_fails;
+}) p q
+
+takes_first : (a b : List ℕ) (count : ℕ) → count ≤ length a → take count (a ++ b) ≡ take count a
+takes_first a b zero le = refl
+takes_first [] b (suc count) le = absurd (omega (arith, le))
+takes_first (x ∷ a) b (suc count) le = ap (λ l. x ∷ l) (takes_first a b count (omega (arith, le)))
+
+cut_first : (a b old new before after : List ℕ) → IsCut a old new before after → IsCut (a ++ b) old new before after
+cut_first a b [] new before after c = absurd c
+cut_first a b (x ∷ old) new before after c = (
+  omega (arith, length-append a b, c.0),
+  c.1,
+  c.2 ∙ ap (λ l. before ++ l) (sym (takes_first a b x (omega (arith, c.0)))),
+)
+
+puts_part : (a b : List ℕ) (e : HttpError) (old new before after : List ℕ)
+    → Puts a (Err e) old new before after → Puts (a ++ b) (Err e) old new before after
+puts_part a b http.WriteFault old new before after p = cut_first a b old new before after p
+puts_part a b http.OutOfMemory old new before after p = record {
+  front = p.front;
+  rest = p.rest ++ b;
+  parts = ap (λ l. l ++ b) p.parts ∙ append_assoc p.front p.rest b;
+  fails = p.fails;
+  written = p.written;
+}
+puts_part a b other old new before after p = absurd p
+
+-- the first piece wasn't written whole, and the other not at all
+pub puts_first : (a b : List ℕ) (e : HttpError) (x y : Option WireState)
+    → OnConnection (PutsText a (Err e)) x y → OnConnection (PutsText (a ++ b) (Err e)) x y
+puts_first a b e x y p = on_map (PutsText a (Err e)) (PutsText (a ++ b) (Err e)) x y (λ k l s. record {
+  puts = puts_part a b e _ _ _ _ s.puts;
+  unread = s.unread;
+  read_fails = s.read_fails;
+}) p
+
 -- ---- texts as they are put together
 
 abbrev line_end : List ℕ
 line_end = 13 ∷ 10 ∷ []
 
-pub body_end : (old body : List ℕ) (count : ℕ)
-    → (((old ++ codes "Content-Length: ") ++ decimal count)
-    ++ (line_end ++ ((codes "Connection: close" ++ line_end) ++ line_end))) ++ body ≡ old ++ (head_end count ++ body)
-body_end old body count = regroup old (codes "Content-Length: ") (decimal count) line_end (codes "Connection: close") body
+pub head_ends : (old : List ℕ) (count : ℕ)
+    → ((old ++ codes "Content-Length: ") ++ decimal count) ++ (line_end ++ ((codes "Connection: close" ++ line_end) ++ line_end)) ≡ old ++ head_end count
+head_ends old count = regroup old (codes "Content-Length: ") (decimal count) line_end (codes "Connection: close")
   where
-    regroup : (old a d e c body : List ℕ) → (((old ++ a) ++ d) ++ (e ++ ((c ++ e) ++ e))) ++ body ≡ old ++ ((((a ++ d) ++ e) ++ ((c ++ e) ++ e)) ++ body)
-    regroup old a d e c body = simp append_assoc
+    regroup : (old a d e c : List ℕ) → ((old ++ a) ++ d) ++ (e ++ ((c ++ e) ++ e)) ≡ old ++ (((a ++ d) ++ e) ++ ((c ++ e) ++ e))
+    regroup old a d e c = simp append_assoc
 
 pub request_is : (host path body : List ℕ)
-    → (((((codes "POST ") ++ path) ++ (codes " HTTP/1.1" ++ (line_end ++ codes "Host: "))) ++ host)
+    → ((((((codes "POST ") ++ path) ++ (codes " HTTP/1.1" ++ (line_end ++ codes "Host: "))) ++ host)
     ++ (line_end ++ (codes "Content-Type: application/json" ++ line_end)))
-    ++ (head_end (length body) ++ body) ≡ request_text host path body
+    ++ head_end (length body)) ++ body ≡ request_text host path body
 unfolding request_text
 request_is host path body = regroup (codes "POST ") path (codes " HTTP/1.1") line_end (codes "Host: ") host
-    (codes "Content-Type: application/json") (head_end (length body) ++ body)
+    (codes "Content-Type: application/json") (head_end (length body)) body
   where
-    regroup : (a p v e h host c rest : List ℕ) → ((((a ++ p) ++ (v ++ (e ++ h))) ++ host) ++ (e ++ (c ++ e)))
-        ++ rest ≡ ((a ++ (p ++ v)) ++ e) ++ (((h ++ host) ++ e) ++ ((c ++ e) ++ rest))
-    regroup a p v e h host c rest = simp append_assoc
+    regroup : (a p v e h host c end body : List ℕ) → (((((a ++ p) ++ (v ++ (e ++ h))) ++ host) ++ (e ++ (c ++ e)))
+        ++ end) ++ body ≡ ((a ++ (p ++ v)) ++ e) ++ (((h ++ host) ++ e) ++ ((c ++ e) ++ (end ++ body)))
+    regroup a p v e h host c end body = simp append_assoc
 
-pub response_is : (status : ℕ) (plain : Bool) (body : List ℕ)
+pub head_is : (status : ℕ) (plain : Bool) (count : ℕ)
     → ((((((codes "HTTP/1.1 " ++ code_digits status) ++ codes " ") ++ phrase_of status)
     ++ (line_end ++ codes "Content-Type: ")) ++ type_of plain) ++ line_end)
-    ++ (head_end (length body) ++ body) ≡ response_text status plain body
-unfolding response_text
-response_is status plain body = regroup (codes "HTTP/1.1 ") (code_digits status) (codes " ") (phrase_of status) line_end
-    (codes "Content-Type: ") (type_of plain) (head_end (length body) ++ body)
+    ++ head_end count ≡ head_text status plain count
+unfolding head_text
+head_is status plain count = regroup (codes "HTTP/1.1 ") (code_digits status) (codes " ") (phrase_of status) line_end
+    (codes "Content-Type: ") (type_of plain) (head_end count)
   where
     regroup : (v d s p e c t rest : List ℕ) → ((((((v ++ d) ++ s) ++ p) ++ (e ++ c)) ++ t) ++ e)
         ++ rest ≡ ((v ++ (d ++ (s ++ p))) ++ e) ++ (((c ++ t) ++ e) ++ rest)

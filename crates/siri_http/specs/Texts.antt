@@ -35,11 +35,15 @@ abbrev pub type_of : Bool → List ℕ
 type_of true = codes "text/plain"
 type_of false = codes "application/json"
 
--- a response of this status
-unfoldable pub response_text : ℕ → Bool → List ℕ → List ℕ
-response_text status plain body =
+-- the head of a response of this status, for a body of so many bytes
+unfoldable pub head_text : ℕ → Bool → ℕ → List ℕ
+head_text status plain count =
     ended (codes "HTTP/1.1 " ++ (code_digits status ++ (codes " " ++ phrase_of status)))
-    ++ (ended (codes "Content-Type: " ++ type_of plain) ++ (head_end (length body) ++ body))
+    ++ (ended (codes "Content-Type: " ++ type_of plain) ++ head_end count)
+
+-- a response of this status: its head, and its body
+abbrev pub response_text : ℕ → Bool → List ℕ → List ℕ
+response_text status plain body = head_text status plain (length body) ++ body
 
 -- a failure came within the text, which was written as far as that
 abbrev pub IsCut : List ℕ → List ℕ → List ℕ → List ℕ → List ℕ → Type 0

@@ -7,6 +7,7 @@
 //!
 //!   an accepted connection  -> read_asked ---> a POST with its body, a refused request, or none
 //!                           <- respond    <--- a status and a body; then it hangs up
+//!                           <- write_head <--- a status and a length; then pieces of a body, and end_response hangs up
 //!
 //!   an address and a body   -> post_to    ---> dials, writes, reads and hangs up: the body of a 200, or none
 //!   its text and a body     -> post       ---> the same, where the text is an address
@@ -40,7 +41,7 @@ pub use asked::{Asked, BadRequest, read_asked};
 pub use errors::HttpError;
 pub use posting::{Sent, post, post_to};
 pub use request::{HttpRequest, read_request};
-pub use responding::respond;
+pub use responding::{end_response, respond};
 pub use response::{HttpResponse, read_response};
 pub use tally::Tally;
-pub use writing::{write_request, write_response};
+pub use writing::{response_head, write_head, write_piece, write_request, write_response};

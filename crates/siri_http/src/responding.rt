@@ -1,8 +1,12 @@
 //! Answers a request.
 
-ghost use Rattle.std.specs.Prelude.{◌≡◌, true};
+ghost use Rattle.std.specs.Prelude.{◌≡◌, true, ℕ, List, Option, IfErr, IsErr, IsErrOf};
 ghost use Rattle.siri_base.specs.OutsideCalls.{WhereTold};
-ghost use Rattle.siri_http.specs.Texts.{is_written, response_text};
+ghost use Rattle.siri_base.specs.Wires.{WireState};
+ghost use Rattle.siri_http.specs.declared.errors.HttpError.TheVariants as http;
+ghost use Rattle.siri_http.specs.Connections.{OnConnection};
+ghost use Rattle.siri_http.specs.HttpCauses.{EndsWrite, HasWriteCause};
+ghost use Rattle.siri_http.specs.Texts.{PutsText, is_written, response_text};
 ghost use Rattle.siri_http.specs.Responses.{Responds};
 ghost use Rattle.siri_http.specs.ExchangeCauses.{HasResponseCause, outcome};
 
@@ -26,7 +30,24 @@ pub fn respond<W: Wire>(
     ensures told { WhereTold (W.tells wire.old) (W.tells wire.new) (Responds (response_text status plain body.now) (outcome result)) }
     ensures cause { HasResponseCause (W.faults wire.old) (W.faults wire.new) (outcome result) }
 {
-    match write_response(alloc, wire, status, plain, body) {
+    let written = write_response(alloc, wire, status, plain, body);
+    end_response(wire, written)
+}
+
+/// Ends a response of which a text was written with this result, whole or as far as it went, and hangs up. It answers
+/// whether the text was written whole. After want of memory it doesn't hang up, and says so.
+pub fn end_response<W: Wire>(
+    wire: &mut W,
+    written: Result<(), HttpError>,
+) -> Result<bool, OutOfMemory>
+    requires { IfErr written EndsWrite }
+    ensures told { (text : List ℕ) (before : Option WireState) → OnConnection (PutsText text written) before (W.tells wire.old)
+        → WhereTold before (W.tells wire.new) (Responds text (outcome result)) }
+    ensures cause { (before : ℕ) → HasWriteCause before (W.faults wire.old) written
+        → HasResponseCause before (W.faults wire.new) (outcome result) }
+    ensures memory { IsErrOf written http.OutOfMemory → IsErr result }
+{
+    match written {
         Ok(()) => {
             wire.hang_up();
             Ok(true)

@@ -3,23 +3,24 @@
 ghost use Rattle.std.specs.Prelude.{◌≡◌, ◌++◌, length, IfErr, IfOk, OnOk, true};
 ghost use Rattle.siri_http.specs.Connections.{OnConnection};
 ghost use Rattle.siri_http.specs.HttpCauses.{EndsWrite, HasWriteCause};
-ghost use Rattle.siri_http.specs.Texts.{PutsText, head_end, is_written, phrase_of, request_text, response_text, type_of};
+ghost use Rattle.siri_http.specs.Texts.{PutsText, head_end, head_text, is_written, phrase_of, request_text, response_text, type_of};
 
 use crate::{Address, HttpError};
 use http::StatusCode;
 use siri_base::{OutOfMemory, OutsideError, Wire, append, append_number};
 use std::alloc::Global;
 
-/// Writes the whole text, in as many calls as it takes.
+/// Writes a piece of a body, all of it, in as many calls as it takes. It takes no memory of its own. `WriteFault` comes
+/// only where the wire's count of faults rose.
 #[tactic(auto, using(crate::proofs::Sending::wrote_none, crate::proofs::Sending::wrote_more, crate::proofs::Sending::wrote_all, crate::proofs::Sending::wrote_fault, crate::proofs::Sending::wrote_front))]
-fn write_text<W: Wire>(wire: &mut W, text: &[u8]) -> Result<(), HttpError>
+pub fn write_piece<W: Wire>(wire: &mut W, piece: &[u8]) -> Result<(), HttpError>
     requires there { W.is_open wire.old }
     ensures open { W.is_open wire.new }
-    ensures told { OnConnection (PutsText text.now result) (W.tells wire.old) (W.tells wire.new) }
+    ensures told { OnConnection (PutsText piece.now result) (W.tells wire.old) (W.tells wire.new) }
     ensures cause { HasWriteCause (W.faults wire.old) (W.faults wire.new) result }
     ensures ends { IfErr result EndsWrite }
 {
-    let mut rest = text;
+    let mut rest = piece;
     while !rest.is_empty() {
         match wire.write(rest) {
             Ok(count) => rest = rest.split_at(count).1,
@@ -30,14 +31,13 @@ fn write_text<W: Wire>(wire: &mut W, text: &[u8]) -> Result<(), HttpError>
     Ok(())
 }
 
-/// Puts the end of a head, and the body.
-fn append_body(alloc: Global, text: &mut Vec<u8>, body: &[u8]) -> Result<(), OutOfMemory>
-    ensures { OnOk result (text.new.items ≡ text.old.items ++ (head_end (length body.now) ++ body.now)) }
+/// Puts the end of a head, for a body of so many bytes.
+fn append_head_end(alloc: Global, text: &mut Vec<u8>, length: u64) -> Result<(), OutOfMemory>
+    ensures { OnOk result (text.new.items ≡ text.old.items ++ head_end length) }
 {
     append(text, b"Content-Length: ")?;
-    append_number(alloc, text, body.len() as u64)?;
+    append_number(alloc, text, length)?;
     append(text, b"\r\nConnection: close\r\n\r\n")?;
-    append(text, body)?;
     Ok(())
 }
 
@@ -51,7 +51,8 @@ fn request_text(alloc: Global, address: &Address, body: &[u8]) -> Result<Vec<u8>
     append(&mut text, b" HTTP/1.1\r\nHost: ")?;
     append(&mut text, address.host.text().as_bytes())?;
     append(&mut text, b"\r\nContent-Type: application/json\r\n")?;
-    append_body(alloc, &mut text, body)?;
+    append_head_end(alloc, &mut text, body.len() as u64)?;
+    append(&mut text, body)?;
     Ok(text)
 }
 
@@ -74,14 +75,14 @@ fn type_text(plain: bool) -> &'static [u8]
     }
 }
 
-/// The text of a response.
-fn response_text(
+/// The head of a response, for a body of so many bytes.
+fn head_text(
     alloc: Global,
     code: StatusCode,
     plain: bool,
-    body: &[u8],
+    length: u64,
 ) -> Result<Vec<u8>, OutOfMemory>
-    ensures { IfOk result (λ text. text.items ≡ response_text code plain body.now) }
+    ensures { IfOk result (λ text. text.items ≡ head_text code plain length) }
 {
     let mut text = Vec::new(alloc);
     append(&mut text, b"HTTP/1.1 ")?;
@@ -91,7 +92,7 @@ fn response_text(
     append(&mut text, b"\r\nContent-Type: ")?;
     append(&mut text, type_text(plain))?;
     append(&mut text, b"\r\n")?;
-    append_body(alloc, &mut text, body)?;
+    append_head_end(alloc, &mut text, length)?;
     Ok(text)
 }
 
@@ -110,7 +111,42 @@ pub fn write_request<W: Wire>(
     ensures ends { IfErr result EndsWrite }
 {
     let text = request_text(alloc, address, body)?;
-    write_text(wire, &text)
+    write_piece(wire, &text)
+}
+
+/// The head of a response of one of the statuses 200, 400, 405, 411, 413, 431 and 501, for a JSON body or a plain one of
+/// so many bytes.
+pub fn response_head(
+    alloc: Global,
+    status: u16,
+    plain: bool,
+    length: u64,
+) -> Result<Vec<u8>, OutOfMemory>
+    requires { is_written status ≡ true }
+    ensures { IfOk result (λ text. text.items ≡ head_text status plain length) }
+{
+    head_text(alloc, code_of(status), plain, length)
+}
+
+/// Writes the head of a response of one of the statuses 200, 400, 405, 411, 413, 431 and 501, for a JSON body or a plain
+/// one of so many bytes. `WriteFault` comes only where the wire's count of faults rose.
+#[tactic(auto, using(crate::proofs::Sending::wrote_nothing))]
+pub fn write_head<W: Wire>(
+    alloc: Global,
+    wire: &mut W,
+    status: u16,
+    plain: bool,
+    length: u64,
+) -> Result<(), HttpError>
+    requires there { W.is_open wire.old }
+    requires status { is_written status ≡ true }
+    ensures open { W.is_open wire.new }
+    ensures told { OnConnection (PutsText (head_text status plain length) result) (W.tells wire.old) (W.tells wire.new) }
+    ensures cause { HasWriteCause (W.faults wire.old) (W.faults wire.new) result }
+    ensures ends { IfErr result EndsWrite }
+{
+    let head = response_head(alloc, status, plain, length)?;
+    write_piece(wire, &head)
 }
 
 /// Writes a response of one of the statuses 200, 400, 405, 411, 413, 431 and 501, with a JSON body or a plain one.
@@ -130,9 +166,9 @@ pub fn write_response<W: Wire>(
     ensures cause { HasWriteCause (W.faults wire.old) (W.faults wire.new) result }
     ensures ends { IfErr result EndsWrite }
 {
-    let code = code_of(status);
-    let text = response_text(alloc, code, plain, body)?;
-    write_text(wire, &text)
+    let mut text = response_head(alloc, status, plain, body.len() as u64)?;
+    append(&mut text, body)?;
+    write_piece(wire, &text)
 }
 
 /// The code of a status that is written.

@@ -18,6 +18,7 @@
 
 mod document;
 mod encoding;
+mod frame;
 mod kinds;
 mod read_requests;
 mod read_statuses;
@@ -35,4 +36,8 @@ mod write_values;
 
 pub use document::{DecodeError, Refusal, decode};
 pub use encoding::encode;
+pub use frame::reply_frame;
+pub use siri_deliveries::{
+    ChangePieces, DeliveryHead, FramePiece, ItemPieces, change_pieces, item_pieces,
+};
 pub use wanted::{Wanted, WantedError, decode_wanted};

@@ -4,7 +4,8 @@ use Rattle.siri_http.proofs.writing.request_text.Goals as goal
 pub returns : goal.returns
 returns c =
     rw (
-      c.in_ok-append_body.ensures,
+      c.in_ok-append-6.ensures.ok,
+      c.in_ok-append_head_end.ensures,
       c.in_ok-append-5.ensures.ok,
       c.in_ok-append-4.ensures.ok,
       c.as_bytes-2.ensures.value,

@@ -1,10 +1,10 @@
-use Rattle.siri_http.proofs.Sending.{response_is}
-use Rattle.siri_http.proofs.writing.response_text.Goals as goal
+use Rattle.siri_http.proofs.Sending.{head_is}
+use Rattle.siri_http.proofs.writing.head_text.Goals as goal
 
 pub returns : goal.returns
 returns c =
     rw (
-      c.in_ok-append_body.ensures,
+      c.in_ok-append_head_end.ensures,
       c.in_ok-append-7.ensures.ok,
       c.in_ok-append-6.ensures.ok,
       c.type_text.ensures,
@@ -18,4 +18,4 @@ returns c =
       c.as_str.ensures,
       c.in_ok-append.ensures.ok,
       c.new-text.ensures.items,
-    ) (response_is c.args.code c.args.plain c.args.body.now)
+    ) (head_is c.args.code c.args.plain c.args.length)
