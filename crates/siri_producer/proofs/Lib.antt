@@ -4,3 +4,5 @@ pub mod Stands
 pub mod Quiet
 pub mod Takes
 pub mod Settles
+pub mod Lends
+pub mod Lent

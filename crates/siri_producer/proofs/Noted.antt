@@ -1,5 +1,5 @@
 -- The followed rows after a message about subscriptions, by what is noted of them.
-use Rattle.std.proofs.Common.{◌≡◌, ℕ, ◌≤◌, List, [], ◌∷◌, length, map, fold, Bool, true, false, cond, Option, None, Some, refl, sym, ap, ◌∙◌, subst}
+use Rattle.std.proofs.Common.{◌≡◌, ℕ, ◌≤◌, List, [], ◌∷◌, map, fold, Bool, true, false, cond, Option, None, Some, refl, sym, ap, ◌∙◌, subst}
 use Rattle.std.specs.Prelude.{option_map}
 use Rattle.std.specs.List.{All}
 use Rattle.std.proofs.lemmas.List.Elements.{All-nil, All-cons, All-head, All-tail, All-map}
@@ -17,7 +17,7 @@ use Rattle.siri_subs.specs.Mapped.{mapped_row, with_mapped_slots}
 use Rattle.siri_subs.specs.Table.{is_of, accepted, ended}
 use Rattle.siri_subs.proofs.Mapped.{accepted_mapped, ended_mapped}
 use Rattle.siri_model.specs.Followed as followed
-use Rattle.siri_model.specs.Followed.{Followed, Look, lifted, life_row}
+use Rattle.siri_model.specs.Followed.{Followed, lifted}
 use Rattle.siri_model.specs.Rows.{KeptLife, acknowledged_row, rows_acknowledged, rows_taken, supplied_row}
 use Rattle.siri_model.specs.Lives.{mark_of}
 use Rattle.siri_model_laws.proofs.AllRows.{accepted_all, ended_all}

@@ -1,5 +1,5 @@
 -- What a settle makes of a producer, and what it sends.
-use Rattle.std.proofs.Common.{◌≡◌, ℕ, ◌+◌, ◌<◌, ◌≤◌, List, [], ◌∷◌, ◌++◌, length, slice_get, take, map, inl, inr, min, Bool, true, cond, Option, None, Some, refl, sym, ap, ◌∙◌, subst, arith}
+use Rattle.std.proofs.Common.{◌≡◌, ℕ, ◌+◌, ◌<◌, ◌≤◌, List, [], ◌∷◌, ◌++◌, length, slice_get, take, map, inl, inr, Bool, true, cond, Option, None, Some, refl, sym, ap, ◌∙◌, subst, arith}
 use Rattle.std.specs.Prelude.{option_map}
 use Rattle.std.specs.List.{All}
 use Rattle.std.proofs.lemmas.List.Elements.{All-nil, All-cons, All-head, All-tail}
@@ -12,7 +12,7 @@ use Rattle.siri_subs.specs.declared.entry.Row.{Row}
 use Rattle.siri_subs.specs.Mapped.{mapped_row}
 use Rattle.siri_marks.specs.Marked.{Marked, SameFrom, keys_since}
 use Rattle.siri_rounds.specs.Wanted.{outstanding_carried}
-use Rattle.siri_model.specs.Followed.{Followed, Look, followed_after, followed_of, followed_settled, keys_apart, life_row, look_at, look_bounds, look_by, opens}
+use Rattle.siri_model.specs.Followed.{Followed, followed_after, followed_of, followed_settled, keys_apart, life_row, look_at, look_bounds, look_by, opens}
 use Rattle.siri_model.specs.History.{Settle, History, State, now_of, current, state_of}
 use Rattle.siri_model.specs.Lives.{table_of}
 use Rattle.siri_model.specs.Rows as model
@@ -20,7 +20,6 @@ use Rattle.siri_model.specs.Rows.{rows_after, rows_of}
 use Rattle.siri_model_laws.proofs.Lawful.{shown_live}
 use Rattle.siri_responder.specs.Known as responder
 use Rattle.siri_responder.proofs.Stands.{stands_named}
-use Rattle.siri_responder.proofs.Stands.{stands_alike}
 use Rattle.siri_subscriptions.specs.declared.course.Course.{Course}
 use Rattle.siri_subscriptions.specs.declared.course.Looked.{Looked}
 use Rattle.siri_subscriptions.specs.Courses.{kept_row, kept_rows, KnowLevels}

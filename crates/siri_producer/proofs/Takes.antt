@@ -1,5 +1,5 @@
 -- What a message makes of a producer, and what it answers.
-use Rattle.std.proofs.Common.{◌≡◌, ℕ, List, [], ◌∷◌, ◌++◌, length, map, Bool, true, false, not, None, Result, Err, refl, sym, ap, ◌∙◌, subst}
+use Rattle.std.proofs.Common.{◌≡◌, ℕ, List, [], ◌∷◌, ◌++◌, length, map, Bool, true, false, not, None, Result, Ok, Err, IfOk, refl, sym, ap, ◌∙◌, subst}
 use Rattle.std.proofs.Math.Seq.{take-length}
 use Rattle.siri_base.specs.declared.errors.OutOfMemory.{OutOfMemory}
 use Rattle.siri_messages.specs.Asked.{asked_in}
@@ -28,7 +28,7 @@ use Rattle.siri_model_laws.proofs.Current.{last_appended}
 use Rattle.siri_model_laws.proofs.FollowedRows.{go_on}
 use Rattle.siri_model_laws.proofs.Histories.{rows_go_on}
 use Rattle.siri_model_laws.proofs.InOrder.{more_steps}
-use Rattle.siri_replies.specs.Statuses.{feed_acknowledgement, status_response}
+use Rattle.siri_replies.specs.Statuses.{status_response}
 use Rattle.siri_responder.specs.declared.feeding.Fed.{Fed}
 use Rattle.siri_responder.specs.FedCounts.{fed_counts}
 use Rattle.siri_responder.specs.Known as responder
@@ -43,8 +43,8 @@ use Rattle.siri_subscriptions.specs.Requests.{subscription_answer}
 use Rattle.siri_subscriptions.specs.Terminations.{termination_answer}
 use Rattle.siri_producer.specs.declared.answers.Answer.{Answer}
 use Rattle.siri_producer.specs.declared.answers.Note.TheVariants as note
-use Rattle.siri_producer.specs.Answers.{acknowledged_note, answer_to, is_ignored, noted, replied, supply_reply}
-use Rattle.siri_producer.specs.Known.{Known, StandsFor, Follows, GoesOn, TookSome, AnswerFor, RefusedAt, RefusedIf, Takes, looks_of}
+use Rattle.siri_producer.specs.Answers.{acknowledged_note, answer_to, fed_reply, is_ignored, noted, replied, supply_reply}
+use Rattle.siri_producer.specs.Known.{Known, StandsFor, Follows, GoesOn, TookSome, CountsFor, AnswerFor, RefusedAt, RefusedIf, Takes, looks_of}
 use Rattle.siri_producer.specs.Standing.{AreNumbered, IsProducer, known_of}
 use Rattle.siri_producer.proofs.Follows.{goes, untouched}
 use Rattle.siri_producer.proofs.Noted.{acknowledged_followed, asked_followed, ended_followed, supplied_followed}
@@ -265,7 +265,7 @@ looks_taken h d none = ap (map (λ row. row.slot.look))
     (go_on h (Feed (entries_of d)) ∙ followed_taken_fed (state_of h) d (followed.followed_of h) none
     ∙ sym (go_on h (Take (message.ServiceDelivery d))))
 
-pub goes_as_fed : (old new : Known) (d : ServiceDelivery) → has_round d ≡ false → GoesOn old new (Feed (entries_of d))
+goes_as_fed : (old new : Known) (d : ServiceDelivery) → has_round d ≡ false → GoesOn old new (Feed (entries_of d))
     → GoesOn old new (Take (message.ServiceDelivery d))
 goes_as_fed old new d none on = record {
   stands = λ h s. stands_taken new h d none (on.stands h s);
@@ -288,21 +288,31 @@ now_fed : (h : History) (d : ServiceDelivery) → now_of (h ++ Feed (entries_of 
 unfolding after_step
 now_fed h d = ap (λ (s : State). s.now) (more_steps h (Feed (entries_of d)))
 
-pub answer_fed : (old new : Known) (d : ServiceDelivery) (h : History) (fed : Fed) (name : List ℕ) (now : ℕ)
-    (reply : DataReceivedAcknowledgement) → has_round d ≡ false → StandsFor old h → GoesOn old new (Feed (entries_of d))
-    → fed ≡ fed_counts (counts_of (now_of h) (current h) (entries_of d)) → name ≡ old.responder.name
-    → now ≡ new.responder.moment → reply ≡ feed_acknowledgement name now d fed.full
-    → replied (note.Fed fed) (message.DataReceivedAcknowledgement reply)
+answer_fed : (old new : Known) (d : ServiceDelivery) (h : History) (fed : Fed) → has_round d ≡ false → StandsFor old h
+    → GoesOn old new (Feed (entries_of d)) → fed ≡ fed_counts (counts_of (now_of h) (current h) (entries_of d))
+    → new.responder.name ≡ old.responder.name
+    → fed_reply new.responder.name new.responder.moment d.response_message_identifier fed
     ≡ answer_to old.responder.name h (message.ServiceDelivery d)
 unfolding answer_to
-answer_fed old new d h fed name now reply none s on counts n m is =
-    let moment : now ≡ now_of h = m ∙ (on.stands h s).responder.moment ∙ now_fed h d in
-    let same : reply ≡ feed_acknowledgement old.responder.name (now_of h) d fed.full = is
-    ∙ (λ i. feed_acknowledgement (n i) (moment i) d fed.full) in
-    ap (λ r. replied (note.Fed fed) (message.DataReceivedAcknowledgement r)) same
-    ∙ ap (λ (f : Fed). replied (note.Fed f)
-    (message.DataReceivedAcknowledgement (feed_acknowledgement old.responder.name (now_of h) d f.full))) counts
-    ∙ rw none refl
+answer_fed old new d h fed none s on counts name =
+    let moment : new.responder.moment ≡ now_of h = (on.stands h s).responder.moment ∙ now_fed h d in
+    (λ i. fed_reply (name i) (moment i) d.response_message_identifier (counts i)) ∙ rw none refl
+
+-- it is taken where it was fed, and its reply made or not
+pub takes_fed : (old new : Known) (d : ServiceDelivery) (fed : Fed) (result : Result Answer OutOfMemory)
+    → has_round d ≡ false → GoesOn old new (Feed (entries_of d)) → CountsFor old (entries_of d) fed
+    → new.responder.name ≡ old.responder.name
+    → IfOk result (λ answer. answer ≡ fed_reply new.responder.name new.responder.moment d.response_message_identifier
+    fed)
+    → Takes old new (message.ServiceDelivery d) result
+takes_fed old new d fed (Ok answer) none on counts name is = record {
+  ok = goes_as_fed old new d none on;
+  answer = λ h s. is ∙ answer_fed old new d h fed none s on (counts h s) name;
+  err = tt;
+  name = name;
+}
+takes_fed old new d fed (Err error) none on counts name is =
+    record { ok = tt; answer = tt; err = refused_reply old new d none on; name = name }
 
 -- ---- any other message
 

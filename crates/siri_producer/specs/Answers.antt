@@ -1,5 +1,5 @@
 -- What a producer answers to a message that it takes (EN 15531-2).
-use Rattle.std.specs.Prelude.{ℕ, List, Bool, true, false, not, if◌then◌else◌, Some, None, Result, Ok, Err}
+use Rattle.std.specs.Prelude.{ℕ, List, Bool, true, false, not, if◌then◌else◌, Option, Some, None, Result, Ok, Err}
 use Rattle.siri_messages.specs.Rounds.{has_round}
 use Rattle.siri_messages.specs.declared.deliveries.ServiceDelivery.{ServiceDelivery}
 use Rattle.siri_messages.specs.declared.message.Message.{Message}
@@ -10,6 +10,7 @@ use Rattle.siri_model.specs.History.{History, entries_of, now_of, start_of, star
 use Rattle.siri_model.specs.Lives.{table_of}
 use Rattle.siri_model.specs.Rows.{rows_of}
 use Rattle.siri_replies.specs.Statuses.{feed_acknowledgement, status_response}
+use Rattle.siri_responder.specs.declared.feeding.Fed.{Fed}
 use Rattle.siri_responder.specs.FedCounts.{fed_counts}
 use Rattle.siri_rounds.specs.declared.answers.SupplyError.{SupplyError}
 use Rattle.siri_rounds.specs.declared.answers.SupplyError.TheVariants as refused_as
@@ -46,11 +47,15 @@ noted word = record { note = word; reply = None }
 abbrev pub replied : Note → Message → Answer
 replied word reply = record { note = word; reply = Some reply }
 
--- a feed is acknowledged, by what is told of it
+-- a feed with this ResponseMessageIdentifier is acknowledged at a moment, by what is told of it
+abbrev pub fed_reply : (name : List ℕ) → (now : ℕ) → (identifier : Option (List ℕ)) → Fed → Answer
+fed_reply name now identifier fed =
+    replied (note.Fed fed) (message.DataReceivedAcknowledgement (feed_acknowledgement name now identifier fed.full))
+
+-- by what is counted over the history
 abbrev pub fed_answer : (name : List ℕ) → History → ServiceDelivery → Answer
-fed_answer name h d =
-    let fed = fed_counts (counts_of (now_of h) (current h) (entries_of d)) in
-    replied (note.Fed fed) (message.DataReceivedAcknowledgement (feed_acknowledgement name (now_of h) d fed.full))
+fed_answer name h d = fed_reply name (now_of h) d.response_message_identifier
+    (fed_counts (counts_of (now_of h) (current h) (entries_of d)))
 
 -- what a request for a part is told
 abbrev pub supply_note : Result (Unit {0}) SupplyError → Note

@@ -5,3 +5,4 @@ pub mod Standing
 pub mod Quiet
 pub mod Oldest
 pub mod Reads
+pub mod Lent

@@ -8,6 +8,7 @@
 //!     the end of an event    -> settle ---+--> and what is sent
 //!
 //!     a ServiceRequest       -> direct ---> a ServiceDelivery with what is shown to each topic
+//!     an answer, lent        -> reply_head, lend; supply, part
 //!     a subscription         -> quiet  ---> its number, where its consumer's view is known to be right
 //! ```
 //!
@@ -16,16 +17,19 @@
 //! subscription it knows the last look, and which keys were touched since then, so that a settle reads few items. An
 //! event is a `clock`, a `feed` or a `take`, and a `settle` after it.
 //!
-//! Stands on `siri_base`, `siri_messages`, `siri_subs`, `siri_rounds`, `siri_replies`, `siri_responder` and
-//! `siri_subscriptions`; its contracts cite the histories and lives of `siri_model`, and its proofs what follows of
-//! them in `siri_model_laws`. It reads and writes no text, and knows no wire and no clock.
+//! Stands on `siri_base`, `siri_records`, `siri_topic`, `siri_messages`, `siri_store`, `siri_subs`, `siri_rounds`,
+//! `siri_replies`, `siri_responder` and `siri_subscriptions`; its contracts cite the histories and lives of
+//! `siri_model`, and its proofs what follows of them in `siri_model_laws`. It reads and writes no text, and knows no
+//! wire and no clock.
 #![tactic(auto)]
 
 mod answers;
+mod lending;
 mod producer;
 mod taking;
 
 pub use answers::{Answer, Note};
+pub use lending::{LentPart, Supplied, is_lent, lent_topic};
 pub use producer::Producer;
 pub use siri_responder::Fed;
 pub use siri_subscriptions::Out;

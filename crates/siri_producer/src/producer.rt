@@ -147,6 +147,26 @@ impl Producer {
         }
     }
 
+    /// As `take`, of a message that is handed over: the items of a feed are kept and none is copied.
+    pub fn take_owned(&mut self, message: Message) -> Result<Answer, OutOfMemory>
+        ensures ok { OnOk result (GoesOn self.old self.new (Take message)) }
+        ensures answer { IfOk result (AnswerFor self.old message) }
+        ensures err { OnErr result (RefusedAt self.old self.new message) }
+        ensures name { self.new.responder.name ≡ self.old.responder.name }
+        ensures risen { self.old.responder.reads ≤ self.new.responder.reads }
+        ensures reads { ReadsFor self.old self.new message }
+    {
+        if let Message::ServiceDelivery(_) = &message {
+            let Some(delivery) = message.into_service_delivery() else {
+                unreachable!()
+            };
+            return self.take_delivery_owned(delivery);
+        }
+        let answer = self.take(&message);
+        drop(message);
+        answer
+    }
+
     /// The end of an event: each subscription in the order of the table looks whether a round is due and opens it, and
     /// what is due is sent: the message of its wanted part, and then a heartbeat. All memory is taken before anything
     /// changes, so after want of memory nothing but the counter of steps did. That rises, also then, by at most the sum

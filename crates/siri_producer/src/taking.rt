@@ -1,16 +1,16 @@
 //! What a producer does with each message.
 
-ghost use Rattle.std.specs.Prelude.{◌≡◌, ◌+◌, ◌*◌, ◌≤◌, length, true, false};
+ghost use Rattle.std.specs.Prelude.{◌≡◌, ◌+◌, ◌*◌, ◌≤◌, length, true, false, IfOk};
 ghost use Rattle.siri_responder.specs.Topics.{topics_in};
 ghost use Rattle.siri_messages.specs.declared.message.Message.{Message};
 ghost use Rattle.siri_messages.specs.declared.message.Message.TheVariants as message;
 ghost use Rattle.siri_messages.specs.Rounds.{has_round};
-ghost use Rattle.siri_producer.specs.Answers.{is_ignored, supply_note};
+ghost use Rattle.siri_producer.specs.Answers.{fed_reply, is_ignored, supply_note};
 ghost use Rattle.siri_model.specs.History.{Take};
 ghost use Rattle.siri_producer.specs.Known.{AnswerFor, GoesOn, Takes};
 
-use crate::{Answer, Note, Producer};
-use siri_base::OutOfMemory;
+use crate::{Answer, Fed, Note, Producer};
+use siri_base::{Copies, Name, OutOfMemory};
 use siri_messages::{
     CheckStatusRequest, DataReceivedAcknowledgement, DataSupplyRequest, Message, ServiceDelivery,
     ServiceRequest, SubscriptionRequest, TerminateSubscriptionRequest,
@@ -133,21 +133,50 @@ impl Producer {
         self.take_feed(delivery)
     }
 
-    /// A ServiceDelivery of no round.
-    pub(crate) fn take_feed(&mut self, delivery: &ServiceDelivery) -> Result<Answer, OutOfMemory>
+    /// As `take_delivery`, of one that is handed over.
+    pub(crate) fn take_delivery_owned(
+        &mut self,
+        delivery: ServiceDelivery,
+    ) -> Result<Answer, OutOfMemory>
+        ensures takes { Takes self.old self.new (message.ServiceDelivery delivery) result }
+        ensures reads { self.new.responder.reads ≡ self.old.responder.reads }
+    {
+        if delivery.has_round() {
+            drop(delivery);
+            return Ok(self.ignore());
+        }
+        self.take_feed_owned(delivery)
+    }
+
+    /// A ServiceDelivery of no round, whose items are copied.
+    fn take_feed(&mut self, delivery: &ServiceDelivery) -> Result<Answer, OutOfMemory>
         requires { has_round delivery.now ≡ false }
         ensures takes { Takes self.old self.new (message.ServiceDelivery delivery.now) result }
         ensures reads { self.new.responder.reads ≡ self.old.responder.reads }
     {
         let fed = self.feed(delivery)?;
+        let identifier = delivery.response_message_identifier.copy()?;
+        self.acknowledge_feed(identifier, fed)
+    }
+
+    /// A ServiceDelivery of no round, whose items are kept.
+    fn take_feed_owned(&mut self, mut delivery: ServiceDelivery) -> Result<Answer, OutOfMemory>
+        requires { has_round delivery ≡ false }
+        ensures takes { Takes self.old self.new (message.ServiceDelivery delivery) result }
+        ensures reads { self.new.responder.reads ≡ self.old.responder.reads }
+    {
+        let identifier = delivery.response_message_identifier.take();
+        let fed = self.feed_owned(delivery)?;
+        self.acknowledge_feed(identifier, fed)
+    }
+
+    /// The answer to a feed that was taken, by its ResponseMessageIdentifier.
+    fn acknowledge_feed(&self, identifier: Option<Name>, fed: Fed) -> Result<Answer, OutOfMemory>
+        ensures { IfOk result (λ answer. answer ≡ fed_reply self.now.responder.name self.now.responder.moment identifier fed) }
+    {
         let now = self.responder.now();
-        let reply = feed_acknowledgement(
-            self.alloc,
-            self.responder.name(),
-            now,
-            delivery,
-            fed.full,
-        )?;
+        let name = self.responder.name();
+        let reply = feed_acknowledgement(self.alloc, name, now, identifier, fed.full)?;
         Ok(Answer::replied(Note::Fed(fed), Message::DataReceivedAcknowledgement(reply)))
     }
 

@@ -5,7 +5,6 @@ use Rattle.siri_messages.specs.declared.statuses.CheckStatusRequest.{CheckStatus
 use Rattle.siri_messages.specs.declared.statuses.CheckStatusResponse.{CheckStatusResponse}
 use Rattle.siri_messages.specs.declared.statuses.HeartbeatNotification.{HeartbeatNotification}
 use Rattle.siri_messages.specs.declared.supplies.DataReceivedAcknowledgement.{DataReceivedAcknowledgement}
-use Rattle.siri_messages.specs.declared.deliveries.ServiceDelivery.{ServiceDelivery}
 use Rattle.siri_replies.specs.declared.refusal.Refusal.TheVariants as refused
 use Rattle.siri_replies.specs.Refusals.{refusal_text}
 
@@ -40,12 +39,14 @@ abbrev pub full_text : ℕ → Option (List ℕ)
 full_text zero = None
 full_text (suc full) = Some (refusal_text (refused.StoreFull (suc full)))
 
--- the answer at a moment to a feed of which so many items were refused: Status is false exactly where there are some
-unfoldable pub feed_acknowledgement : (producer : List ℕ) → (now : ℕ) → ServiceDelivery → (full : ℕ) → DataReceivedAcknowledgement
-feed_acknowledgement producer now delivery full = record {
+-- the answer at a moment to a feed, by its ResponseMessageIdentifier, of which so many items were refused: Status is
+-- false exactly where there are some
+unfoldable pub feed_acknowledgement : (producer : List ℕ) → (now : ℕ) → (identifier : Option (List ℕ)) → (full : ℕ)
+    → DataReceivedAcknowledgement
+feed_acknowledgement producer now identifier full = record {
   response_timestamp = Some now;
   consumer_ref = Some producer;
-  request_message_ref = delivery.response_message_identifier;
+  request_message_ref = identifier;
   status = is_whole full;
   error_condition = full_text full;
   extensions = None;

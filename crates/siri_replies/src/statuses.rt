@@ -7,7 +7,6 @@ use crate::Refusal;
 use siri_base::{Copies, Moment, Name, OutOfMemory, Text};
 use siri_messages::{
     CheckStatusRequest, CheckStatusResponse, DataReceivedAcknowledgement, HeartbeatNotification,
-    ServiceDelivery,
 };
 use std::alloc::Global;
 
@@ -48,24 +47,26 @@ pub fn heartbeat(
     })
 }
 
-/// The answer at a moment to a feed of which so many items were refused (DataReceivedAcknowledgement): Status is false
-/// exactly where there are some.
+/// The answer at a moment to a feed, by its ResponseMessageIdentifier, of which so many items were refused
+/// (DataReceivedAcknowledgement): Status is false exactly where there are some.
 #[tactic(auto, unfolding(crate::specs::Statuses::feed_acknowledgement))]
 pub fn feed_acknowledgement(
     alloc: Global,
     producer: &Name,
     now: Moment,
-    delivery: &ServiceDelivery,
+    identifier: Option<Name>,
     full: u64,
 ) -> Result<DataReceivedAcknowledgement, OutOfMemory>
-    ensures { IfOk result (λ answer. answer ≡ feed_acknowledgement producer.now now delivery.now full) }
+    ensures { IfOk result (λ answer. answer ≡ feed_acknowledgement producer.now now identifier full) }
 {
+    let consumer_ref = producer.copy()?;
+    let error_condition = full_text(alloc, full)?;
     Ok(DataReceivedAcknowledgement {
         response_timestamp: Some(now),
-        consumer_ref: Some(producer.copy()?),
-        request_message_ref: delivery.response_message_identifier.copy()?,
+        consumer_ref: Some(consumer_ref),
+        request_message_ref: identifier,
         status: full == 0,
-        error_condition: full_text(alloc, full)?,
+        error_condition,
         extensions: None,
     })
 }

@@ -168,8 +168,9 @@ impl Feeding {
     {
         let (key, item) = beside(SharedKey::of(alloc, &item), item)?;
         let item = Rc::new(alloc, item)?;
+        let own = key.copy()?;
         self.marks.reserve(self.store.held() + 2)?;
-        match self.store.observe(item) {
+        match self.store.observe_under(own, item) {
             Ok(()) => {
                 self.fed.observed = self.fed.observed.saturating_add(1);
                 self.marks.mark(key);

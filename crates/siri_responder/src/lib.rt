@@ -6,7 +6,8 @@
 //!     a later moment         -> clock   ---+--> the live current items, and marks of keys
 //!
 //!     a ServiceRequest       -> direct  ---> a ServiceDelivery with what is shown to each topic
-//!     a topic                -> shown   ---> the items that are shown to it, by key
+//!     a topic                -> lend    ---> the items that are shown to it, one by one, in order of key
+//!                            -> shown   ---> the same in one call, by key
 //!     a number               -> marked  ---> of each key that was marked under it or a later one the held item, or none
 //!     a topic and a moment   -> crossed ---> the items that an end of its window crossed since then, by key
 //! ```

@@ -12,6 +12,10 @@ ghost use Rattle.siri_model.specs.History.{History, Start, Clock, Feed, IsKeyed,
 ghost use Rattle.siri_model.specs.Last.{entry_key};
 ghost use Rattle.siri_responder.specs.Known.{StandsFor, GoesOn, Touches, TookSome, CountsFor, ResponseFor};
 ghost use Rattle.siri_base.specs.Numbers.{greatest_number};
+ghost use Rattle.std.specs.Borrow.{sem, follows};
+ghost use Rattle.siri_store.specs.Walk.{to_lend};
+ghost use Rattle.siri_store.specs.contracts.counter.Counter.{the_row as counter_row};
+ghost use Rattle.siri_responder.specs.contracts.responder.Responder.{the_row};
 
 use crate::feeding::{Fed, Feeding};
 use crate::looks::{crossed, found, held_item};
@@ -20,7 +24,7 @@ use siri_base::{List, Moment, Name, OutOfMemory};
 use siri_marks::Marks;
 use siri_messages::{ServiceDelivery, ServiceRequest};
 use siri_records::{Change, Item, Key, KeyedItems};
-use siri_store::Store;
+use siri_store::{Selected, Store};
 use siri_topic::Topic;
 use std::alloc::Global;
 use std::marker::Model;
@@ -133,6 +137,18 @@ impl Responder {
         ensures reads { self.new.reads ≤ self.old.reads + length self.old.held * topics_in request.now }
     {
         response_to(self.alloc, &mut self.feeding.store, &self.name, request)
+    }
+
+    /// Lends the items that are shown to a topic, in order of key, each the shared item itself. The walk looks at no more
+    /// items than are held, and each that it looks at is a step of the counter. The responder holds still as long as the
+    /// walk is alive, and after it nothing but the counter has changed.
+    pub fn lend<'a>(&'a mut self, topic: &'a Topic) -> Selected<'a>
+        ensures* keeps { sem 𝓛 (follows the_row counter_row self.entry.ghost_name result.counter.ghost_name (λ steps. record self.old { reads = steps })) }
+        ensures counter { result.counter.now ≡ self.old.reads }
+        ensures lends { to_lend result ≡ map (λ entry. entry.1) (shown self.old.moment self.old.held topic.now) }
+        ensures within { (result.place ≤ result.end) × (result.end ≤ length self.old.held) }
+    {
+        self.feeding.store.select(topic)
     }
 
     /// The items that are shown to a topic, in order of key. Nothing but the counter changes, and that rises by at most

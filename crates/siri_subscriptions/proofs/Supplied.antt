@@ -18,12 +18,9 @@ use Rattle.siri_subscriptions.specs.declared.course.Course.{Course}
 use Rattle.siri_subscriptions.specs.Courses.{kept_row, kept_rows}
 use Rattle.siri_subscriptions.specs.Acknowledgements.{names_wanted}
 use Rattle.siri_subscriptions.specs.Supplies.{rows_supplied}
+use Rattle.siri_subscriptions.specs.Supplying.{is_supplied}
 use Rattle.siri_subscriptions.proofs.Kept.{found_kept, found_by, not_found}
 use Rattle.siri_subscriptions.proofs.Marked.{IsHere, none_moves, same_moves, own_moves}
-
--- a part is supplied by a row: delivery is fetched, and the mark names the wanted part
-abbrev pub is_supplied : (start : ℕ) → Mark → Row KeptLife → Bool
-is_supplied start m row = row.slot.rounds.fetched && names_wanted start m row
 
 -- what is kept stays, where none is
 unsupplied : (s : KeptRounds) (round part now : ℕ) → (s.fetched && wants s round part) ≡ false → with_supply s round part now ≡ s

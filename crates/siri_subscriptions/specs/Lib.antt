@@ -9,6 +9,7 @@ pub mod Terminations
 pub mod Endings
 pub mod Acknowledgements
 pub mod Supplies
+pub mod Supplying
 pub mod Rounds
 pub mod Openings
 pub mod Messages

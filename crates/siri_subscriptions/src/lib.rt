@@ -5,6 +5,7 @@
 //!     SubscriptionRequest          -> subscribe    ---+
 //!     TerminateSubscriptionRequest -> terminate    ---+--> the table of subscriptions, and the answer
 //!     DataSupplyRequest            -> supply       ---+
+//!        of a part that is lent    -> supply_lent  ---+
 //!     DataReceivedAcknowledgement  -> acknowledge  ---+
 //!
 //!     the responder, the table     -> settle       ---> what is sent, to whom; each row after it
@@ -60,5 +61,5 @@ pub use messages::message_due;
 pub use outs::Out;
 pub use requests::subscribe;
 pub use settling::settle;
-pub use supplies::{SupplyAnswer, supply};
+pub use supplies::{SupplyAnswer, supply, supply_lent};
 pub use terminations::terminate;

@@ -1,6 +1,6 @@
 //! DataSupplyRequest.
 
-ghost use Rattle.std.specs.Prelude.{◌≡◌, ◌&&◌, is_ok, slice_get, IfOk, OnOk, OnErr};
+ghost use Rattle.std.specs.Prelude.{◌≡◌, ℕ, List, Ok, is_ok, slice_get, IfOk, OnOk, OnErr};
 ghost use Rattle.siri_life.specs.Slot.{with_supply};
 ghost use Rattle.siri_subs.specs.declared.entry.Row.{Row};
 ghost use Rattle.siri_subs.specs.Lent.{entry_of};
@@ -10,12 +10,13 @@ ghost use Rattle.siri_subscriptions.specs.Courses.{kept_row, kept_rows};
 ghost use Rattle.siri_subscriptions.specs.Noted.{looked_in};
 ghost use Rattle.siri_subscriptions.specs.Acknowledgements.{names_wanted};
 ghost use Rattle.siri_subscriptions.specs.Supplies.{not_supplied, rows_supplied, supply_answer, supply_of};
+ghost use Rattle.siri_subscriptions.specs.Supplying.{Supplies, answer_asked, answer_by, is_supplied};
 
 use crate::course::Course;
 use siri_base::{Moment, Name, OutOfMemory, Place};
 use siri_messages::{DataSupplyRequest, Mark, ServiceDelivery};
 use siri_replies::{part_delivery, refused_supply};
-use siri_rounds::SupplyError;
+use siri_rounds::{Part, SupplyError};
 use siri_subs::{Entry, Table};
 use std::alloc::Global;
 
@@ -46,45 +47,90 @@ pub fn supply(
     ensures looked { OnOk result (looked_in table.new ≡ looked_in table.old) }
     ensures err { OnErr result (table.new ≡ table.old) }
 {
-    let mark = &request.extensions;
-    let Some(place) = table.place_of(&request.consumer_ref, &mark.subscription) else {
-        return not_supplied(alloc, producer, now, SupplyError::NothingReady);
-    };
-    let Some(row) = table.at(place) else {
-        return not_supplied(alloc, producer, now, SupplyError::NothingReady);
-    };
-    let answer = supply_of(alloc, producer, start, now, mark, &row)?;
-    if answer.outcome.is_err() {
-        return Ok(answer);
+    match asked_part(table, start, request) {
+        Ok(asked) => {
+            let AskedPart { place, row, part } = asked;
+            let delivery = part_delivery(alloc, producer, row.wanted, row.number, start, &part)?;
+            supply_part(table, place, now, &request.extensions);
+            Ok(SupplyAnswer {
+                outcome: Ok(()),
+                delivery,
+            })
+        }
+        Err(why) => not_supplied(alloc, producer, now, why),
     }
-    supply_part(table, place, now, mark);
-    Ok(answer)
 }
 
-/// What a request is answered by the row of its subscription.
-fn supply_of(
-    alloc: Global,
-    producer: &Name,
+/// As [`supply`], of a part that the table is to lend: it makes no delivery and takes no memory.
+pub fn supply_lent(
+    table: &mut Table<Course>,
     start: u64,
     now: Moment,
+    request: &DataSupplyRequest,
+) -> Result<(), SupplyError>
+    ensures outcome { (producer : List ℕ) → result ≡ (supply_answer producer start now request.now (kept_rows table.old)).outcome }
+    ensures rows { kept_rows table.new ≡ rows_supplied start now request.now.consumer_ref request.now.extensions (kept_rows table.old) }
+    ensures looked { looked_in table.new ≡ looked_in table.old }
+{
+    match asked_part(table, start, request) {
+        Ok(asked) => {
+            let place = asked.place;
+            supply_part(table, place, now, &request.extensions);
+            Ok(())
+        }
+        Err(why) => Err(why),
+    }
+}
+
+/// A part that is asked for and to be supplied, lent by the row at a place.
+#[derive(Drop)]
+pub(crate) struct AskedPart<'a> {
+    place: usize,
+    row: Entry<'a, Course>,
+    part: Part<'a>,
+}
+
+/// The part that a request asks for, or why it isn't supplied.
+fn asked_part<'a>(
+    table: &'a Table<Course>,
+    start: u64,
+    request: &DataSupplyRequest,
+) -> Result<AskedPart<'a>, SupplyError>
+    ensures answer { (producer : List ℕ) (now : ℕ) → answer_asked producer start now result ≡ supply_answer producer start now request.now (kept_rows table.now) }
+    ensures ok { IfOk result (λ asked. (now : ℕ) → Supplies start now request.now table.now asked.place (entry_of asked.row)) }
+    ensures err { OnErr result ((now : ℕ) → kept_rows table.now ≡ rows_supplied start now request.now.consumer_ref request.now.extensions (kept_rows table.now)) }
+{
+    let mark = &request.extensions;
+    let Some(place) = table.place_of(&request.consumer_ref, &mark.subscription) else {
+        return Err(SupplyError::NothingReady);
+    };
+    let Some(row) = table.at(place) else {
+        return Err(SupplyError::NothingReady);
+    };
+    match wanted_part(start, mark, &row) {
+        Ok(part) => Ok(AskedPart { place, row, part }),
+        Err(why) => Err(why),
+    }
+}
+
+/// The part that a mark asks for of the row of its subscription, or why it isn't supplied.
+fn wanted_part<'a>(
+    start: u64,
     mark: &Mark,
-    row: &Entry<'_, Course>,
-) -> Result<SupplyAnswer, OutOfMemory>
-    ensures answer { IfOk result (λ answer. answer ≡ supply_of producer.now start now mark.now (kept_row (entry_of row.now))) }
-    ensures supplied { IfOk result (λ answer. is_ok answer.outcome ≡ (row.now.slot.now.rounds.fetched && names_wanted start mark.now (kept_row (entry_of row.now)))) }
+    row: &Entry<'a, Course>,
+) -> Result<Part<'a>, SupplyError>
+    ensures answer { (producer : List ℕ) (now : ℕ) → answer_by producer start now (kept_row (entry_of row.now)) result ≡ supply_of producer start now mark.now (kept_row (entry_of row.now)) }
+    ensures supplied { is_ok result ≡ is_supplied start mark.now (kept_row (entry_of row.now)) }
 {
     match row.slot.rounds.part() {
         Some(part) if row.slot.rounds.fetched() => {
-            if !is_wanted(start, mark, row) {
-                let wanted = part.place;
-                return not_supplied(alloc, producer, now, SupplyError::WrongPart { wanted });
+            if is_wanted(start, mark, row) {
+                Ok(part)
+            } else {
+                Err(SupplyError::WrongPart { wanted: part.place })
             }
-            Ok(SupplyAnswer {
-                outcome: Ok(()),
-                delivery: part_delivery(alloc, producer, row.wanted, row.number, start, &part)?,
-            })
         }
-        _ => not_supplied(alloc, producer, now, SupplyError::NothingReady),
+        _ => Err(SupplyError::NothingReady),
     }
 }
 

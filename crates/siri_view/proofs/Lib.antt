@@ -1,4 +1,5 @@
 pub mod Keyed
+pub mod Only
 pub mod Outcomes
 pub mod Places
 pub mod Taken

@@ -1,17 +1,35 @@
 -- Inner words: cited by private functions alone. What the code hears in a message, as what the message says.
 use Rattle.std.specs.Prelude.{◌≡◌, Bool, ◌&&◌, Option, Some, None}
+use Rattle.siri_change.specs.Parts.{Carried}
 use Rattle.siri_life.specs.Link as life
 use Rattle.siri_view.specs.declared.outcome.Seen.{Seen}
 use Rattle.siri_view.specs.declared.hearing.Heard.{Heard as Lent}
 use Rattle.siri_view.specs.declared.hearing.Heard.TheVariants as lent
 use Rattle.siri_view.specs.declared.hearing.Delivered.{Delivered as Part}
+use Rattle.siri_view.specs.declared.hearing.Brought.{Brought}
+use Rattle.siri_view.specs.declared.part.Contents.{Contents}
+use Rattle.siri_view.specs.declared.part.Contents.TheVariants as contents
 use Rattle.siri_view.specs.Hearing.{Heard, Delivered, Notified, Noted, Foreign, carried_by}
 use Rattle.siri_view.specs.Kept.{KeptSubscription, meaning, kept_of}
 use Rattle.siri_view.specs.Consuming.{Consuming, after_delivery, seen_in_delivery}
 use Rattle.siri_view.specs.Marks.{mark_by}
 
+-- what is carried, be it lent or handed over
+abbrev pub carried_in : Contents → Carried
+carried_in (contents.Lent d) = carried_by d.now
+carried_in (contents.Owned items removals) = record { items = items; removals = removals }
+
 abbrev pub delivered_by : Part → Heard
-delivered_by p = Delivered p.subscriber.now p.identifier.now (mark_by p.mark) p.more (carried_by p.delivery.now)
+delivered_by p = Delivered p.subscriber.now p.identifier.now (mark_by p.mark) p.more (carried_in p.contents)
+
+-- a part that is handed over, or nothing of one
+abbrev pub brought_by : Brought → Heard
+brought_by b =
+    Delivered b.subscriber b.identifier (mark_by b.mark) b.more (record { items = b.items; removals = b.removals })
+
+abbrev pub brought_if : Option Brought → Heard
+brought_if None = Noted
+brought_if (Some b) = brought_by b
 
 -- a part, or nothing of one
 abbrev pub heard_if : Option Part → Heard
@@ -33,7 +51,7 @@ IsWanted p asks (Some h) =
 -- a consumer after a part that is delivered to it, and what it sees in it
 abbrev pub after_part : Consuming → Part → Consuming
 after_part c p =
-    after_delivery c p.identifier.now (kept_of p.identifier.now c.held) (mark_by p.mark) p.more (carried_by p.delivery.now)
+    after_delivery c p.identifier.now (kept_of p.identifier.now c.held) (mark_by p.mark) p.more (carried_in p.contents)
 
 abbrev pub seen_in_part : Consuming → Part → Seen
 seen_in_part c p = seen_in_delivery c p.identifier.now (kept_of p.identifier.now c.held) (mark_by p.mark) p.more

@@ -6,7 +6,7 @@
 //!     an identifier               -> terminate --> TerminateSubscriptionRequest     +---> to the producer
 //!                                    check     --> CheckStatusRequest            ---+
 //!
-//!     a message -> take --> an outcome, and the replies to the sender
+//!     a message -> take --> an outcome, and the replies to the sender (`take_owned` of one that is handed over)
 //!                    |
 //!                    v
 //!     an identifier -> view, held, current --> the view, the round that it is of, the number it is held under

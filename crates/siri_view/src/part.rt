@@ -5,8 +5,9 @@ ghost use Rattle.siri_records.specs.Keys.{key_of as key_of_item};
 ghost use Rattle.siri_records.specs.Keyed.{unshared};
 ghost use Rattle.siri_change.specs.Parts.{changes_in};
 ghost use Rattle.siri_view.specs.Hearing.{carried_by};
+ghost use Rattle.siri_view.specs.Heard.{carried_in};
 
-use siri_base::{Copies, List, OutOfMemory};
+use siri_base::{Copies, List, OutOfMemory, beside};
 use siri_change::Change;
 use siri_messages::FunctionalDelivery;
 use siri_records::{Item, Key, SharedKey};
@@ -38,14 +39,45 @@ impl Model for Part {
     ghost view = { λ p. record { items = unshared p.items.items; removals = p.removals } };
 }
 
+/// What a delivery carries: lent, or handed over.
+#[derive(Drop)]
+pub(crate) enum Contents<'a> {
+    Lent(&'a FunctionalDelivery),
+    Owned {
+        items: List<Item>,
+        removals: List<Key>,
+    },
+}
+
 impl Part {
-    /// What a delivery carries, copied.
-    pub(crate) fn of(alloc: Global, delivery: &FunctionalDelivery) -> Result<Part, OutOfMemory>
+    /// What a delivery carries. What is lent is copied; what is handed over is kept, and nothing of it is copied.
+    pub(crate) fn of(alloc: Global, contents: Contents<'_>) -> Result<Part, OutOfMemory>
+        ensures { IfOk result (λ part. part ≡ carried_in contents.entry) }
+    {
+        match contents {
+            Contents::Lent(delivery) => Part::copied(alloc, delivery),
+            Contents::Owned { items, removals } => Part::moved(alloc, items, removals),
+        }
+    }
+
+    /// Copies of what a delivery carries.
+    fn copied(alloc: Global, delivery: &FunctionalDelivery) -> Result<Part, OutOfMemory>
         ensures { IfOk result (λ part. part ≡ carried_by delivery.now) }
     {
         Ok(Part {
             items: shared(alloc, delivery.items.slice())?,
             removals: shared_keys(alloc, delivery.removals.slice())?,
+        })
+    }
+
+    /// The items and removals of a delivery themselves.
+    fn moved(alloc: Global, items: List<Item>, removals: List<Key>) -> Result<Part, OutOfMemory>
+        ensures { IfOk result (λ part. part ≡ record { items = items; removals = removals }) }
+    {
+        let (items, removals) = beside(kept(alloc, items), removals)?;
+        Ok(Part {
+            items,
+            removals: kept_keys(alloc, removals)?,
         })
     }
 
@@ -89,6 +121,28 @@ fn shared_keys(alloc: Global, keys: &[Key]) -> Result<List<SharedKey>, OutOfMemo
         shared.push(SharedKey::new(alloc, key.copy()?)?)?;
     }
     Ok(shared)
+}
+
+/// Items themselves, to be shared.
+fn kept(alloc: Global, items: List<Item>) -> Result<Vec<Rc<Item>>, OutOfMemory>
+    ensures { IfOk result (λ kept. unshared kept.items ≡ items) }
+{
+    let mut kept = Vec::new(alloc);
+    for item in items.into_vec() {
+        kept.push(Rc::new(alloc, item)?)?;
+    }
+    Ok(kept)
+}
+
+/// Keys themselves, to be shared.
+fn kept_keys(alloc: Global, keys: List<Key>) -> Result<List<SharedKey>, OutOfMemory>
+    ensures { IfOk result (λ kept. kept ≡ keys) }
+{
+    let mut kept = List::new(alloc);
+    for key in keys.into_vec() {
+        kept.push(SharedKey::new(alloc, key)?)?;
+    }
+    Ok(kept)
 }
 
 /// Puts items at the end, each under its own key.

@@ -5,20 +5,21 @@ ghost use Rattle.siri_life.specs.Life.{Acknowledge};
 ghost use Rattle.siri_life.specs.Link.{then_supply};
 ghost use Rattle.siri_view.specs.Changing.{TakesNothing};
 ghost use Rattle.siri_view.specs.Consuming.{after_message, after_heard, seen_of, seen_by, seen_in_notification, replies_by, told_of, told_of_part};
-ghost use Rattle.siri_view.specs.Heard.{delivered_by, after_part, seen_in_part, IsWanted};
+ghost use Rattle.siri_view.specs.Hearing.{delivery_heard};
+ghost use Rattle.siri_view.specs.Heard.{brought_by, delivered_by, after_part, seen_in_part, IsWanted};
 ghost use Rattle.siri_view.specs.Kept.{meaning, kept_of};
 ghost use Rattle.siri_view.specs.Marks.{mark_by, said};
 ghost use Rattle.siri_view.specs.Sending.{acknowledgement, ready_acknowledgement, supply_request};
 ghost use Rattle.siri_life.specs.Meaning.{most_parts};
 
-use crate::hearing::{Delivered, Heard, hear};
+use crate::hearing::{Brought, Delivered, Heard, hear, part_of};
 use crate::marks::{Numbers, Saying, next};
 use crate::messages::{acknowledgement, ready_acknowledgement, supply_request};
-use crate::part::Part;
+use crate::part::{Contents, Part};
 use crate::subscribed::Subscribed;
 use crate::{Consumer, Outcome, Seen};
 use siri_base::{List, Name, OutOfMemory, Place};
-use siri_messages::Message;
+use siri_messages::{Message, ServiceDelivery};
 
 impl Consumer {
     /// Takes a message, and gives what it was to the consumer and the replies to it. Only a part of a round that is
@@ -36,6 +37,61 @@ impl Consumer {
             Heard::Noted => Ok(self.without_reply(Outcome::Noted)),
             Heard::Foreign => Ok(self.without_reply(Outcome::NotForMe)),
         }
+    }
+
+    /// As `take`, of a message that is handed over: the items of a part are kept and none is copied.
+    pub fn take_owned(&mut self, message: Message) -> Result<Seen, OutOfMemory>
+        ensures consumer { OnOk result (self.new ≡ after_message self.old message) }
+        ensures seen { IfOk result (λ seen. seen ≡ seen_of self.old message) }
+        ensures same { IfOk result (λ seen. TakesNothing seen.outcome → self.new ≡ self.old) }
+        ensures refused { OnErr result (self.new ≡ self.old) }
+    {
+        if let Message::ServiceDelivery(_) = &message {
+            let Some(delivery) = message.into_service_delivery() else {
+                unreachable!()
+            };
+            return self.take_delivery_owned(delivery);
+        }
+        let seen = self.take(&message);
+        drop(message);
+        seen
+    }
+
+    /// A ServiceDelivery that is handed over.
+    fn take_delivery_owned(&mut self, delivery: ServiceDelivery) -> Result<Seen, OutOfMemory>
+        ensures consumer { OnOk result (self.new ≡ after_heard self.old (delivery_heard delivery)) }
+        ensures seen { IfOk result (λ seen. seen ≡ seen_by self.old (delivery_heard delivery)) }
+        ensures same { IfOk result (λ seen. TakesNothing seen.outcome → self.new ≡ self.old) }
+        ensures refused { OnErr result (self.new ≡ self.old) }
+    {
+        match part_of(delivery) {
+            Some(brought) => self.take_brought(brought),
+            None => Ok(self.without_reply(Outcome::Noted)),
+        }
+    }
+
+    /// A part of a round is handed over.
+    fn take_brought(&mut self, brought: Brought) -> Result<Seen, OutOfMemory>
+        ensures consumer { OnOk result (self.new ≡ after_heard self.old (brought_by brought)) }
+        ensures seen { IfOk result (λ seen. seen ≡ seen_by self.old (brought_by brought)) }
+        ensures same { IfOk result (λ seen. TakesNothing seen.outcome → self.new ≡ self.old) }
+        ensures refused { OnErr result (self.new ≡ self.old) }
+    {
+        let Brought {
+            subscriber,
+            identifier,
+            mark,
+            more,
+            items,
+            removals,
+        } = brought;
+        self.take_delivery(Delivered {
+            subscriber: &subscriber,
+            identifier: &identifier,
+            mark,
+            more,
+            contents: Contents::Owned { items, removals },
+        })
     }
 
     /// A part of a round is delivered.
@@ -97,9 +153,10 @@ impl Consumer {
             identifier,
             mark,
             more,
+            contents,
             ..
         } = delivered;
-        let part = Part::of(self.held.allocator(), delivered.delivery)?;
+        let part = Part::of(self.held.allocator(), contents)?;
         let replies = self.replies_to_part(identifier, mark, asks)?;
         match self.held.take(identifier, mark, more, part) {
             Ok(()) => Ok(Seen {

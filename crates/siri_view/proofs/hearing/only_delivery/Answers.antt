@@ -1,16 +1,6 @@
-use Rattle.std.proofs.Common.{◌≡◌, ◌+◌, List, [], ◌∷◌, ◌++◌, length, None, refl, ap, arith}
-use Rattle.std.proofs.lemmas.List.{length-append}
-use Rattle.siri_view.specs.Hearing.{only}
+use Rattle.std.proofs.Common.{◌≡◌, ◌+◌, length, ap, arith}
+use Rattle.siri_view.proofs.Only.{of_four}
 use Rattle.siri_view.proofs.hearing.only_delivery.Goals as goal
-
-none_only : {A : Type 0} (l : List A) → (length l ≡ 1 → ⊥) → None ≡ only l
-none_only [] other = refl
-none_only (x ∷ []) other = absurd (other refl)
-none_only (x ∷ y ∷ more) other = refl
-
-of_four : {A : Type 0} (a b c d : List A) → (length a + length b + length c + length d ≡ 1 → ⊥) → None ≡ only (a ++ b ++ c ++ d)
-of_four a b c d other =
-    none_only (a ++ b ++ c ++ d) (λ one. other (rw (length-append (a ++ b ++ c) d, length-append (a ++ b) c, length-append a b) at one))
 
 pub returns-in_default : goal.returns-in_default
 returns-in_default c =

@@ -1,7 +1,4 @@
-use Rattle.std.proofs.Common.{false, subst}
-use Rattle.siri_model.specs.History.{Feed, entries_of}
-use Rattle.siri_producer.specs.Known.{Known, GoesOn, TookSome}
-use Rattle.siri_producer.specs.Standing.{known_of}
+use Rattle.siri_model.specs.History.{entries_of}
 use Rattle.siri_producer.proofs.Stands.{fed_ok, fed_some, is_fed}
 use Rattle.siri_producer.proofs.producer.Producer.feed_owned.Goals as goal
 
