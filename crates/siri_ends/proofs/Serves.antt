@@ -18,34 +18,6 @@ use Rattle.siri_ends.specs.Answering.{AnswersWith, StopsWriting}
 use Rattle.siri_ends.specs.Serving.{Answers, FirstAnswer, ServesOne, ServesSome}
 use Rattle.siri_ends.specs.Turns.{TakesFor}
 
--- the request is read, its message taken and settled, and the answer written
-pub answers_one : (outs : List Out) (asked : Asked) (response : Option Response) (first taken last : Known)
-    (old new : Tally) (before read after : Option WireState) (earlier between later : ℕ)
-    → OnConnection (Asks (Some asked)) before read → HasAskedCause earlier between (Some asked)
-    → TakesFor first taken (message_asked asked)
-    → ((h : History) → StandsFor first h → response ≡ response_to first.responder.name h asked)
-    → taken.responder.name ≡ first.responder.name
-    → GoesOn taken last Settle → SendsFor taken outs → last.responder.name ≡ taken.responder.name
-    → AnswersWith response (surroundings old read between) (surroundings new after later)
-    → Goes (Answers outs) (end_of first old before earlier) (end_of last new after later)
-answers_one outs asked response first taken last old new before read after earlier between later told cause takes answer named settles sent kept so = record {
-  name = kept ∙ named;
-  goes = λ h stands.
-      let message = message_asked asked in
-      let one = takes h stands in (
-        h ++ turn_steps message,
-        subst (StandsFor last) (append_assoc h (taking message) (Settle ∷ [])) (settles.stands (h ++ taking message) one),
-        record {
-          asked = asked;
-          read = surroundings old read between;
-          reads = record { told = told; cause = cause; tally = refl };
-          answers = subst (λ r. AnswersWith r (surroundings old read between) (surroundings new after later)) (answer h stands) so;
-          history = refl;
-          outs_are = sent (h ++ taking message) one ∙ ap (λ name. sends name (h ++ taking message)) named;
-        },
-      );
-}
-
 -- and then what was settled is sent out
 pub serves_one : (outs : List Out) (old mid new : End) → Goes (Answers outs) old mid → Goes (SendsAll outs) mid new → Goes ServesOne old new
 serves_one outs old mid new answers sends = record {
@@ -74,14 +46,6 @@ pub stops_answering : (first : Known) (asked : Asked) (before read : Option Wire
     → OnConnection (Asks (Some asked)) before read → (h : History) → StandsFor first h
     → FirstAnswer first.responder.name h before read
 stops_answering first asked before read told h stands = inr (asked, read, told, inl refl)
-
-pub stops_writing : (first : Known) (asked : Asked) (response : Option Response) (before read after : Option WireState)
-    → OnConnection (Asks (Some asked)) before read
-    → ((h : History) → StandsFor first h → response ≡ response_to first.responder.name h asked)
-    → StopsWriting response read after → (h : History) → StandsFor first h
-    → FirstAnswer first.responder.name h before after
-stops_writing first asked response before read after told answer stops h stands =
-    inr (asked, read, told, inr (subst (λ r. StopsWriting r read after) (answer h stands) stops))
 
 pub stops_in_answer : (old : End) (after : Option WireState)
     → ((h : History) → StandsFor old.producer h → FirstAnswer old.producer.responder.name h old.wire after)

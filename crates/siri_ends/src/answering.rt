@@ -1,16 +1,21 @@
 //! Answers an accepted connection, whichever end does it.
 
-ghost use Rattle.std.specs.Prelude.{◌≡◌, true, IfOk, OnOk, OnErr, Some};
-ghost use Rattle.siri_http.specs.Texts.{is_written};
+ghost use Rattle.std.specs.Prelude.{◌≡◌, ℕ, List, Option, true, false, IfErr, IfOk, IsErr, IsErrOf, OnOk, OnErr, Some};
+ghost use Rattle.siri_base.specs.Wires.{WireState};
+ghost use Rattle.siri_http.specs.declared.errors.HttpError.TheVariants as http;
+ghost use Rattle.siri_http.specs.HttpCauses.{EndsWrite};
+ghost use Rattle.siri_http.specs.Texts.{is_written, response_text};
 ghost use Rattle.siri_wire.specs.Documents.{message_of};
 ghost use Rattle.siri_ends.specs.At.{surroundings};
 ghost use Rattle.siri_ends.specs.Answering.{AnswersWith, HangsUp, StopsWriting, Writes};
+ghost use Rattle.siri_ends.specs.Lending.{of_document};
+ghost use Rattle.siri_ends.specs.Sinks.{WritesText};
 ghost use Rattle.siri_ends.specs.Turns as turn;
 ghost use Rattle.siri_ends.specs.Turns.{AreWritten, BringsDocument};
 
 use crate::response::{Response, refuse_document, refuse_request};
 use siri_base::{OutOfMemory, Wire};
-use siri_http::{Asked, Tally, respond};
+use siri_http::{Asked, HttpError, Tally, end_response, respond};
 use siri_messages::Message;
 use siri_wire::{DecodeError, decode};
 use std::alloc::Global;
@@ -77,8 +82,28 @@ fn write_answer<W: Wire>(
     Ok(())
 }
 
+/// Ends an answer of which a text was written with this result, whole or as far as it went: hangs up, and counts the
+/// connection. After want of memory it does neither.
+pub(crate) fn end_answer<W: Wire>(
+    wire: &mut W,
+    written: Result<(), HttpError>,
+    tally: &mut Tally,
+) -> Result<(), OutOfMemory>
+    requires { IfErr written EndsWrite }
+    ensures ok { OnOk result ((body : List ℕ) (before : Option WireState) (earlier : ℕ) → WritesText (response_text 200 false body) written before (W.tells wire.old) earlier (W.faults wire.old) → Writes (of_document body) (surroundings tally.old before earlier) (surroundings tally.new (W.tells wire.new) (W.faults wire.new))) }
+    ensures err { OnErr result ((body : List ℕ) (before : Option WireState) (earlier : ℕ) → WritesText (response_text 200 false body) written before (W.tells wire.old) earlier (W.faults wire.old) → StopsWriting (Some (of_document body)) before (W.tells wire.new)) }
+    ensures memory { IsErrOf written http.OutOfMemory → IsErr result }
+{
+    let whole = end_response(wire, written)?;
+    tally.count_served();
+    if !whole {
+        tally.count_dropped();
+    }
+    Ok(())
+}
+
 /// Hangs up, and counts the connection as dropped.
-fn drop_connection<W: Wire>(wire: &mut W, tally: &mut Tally)
+pub(crate) fn drop_connection<W: Wire>(wire: &mut W, tally: &mut Tally)
     ensures { HangsUp (surroundings tally.old (W.tells wire.old) (W.faults wire.old)) (surroundings tally.new (W.tells wire.new) (W.faults wire.new)) }
 {
     wire.hang_up();

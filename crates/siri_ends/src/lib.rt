@@ -13,22 +13,29 @@
 //!                                replies to it join the messages
 //! ```
 //!
+//! What a producer holds is not copied for an answer: the items of a direct response and the changes of a supplied part are
+//! written from what the producer lends after it settled, in two walks, one for the length that stands in the head.
+//!
 //! A call is a function of what the wire brings and of the producer's history, or of the consumer: its contract says
 //! which bytes go to which connection, which addresses are dialled, and what is counted. It ends well, or for want of
 //! memory; what a peer does ends neither.
 //!
-//! Stands on `siri_http` for one exchange over one connection, on `siri_wire` for documents, on `siri_producer` and on
-//! `siri_view`, whose consumer's contracts see it as a record, and on `siri_base` and `siri_messages` for what passes
+//! Stands on `siri_http` for one exchange over one connection, on `siri_wire` for documents and their pieces, on
+//! `siri_producer` and on `siri_view`, whose consumer's contracts see it as a record, on `siri_store`, `siri_rounds` and
+//! `siri_replies` for what a producer lends, and on `siri_base`, `siri_records` and `siri_messages` for what passes
 //! between them. It accepts no connection, knows no clock, and waits no bounded time.
 #![tactic(auto)]
 
 mod answering;
 mod consuming;
 mod in_turn;
+mod lending;
+mod reply;
 mod response;
 mod sending;
 mod sending_up;
 mod serving;
+mod sink;
 
 pub use consuming::consume_one;
 pub use sending::send_out;

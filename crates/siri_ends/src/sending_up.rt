@@ -27,9 +27,7 @@ pub(crate) fn take_message(
     ensures consumer { OnOk result (consumer.new ≡ after_message consumer.old message) }
     ensures replies { IfOk result (λ replies. replies ≡ (seen_of consumer.old message).replies) }
 {
-    let seen = consumer.take(&message);
-    drop(message);
-    Ok(seen?.replies)
+    Ok(consumer.take_owned(message)?.replies)
 }
 
 /// Takes the message of a document that was answered, where it is one, and gives the replies to it.

@@ -1,57 +1,44 @@
 //! Serves a connection.
 
-ghost use Rattle.std.specs.Prelude.{◌≡◌, IfOk, OnOk, OnErr, Some, true};
-ghost use Rattle.siri_http.specs.Texts.{is_written};
+ghost use Rattle.std.specs.Prelude.{Option, IfOk, OnOk, OnErr};
 ghost use Rattle.siri_model.specs.History.{History};
-ghost use Rattle.siri_producer.specs.Known.{StandsFor};
-ghost use Rattle.siri_ends.specs.Responses.{message_asked, producer_reply, replying, response_to};
-ghost use Rattle.siri_ends.specs.At.{Goes, end_of};
+ghost use Rattle.siri_producer.specs.Known.{SameButReads, StandsFor};
+ghost use Rattle.siri_ends.specs.declared.response.Response.{Response};
+ghost use Rattle.siri_ends.specs.Answering.{AnswersWith, StopsWriting};
+ghost use Rattle.siri_ends.specs.At.{Goes, end_of, surroundings};
+ghost use Rattle.siri_ends.specs.Lending.{CanBeWritten, IsReply};
 ghost use Rattle.siri_ends.specs.Serving.{Answers, FirstAnswer, ServesOne, ServesSome};
-ghost use Rattle.siri_ends.specs.Turns.{AreWritten, TakesFor};
 
-use crate::answering::{Brought, brought_by, finish};
-use crate::response::{Response, replying};
+use crate::answering::finish;
+use crate::lending::{write_direct, write_part};
+use crate::reply::{Reply, reply_for};
 use crate::sending::send_out;
 use siri_base::{List, OutOfMemory, Wire};
-use siri_http::{Asked, Tally, read_asked};
-use siri_messages::Message;
+use siri_http::{Tally, read_asked};
 use siri_producer::{Out, Producer};
 use std::alloc::Global;
 
-/// Takes a message, and gives its answer.
-fn answer_message(
+/// Writes what a connection is to be answered, and hangs up.
+fn write_reply<W: Wire>(
     alloc: Global,
+    wire: &mut W,
     producer: &mut Producer,
-    message: Message,
-) -> Result<Response, OutOfMemory>
-    ensures stands { OnOk result (TakesFor producer.old producer.new (Some message)) }
-    ensures response { IfOk result (λ response. (h : History) → StandsFor producer.old h → response ≡ replying (producer_reply producer.old.responder.name h message)) }
-    ensures written { IfOk result (λ response. is_written response.status ≡ true) }
-    ensures name { producer.new.responder.name ≡ producer.old.responder.name }
+    reply: &Reply,
+    tally: &mut Tally,
+) -> Result<(), OutOfMemory>
+    requires there { W.is_open wire.old }
+    requires written { CanBeWritten reply.now }
+    ensures ok { OnOk result ((h : History) (response : Option Response) → StandsFor producer.old h → IsReply reply.now producer.old.responder.name h response → AnswersWith response (surroundings tally.old (W.tells wire.old) (W.faults wire.old)) (surroundings tally.new (W.tells wire.new) (W.faults wire.new))) }
+    ensures err { OnErr result ((h : History) (response : Option Response) → StandsFor producer.old h → IsReply reply.now producer.old.responder.name h response → StopsWriting response (W.tells wire.old) (W.tells wire.new)) }
+    ensures rest { OnOk result (SameButReads producer.old producer.new) }
 {
-    let answer = producer.take(&message);
-    drop(message);
-    let answer = answer?;
-    let response = replying(alloc, answer.reply.as_ref());
-    drop(answer);
-    response
-}
-
-/// Takes the message that a connection brings, where it brings one, and gives the answer, where there is one.
-fn response_to(
-    alloc: Global,
-    producer: &mut Producer,
-    asked: &Asked,
-) -> Result<Option<Response>, OutOfMemory>
-    ensures stands { OnOk result (TakesFor producer.old producer.new (message_asked asked.now)) }
-    ensures response { IfOk result (λ response. (h : History) → StandsFor producer.old h → response ≡ response_to producer.old.responder.name h asked.now) }
-    ensures written { IfOk result AreWritten }
-    ensures name { producer.new.responder.name ≡ producer.old.responder.name }
-{
-    match brought_by(alloc, asked)? {
-        Brought::Message(message) => Ok(Some(answer_message(alloc, producer, message)?)),
-        Brought::Refused(response) => Ok(Some(response)),
-        Brought::Nothing => Ok(None),
+    match reply {
+        Reply::Made(response) => finish(alloc, wire, response, tally),
+        Reply::Direct(request) => write_direct(alloc, wire, producer, request, tally),
+        Reply::Part {
+            subscriber,
+            subscription,
+        } => write_part(alloc, wire, producer, subscriber, subscription, tally),
     }
 }
 
@@ -67,9 +54,9 @@ fn answer_one<W: Wire>(
     ensures err { OnErr result ((h : History) → StandsFor producer.old h → FirstAnswer producer.old.responder.name h (W.tells wire.old) (W.tells wire.new)) }
 {
     let asked = read_asked(alloc, wire)?;
-    let response = response_to(alloc, producer, &asked)?;
+    let reply = reply_for(alloc, producer, &asked)?;
     let outs = producer.settle()?;
-    finish(alloc, wire, &response, tally)?;
+    write_reply(alloc, wire, producer, &reply, tally)?;
     Ok(outs)
 }
 
@@ -80,6 +67,10 @@ fn answer_one<W: Wire>(
 /// The answer has status 200 and the reply's document, or an empty body where there is no reply. A refused head, method
 /// or body is answered with its own status and a line of text, and counted as refused. A request that didn't come whole
 /// is answered nothing, and the connection is counted as dropped, as is one whose answer wasn't written whole.
+///
+/// The items of a direct response without MaximumStopVisits, and those of a part that is supplied, are written one by one
+/// from what the producer lends. Where the length of such an answer would pass 2^64 - 1, memory counts as wanting. After
+/// want of memory while an answer is written, a front of it was written.
 pub fn serve_one<W: Wire>(
     alloc: Global,
     wire: &mut W,

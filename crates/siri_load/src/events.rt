@@ -1,4 +1,4 @@
-//! The events of a load. An event is shared as soon as it is made, since it is dear to let go in a proof; and the
+//! The events of a load. An event is boxed as soon as it is made, since it is dear to let go in a proof; and the
 //! functions that make a large value can't fail.
 
 ghost use Rattle.std.specs.Prelude.{◌≡◌, ◌≤◌, ◌++◌, length, pos, IfOk};
@@ -11,7 +11,6 @@ use siri_records::{Item, Key, StopCall, Visit, VisitJourney};
 use siri_topic::{StopTopic, Subscription, Topic};
 use siri_world_model::Event;
 use std::alloc::Global;
-use std::rc::Rc;
 
 /// 2024-05-01T00:00:00Z, in milliseconds since 1970.
 const FIRST_MOMENT: u64 = 1_714_521_600_000;
@@ -114,30 +113,30 @@ pub(crate) fn later(from: Moment, seconds: u64) -> Moment
 // ---- the start, the clock and deliveries
 
 /// The producer starts.
-pub(crate) fn starting(alloc: Global) -> Result<Rc<Event>, OutOfMemory>
+pub(crate) fn starting(alloc: Global) -> Result<Box<Event>, OutOfMemory>
     ensures { IfOk result (λ event. event.value ≡ Event.Start first_moment) }
 {
-    Ok(Rc::new(alloc, Event::Start(first_moment()))?)
+    Ok(Box::new(alloc, Event::Start(first_moment()))?)
 }
 
 /// The clock comes to a moment.
-pub(crate) fn clocking(alloc: Global, moment: Moment) -> Result<Rc<Event>, OutOfMemory>
+pub(crate) fn clocking(alloc: Global, moment: Moment) -> Result<Box<Event>, OutOfMemory>
     ensures { IfOk result (λ event. event.value ≡ Event.Clock moment) }
 {
-    Ok(Rc::new(alloc, Event::Clock(moment))?)
+    Ok(Box::new(alloc, Event::Clock(moment))?)
 }
 
 /// The packet of a number is delivered.
-pub(crate) fn delivering(alloc: Global, number: u64) -> Result<Rc<Event>, OutOfMemory>
+pub(crate) fn delivering(alloc: Global, number: u64) -> Result<Box<Event>, OutOfMemory>
     ensures { IfOk result (λ event. event.value ≡ Event.Deliver number) }
 {
-    Ok(Rc::new(alloc, Event::Deliver(number))?)
+    Ok(Box::new(alloc, Event::Deliver(number))?)
 }
 
 // ---- what is subscribed to
 
 /// The consumer asks for its subscription of a number.
-pub(crate) fn subscribing(alloc: Global, number: u64) -> Result<Rc<Event>, OutOfMemory>
+pub(crate) fn subscribing(alloc: Global, number: u64) -> Result<Box<Event>, OutOfMemory>
     ensures { IfOk result (λ event. event.value ≡ subscribing number) }
 {
     let subscriber = consumer(alloc)?;
@@ -145,7 +144,7 @@ pub(crate) fn subscribing(alloc: Global, number: u64) -> Result<Rc<Event>, OutOf
     let monitoring_ref = stop(alloc, number)?;
     let consumer = consumer(alloc)?;
     let wanted = subscription(subscriber, identifier, monitoring_ref, number);
-    Ok(Rc::new(alloc, subscribe(consumer, wanted))?)
+    Ok(Box::new(alloc, subscribe(consumer, wanted))?)
 }
 
 /// The consumer asks for a subscription, without heartbeats.
@@ -200,7 +199,7 @@ pub(crate) fn feeding(
     at: u64,
     known_by: u64,
     departure: Moment,
-) -> Result<Rc<Event>, OutOfMemory>
+) -> Result<Box<Event>, OutOfMemory>
     ensures { IfOk result (λ event. event.value ≡ feeding at known_by departure) }
 {
     let mut items = List::new(alloc);
@@ -209,7 +208,7 @@ pub(crate) fn feeding(
 }
 
 /// A feed of one cancellation.
-pub(crate) fn cancelling(alloc: Global, at: u64, known_by: u64) -> Result<Rc<Event>, OutOfMemory>
+pub(crate) fn cancelling(alloc: Global, at: u64, known_by: u64) -> Result<Box<Event>, OutOfMemory>
     ensures { IfOk result (λ event. event.value ≡ cancelling at known_by) }
 {
     let mut removals = List::new(alloc);
@@ -218,12 +217,12 @@ pub(crate) fn cancelling(alloc: Global, at: u64, known_by: u64) -> Result<Rc<Eve
 }
 
 /// A feed of visits and cancellations in one StopMonitoringDelivery.
-fn feed(alloc: Global, items: List<Item>, removals: List<Key>) -> Result<Rc<Event>, OutOfMemory>
+fn feed(alloc: Global, items: List<Item>, removals: List<Key>) -> Result<Box<Event>, OutOfMemory>
     ensures { IfOk result (λ event. event.value ≡ Event.Feed (delivery items removals)) }
 {
     let mut stops = List::new(alloc);
     stops.push(functional(alloc, items, removals))?;
-    Ok(Rc::new(alloc, Event::Feed(delivery(alloc, stops)))?)
+    Ok(Box::new(alloc, Event::Feed(delivery(alloc, stops)))?)
 }
 
 /// A visit of the line L1.
@@ -287,12 +286,12 @@ fn delivery(alloc: Global, stops: List<FunctionalDelivery>) -> ServiceDelivery
 // ---- what is told of at the end
 
 /// What the consumer shows of its subscription of a number.
-pub(crate) fn viewing(alloc: Global, number: u64) -> Result<Rc<Event>, OutOfMemory>
+pub(crate) fn viewing(alloc: Global, number: u64) -> Result<Box<Event>, OutOfMemory>
     ensures { IfOk result (λ event. event.value ≡ viewing number) }
 {
     let consumer = consumer(alloc)?;
     let identifier = numbered(alloc, "", number)?;
-    Ok(Rc::new(
+    Ok(Box::new(
         alloc,
         Event::View {
             consumer,

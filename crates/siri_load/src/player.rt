@@ -1,6 +1,11 @@
 //! The player of a load.
 
-ghost use Rattle.std.specs.Prelude.{◌≡◌, ◌+◌, ◌<◌, ◌≤◌, IfOk, OnOk};
+ghost use Rattle.std.specs.Prelude.{◌≡◌, ◌+◌, ◌<◌, ◌≤◌, ◌++◌, [], ◌∷◌, List as Items, Ok, IfOk, OnOk, IfErr};
+ghost use Rattle.siri_world_model.specs.declared.event.Event.{Event as AnEvent};
+ghost use Rattle.siri_world_model.specs.Lines.{told_lines};
+ghost use Rattle.siri_world_model.specs.Told.{told, world_after};
+ghost use Rattle.siri_world.specs.Known.{StandsFor};
+ghost use Rattle.siri_world.specs.Refused.{Refuses, Stays};
 ghost use Rattle.siri_load.specs.Load.{Progress, fresh, world_of, cancels, clocks, delivers, delivers_or_loses, feeds, happens, makes, makes_by, opens, plays, sent, subscribes, takes_all, view, views};
 ghost use Rattle.siri_load.specs.Playing.{Plays, Does, takes, Shown, IsUntold};
 
@@ -10,12 +15,11 @@ use crate::events::{
 use crate::generator::Generator;
 use crate::network::Network;
 use crate::stop::Stop;
-use siri_base::{Moment, OutOfMemory};
+use siri_base::{List, Moment, OutOfMemory};
 use siri_world::World;
 use siri_world_model::{Event, Line, StepError};
 use std::alloc::Global;
 use std::marker::Model;
-use std::rc::Rc;
 
 /// The most lines of a script.
 const MOST_LINES: u64 = 1_000_000;
@@ -82,7 +86,7 @@ impl Player {
     }
 
     /// One more line is made, which is this event.
-    fn make(&mut self, event: Rc<Event>) -> Result<(), Stop>
+    fn make(&mut self, event: Box<Event>) -> Result<(), Stop>
         ensures made { Does self.old self.new result (makes event.value) }
         ensures rest { OnOk result (self.new ≡ record self.old { world = self.new.world; lines = self.old.lines + 1 }) }
     {
@@ -90,13 +94,12 @@ impl Player {
         if line > MOST_LINES {
             return Err(Stop::Limit(line));
         }
-        match self.world.step(&*event) {
-            Ok(_) => {
-                self.lines = line;
-                Ok(())
-            }
-            Err(error) => Err(Stop::of(error, line)),
+        match step(&mut self.world, event) {
+            Ok(_) => {}
+            Err(error) => return Err(Stop::of(error, line)),
         }
+        self.lines = line;
+        Ok(())
     }
 
     // ---- packets
@@ -247,11 +250,22 @@ impl Player {
         ensures { (progress : Progress) → Plays self.old progress → IfOk result (λ lines. Shown self.new lines.items (view number (world_of progress)) progress) }
     {
         let event = viewing(self.alloc, number)?;
-        match self.world.step(&*event) {
-            Ok(lines) => Ok(lines.into_vec()),
-            Err(error) => untold(self.alloc, error),
-        }
+        let lines = match step(&mut self.world, event) {
+            Ok(lines) => lines,
+            Err(error) => return untold(self.alloc, error),
+        };
+        Ok(lines.into_vec())
     }
+}
+
+/// The next event of a script, handed over to the world.
+fn step(world: &mut World, event: Box<Event>) -> Result<List<Line>, StepError>
+    ensures lines { IfOk result (λ lines. (es : Items AnEvent) → StandsFor world.old es → told (world_after es) event.value ≡ Ok (told_lines lines)) }
+    ensures ok { OnOk result ((es : Items AnEvent) → StandsFor world.old es → StandsFor world.new (es ++ event.value ∷ [])) }
+    ensures refused { IfErr result (λ error. (es : Items AnEvent) → StandsFor world.old es → Refuses (world_after es) event.value error) }
+    ensures rest { IfErr result (λ error. Stays error world.old world.new) }
+{
+    world.step(Box::into_inner(event))
 }
 
 /// Nothing is told of a view that is refused.

@@ -46,15 +46,16 @@ impl Script {
 
     /// The event of the line of this number happens, and its lines are written.
     #[tactic(auto, using(siri_lines::proofs::Meeting::sink_none, siri_lines::proofs::Meeting::stop_failed))]
-    fn happen<K: Sink>(&mut self, number: u64, event: &Event, sink: &mut K) -> Result<(), Stop>
+    fn happen<K: Sink>(&mut self, number: u64, event: Event, sink: &mut K) -> Result<(), Stop>
         ensures brings { (events : Happened) → Fits self.old events →
-            Brings Fits self.new (K.held sink.old) (K.held sink.new) result (by_told number events event.now (told (world_after events) event.now)) }
+            Brings Fits self.new (K.held sink.old) (K.held sink.new) result (by_told number events event (told (world_after events) event)) }
         ensures cause { StopCause (K.faults sink.old) (K.faults sink.new) result }
         ensures meets { SinkMeets (has_failed_to_write result) (K.held sink.old) (K.held sink.new) (K.fails sink.old) (K.fails sink.new) }
     {
+        let starts = is_start(&event);
         match self.world.step(event) {
             Ok(lines) => {
-                self.started = self.started || is_start(event);
+                self.started = self.started || starts;
                 write_lines(self.alloc, lines.slice(), sink)?;
                 Ok(())
             }
@@ -74,7 +75,7 @@ impl LineTaker for Script {
     #[tactic(auto, using(siri_lines::proofs::Meeting::sink_none))]
     fn take_line<K: Sink>(&mut self, number: u64, line: &[u8], sink: &mut K) -> Result<(), Stop> {
         match line_said(self.alloc, self.started, line) {
-            Ok(Some(event)) => self.happen(number, &event, sink),
+            Ok(Some(event)) => self.happen(number, event, sink),
             Ok(None) => Ok(()),
             Err(error) => Err(error.stop(number)),
         }

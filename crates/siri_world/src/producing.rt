@@ -35,15 +35,15 @@ pub(crate) fn clock(
     })
 }
 
-/// A feed, which is told in numbers, and a settle.
+/// A feed, whose items the producer keeps, and which is told in numbers, and a settle.
 pub(crate) fn feed(
     alloc: Global,
     producer: &mut Producer,
-    delivery: &ServiceDelivery,
+    delivery: ServiceDelivery,
 ) -> Result<Happened, OutOfMemory>
-    ensures { IfOk result (λ happened. (h : History) → Serves producer.old h → Settles producer.new h (Feed (entries_of delivery.now)) (fed_line h delivery.now ∷ []) [] happened) }
+    ensures { IfOk result (λ happened. (h : History) → Serves producer.old h → Settles producer.new h (Feed (entries_of delivery)) (fed_line h delivery ∷ []) [] happened) }
 {
-    let fed = producer.feed(delivery)?;
+    let fed = producer.feed_owned(delivery)?;
     let mut packets = List::new(alloc);
     settle(alloc, producer, &mut packets)?;
     Ok(Happened {

@@ -87,19 +87,21 @@ impl World {
         })
     }
 
-    /// An event happens, and tells these lines: all packets that it sends are told after what else it tells.
+    /// An event happens, and tells these lines: all packets that it sends are told after what else it tells. The items
+    /// of a feed are kept and none is copied.
     ///
     /// The first that holds of `NotStarted` (it isn't a start, and no start came before), `StartLimit` (it is the
     /// 1,000,001st start), `ConsumerLimit` (it would make a 17th consumer) and `PacketLimit` (packet 1,000,001 would be
     /// sent). After each of the first three nothing changed. After `PacketLimit` and want of memory the world is given
     /// up.
-    pub fn step(&mut self, event: &Event) -> Result<List<Line>, StepError>
-        ensures lines { IfOk result (λ lines. (es : Items AnEvent) → StandsFor self.old es → told (world_after es) event.now ≡ Ok (told_lines lines)) }
-        ensures ok { OnOk result ((es : Items AnEvent) → StandsFor self.old es → StandsFor self.new (es ++ event.now ∷ [])) }
-        ensures refused { IfErr result (λ error. (es : Items AnEvent) → StandsFor self.old es → Refuses (world_after es) event.now error) }
+    pub fn step(&mut self, event: Event) -> Result<List<Line>, StepError>
+        ensures lines { IfOk result (λ lines. (es : Items AnEvent) → StandsFor self.old es → told (world_after es) event ≡ Ok (told_lines lines)) }
+        ensures ok { OnOk result ((es : Items AnEvent) → StandsFor self.old es → StandsFor self.new (es ++ event ∷ [])) }
+        ensures refused { IfErr result (λ error. (es : Items AnEvent) → StandsFor self.old es → Refuses (world_after es) event error) }
         ensures rest { IfErr result (λ error. Stays error self.old self.new) }
     {
-        if let Some(error) = self.refusal(event) {
+        if let Some(error) = self.refusal(&event) {
+            drop(event);
             return Err(error);
         }
         let happened = self.happen(event)?;
@@ -138,30 +140,30 @@ impl World {
     }
 
     /// What an event does, whatever the limits are. Its packets aren't in the network yet.
-    fn happen(&mut self, event: &Event) -> Result<Happened, OutOfMemory>
-        requires { CanHappen self.old event.now }
-        ensures { IfOk result (λ happened. (w : ToldWorld) → Knows self.old w → ShowsGoals w → Does (effect w event.now) happened self.new) }
+    fn happen(&mut self, event: Event) -> Result<Happened, OutOfMemory>
+        requires { CanHappen self.old event }
+        ensures { IfOk result (λ happened. (w : ToldWorld) → Knows self.old w → ShowsGoals w → Does (effect w event) happened self.new) }
     {
         match event {
-            Event::Start(moment) => self.start(*moment),
-            Event::Clock(moment) => self.clock(*moment),
+            Event::Start(moment) => self.start(moment),
+            Event::Clock(moment) => self.clock(moment),
             Event::Feed(delivery) => self.feed(delivery),
-            Event::Ask(request) => self.ask(request),
+            Event::Ask(request) => self.ask(&request),
             Event::Subscribe {
                 consumer,
                 wanted,
                 beat,
-            } => self.subscribe(consumer, wanted, *beat),
+            } => self.subscribe(&consumer, &wanted, beat),
             Event::Terminate {
                 consumer,
                 identifier,
-            } => self.terminate(consumer, identifier),
-            Event::Status { consumer } => self.check(consumer),
-            Event::Deliver(number) => self.deliver(*number),
+            } => self.terminate(&consumer, &identifier),
+            Event::Status { consumer } => self.check(&consumer),
+            Event::Deliver(number) => self.deliver(number),
             Event::View {
                 consumer,
                 identifier,
-            } => self.view(consumer, identifier),
+            } => self.view(&consumer, &identifier),
         }
     }
 
@@ -216,9 +218,9 @@ impl World {
     }
 
     /// The producer is fed, which is told in numbers, and settles.
-    fn feed(&mut self, delivery: &ServiceDelivery) -> Result<Happened, OutOfMemory>
+    fn feed(&mut self, delivery: ServiceDelivery) -> Result<Happened, OutOfMemory>
         requires { IsSome self.old.producer }
-        ensures { IfOk result (Happens self.old self.new (λ w. effects.fed w delivery.now)) }
+        ensures { IfOk result (Happens self.old self.new (λ w. effects.fed w delivery)) }
     {
         let Some(producer) = &mut self.producer else {
             unreachable!()

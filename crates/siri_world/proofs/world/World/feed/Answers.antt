@@ -15,6 +15,6 @@ returns c = IfOk-weaker c.feed.result _ _ (λ happened did w k.
       consumers = c.self.inside.consumers;
       packets = c.self.inside.packets;
     } in
-    settled_does old _ w (Feed (entries_of c.args.delivery.now)) (λ h. fed_line h c.args.delivery.now ∷ [])
+    settled_does old _ w (Feed (entries_of c.args.delivery)) (λ h. fed_line h c.args.delivery ∷ [])
     (λ h. []) c.in-Some.producer c.feed.new.producer happened
     (subst (λ known. Knows known w) (sym c.self.view_is) k) c.in-Some.is did refl) c.feed.ensures
