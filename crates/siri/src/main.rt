@@ -9,7 +9,7 @@ use siri_base::{Input, Output, Status};
 use siri_cli::run;
 use siri_lines::write_status;
 use siri_system::{FileKeeper, SystemClock, TcpWire};
-use std::io::Write;
+use std::io::{ErrorKind, Write};
 use std::process::ExitCode;
 use std::{env, io};
 
@@ -39,8 +39,10 @@ fn main(rt: HostRuntime) -> ExitCode {
 /// Runs the command over the words after the program's name. Words that aren't UTF-8 are no plain spelling.
 fn run_command(rt: &HostRuntime, wire: &mut TcpWire, keeper: &mut FileKeeper) -> Status {
     let alloc = rt.alloc();
-    let Ok(given) = env::args(rt) else {
-        return Status::Usage;
+    let given = match env::args(rt) {
+        Ok(given) => given,
+        Err(error) if error.kind() == ErrorKind::OutOfMemory => return Status::OutOfMemory,
+        Err(_) => return Status::Usage,
     };
     let Ok(words) = given.skip(1).collect::<Vec<String>>(alloc) else {
         return Status::OutOfMemory;

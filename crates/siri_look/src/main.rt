@@ -16,6 +16,7 @@ use siri_lines::write_status;
 use siri_replay::replay;
 use std::alloc::Global;
 use std::env;
+use std::io::ErrorKind;
 use std::process::ExitCode;
 
 fn main(rt: HostRuntime) -> ExitCode {
@@ -27,8 +28,10 @@ fn main(rt: HostRuntime) -> ExitCode {
 /// Runs the command that the only word after the program's name asks for.
 fn run_command(rt: &HostRuntime) -> Status {
     let alloc = rt.alloc();
-    let Ok(given) = env::args(rt) else {
-        return Status::Usage;
+    let given = match env::args(rt) {
+        Ok(given) => given,
+        Err(error) if error.kind() == ErrorKind::OutOfMemory => return Status::OutOfMemory,
+        Err(_) => return Status::Usage,
     };
     let Ok(words) = given.skip(1).collect::<Vec<String>>(alloc) else {
         return Status::OutOfMemory;
