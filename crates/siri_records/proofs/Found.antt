@@ -1,13 +1,15 @@
 -- What a search by halves finds.
-use Rattle.std.proofs.Common.{◌≡◌, ℕ, suc, zero, ◌<◌, ◌≤◌, List, [], ◌∷◌, length, get_or, Result, Ok, Err, refl, ap, ◌∙◌, sym, arith, inl, inr}
+use Rattle.std.proofs.Common.{◌≡◌, ℕ, suc, zero, ◌<◌, ◌≤◌, List, [], ◌∷◌, length, get_or, Result, Ok, Err, ◌+◌, refl, ap, ◌∙◌, sym, arith, inl, inr}
 use Rattle.std.specs.Map.{keys_of}
 use Rattle.std.specs.Cmp.{IsTotalOrder}
-use Rattle.std.specs.Ordering.{ordering_reverse, ordering_index}
+use Rattle.std.specs.Bool.{OnTrue}
+use Rattle.std.specs.Ordering.{ordering_reverse, ordering_index, is_lt}
 use Rattle.std.specs.List.Sorted.{IsStrictlySortedBy, IsBinarySearchResult, IsSearchInRange}
 use Rattle.std.specs.declared.cmp.Ordering.{Ordering}
 use Rattle.std.specs.declared.cmp.Ordering.TheVariants.{Less, Equal, Greater}
 use Rattle.std.proofs.lemmas.Map.Keys.{Less-from_sorted}
 use Rattle.std.proofs.lemmas.Bool.{cases_lt}
+use Rattle.std.proofs.lemmas.List.{get_or_default}
 use Rattle.siri_records.specs.Places.{IsHere, IsGap, Finds}
 
 module _ {K X : Type 0} (query : K → Ordering) where
@@ -80,3 +82,26 @@ module _ {K X : Type 0} {cmp : K → K → Ordering} (total : IsTotalOrder cmp) 
       let p = parted all_rise in
       gap_from (cmp k) es i in_range (λ j d lt. flip total k (get_or es j d).0 Less (p.0 j d (omega arith) lt))
       (λ j d le lt. flip total k (get_or es j d).0 Greater (p.1 j d le lt))
+
+module _ {K X : Type 0} {cmp : K → K → Ordering} (total : IsTotalOrder cmp) (k : K) (es : List (K × X)) (sorted : IsStrictlySortedBy cmp (keys_of es)) (i : ℕ)
+    (len : length es ≡ i + 1) (d : K × X) (last : cmp (get_or es i d).0 k ≡ Less) where
+  all_below : (j : ℕ) → j < length es → cmp (get_or es j d).0 k ≡ Less
+  all_below j lt = elim (cases_lt j i) [
+    | inl before ↦ total.trans (get_or es j d).0 (get_or es i d).0 k (less_at cmp es sorted j i d before (omega (arith, len))) last
+    | inr after ↦ let same : j ≡ i = omega (arith, lt, len, after) in rw same last
+  ]
+
+  -- a key above the last one is above all of them
+  pub above_all : Finds (cmp k) es (Err (length es))
+  above_all = gap_from (cmp k) es (length es) (omega arith)
+      (λ j e lt. flip total k (get_or es j e).0 Less (rw (get_or_default es j e d lt) (all_below j lt)))
+      (λ j e le lt. absurd (omega (arith, le, lt)))
+
+-- the answer of a comparison with the last entry
+pub above_last : {K X : Type 0} {cmp : K → K → Ordering} → IsTotalOrder cmp → (k : K) (es : List (K × X)) → IsStrictlySortedBy cmp (keys_of es)
+    → (i : ℕ) (last : K × X) → length es ≡ i + 1 → last ≡ get_or es i last
+    → (o : Ordering) → o ≡ cmp last.0 k → OnTrue (is_lt o) (Finds (cmp k) es (Err (length es)))
+above_last {cmp = cmp} total k es sorted i last len here Less same =
+    above_all total k es sorted i len last (ap (λ e. cmp e.0 k) (sym here) ∙ sym same)
+above_last total k es sorted i last len here Equal same = tt
+above_last total k es sorted i last len here Greater same = tt

@@ -1,6 +1,7 @@
 //! Shared items in a vector, in order of key.
 
-ghost use Rattle.std.specs.Prelude.{◌≡◌, ◌<◌, ◌≤◌, ◌+◌, vec_len, is_some, option_map, IsNone, IsSome, IfSome, IsOk, OnOk, OnErr, IfOk};
+ghost use Rattle.std.specs.Prelude.{◌≡◌, ◌<◌, ◌≤◌, ◌+◌, vec_len, length, is_some, option_map, IsNone, IsSome, IfSome, IsOk, OnOk, OnErr, IfOk, Err};
+ghost use Rattle.std.specs.Bool.{OnTrue};
 ghost use Rattle.std.specs.Vec.{vec_capacity};
 ghost use Rattle.std.specs.Map.{remove_entry};
 ghost use Rattle.std.specs.BTreeMap.{insert_entry, is_at};
@@ -16,8 +17,31 @@ use std::rc::Rc;
 /// A key and its item, both of which others may hold too: an entry is two pointers.
 pub(crate) type Entry = (SharedKey, Rc<Item>);
 
-/// Where the key stands, or where it would.
+/// Where the key stands, or where it would. A key above all that are held is told by one comparison, so that those in
+/// order cost no search.
 pub(crate) fn find(entries: &Vec<Entry>, key: &Key) -> Result<usize, usize>
+    requires { InOrder entries.now.items }
+    ensures { Finds (key_cmp key.now) entries.now.items result }
+{
+    if is_above_all(entries, key) {
+        return Err(entries.len());
+    }
+    search(entries, key)
+}
+
+/// Whether there are entries, and the key is above the last of them.
+fn is_above_all(entries: &Vec<Entry>, key: &Key) -> bool
+    requires { InOrder entries.now.items }
+    ensures { OnTrue result (Finds (key_cmp key.now) entries.now.items (Err (length entries.now.items))) }
+{
+    match entries.last() {
+        Some(last) => compare(last.0.key(), key).is_lt(),
+        None => false,
+    }
+}
+
+/// Where the key stands, or where it would, by halves.
+fn search(entries: &Vec<Entry>, key: &Key) -> Result<usize, usize>
     requires { InOrder entries.now.items }
     ensures { Finds (key_cmp key.now) entries.now.items result }
 {

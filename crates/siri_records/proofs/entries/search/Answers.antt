@@ -2,7 +2,7 @@ use Rattle.std.proofs.Common.{rules}
 use Rattle.std.proofs.lemmas.Fn.{always_returns_same}
 use Rattle.siri_records.specs.Order.{key_cmp, key_cmp_total}
 use Rattle.siri_records.proofs.Found.{found}
-use Rattle.siri_records.proofs.entries.find.Goals as goal
+use Rattle.siri_records.proofs.entries.search.Goals as goal
 
 pub returns : goal.returns
 returns c =
