@@ -1,37 +1,38 @@
 -- Each piece of a functional delivery of changes, and what is still to come behind it.
-use Rattle.std.proofs.Common.{◌≡◌, ◌<◌, ◌+◌, ℕ, Bool, true, false, List, [], ◌∷◌, ◌++◌, Option, Some, None, refl, sym, ap, ◌∙◌, append_assoc, append-nil, filter_map, length, subst, arith}
+use Rattle.std.proofs.Common.{◌≡◌, ◌<◌, ◌+◌, ℕ, true, false, List, [], ◌∷◌, ◌++◌, Option, Some, None, refl, sym}
+use Rattle.std.proofs.Common.{ap, ◌∙◌, append_assoc, append-nil, filter_map, length, arith}
 use Rattle.std.specs.Prelude.{IfSome, is_some}
-use Rattle.json.specs.Token.{Token, end_array, begin_object, end_object}
+use Rattle.json.specs.Token.{Token, end_object}
 use Rattle.json.specs.Print.{print, print_from}
 use Rattle.serde_json.specs.Data.{Data}
 use Rattle.siri_json.specs.Tokens.{tokens_of}
-use Rattle.siri_records.specs.declared.item.Item.{Item}
 use Rattle.siri_records.specs.declared.item.Service.{Service}
 use Rattle.siri_records.specs.declared.item.Service.TheVariants as service
-use Rattle.siri_records.specs.declared.key.Key.{Key}
 use Rattle.siri_records.specs.Keyed.{KeyChange}
 use Rattle.siri_tables.specs.Appended.{entries_tokens}
 use Rattle.siri_deliveries.specs.Frames.{written_frame}
 use Rattle.siri_deliveries.specs.Removals.{written_removal}
 use Rattle.siri_deliveries.specs.Layout.{front, middle, back, entry_writing, listed, where_unasked}
-use Rattle.siri_deliveries.specs.Pieces.{items_of_changes, removals_of_changes, first_list, second_list, list_begin, list_end}
+use Rattle.siri_deliveries.specs.Pieces.{items_of_changes, removals_of_changes, first_list, second_list, list_begin}
+use Rattle.siri_deliveries.specs.Pieces.{list_end}
 use Rattle.siri_deliveries.specs.Pieces.{change_writing, entries_of_changes, Leads, second_part, text_at}
 use Rattle.siri_deliveries.specs.declared.pieces.DeliveryHead.{DeliveryHead}
 use Rattle.siri_deliveries.specs.declared.pieces.Listed.{Listed}
 use Rattle.siri_deliveries.specs.declared.pieces.Listed.TheVariants as list
 use Rattle.siri_deliveries.specs.declared.pieces.Stage.TheVariants as stage
 use Rattle.siri_deliveries.proofs.Joined.{cut_behind, cut_later, ends_list}
-use Rattle.siri_deliveries.proofs.Layouts.{laid, items_listed, removals_listed}
 use Rattle.siri_deliveries.proofs.ItemTexts.{text_is}
 
 -- ---- the entries of changes
 
-items_entered : (s : Service) (cs : List KeyChange) → filter_map (entry_writing s) (items_of_changes cs) ≡ entries_of_changes list.Items s cs
+items_entered : (s : Service) (cs : List KeyChange)
+    → filter_map (entry_writing s) (items_of_changes cs) ≡ entries_of_changes list.Items s cs
 items_entered s [] = refl
 items_entered s ((key, None) ∷ cs) = items_entered s cs
 items_entered s ((key, Some item) ∷ cs) = rw (items_entered s cs)
 
-removals_entered : (s : Service) (cs : List KeyChange) → filter_map written_removal (removals_of_changes cs) ≡ entries_of_changes list.Removals s cs
+removals_entered : (s : Service) (cs : List KeyChange)
+    → filter_map written_removal (removals_of_changes cs) ≡ entries_of_changes list.Removals s cs
 removals_entered s [] = refl
 removals_entered s ((key, None) ∷ cs) = rw (removals_entered s cs)
 removals_entered s ((key, Some item) ∷ cs) = removals_entered s cs
@@ -42,7 +43,8 @@ a_list l s h ds = listed (list_begin l s h) (list_end l s h) ds
 -- the delivery of changes
 changes_said : (s : Service) (h : DeliveryHead) (cs left : List KeyChange)
     → text_at s h cs left stage.Begin
-    ≡ print (front s h ++ (a_list (first_list s) s h (entries_of_changes (first_list s) s cs) ++ (middle s h ++ second_part s h cs)))
+    ≡ print (front s h
+    ++ (a_list (first_list s) s h (entries_of_changes (first_list s) s cs) ++ (middle s h ++ second_part s h cs)))
 changes_said service.Stop h cs left =
     text_is service.Stop h (items_of_changes cs) (removals_of_changes cs)
     ∙ rw (items_entered service.Stop cs, removals_entered service.Stop cs)
@@ -66,21 +68,28 @@ regroup_begun : (out begin d ds end tail : List Token)
 regroup_begun out begin d ds end tail = simp append_assoc
 
 -- its first entry
-list_begun : (out begin end tail new : List Token) (w : Option Data) (ds all : List Data) → Leads w ds all → IfSome w (λ tree. new ≡ (out ++ begin) ++ tokens_of tree)
+list_begun : (out begin end tail new : List Token) (w : Option Data) (ds all : List Data) → Leads w ds all
+    → IfSome w (λ tree. new ≡ (out ++ begin) ++ tokens_of tree)
     → print (out ++ (listed begin end all ++ tail)) ≡ print new ++ print_from true (entries_tokens ds ++ (end ++ tail))
 list_begun out begin end tail new None ds all leads is = absurd leads
 list_begun out begin end tail new (Some d) ds all leads is =
-    rw (leads, is) (ap print (regroup_begun out begin (tokens_of d) (entries_tokens ds) end tail) ∙ cut_behind false (out ++ begin) d (entries_tokens ds ++ (end ++ tail)))
+    rw (leads, is)
+    (ap print (regroup_begun out begin (tokens_of d) (entries_tokens ds) end tail)
+    ∙ cut_behind false (out ++ begin) d (entries_tokens ds ++ (end ++ tail)))
 
 -- a further one
-list_goes_on : (text : List ℕ) (tail : List Token) (w : Option Data) (ds all : List Data) → Leads w ds all → IfSome w (λ tree. text ≡ 44 ∷ print (tokens_of tree))
+list_goes_on : (text : List ℕ) (tail : List Token) (w : Option Data) (ds all : List Data) → Leads w ds all
+    → IfSome w (λ tree. text ≡ 44 ∷ print (tokens_of tree))
     → print_from true (entries_tokens all ++ tail) ≡ text ++ print_from true (entries_tokens ds ++ tail)
 list_goes_on text tail None ds all leads is = absurd leads
 list_goes_on text tail (Some d) ds all leads is =
-    rw (leads, is) (ap (print_from true) (append_assoc (tokens_of d) (entries_tokens ds) tail) ∙ cut_later d (entries_tokens ds ++ tail))
+    rw (leads, is)
+    (ap (print_from true) (append_assoc (tokens_of d) (entries_tokens ds) tail)
+    ∙ cut_later d (entries_tokens ds ++ tail))
 
 -- its end
-list_ends : (l : Listed) (s : Service) (h : DeliveryHead) (tail : List Token) → print_from true (list_end l s h ++ tail) ≡ print (list_end l s h ++ tail)
+list_ends : (l : Listed) (s : Service) (h : DeliveryHead) (tail : List Token)
+    → print_from true (list_end l s h ++ tail) ≡ print (list_end l s h ++ tail)
 list_ends list.Items service.Stop h tail = ends_list true tail
 list_ends list.Items service.Timetable h tail = ends_list true tail
 list_ends list.Items service.Vehicle h tail = ends_list true tail
@@ -98,10 +107,12 @@ pub begun : (s : Service) (h : DeliveryHead) (cs left rest : List KeyChange) (w 
     → text_at s h cs left stage.Begin ≡ print new ++ text_at s h cs rest stage.First
 begun s h cs left rest w new leads is =
     changes_said s h cs left
-    ∙ list_begun (front s h) (list_begin (first_list s) s h) (list_end (first_list s) s h) (middle s h ++ second_part s h cs) new w
+    ∙ list_begun (front s h) (list_begin (first_list s) s h) (list_end (first_list s) s h)
+    (middle s h ++ second_part s h cs) new w
     (entries_of_changes (first_list s) s rest) (entries_of_changes (first_list s) s cs) leads is
 
-pub begun_without : (s : Service) (h : DeliveryHead) (cs left : List KeyChange) → entries_of_changes (first_list s) s cs ≡ []
+pub begun_without : (s : Service) (h : DeliveryHead) (cs left : List KeyChange)
+    → entries_of_changes (first_list s) s cs ≡ []
     → text_at s h cs left stage.Begin ≡ print ((([] ++ front s h) ++ middle s h) ++ second_part s h cs)
 begun_without s h cs left none =
     changes_said s h cs left ∙ rw none (ap print (sym (append_assoc (front s h) (middle s h) (second_part s h cs))))
@@ -114,8 +125,10 @@ first_further s h cs left rest w text leads is =
     list_goes_on text (list_end (first_list s) s h ++ (middle s h ++ second_part s h cs)) w
     (entries_of_changes (first_list s) s rest) (entries_of_changes (first_list s) s left) leads is
 
-pub first_ended : (s : Service) (h : DeliveryHead) (cs left : List KeyChange) → entries_of_changes (first_list s) s left ≡ []
-    → text_at s h cs left stage.First ≡ print ((([] ++ list_end (first_list s) s h) ++ middle s h) ++ second_part s h cs)
+pub first_ended : (s : Service) (h : DeliveryHead) (cs left : List KeyChange)
+    → entries_of_changes (first_list s) s left ≡ []
+    → text_at s h cs left stage.First
+    ≡ print ((([] ++ list_end (first_list s) s h) ++ middle s h) ++ second_part s h cs)
 first_ended s h cs left none =
     rw none (list_ends (first_list s) s h (middle s h ++ second_part s h cs)
     ∙ ap print (sym (append_assoc (list_end (first_list s) s h) (middle s h) (second_part s h cs))))
@@ -128,7 +141,8 @@ second_begun s h cs rest w out new leads is =
     list_begun out (list_begin (second_list s) s h) (list_end (second_list s) s h) (back s h) new w
     (entries_of_changes (second_list s) s rest) (entries_of_changes (second_list s) s cs) leads is
 
-pub second_left_out : (s : Service) (h : DeliveryHead) (cs : List KeyChange) (out : List Token) → entries_of_changes (second_list s) s cs ≡ []
+pub second_left_out : (s : Service) (h : DeliveryHead) (cs : List KeyChange) (out : List Token)
+    → entries_of_changes (second_list s) s cs ≡ []
     → print (out ++ second_part s h cs) ≡ print (out ++ back s h)
 second_left_out s h cs out none = rw none
 
@@ -140,10 +154,12 @@ second_further s h cs left rest w text leads is =
     list_goes_on text (list_end (second_list s) s h ++ back s h) w
     (entries_of_changes (second_list s) s rest) (entries_of_changes (second_list s) s left) leads is
 
-pub second_ended : (s : Service) (h : DeliveryHead) (cs left : List KeyChange) → entries_of_changes (second_list s) s left ≡ []
+pub second_ended : (s : Service) (h : DeliveryHead) (cs left : List KeyChange)
+    → entries_of_changes (second_list s) s left ≡ []
     → text_at s h cs left stage.Second ≡ print (([] ++ list_end (second_list s) s h) ++ back s h) ++ []
 second_ended s h cs left none =
-    rw none (list_ends (second_list s) s h (back s h) ∙ sym (append-nil (print (list_end (second_list s) s h ++ back s h))))
+    rw none (list_ends (second_list s) s h (back s h)
+    ∙ sym (append-nil (print (list_end (second_list s) s h ++ back s h))))
 
 -- ---- no piece is empty
 

@@ -1,5 +1,6 @@
 -- Tables that are written in byte order of their names, a lemma a table.
-use Rattle.std.proofs.Common.{◌≡◌, ℕ, true, false, List, [], ◌∷◌, ◌++◌, Option, refl, sym, length, append_assoc, append-nil, arith}
+use Rattle.std.proofs.Common.{◌≡◌, ℕ, true, false, List, [], ◌∷◌, ◌++◌, Option, refl, sym, length, append_assoc}
+use Rattle.std.proofs.Common.{append-nil, arith}
 use Rattle.std.proofs.lemmas.Bool.{lt-ltb}
 use Rattle.std.specs.Prelude.{is_some, nat_lt}
 use Rattle.json.specs.Token.{Token, key, string, begin_object, end_object, begin_array, end_array}
@@ -9,7 +10,8 @@ use Rattle.siri_tables.specs.Appended.{row_tokens}
 use Rattle.siri_tables.proofs.Sorted.{rows_onto, sorted, object_in_order, any_written, written_object, left_out}
 use Rattle.siri_tables.specs.Tables.{all_written}
 use Rattle.siri_tables.specs.Writing.{Row, array_unless_empty, row_object, written_list, written_text}
-use Rattle.siri_deliveries.specs.declared.names.TheConstants.{ERROR_TEXT, ESTIMATED_VEHICLE_JOURNEY, EXTENSIONS, OTHER_ERROR, REMOVED}
+use Rattle.siri_deliveries.specs.declared.names.TheConstants.{ERROR_TEXT, ESTIMATED_VEHICLE_JOURNEY, EXTENSIONS}
+use Rattle.siri_deliveries.specs.declared.names.TheConstants.{OTHER_ERROR, REMOVED}
 use Rattle.siri_topic.specs.declared.topics.StopTopic.{StopTopic}
 use Rattle.siri_topic.specs.declared.topics.TimetableTopic.{TimetableTopic}
 use Rattle.siri_topic.specs.declared.topics.LineDirection.{LineDirection}
@@ -21,11 +23,14 @@ use Rattle.siri_messages.specs.declared.deliveries.FunctionalDelivery.{Functiona
 use Rattle.siri_messages.specs.declared.deliveries.ServiceDelivery.{ServiceDelivery}
 use Rattle.siri_deliveries.specs.Removals.{rows_of_removal, written_removal}
 use Rattle.siri_deliveries.specs.Frames.{rows_of_frame}
-use Rattle.siri_deliveries.specs.Parts.{rows_of_place, written_position, written_place, written_extensions, written_removed}
+use Rattle.siri_deliveries.specs.Parts.{rows_of_place, written_position, written_place, written_extensions}
+use Rattle.siri_deliveries.specs.Parts.{written_removed}
 use Rattle.siri_deliveries.specs.Deliveries.{stop_delivery_table, timetable_delivery_table, vehicle_delivery_table}
 use Rattle.siri_deliveries.specs.Deliveries.{situation_delivery_table, service_delivery_table, written_service_delivery}
-use Rattle.siri_deliveries.specs.Topics.{stop_topic_table, written_stop_topic, line_direction_table, timetable_topic_table}
-use Rattle.siri_deliveries.specs.Topics.{written_timetable_topic, vehicle_topic_table, written_vehicle_topic, situation_topic_table}
+use Rattle.siri_deliveries.specs.Topics.{stop_topic_table, written_stop_topic, line_direction_table}
+use Rattle.siri_deliveries.specs.Topics.{timetable_topic_table}
+use Rattle.siri_deliveries.specs.Topics.{written_timetable_topic, vehicle_topic_table, written_vehicle_topic}
+use Rattle.siri_deliveries.specs.Topics.{situation_topic_table}
 use Rattle.siri_deliveries.specs.Topics.{written_situation_topic}
 use Rattle.siri_records.specs.declared.key.Key.TheVariants as keys
 
@@ -91,7 +96,8 @@ pub removed_in_order : (old : List Token) (d : FunctionalDelivery)
     → rows_onto (old ++ begin_object ∷ []) (sorted
     (rows_of_place d ((REMOVED.now, written_list written_removal d.removals) ∷ []))) ++ end_object ∷ [] ≡ old
     ++ tokens_of (row_object (rows_of_place d ((REMOVED.now, written_list written_removal d.removals) ∷ [])))
-removed_in_order old d = object_in_order old (rows_of_place d ((REMOVED.now, written_list written_removal d.removals) ∷ []))
+removed_in_order old d = object_in_order old
+    (rows_of_place d ((REMOVED.now, written_list written_removal d.removals) ∷ []))
 
 pub stop_delivery_in_order : (old : List Token) (d : FunctionalDelivery)
     → rows_onto (old ++ begin_object ∷ []) (sorted (all_written stop_delivery_table d)) ++ end_object ∷ [] ≡ old
@@ -128,10 +134,13 @@ regroup_error old a b k c e f = simp append_assoc
 pub error_in_order : (old : List Token) (t : List ℕ)
     → (((((old ++ begin_object ∷ []) ++ key OTHER_ERROR.now ∷ []) ++ begin_object ∷ [])
     ++ row_tokens ERROR_TEXT.now (written_text t)) ++ end_object ∷ []) ++ end_object ∷ []
-    ≡ old ++ begin_object ∷ key OTHER_ERROR.now ∷ begin_object ∷ key ERROR_TEXT.now ∷ string t ∷ end_object ∷ end_object ∷ []
-error_in_order old t = regroup_error old (row_tokens ERROR_TEXT.now (written_text t)) begin_object (key OTHER_ERROR.now) begin_object end_object end_object
+    ≡ old ++ begin_object ∷ key OTHER_ERROR.now ∷ begin_object ∷ key ERROR_TEXT.now ∷ string t ∷ end_object ∷ end_object
+    ∷ []
+error_in_order old t = regroup_error old (row_tokens ERROR_TEXT.now (written_text t)) begin_object
+    (key OTHER_ERROR.now) begin_object end_object end_object
 
-pub regroup_row : (old a : List Token) (k b e : Token) → (((old ++ k ∷ []) ++ b ∷ []) ++ a) ++ e ∷ [] ≡ old ++ k ∷ b ∷ (a ++ e ∷ [])
+pub regroup_row : (old a : List Token) (k b e : Token)
+    → (((old ++ k ∷ []) ++ b ∷ []) ++ a) ++ e ∷ [] ≡ old ++ k ∷ b ∷ (a ++ e ∷ [])
 regroup_row old a k b e = simp append_assoc
 
 pub journey_row_is : (old : List Token) (d : Data)
@@ -147,9 +156,11 @@ unfolding written_position
 place_left_out old d is = rw (left_out (rows_of_place d []) is) (sym (append-nil old))
 
 pub place_written : (old : List Token) (d : FunctionalDelivery) → any_written (rows_of_place d []) ≡ true
-    → (old ++ key EXTENSIONS.now ∷ []) ++ tokens_of (row_object (rows_of_place d [])) ≡ old ++ row_tokens EXTENSIONS.now (written_place d)
+    → (old ++ key EXTENSIONS.now ∷ []) ++ tokens_of (row_object (rows_of_place d [])) ≡ old
+    ++ row_tokens EXTENSIONS.now (written_place d)
 unfolding written_position
-place_written old d is = rw (written_object (rows_of_place d []) is) (append_assoc old (key EXTENSIONS.now ∷ []) (tokens_of (row_object (rows_of_place d []))))
+place_written old d is = rw (written_object (rows_of_place d []) is)
+    (append_assoc old (key EXTENSIONS.now ∷ []) (tokens_of (row_object (rows_of_place d []))))
 
 rows_of_removed : FunctionalDelivery → List Row
 rows_of_removed d = rows_of_place d ((REMOVED.now, written_list written_removal d.removals) ∷ [])
@@ -166,7 +177,8 @@ pub removed_written : (old : List Token) (d : FunctionalDelivery)
     (row_object (rows_of_place d ((REMOVED.now, written_list written_removal d.removals) ∷ []))) ≡ old
     ++ row_tokens EXTENSIONS.now (written_removed d)
 unfolding written_extensions rows_of_removed
-removed_written old d is = rw (written_object (rows_of_removed d) is) (append_assoc old (key EXTENSIONS.now ∷ []) (tokens_of (row_object (rows_of_removed d))))
+removed_written old d is = rw (written_object (rows_of_removed d) is)
+    (append_assoc old (key EXTENSIONS.now ∷ []) (tokens_of (row_object (rows_of_removed d))))
 
 pub any_removed : (keys : List Key) → is_some (written_list written_removal keys) ≡ nat_lt 0 (length keys)
 unfolding written_list written_removal

@@ -1,12 +1,14 @@
 -- The text of tokens, cut behind a value.
-use Rattle.std.proofs.Common.{◌≡◌, ℕ, Bool, true, false, List, [], ◌∷◌, ◌++◌, fold, refl, sym, ap, ◌∙◌, append_assoc, length, ◌<◌, arith}
+use Rattle.std.proofs.Common.{◌≡◌, ℕ, Bool, true, false, List, [], ◌∷◌, ◌++◌, fold, refl, ap, ◌∙◌}
+use Rattle.std.proofs.Common.{length, ◌<◌, arith}
 use Rattle.std.proofs.lemmas.List.{length-append}
 use Rattle.std.proofs.lemmas.List.Sums.{fold-append}
 use Rattle.json.specs.Token.{Token, end_array}
 use Rattle.json.specs.Print.{ends, print, print_from}
 use Rattle.json.specs.Tree.{items_tokens, members_tokens}
 use Rattle.json.proofs.Printed.Tokens.{print_from-append}
-use Rattle.serde_json.specs.Data.{Data, null, boolean, number, string, array, object, Items, no_items, item, Members, no_members, member}
+use Rattle.serde_json.specs.Data.{Data, null, boolean, number, string, array, object, Items, no_items, item, Members}
+use Rattle.serde_json.specs.Data.{no_members, member}
 use Rattle.serde_json.specs.Written.{items_outline, members_outline}
 use Rattle.siri_json.specs.Tokens.{tokens_of}
 
@@ -26,12 +28,14 @@ mutual
 
   ends_items : (ds : Items) (c : Bool) → ended c (items_tokens (items_outline ds)) ≡ true
   ends_items no_items c = refl
-  ends_items (item d ds) c = fold-append (λ _ t. ends t) c (tokens_of d) (items_tokens (items_outline ds)) ∙ ends_items ds (ended c (tokens_of d))
+  ends_items (item d ds) c = fold-append (λ _ t. ends t) c (tokens_of d) (items_tokens (items_outline ds))
+      ∙ ends_items ds (ended c (tokens_of d))
 
   ends_members : (ms : Members) (c : Bool) → ended c (members_tokens (members_outline ms)) ≡ true
   ends_members no_members c = refl
   ends_members (member k d ms) c =
-      fold-append (λ _ t. ends t) false (tokens_of d) (members_tokens (members_outline ms)) ∙ ends_members ms (ended false (tokens_of d))
+      fold-append (λ _ t. ends t) false (tokens_of d) (members_tokens (members_outline ms))
+      ∙ ends_members ms (ended false (tokens_of d))
 
 -- a comma stands before a value that follows another
 pub begins_value : (d : Data) → print_from true (tokens_of d) ≡ 44 ∷ print (tokens_of d)
@@ -44,14 +48,16 @@ begins_value (array ds) = refl
 begins_value (object ms) = refl
 
 -- the text behind a value
-pub cut_behind : (c : Bool) (ts : List Token) (d : Data) (us : List Token) → print_from c ((ts ++ tokens_of d) ++ us) ≡ print_from c (ts ++ tokens_of d) ++ print_from true us
+pub cut_behind : (c : Bool) (ts : List Token) (d : Data) (us : List Token)
+    → print_from c ((ts ++ tokens_of d) ++ us) ≡ print_from c (ts ++ tokens_of d) ++ print_from true us
 cut_behind c ts d us =
     print_from-append c (ts ++ tokens_of d) us
     ∙ ap (λ (b : Bool). print_from c (ts ++ tokens_of d) ++ print_from b us)
     (fold-append (λ _ t. ends t) c ts (tokens_of d) ∙ ends_value d (ended c ts))
 
 -- a value that follows another, and the text behind it
-pub cut_later : (d : Data) (us : List Token) → print_from true (tokens_of d ++ us) ≡ (44 ∷ print (tokens_of d)) ++ print_from true us
+pub cut_later : (d : Data) (us : List Token)
+    → print_from true (tokens_of d ++ us) ≡ (44 ∷ print (tokens_of d)) ++ print_from true us
 cut_later d us = cut_behind true [] d us ∙ ap (λ (text : List ℕ). text ++ print_from true us) (begins_value d)
 
 -- no comma stands before the end of a list

@@ -11,24 +11,30 @@ use Rattle.siri_tables.specs.Refusals.{Refusal, ◌>>=◌}
 use Rattle.siri_tables.specs.Rules.{table}
 use Rattle.siri_tables.specs.Proper.{IsListWithin}
 use Rattle.siri_tables.specs.Writing.{row_object, with_rows, object_unless_empty, written_list}
-use Rattle.siri_tables.specs.Tables.{Kind, Row, optional, entries_inside, a_name, a_moment, a_flag, Table, Maker, read_all, AllProper, all_written}
+use Rattle.siri_tables.specs.Tables.{Kind, Row, optional, entries_inside, a_name, a_moment, a_flag, Table, Maker}
+use Rattle.siri_tables.specs.Tables.{read_all, AllProper, all_written}
 use Rattle.siri_items.specs.Visits.{visit}
 use Rattle.siri_items.specs.Vehicles.{vehicle}
 use Rattle.siri_items.specs.Situations.{situation}
 use Rattle.siri_items.specs.Proper.{IsProper, service_of}
 use Rattle.siri_items.specs.Written.{written_item}
-use Rattle.siri_deliveries.specs.Removals.{visit_cancellation, vehicle_cancellation, removed_journey, removed_situation, IsProperRemoval, a_removal}
-use Rattle.siri_deliveries.specs.Parts.{heading_table, heading_of, with_heading, no_round, IsPlaced, position_of, a_place, no_extensions}
+use Rattle.siri_deliveries.specs.Removals.{visit_cancellation, vehicle_cancellation, removed_journey, removed_situation}
+use Rattle.siri_deliveries.specs.Removals.{IsProperRemoval, a_removal}
+use Rattle.siri_deliveries.specs.Parts.{heading_table, heading_of, with_heading, no_round, IsPlaced, position_of}
+use Rattle.siri_deliveries.specs.Parts.{a_place, no_extensions}
 use Rattle.siri_deliveries.specs.Parts.{extensions_of, some_extensions, delivery_of}
 use Rattle.siri_deliveries.specs.Frames.{journeys_of_frames, written_frame}
 use Rattle.siri_deliveries.specs.Rows.{an_error, with_default, flag_where_true, entries}
 use Rattle.siri_deliveries.specs.declared.read_parts.DeliveryExtensions.{DeliveryExtensions}
 use Rattle.siri_deliveries.specs.declared.read_parts.Heading.{Heading}
-use Rattle.siri_deliveries.specs.declared.names.TheConstants.{RESPONSE_TIMESTAMP, PRODUCER_REF, RESPONSE_MESSAGE_IDENTIFIER}
-use Rattle.siri_deliveries.specs.declared.names.TheConstants.{REQUEST_MESSAGE_REF, STATUS, ERROR_CONDITION, MORE_DATA, EXTENSIONS}
+use Rattle.siri_deliveries.specs.declared.names.TheConstants.{RESPONSE_TIMESTAMP, PRODUCER_REF}
+use Rattle.siri_deliveries.specs.declared.names.TheConstants.{RESPONSE_MESSAGE_IDENTIFIER}
+use Rattle.siri_deliveries.specs.declared.names.TheConstants.{REQUEST_MESSAGE_REF, STATUS, ERROR_CONDITION, MORE_DATA}
+use Rattle.siri_deliveries.specs.declared.names.TheConstants.{EXTENSIONS}
 use Rattle.siri_deliveries.specs.declared.names.TheConstants.{MONITORED_STOP_VISIT, MONITORED_STOP_VISIT_CANCELLATION}
 use Rattle.siri_deliveries.specs.declared.names.TheConstants.{ESTIMATED_JOURNEY_VERSION_FRAME, VEHICLE_ACTIVITY}
-use Rattle.siri_deliveries.specs.declared.names.TheConstants.{VEHICLE_ACTIVITY_CANCELLATION, SITUATIONS, PT_SITUATION_ELEMENT}
+use Rattle.siri_deliveries.specs.declared.names.TheConstants.{VEHICLE_ACTIVITY_CANCELLATION, SITUATIONS}
+use Rattle.siri_deliveries.specs.declared.names.TheConstants.{PT_SITUATION_ELEMENT}
 use Rattle.siri_deliveries.specs.declared.names.TheConstants.{STOP_MONITORING_DELIVERY, ESTIMATED_TIMETABLE_DELIVERY}
 use Rattle.siri_deliveries.specs.declared.names.TheConstants.{VEHICLE_MONITORING_DELIVERY, SITUATION_EXCHANGE_DELIVERY}
 use Rattle.siri_deliveries.specs.Limits.{most_entries}
@@ -92,7 +98,8 @@ stop_delivery_table =
     with_heading ∷
     with_default a_place no_round EXTENSIONS.now position_of ∷
     entries (an_item visit_item service.Stop) most_entries MONITORED_STOP_VISIT.now (λ d. d.items) ∷
-    entries (a_removal visit_cancellation service.Stop) most_entries MONITORED_STOP_VISIT_CANCELLATION.now (λ d. d.removals) ∷ []
+    entries (a_removal visit_cancellation service.Stop) most_entries MONITORED_STOP_VISIT_CANCELLATION.now
+    (λ d. d.removals) ∷ []
 
 unfoldable pub stop_monitoring_delivery : Data → Result FunctionalDelivery Refusal
 stop_monitoring_delivery d = read_all stop_delivery_table delivery_of d
@@ -101,7 +108,8 @@ unfoldable pub written_stop_delivery : FunctionalDelivery → Option Data
 written_stop_delivery d = Some (row_object (all_written stop_delivery_table d))
 
 abbrev pub a_stop_delivery : Kind FunctionalDelivery
-a_stop_delivery = record { rule = table stop_monitoring_delivery; writing = written_stop_delivery; Is = IsProperDelivery service.Stop }
+a_stop_delivery = record
+    { rule = table stop_monitoring_delivery; writing = written_stop_delivery; Is = IsProperDelivery service.Stop }
 
 -- EstimatedTimetableDelivery: the journeys of its frames, and journeys that are shown no more
 abbrev pub timetable_delivery_table : Table FunctionalDelivery
@@ -120,7 +128,12 @@ unfoldable pub written_timetable_delivery : FunctionalDelivery → Option Data
 written_timetable_delivery d = Some (row_object (all_written timetable_delivery_table d))
 
 abbrev pub a_timetable_delivery : Kind FunctionalDelivery
-a_timetable_delivery = record { rule = table estimated_timetable_delivery; writing = written_timetable_delivery; Is = IsProperDelivery service.Timetable }
+a_timetable_delivery = record {
+  rule = table estimated_timetable_delivery;
+  writing = written_timetable_delivery;
+  Is = IsProperDelivery
+      service.Timetable;
+}
 
 -- VehicleMonitoringDelivery: vehicle activities, and those that are no more
 abbrev pub vehicle_delivery_table : Table FunctionalDelivery
@@ -128,7 +141,8 @@ vehicle_delivery_table =
     with_heading ∷
     with_default a_place no_round EXTENSIONS.now position_of ∷
     entries (an_item vehicle_item service.Vehicle) most_entries VEHICLE_ACTIVITY.now (λ d. d.items) ∷
-    entries (a_removal vehicle_cancellation service.Vehicle) most_entries VEHICLE_ACTIVITY_CANCELLATION.now (λ d. d.removals) ∷ []
+    entries (a_removal vehicle_cancellation service.Vehicle) most_entries VEHICLE_ACTIVITY_CANCELLATION.now
+    (λ d. d.removals) ∷ []
 
 unfoldable pub vehicle_monitoring_delivery : Data → Result FunctionalDelivery Refusal
 vehicle_monitoring_delivery d = read_all vehicle_delivery_table delivery_of d
@@ -137,18 +151,25 @@ unfoldable pub written_vehicle_delivery : FunctionalDelivery → Option Data
 written_vehicle_delivery d = Some (row_object (all_written vehicle_delivery_table d))
 
 abbrev pub a_vehicle_delivery : Kind FunctionalDelivery
-a_vehicle_delivery = record { rule = table vehicle_monitoring_delivery; writing = written_vehicle_delivery; Is = IsProperDelivery service.Vehicle }
+a_vehicle_delivery = record {
+  rule = table vehicle_monitoring_delivery;
+  writing = written_vehicle_delivery;
+  Is = IsProperDelivery
+      service.Vehicle;
+}
 
 -- Situations, which isn't written where there is none
 abbrev pub written_situations : List Item → Option Data
-written_situations items = object_unless_empty (with_rows no_members ((PT_SITUATION_ELEMENT.now, written_list item_writing items) ∷ []))
+written_situations items = object_unless_empty
+    (with_rows no_members ((PT_SITUATION_ELEMENT.now, written_list item_writing items) ∷ []))
 
 -- SituationExchangeDelivery: situations, and situations that are shown no more
 abbrev pub situation_delivery_table : Table FunctionalDelivery
 situation_delivery_table =
     with_heading ∷
     with_default (some_extensions removed_situation service.Situation) no_extensions EXTENSIONS.now extensions_of ∷
-    entries_inside (an_item situation_item service.Situation) most_entries SITUATIONS.now PT_SITUATION_ELEMENT.now (λ d. d.items) ∷ []
+    entries_inside (an_item situation_item service.Situation) most_entries SITUATIONS.now PT_SITUATION_ELEMENT.now
+    (λ d. d.items) ∷ []
 
 unfoldable pub situation_exchange_delivery : Data → Result FunctionalDelivery Refusal
 situation_exchange_delivery d = read_all situation_delivery_table with_extensions d
@@ -157,7 +178,12 @@ unfoldable pub written_situation_delivery : FunctionalDelivery → Option Data
 written_situation_delivery d = Some (row_object (all_written situation_delivery_table d))
 
 abbrev pub a_situation_delivery : Kind FunctionalDelivery
-a_situation_delivery = record { rule = table situation_exchange_delivery; writing = written_situation_delivery; Is = IsProperDelivery service.Situation }
+a_situation_delivery = record {
+  rule = table situation_exchange_delivery;
+  writing = written_situation_delivery;
+  Is = IsProperDelivery
+      service.Situation;
+}
 
 -- ---- all services
 
@@ -178,7 +204,8 @@ service_delivery_table =
 
 abbrev pub make_service_delivery : Maker service_delivery_table
 make_service_delivery =
-    λ response_timestamp producer_ref response_message_identifier request_message_ref status error_condition more_data stop_monitoring_delivery
+    λ response_timestamp producer_ref response_message_identifier request_message_ref status error_condition more_data
+    stop_monitoring_delivery
     estimated_timetable_delivery vehicle_monitoring_delivery situation_exchange_delivery.
     record {
       response_timestamp = response_timestamp;

@@ -1,5 +1,5 @@
--- What messages say of errors: ErrorCondition is an object whose member OtherError is an object with ErrorText (EN 15531-2).
--- Other content counts as absent.
+-- What messages say of errors: ErrorCondition is an object whose member OtherError is an object with ErrorText (EN
+-- 15531-2). Other content counts as absent.
 use Rattle.std.specs.Prelude.{ℕ, List, Option, Result}
 use Rattle.serde_json.specs.Data.{Data}
 use Rattle.siri_tables.specs.Refusals.{Refusal}

@@ -51,4 +51,5 @@ trees_of s deliveries = map (delivery_tree s) deliveries
 
 -- the pieces, with what was written behind them, are the text of these tokens, whichever follow; for clauses of frames
 abbrev pub GoesOn : ServiceDelivery → List FramePiece → List Token → List Token → Type 0
-GoesOn d pieces out tokens = (later : List Token) → filled_text d pieces ++ print (out ++ later) ≡ print (tokens ++ later)
+GoesOn d pieces out tokens = (later : List Token)
+    → filled_text d pieces ++ print (out ++ later) ≡ print (tokens ++ later)

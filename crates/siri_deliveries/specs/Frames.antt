@@ -1,5 +1,6 @@
 -- The table of EstimatedJourneyVersionFrame (EN 15531-3): the journeys of all frames as one list.
-use Rattle.std.specs.Prelude.{ℕ, List, [], ◌∷◌, length, map, flat_map, nat_le, if◌then◌else◌, Option, Some, None, option_and_then, Result, Ok}
+use Rattle.std.specs.Prelude.{ℕ, List, [], ◌∷◌, length, map, flat_map, nat_le, if◌then◌else◌, Option, Some, None}
+use Rattle.std.specs.Prelude.{option_and_then, Result, Ok}
 use Rattle.serde_json.specs.Data.{Data}
 use Rattle.siri_base.specs.declared.reason.Reason.TheVariants.{TooMany}
 use Rattle.siri_json.specs.Values.{member_of}
@@ -13,7 +14,8 @@ use Rattle.siri_tables.specs.Writing.{Row, row_object, array_unless_empty, writt
 use Rattle.siri_items.specs.Written.{written_item}
 use Rattle.siri_items.specs.Journeys.{journey}
 use Rattle.siri_items.specs.declared.names.TheConstants.{RECORDED_AT_TIME}
-use Rattle.siri_deliveries.specs.declared.names.TheConstants.{ESTIMATED_VEHICLE_JOURNEY, ESTIMATED_JOURNEY_VERSION_FRAME}
+use Rattle.siri_deliveries.specs.declared.names.TheConstants.{ESTIMATED_VEHICLE_JOURNEY}
+use Rattle.siri_deliveries.specs.declared.names.TheConstants.{ESTIMATED_JOURNEY_VERSION_FRAME}
 use Rattle.siri_deliveries.specs.Limits.{most_entries}
 
 -- a journey's own RecordedAtTime, or its frame's where that is absent
@@ -27,7 +29,8 @@ journey_of_frame frame j = item.Journey (record j { recorded_at_time = own_or j.
 
 -- the journeys of a frame, as many as there are
 unfoldable pub journeys : Data → Result (List Journey) Refusal
-journeys d = below (Member ESTIMATED_VEHICLE_JOURNEY.now) (or_empty (list_of (table journey)) (member_of ESTIMATED_VEHICLE_JOURNEY.now d))
+journeys d = below (Member ESTIMATED_VEHICLE_JOURNEY.now)
+    (or_empty (list_of (table journey)) (member_of ESTIMATED_VEHICLE_JOURNEY.now d))
 
 -- EstimatedJourneyVersionFrame: its journeys, each with its own RecordedAtTime or the frame's
 unfoldable pub frame : Data → Result (List Item) Refusal
@@ -49,7 +52,8 @@ unfoldable pub frames_of : Data → Result (List Item) Refusal
 frames_of d = list_of (table frame) d >>= λ frames. few_in_all (concat_frames frames)
 
 unfoldable pub journeys_of_frames : Data → Result (List Item) Refusal
-journeys_of_frames d = below (Member ESTIMATED_JOURNEY_VERSION_FRAME.now) (or_empty frames_of (member_of ESTIMATED_JOURNEY_VERSION_FRAME.now d))
+journeys_of_frames d = below (Member ESTIMATED_JOURNEY_VERSION_FRAME.now)
+    (or_empty frames_of (member_of ESTIMATED_JOURNEY_VERSION_FRAME.now d))
 
 -- ---- what is written of it
 

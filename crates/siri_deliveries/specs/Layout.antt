@@ -1,7 +1,7 @@
--- How the rows of a functional delivery lie around its two lists, its items and its removals, in byte order of their names:
--- what stands before the first list, between both and behind the second. In a delivery of visits, journeys or vehicles the
--- items are the first list, in one of situations the removals. For clauses of pieces.
-use Rattle.std.specs.Prelude.{ℕ, List, [], ◌∷◌, ◌++◌, true, Option, Some, None, option_and_then}
+-- How the rows of a functional delivery lie around its two lists, its items and its removals, in byte order of their
+-- names: what stands before the first list, between both and behind the second. In a delivery of visits, journeys or
+-- vehicles the items are the first list, in one of situations the removals. For clauses of pieces.
+use Rattle.std.specs.Prelude.{List, [], ◌∷◌, ◌++◌, true, Option, Some, None, option_and_then}
 use Rattle.json.specs.Token.{Token, key, begin_object, end_object, begin_array, end_array}
 use Rattle.serde_json.specs.Data.{Data}
 use Rattle.siri_records.specs.declared.item.Item.{Item}
@@ -11,11 +11,13 @@ use Rattle.siri_tables.specs.Appended.{row_tokens, entries_tokens}
 use Rattle.siri_tables.specs.Writing.{written_flag, written_moment, written_number, written_text}
 use Rattle.siri_deliveries.specs.Deliveries.{item_writing}
 use Rattle.siri_deliveries.specs.Frames.{written_frame}
-use Rattle.siri_deliveries.specs.declared.names.TheConstants.{RESPONSE_TIMESTAMP, STATUS, SUBSCRIBER_REF, SUBSCRIPTION_REF}
+use Rattle.siri_deliveries.specs.declared.names.TheConstants.{RESPONSE_TIMESTAMP, STATUS, SUBSCRIBER_REF}
+use Rattle.siri_deliveries.specs.declared.names.TheConstants.{SUBSCRIPTION_REF}
 use Rattle.siri_deliveries.specs.declared.names.TheConstants.{EXTENSIONS, PART, REMOVED, ROUND, START}
 use Rattle.siri_deliveries.specs.declared.names.TheConstants.{MONITORED_STOP_VISIT, MONITORED_STOP_VISIT_CANCELLATION}
 use Rattle.siri_deliveries.specs.declared.names.TheConstants.{ESTIMATED_JOURNEY_VERSION_FRAME, VEHICLE_ACTIVITY}
-use Rattle.siri_deliveries.specs.declared.names.TheConstants.{VEHICLE_ACTIVITY_CANCELLATION, SITUATIONS, PT_SITUATION_ELEMENT}
+use Rattle.siri_deliveries.specs.declared.names.TheConstants.{VEHICLE_ACTIVITY_CANCELLATION, SITUATIONS}
+use Rattle.siri_deliveries.specs.declared.names.TheConstants.{PT_SITUATION_ELEMENT}
 use Rattle.siri_deliveries.specs.declared.pieces.DeliveryHead.{DeliveryHead}
 
 -- ---- rows that all services have
@@ -32,11 +34,14 @@ where_unasked (Some subscriber) tokens = []
 
 -- Extensions up to its Part
 abbrev pub place_begins : DeliveryHead → List Token
-place_begins h = where_subscribed h.subscriber (key EXTENSIONS.now ∷ begin_object ∷ row_tokens PART.now (written_number h.part))
+place_begins h = where_subscribed h.subscriber
+    (key EXTENSIONS.now ∷ begin_object ∷ row_tokens PART.now (written_number h.part))
 
 -- its Round and Start
 abbrev pub place_ends : DeliveryHead → List Token
-place_ends h = where_subscribed h.subscriber (row_tokens ROUND.now (written_number h.round) ++ (row_tokens START.now (written_number h.start) ++ end_object ∷ []))
+place_ends h = where_subscribed h.subscriber
+    (row_tokens ROUND.now (written_number h.round)
+    ++ (row_tokens START.now (written_number h.start) ++ end_object ∷ []))
 
 abbrev pub moment_row : DeliveryHead → List Token
 moment_row h = row_tokens RESPONSE_TIMESTAMP.now (written_moment h.moment)
@@ -84,7 +89,8 @@ items_end service.Situation = end_array ∷ end_object ∷ []
 
 -- where nothing else stands in Extensions, the removals begin them
 abbrev pub removed_begin : DeliveryHead → List Token
-removed_begin h = where_unasked h.subscriber (key EXTENSIONS.now ∷ begin_object ∷ []) ++ key REMOVED.now ∷ begin_array ∷ []
+removed_begin h = where_unasked h.subscriber (key EXTENSIONS.now ∷ begin_object ∷ [])
+    ++ key REMOVED.now ∷ begin_array ∷ []
 
 abbrev pub removals_begin : Service → DeliveryHead → List Token
 removals_begin service.Stop h = key MONITORED_STOP_VISIT_CANCELLATION.now ∷ begin_array ∷ []

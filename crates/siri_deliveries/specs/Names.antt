@@ -1,30 +1,46 @@
--- How documents spell the names of members that messages have besides those of items, and the names of messages themselves
--- (EN 15531-2, EN 15531-3, CEN/TS 15531-5; Extensions and what stands in them are this profile's own): a row a name. The
--- tables name their members by the constants on the left.
+-- How documents spell the names of members that messages have besides those of items, and the names of messages
+-- themselves (EN 15531-2, EN 15531-3, CEN/TS 15531-5; Extensions and what stands in them are this profile's own): a row
+-- a name. The tables name their members by the constants on the left.
 use Rattle.std.specs.Prelude.{◌≡◌, codes}
-use Rattle.siri_deliveries.specs.declared.names.TheConstants.{REQUEST_TIMESTAMP, RESPONSE_TIMESTAMP, REQUESTOR_REF, MESSAGE_IDENTIFIER}
+use Rattle.siri_deliveries.specs.declared.names.TheConstants.{REQUEST_TIMESTAMP, RESPONSE_TIMESTAMP, REQUESTOR_REF}
+use Rattle.siri_deliveries.specs.declared.names.TheConstants.{MESSAGE_IDENTIFIER}
 use Rattle.siri_deliveries.specs.declared.names.TheConstants.{STOP_MONITORING_REQUEST, ESTIMATED_TIMETABLE_REQUEST}
-use Rattle.siri_deliveries.specs.declared.names.TheConstants.{VEHICLE_MONITORING_REQUEST, SITUATION_EXCHANGE_REQUEST, PRODUCER_REF}
-use Rattle.siri_deliveries.specs.declared.names.TheConstants.{RESPONSE_MESSAGE_IDENTIFIER, REQUEST_MESSAGE_REF, STATUS, ERROR_CONDITION}
-use Rattle.siri_deliveries.specs.declared.names.TheConstants.{OTHER_ERROR, ERROR_TEXT, MORE_DATA, STOP_MONITORING_DELIVERY}
+use Rattle.siri_deliveries.specs.declared.names.TheConstants.{VEHICLE_MONITORING_REQUEST, SITUATION_EXCHANGE_REQUEST}
+use Rattle.siri_deliveries.specs.declared.names.TheConstants.{PRODUCER_REF}
+use Rattle.siri_deliveries.specs.declared.names.TheConstants.{RESPONSE_MESSAGE_IDENTIFIER, REQUEST_MESSAGE_REF, STATUS}
+use Rattle.siri_deliveries.specs.declared.names.TheConstants.{ERROR_CONDITION}
+use Rattle.siri_deliveries.specs.declared.names.TheConstants.{OTHER_ERROR, ERROR_TEXT, MORE_DATA}
+use Rattle.siri_deliveries.specs.declared.names.TheConstants.{STOP_MONITORING_DELIVERY}
 use Rattle.siri_deliveries.specs.declared.names.TheConstants.{ESTIMATED_TIMETABLE_DELIVERY, VEHICLE_MONITORING_DELIVERY}
-use Rattle.siri_deliveries.specs.declared.names.TheConstants.{SITUATION_EXCHANGE_DELIVERY, CONSUMER_ADDRESS, SUBSCRIPTION_CONTEXT}
+use Rattle.siri_deliveries.specs.declared.names.TheConstants.{SITUATION_EXCHANGE_DELIVERY, CONSUMER_ADDRESS}
+use Rattle.siri_deliveries.specs.declared.names.TheConstants.{SUBSCRIPTION_CONTEXT}
 use Rattle.siri_deliveries.specs.declared.names.TheConstants.{HEARTBEAT_INTERVAL, STOP_MONITORING_SUBSCRIPTION_REQUEST}
 use Rattle.siri_deliveries.specs.declared.names.TheConstants.{ESTIMATED_TIMETABLE_SUBSCRIPTION_REQUEST}
 use Rattle.siri_deliveries.specs.declared.names.TheConstants.{VEHICLE_MONITORING_SUBSCRIPTION_REQUEST}
-use Rattle.siri_deliveries.specs.declared.names.TheConstants.{SITUATION_EXCHANGE_SUBSCRIPTION_REQUEST, RESPONSE_STATUS, SUBSCRIBER_REF}
-use Rattle.siri_deliveries.specs.declared.names.TheConstants.{SUBSCRIPTION_REF, VALID_UNTIL, TERMINATION_RESPONSE_STATUS, EXTENSIONS}
-use Rattle.siri_deliveries.specs.declared.names.TheConstants.{NUMBER, START, ROUND, PART, CONSUMER_REF, ALL_DATA, SERVICE_STARTED_TIME}
-use Rattle.siri_deliveries.specs.declared.names.TheConstants.{REMOVED, MONITORED_STOP_VISIT, MONITORED_STOP_VISIT_CANCELLATION}
-use Rattle.siri_deliveries.specs.declared.names.TheConstants.{ESTIMATED_JOURNEY_VERSION_FRAME, ESTIMATED_VEHICLE_JOURNEY, VEHICLE_ACTIVITY}
-use Rattle.siri_deliveries.specs.declared.names.TheConstants.{VEHICLE_ACTIVITY_CANCELLATION, SITUATIONS, PT_SITUATION_ELEMENT, ITEM_REF}
-use Rattle.siri_deliveries.specs.declared.names.TheConstants.{SUBSCRIPTION_IDENTIFIER, INITIAL_TERMINATION_TIME, INCREMENTAL_UPDATES}
-use Rattle.siri_deliveries.specs.declared.names.TheConstants.{CHANGE_BEFORE_UPDATES, DELIVERY_METHOD, PREVIEW_INTERVAL, MAXIMUM_STOP_VISITS}
-use Rattle.siri_deliveries.specs.declared.names.TheConstants.{LINES, LINE_DIRECTION, SIRI, SERVICE_REQUEST, SERVICE_DELIVERY}
-use Rattle.siri_deliveries.specs.declared.names.TheConstants.{SUBSCRIPTION_REQUEST, SUBSCRIPTION_RESPONSE, TERMINATE_SUBSCRIPTION_REQUEST}
+use Rattle.siri_deliveries.specs.declared.names.TheConstants.{SITUATION_EXCHANGE_SUBSCRIPTION_REQUEST, RESPONSE_STATUS}
+use Rattle.siri_deliveries.specs.declared.names.TheConstants.{SUBSCRIBER_REF}
+use Rattle.siri_deliveries.specs.declared.names.TheConstants.{SUBSCRIPTION_REF, VALID_UNTIL}
+use Rattle.siri_deliveries.specs.declared.names.TheConstants.{TERMINATION_RESPONSE_STATUS, EXTENSIONS}
+use Rattle.siri_deliveries.specs.declared.names.TheConstants.{NUMBER, START, ROUND, PART, CONSUMER_REF, ALL_DATA}
+use Rattle.siri_deliveries.specs.declared.names.TheConstants.{SERVICE_STARTED_TIME}
+use Rattle.siri_deliveries.specs.declared.names.TheConstants.{REMOVED, MONITORED_STOP_VISIT}
+use Rattle.siri_deliveries.specs.declared.names.TheConstants.{MONITORED_STOP_VISIT_CANCELLATION}
+use Rattle.siri_deliveries.specs.declared.names.TheConstants.{ESTIMATED_JOURNEY_VERSION_FRAME}
+use Rattle.siri_deliveries.specs.declared.names.TheConstants.{ESTIMATED_VEHICLE_JOURNEY, VEHICLE_ACTIVITY}
+use Rattle.siri_deliveries.specs.declared.names.TheConstants.{VEHICLE_ACTIVITY_CANCELLATION, SITUATIONS}
+use Rattle.siri_deliveries.specs.declared.names.TheConstants.{PT_SITUATION_ELEMENT, ITEM_REF}
+use Rattle.siri_deliveries.specs.declared.names.TheConstants.{SUBSCRIPTION_IDENTIFIER, INITIAL_TERMINATION_TIME}
+use Rattle.siri_deliveries.specs.declared.names.TheConstants.{INCREMENTAL_UPDATES}
+use Rattle.siri_deliveries.specs.declared.names.TheConstants.{CHANGE_BEFORE_UPDATES, DELIVERY_METHOD, PREVIEW_INTERVAL}
+use Rattle.siri_deliveries.specs.declared.names.TheConstants.{MAXIMUM_STOP_VISITS}
+use Rattle.siri_deliveries.specs.declared.names.TheConstants.{LINES, LINE_DIRECTION, SIRI, SERVICE_REQUEST}
+use Rattle.siri_deliveries.specs.declared.names.TheConstants.{SERVICE_DELIVERY}
+use Rattle.siri_deliveries.specs.declared.names.TheConstants.{SUBSCRIPTION_REQUEST, SUBSCRIPTION_RESPONSE}
+use Rattle.siri_deliveries.specs.declared.names.TheConstants.{TERMINATE_SUBSCRIPTION_REQUEST}
 use Rattle.siri_deliveries.specs.declared.names.TheConstants.{TERMINATE_SUBSCRIPTION_RESPONSE, DATA_READY_NOTIFICATION}
 use Rattle.siri_deliveries.specs.declared.names.TheConstants.{DATA_READY_ACKNOWLEDGEMENT, DATA_SUPPLY_REQUEST}
-use Rattle.siri_deliveries.specs.declared.names.TheConstants.{DATA_RECEIVED_ACKNOWLEDGEMENT, CHECK_STATUS_REQUEST, CHECK_STATUS_RESPONSE}
+use Rattle.siri_deliveries.specs.declared.names.TheConstants.{DATA_RECEIVED_ACKNOWLEDGEMENT, CHECK_STATUS_REQUEST}
+use Rattle.siri_deliveries.specs.declared.names.TheConstants.{CHECK_STATUS_RESPONSE}
 use Rattle.siri_deliveries.specs.declared.names.TheConstants.{HEARTBEAT_NOTIFICATION}
 
 abbrev pub MembersAreSpelled : Type 0

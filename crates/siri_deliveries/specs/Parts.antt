@@ -1,6 +1,7 @@
--- What the functional deliveries of all services have: the rows before their items, and where in a round a delivery stands,
--- which its Extensions tell in this profile's own way.
-use Rattle.std.specs.Prelude.{◌≡◌, List, [], ◌∷◌, true, false, is_some, if◌then◌else◌, Option, Some, None, IfSome, option_and_then, unwrap_or, Result, Ok}
+-- What the functional deliveries of all services have: the rows before their items, and where in a round a delivery
+-- stands, which its Extensions tell in this profile's own way.
+use Rattle.std.specs.Prelude.{◌≡◌, List, [], ◌∷◌, true, false, is_some, if◌then◌else◌, Option, Some, None, IfSome}
+use Rattle.std.specs.Prelude.{option_and_then, unwrap_or, Result, Ok}
 use Rattle.serde_json.specs.Data.{Data, no_members}
 use Rattle.siri_records.specs.declared.item.Item.{Item}
 use Rattle.siri_records.specs.declared.item.Service.{Service}
@@ -10,14 +11,16 @@ use Rattle.siri_tables.specs.Refusals.{Refusal, ◌>>=◌}
 use Rattle.siri_tables.specs.Rules.{number, table, required_row, list}
 use Rattle.siri_tables.specs.Proper.{IsNumber, IsListWithin}
 use Rattle.siri_tables.specs.Writing.{Row as Written, with_rows, object_unless_empty, written_list, written_number}
-use Rattle.siri_tables.specs.Tables.{Kind, Row, optional, a_name, a_moment, a_flag, Table, Maker, read_all, AllSpelled, AllProper, all_written}
+use Rattle.siri_tables.specs.Tables.{Kind, Row, optional, a_name, a_moment, a_flag, Table, Maker, read_all, AllSpelled}
+use Rattle.siri_tables.specs.Tables.{AllProper, all_written}
 use Rattle.siri_deliveries.specs.declared.read_parts.Heading.{Heading}
 use Rattle.siri_deliveries.specs.declared.read_parts.RoundPosition.{RoundPosition}
 use Rattle.siri_deliveries.specs.declared.read_parts.DeliveryExtensions.{DeliveryExtensions}
 use Rattle.siri_deliveries.specs.Removals.{IsProperRemoval, written_removal}
 use Rattle.siri_deliveries.specs.Rows.{an_error, with_default}
 use Rattle.siri_deliveries.specs.Absence.{lacks}
-use Rattle.siri_deliveries.specs.declared.names.TheConstants.{RESPONSE_TIMESTAMP, SUBSCRIBER_REF, SUBSCRIPTION_REF, STATUS, ERROR_CONDITION}
+use Rattle.siri_deliveries.specs.declared.names.TheConstants.{RESPONSE_TIMESTAMP, SUBSCRIBER_REF, SUBSCRIPTION_REF}
+use Rattle.siri_deliveries.specs.declared.names.TheConstants.{STATUS, ERROR_CONDITION}
 use Rattle.siri_deliveries.specs.declared.names.TheConstants.{START, ROUND, PART, REMOVED}
 use Rattle.siri_deliveries.specs.Limits.{most_entries}
 

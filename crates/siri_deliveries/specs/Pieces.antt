@@ -1,5 +1,6 @@
 -- The text of a functional delivery, piece by piece: what is still to come at each stage.
-use Rattle.std.specs.Prelude.{◌≡◌, ℕ, List, [], ◌∷◌, ◌++◌, filter, filter_map, not, is_some, true, Option, Some, None, option_map, MatchOption}
+use Rattle.std.specs.Prelude.{◌≡◌, ℕ, List, [], ◌∷◌, ◌++◌, filter, filter_map, not, is_some, true, Option, Some, None}
+use Rattle.std.specs.Prelude.{option_map, MatchOption}
 use Rattle.std.specs.Map.{keys_of}
 use Rattle.std.specs.Borrow.{Bor}
 use Rattle.std.specs.declared.rc.Rc.{Rc}
@@ -17,9 +18,11 @@ use Rattle.siri_messages.specs.declared.deliveries.FunctionalDelivery.{Functiona
 use Rattle.siri_tables.specs.Appended.{entries_tokens}
 use Rattle.siri_tables.specs.Tables.{all_written}
 use Rattle.siri_tables.specs.Writing.{row_object}
-use Rattle.siri_deliveries.specs.Deliveries.{stop_delivery_table, timetable_delivery_table, vehicle_delivery_table, situation_delivery_table}
+use Rattle.siri_deliveries.specs.Deliveries.{stop_delivery_table, timetable_delivery_table, vehicle_delivery_table}
+use Rattle.siri_deliveries.specs.Deliveries.{situation_delivery_table}
 use Rattle.siri_deliveries.specs.Removals.{written_removal}
-use Rattle.siri_deliveries.specs.Layout.{front, middle, back, items_begin, items_end, removals_begin, removals_end, entry_writing, listed}
+use Rattle.siri_deliveries.specs.Layout.{front, middle, back, items_begin, items_end, removals_begin, removals_end}
+use Rattle.siri_deliveries.specs.Layout.{entry_writing, listed}
 use Rattle.siri_deliveries.specs.declared.pieces.DeliveryHead.{DeliveryHead}
 use Rattle.siri_deliveries.specs.declared.pieces.ItemStage.{ItemStage}
 use Rattle.siri_deliveries.specs.declared.pieces.ItemStage.TheVariants as item_stage
@@ -89,16 +92,18 @@ abbrev pub LentItem : Type 0
 LentItem = Bor (Rc Item Global)
 
 module _ {S : Type 0} (gives : S → Option LentItem → S → Type 0) where
-  -- a piece of what the iterator gave, whichever items it gives afterwards: the text of the item with what stands before
-  -- it, or what stands behind the last item
+  -- a piece of what the iterator gave, whichever items it gives afterwards: the text of the item with what stands
+  -- before it, or what stands behind the last item
   abbrev pub SaysOf : Service → DeliveryHead → ItemStage → Option LentItem → Option (List ℕ) → ItemStage → Type 0
   SaysOf s head now None piece next =
       (next ≡ item_stage.Ended) × (piece ≡ Some (item_text_left s head now []))
   SaysOf s head now (Some item) piece next =
       (next ≡ item_stage.Later) × MatchOption piece ⊥ (λ text.
-      (items : List Item) → item_text_left s head now (item.now.value ∷ items) ≡ text ++ item_text_left s head item_stage.Later items)
+      (items : List Item)
+      → item_text_left s head now (item.now.value ∷ items) ≡ text ++ item_text_left s head item_stage.Later items)
 
-  pub record GivesPiece (s : Service) (head : DeliveryHead) (now : ItemStage) (old : S) (piece : Option (List ℕ)) (next : ItemStage) (new : S) : Type 0 where
+  pub record GivesPiece (s : Service) (head : DeliveryHead) (now : ItemStage) (old : S) (piece : Option (List ℕ))
+      (next : ItemStage) (new : S) : Type 0 where
     pub given : Option LentItem
     pub gave : gives old given new
     pub says : SaysOf s head now given piece next
@@ -158,7 +163,8 @@ Leads (Some entry) later all = all ≡ entry ∷ later
 -- the second list of all changes, and what stands behind it
 abbrev pub second_part : Service → DeliveryHead → List KeyChange → List Token
 second_part s head changes =
-    listed (list_begin (second_list s) s head) (list_end (second_list s) s head) (entries_of_changes (second_list s) s changes) ++ back s head
+    listed (list_begin (second_list s) s head) (list_end (second_list s) s head)
+    (entries_of_changes (second_list s) s changes) ++ back s head
 
 abbrev pub tokens_left : Service → DeliveryHead → List KeyChange → List KeyChange → Stage → List Token
 tokens_left s head changes left stage.Begin = []
@@ -171,7 +177,8 @@ tokens_left s head changes left stage.Ended = []
 tokens_left s head changes left stage.Lost = []
 
 abbrev pub text_at : Service → DeliveryHead → List KeyChange → List KeyChange → Stage → List ℕ
-text_at s head changes left stage.Begin = delivery_text s (delivery_of_head head (items_of_changes changes) (removals_of_changes changes))
+text_at s head changes left stage.Begin = delivery_text s
+    (delivery_of_head head (items_of_changes changes) (removals_of_changes changes))
 text_at s head changes left stage.First = print_from true (tokens_left s head changes left stage.First)
 text_at s head changes left stage.Second = print_from true (tokens_left s head changes left stage.Second)
 text_at s head changes left stage.Ended = []

@@ -10,7 +10,8 @@ use Rattle.siri_tables.specs.Rules.{name, table, row, required_row}
 use Rattle.siri_tables.specs.Proper.{IsName}
 use Rattle.siri_tables.specs.Writing.{Row, row_object, written_text}
 use Rattle.siri_tables.specs.Tables.{Kind}
-use Rattle.siri_items.specs.declared.names.TheConstants.{MONITORING_REF, LINE_REF, DIRECTION_REF, DATA_FRAME_REF, DATED_VEHICLE_JOURNEY_REF}
+use Rattle.siri_items.specs.declared.names.TheConstants.{MONITORING_REF, LINE_REF, DIRECTION_REF, DATA_FRAME_REF}
+use Rattle.siri_items.specs.declared.names.TheConstants.{DATED_VEHICLE_JOURNEY_REF}
 use Rattle.siri_items.specs.declared.names.TheConstants.{PARTICIPANT_REF, SITUATION_NUMBER}
 use Rattle.siri_deliveries.specs.declared.names.TheConstants.{ITEM_REF}
 
@@ -46,7 +47,8 @@ removed_situation d = do
 -- the key of an item that a service tells of
 abbrev pub IsProperRemoval : Service → Key → Type 0
 IsProperRemoval service.Stop (key.Visit monitoring visit) = IsName monitoring × IsName visit
-IsProperRemoval service.Timetable (key.Journey line direction frame journey) = IsName line × IfSome direction IsName × IfSome frame IsName × IsName journey
+IsProperRemoval service.Timetable (key.Journey line direction frame journey) = IsName line × IfSome direction IsName
+    × IfSome frame IsName × IsName journey
 IsProperRemoval service.Vehicle (key.Vehicle vehicle) = IsName vehicle
 IsProperRemoval service.Situation (key.Situation participant number) = IfSome participant IsName × IsName number
 IsProperRemoval s k = ⊥

@@ -1,6 +1,8 @@
--- Kinds of values and rows of the tables of messages and deliveries, which items have none of: what stands for an absent member,
--- flags that are written only where they are true, lists that may be empty, errors, and members of an object of their own.
-use Rattle.std.specs.Prelude.{◌≡◌, ℕ, ℤ, List, [], ◌∷◌, Bool, false, is_none, Option, IfSome, option_and_then, unwrap_or, Result, Ok, ⊤}
+-- Kinds of values and rows of the tables of messages and deliveries, which items have none of: what stands for an
+-- absent member, flags that are written only where they are true, lists that may be empty, errors, and members of an
+-- object of their own.
+use Rattle.std.specs.Prelude.{◌≡◌, ℕ, ℤ, List, [], ◌∷◌, Bool, false, is_none, Option, IfSome, option_and_then}
+use Rattle.std.specs.Prelude.{unwrap_or, Result, Ok, ⊤}
 use Rattle.serde_json.specs.Data.{Data, no_members}
 use Rattle.siri_tables.specs.Refusals.{Refusal, ◌>>=◌}
 use Rattle.siri_tables.specs.Rules.{non_negative_span, flag, row, list, inside}
@@ -24,7 +26,8 @@ an_error = record { rule = other_error; writing = written_error; Is = IsText }
 -- ---- rows
 
 -- the member of that name spells the value, or is absent where the value is what stands for an absent one
-pub record SpellsOr {A : Type 0} (rule : Data → Result (Option A) Refusal) (key : List ℕ) (d : Data) (otherwise value : A) : Type 0 where
+pub record SpellsOr {A : Type 0} (rule : Data → Result (Option A) Refusal) (key : List ℕ) (d : Data)
+    (otherwise value : A) : Type 0 where
   pub given : Option A
   pub spelled : Spells rule key d given
   pub is : value ≡ unwrap_or given otherwise

@@ -12,13 +12,16 @@ use Rattle.siri_topic.specs.declared.topics.TimetableTopic.{TimetableTopic}
 use Rattle.siri_topic.specs.declared.topics.Topic.{Topic}
 use Rattle.siri_topic.specs.declared.topics.Topic.TheVariants as topics
 use Rattle.siri_topic.specs.declared.topics.VehicleTopic.{VehicleTopic}
-use Rattle.siri_items.specs.declared.names.TheConstants.{MONITORING_REF, LINE_REF, DIRECTION_REF, OPERATOR_REF, DESTINATION_REF, START_TIME}
+use Rattle.siri_items.specs.declared.names.TheConstants.{MONITORING_REF, LINE_REF, DIRECTION_REF, OPERATOR_REF}
+use Rattle.siri_items.specs.declared.names.TheConstants.{DESTINATION_REF, START_TIME}
 use Rattle.siri_items.specs.declared.names.TheConstants.{VEHICLE_REF, STOP_POINT_REF}
 use Rattle.siri_tables.specs.Refusals.{Refusal, ◌>>=◌}
 use Rattle.siri_tables.specs.Rules.{table}
-use Rattle.siri_tables.specs.Tables.{Kind, optional, mandatory, entries_inside, a_name, a_moment, a_number, Table, Maker, read_all, AllProper, all_written}
+use Rattle.siri_tables.specs.Tables.{Kind, optional, mandatory, entries_inside, a_name, a_moment, a_number, Table}
+use Rattle.siri_tables.specs.Tables.{Maker, read_all, AllProper, all_written}
 use Rattle.siri_tables.specs.Writing.{row_object, with_rows, object_unless_empty, written_list}
-use Rattle.siri_deliveries.specs.declared.names.TheConstants.{PREVIEW_INTERVAL, MAXIMUM_STOP_VISITS, LINES, LINE_DIRECTION}
+use Rattle.siri_deliveries.specs.declared.names.TheConstants.{PREVIEW_INTERVAL, MAXIMUM_STOP_VISITS, LINES}
+use Rattle.siri_deliveries.specs.declared.names.TheConstants.{LINE_DIRECTION}
 use Rattle.siri_deliveries.specs.Rows.{a_whole_span}
 
 -- StopMonitoringRequest: the visits at a monitoring point (EN 15531-3)
@@ -35,7 +38,8 @@ stop_topic_table =
 
 abbrev pub make_stop_topic : Maker stop_topic_table
 make_stop_topic =
-    λ monitoring_ref line_ref direction_ref operator_ref destination_ref preview_interval start_time maximum_stop_visits.
+    λ monitoring_ref line_ref direction_ref operator_ref destination_ref preview_interval start_time
+    maximum_stop_visits.
     record {
       monitoring_ref = monitoring_ref;
       line_ref = line_ref;
@@ -82,11 +86,13 @@ unfoldable pub written_line_direction : LineDirection → Option Data
 written_line_direction l = Some (row_object (all_written line_direction_table l))
 
 abbrev pub a_line_direction : Kind LineDirection
-a_line_direction = record { rule = table line_direction; writing = written_line_direction; Is = AllProper line_direction_table }
+a_line_direction = record
+    { rule = table line_direction; writing = written_line_direction; Is = AllProper line_direction_table }
 
 -- Lines, which isn't written where all lines are asked for
 abbrev pub written_lines : List LineDirection → Option Data
-written_lines lines = object_unless_empty (with_rows no_members ((LINE_DIRECTION.now, written_list written_line_direction lines) ∷ []))
+written_lines lines = object_unless_empty
+    (with_rows no_members ((LINE_DIRECTION.now, written_list written_line_direction lines) ∷ []))
 
 -- EstimatedTimetableRequest: the journeys of an operator, on some lines (EN 15531-3)
 abbrev pub timetable_topic_table : Table TimetableTopic
@@ -96,7 +102,8 @@ timetable_topic_table =
     entries_inside a_line_direction 100 LINES.now LINE_DIRECTION.now (λ t. t.lines) ∷ []
 
 abbrev pub make_timetable_topic : Maker timetable_topic_table
-make_timetable_topic = λ preview_interval operator_ref lines. record { preview_interval = preview_interval; operator_ref = operator_ref; lines = lines }
+make_timetable_topic = λ preview_interval operator_ref lines. record
+    { preview_interval = preview_interval; operator_ref = operator_ref; lines = lines }
 
 unfoldable pub timetable_topic : Data → Result Topic Refusal
 timetable_topic d = read_all timetable_topic_table make_timetable_topic d >>= λ t. Ok (topics.Timetable t)
@@ -112,7 +119,8 @@ vehicle_topic_table =
     optional a_name DIRECTION_REF.now (λ t. t.direction_ref) ∷ []
 
 abbrev pub make_vehicle_topic : Maker vehicle_topic_table
-make_vehicle_topic = λ vehicle_ref line_ref direction_ref. record { vehicle_ref = vehicle_ref; line_ref = line_ref; direction_ref = direction_ref }
+make_vehicle_topic = λ vehicle_ref line_ref direction_ref. record
+    { vehicle_ref = vehicle_ref; line_ref = line_ref; direction_ref = direction_ref }
 
 unfoldable pub vehicle_topic : Data → Result Topic Refusal
 vehicle_topic d = read_all vehicle_topic_table make_vehicle_topic d >>= λ t. Ok (topics.Vehicle t)
@@ -132,7 +140,14 @@ situation_topic_table =
 abbrev pub make_situation_topic : Maker situation_topic_table
 make_situation_topic =
     λ line_ref stop_point_ref operator_ref preview_interval start_time.
-    record { line_ref = line_ref; stop_point_ref = stop_point_ref; operator_ref = operator_ref; preview_interval = preview_interval; start_time = start_time }
+    record {
+      line_ref = line_ref;
+      stop_point_ref = stop_point_ref;
+      operator_ref = operator_ref;
+      preview_interval =
+          preview_interval;
+      start_time = start_time;
+    }
 
 unfoldable pub situation_topic : Data → Result Topic Refusal
 situation_topic d = read_all situation_topic_table make_situation_topic d >>= λ t. Ok (topics.Situation t)
@@ -182,4 +197,5 @@ maximum_of other = None
 
 -- one of a subscription has no most of visits
 abbrev pub a_subscribed_topic : Service → Kind Topic
-a_subscribed_topic s = record { rule = table (subscribed_rows s); writing = topic_writing; Is = λ t. IsProperTopic s t × (maximum_of t ≡ None) }
+a_subscribed_topic s = record
+    { rule = table (subscribed_rows s); writing = topic_writing; Is = λ t. IsProperTopic s t × (maximum_of t ≡ None) }

@@ -1,4 +1,5 @@
--- What messages and their deliveries write alike: errors, and flags that are written only where they are true (EN 15531-2).
+-- What messages and their deliveries write alike: errors, and flags that are written only where they are true (EN
+-- 15531-2).
 use Rattle.std.specs.Prelude.{ℕ, List, [], ◌∷◌, Bool, true, false, Option, Some, None}
 use Rattle.serde_json.specs.Data.{Data}
 use Rattle.siri_tables.specs.Writing.{row_object, written_text, written_flag}

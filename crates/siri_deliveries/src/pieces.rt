@@ -18,6 +18,9 @@ use siri_records::{Change, Item, Service};
 use std::alloc::Global;
 use std::rc::Rc;
 
+/// Room for the text of most items, in bytes: so it is taken once for each, and not many times.
+const ROOM: usize = 1_024;
+
 /// What a functional delivery says beside its items and removals; its Status is true. It has Extensions, with its start,
 /// round and part, exactly where it has a subscriber.
 pub struct DeliveryHead {
@@ -204,9 +207,9 @@ fn later_item(alloc: Global, service: Service, item: &Item) -> Result<Vec<u8>, O
         ≡ text.items ++ item_text_left service head ItemStage.Later items) }
     ensures some { IfOk result (λ text. 0 < length text.items) }
 {
-    let mut out = Output::new(alloc);
+    let mut out = Output::with_room(alloc, ROOM)?;
     write_entry(&mut out, service, item)?;
-    behind_comma(alloc, out)
+    behind_comma(out)
 }
 
 /// What stands behind the last item of a delivery.
@@ -226,13 +229,11 @@ fn last_of_items(
 }
 
 /// What was written, behind a comma.
-fn behind_comma(alloc: Global, out: Output) -> Result<Vec<u8>, OutOfMemory>
+fn behind_comma(out: Output) -> Result<Vec<u8>, OutOfMemory>
     ensures { IfOk result (λ text. text.items ≡ 44 ∷ print out) }
 {
-    let written = out.into_text();
-    let mut text = Vec::new(alloc);
-    text.push(b',')?;
-    text.extend_from_slice(&written)?;
+    let mut text = out.into_text();
+    text.insert(0, b',')?;
     Ok(text)
 }
 
@@ -453,7 +454,7 @@ fn later_change(
     ensures text { IfOk result (λ text. IfSome (change_writing listed service change.now) (λ tree. text.items ≡ 44 ∷ print (tokens_of tree))) }
     ensures some { IfOk result (λ text. 0 < length text.items) }
 {
-    let mut out = Output::new(alloc);
+    let mut out = Output::with_room(alloc, ROOM)?;
     write_change(&mut out, listed, service, change)?;
-    behind_comma(alloc, out)
+    behind_comma(out)
 }

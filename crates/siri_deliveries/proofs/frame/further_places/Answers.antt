@@ -1,4 +1,5 @@
-use Rattle.std.proofs.Common.{◌≡◌, ◌<◌, ◌+◌, ◌++◌, ◌∷◌, [], ℕ, suc, List, true, length, refl, sym, ap, ◌∙◌, subst, arith}
+use Rattle.std.proofs.Common.{◌≡◌, ◌<◌, ◌+◌, ◌++◌, ◌∷◌, [], ℕ, suc, List, true, length, refl, sym, ap, ◌∙◌, subst}
+use Rattle.std.proofs.Common.{arith}
 use Rattle.std.specs.List.{list_all}
 use Rattle.siri_deliveries.specs.Frame.{deliveries_of, filled_text, is_of}
 use Rattle.siri_deliveries.specs.declared.frame.FramePiece.{FramePiece}
@@ -18,7 +19,8 @@ loop-place-preserved c =
     let two : List FramePiece = (ps ++ piece.Text (44 ∷ []) ∷ []) ++ piece.Delivery s place ∷ [] in
     let whole : c.push-in-loop-place.new.self ≡ two =
     c.in_ok-push-2.ensures.ok
-    ∙ ap (λ (p : List FramePiece). p ++ piece.Delivery s place ∷ []) (c.in_ok-push.ensures.ok ∙ ap (λ (t : List ℕ). ps ++ piece.Text t ∷ []) c.in_ok-comma.ensures) in (
+    ∙ ap (λ (p : List FramePiece). p ++ piece.Delivery s place ∷ [])
+    (c.in_ok-push.ensures.ok ∙ ap (λ (t : List ℕ). ps ++ piece.Text t ∷ []) c.in_ok-comma.ensures) in (
       (λ d count us.
           let within : place < length (deliveries_of s d) = omega arith in
           ap (λ (p : List FramePiece). filled_text d p ++ rest_of s d (place + 1) us) whole
