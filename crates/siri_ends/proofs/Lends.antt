@@ -1,5 +1,7 @@
--- What a connection is answered where its answer is lent: what is taken before the settle, and what is written after it.
-use Rattle.std.proofs.Common.{◌≡◌, ℕ, List, [], ◌∷◌, ◌++◌, Bool, true, false, length, Option, None, Some, Result, Ok, Err, refl, sym, ap, ◌∙◌, subst, append-nil, append_assoc, inl, inr}
+-- What a connection is answered where its answer is lent: what is taken before the settle, and what is written after
+-- it.
+use Rattle.std.proofs.Common.{◌≡◌, ℕ, List, [], ◌∷◌, ◌++◌, Bool, true, false, length, Option, None, Some, Result, Ok}
+use Rattle.std.proofs.Common.{Err, refl, sym, ap, ◌∙◌, subst, append-nil, append_assoc, inr}
 use Rattle.std.specs.Prelude.{IfOk, IsErr, IsErrOf, MatchBool, OnOk, OnErr, ⊤}
 use Rattle.siri_base.specs.declared.errors.OutOfMemory.{OutOfMemory}
 use Rattle.siri_http.specs.Messages.{UnlessMemory, is_memory}
@@ -20,7 +22,7 @@ use Rattle.siri_messages.specs.Kinds.{service_request_of}
 use Rattle.siri_messages.specs.declared.requests.ServiceRequest.{ServiceRequest}
 use Rattle.siri_messages.specs.declared.supplies.DataSupplyRequest.{DataSupplyRequest}
 use Rattle.siri_messages.specs.declared.deliveries.ServiceDelivery.{ServiceDelivery}
-use Rattle.siri_model.specs.History.{History, State, Settle, Take, now_of, start_of}
+use Rattle.siri_model.specs.History.{History, State, Settle, Take, start_of}
 use Rattle.siri_producer.specs.Answers.{answer_to, supply_note}
 use Rattle.siri_producer.specs.Known.{GoesOn, Known, SameButReads, SendsFor, StandsFor}
 use Rattle.siri_producer.specs.Lent.{OwnPart, is_lent, part_of, supplied_by}
@@ -28,7 +30,8 @@ use Rattle.siri_producer.specs.Sends.{sends}
 use Rattle.siri_producer.specs.declared.lending.LentPart.{LentPart}
 use Rattle.siri_producer.specs.declared.lending.Supplied.{Supplied}
 use Rattle.siri_producer.specs.declared.lending.Supplied.TheVariants as supplied
-use Rattle.siri_producer.proofs.Lends.{refused_reply, request_forgotten, response_forgets, sends_asked, state_after_both, supplied_stays}
+use Rattle.siri_producer.proofs.Lends.{refused_reply, request_forgotten, response_forgets, sends_asked}
+use Rattle.siri_producer.proofs.Lends.{state_after_both, supplied_stays}
 use Rattle.siri_replies.specs.Parts.{part_delivery, refused_supply}
 use Rattle.siri_rounds.specs.Wanted.{part_sent}
 use Rattle.siri_rounds.specs.declared.answers.SupplyError.{SupplyError}
@@ -39,7 +42,8 @@ use Rattle.siri_ends.specs.declared.reply.Reply.TheVariants as reply
 use Rattle.siri_ends.specs.declared.response.Response.{Response}
 use Rattle.siri_ends.specs.Answering.{AnswersWith, StopsWriting}
 use Rattle.siri_ends.specs.At.{Goes, end_of, surroundings}
-use Rattle.siri_ends.specs.Lending.{IsReply, LendsPart, Prepares, PreparesFor, Turned, delivering, is_direct, message_response}
+use Rattle.siri_ends.specs.Lending.{IsReply, LendsPart, Prepares, PreparesFor, Turned, delivering, is_direct}
+use Rattle.siri_ends.specs.Lending.{message_response}
 use Rattle.siri_ends.specs.Responses.{message_asked, producer_reply, replying, response_to, taking, turn_steps}
 use Rattle.siri_ends.specs.Serving.{Answers, FirstAnswer}
 use Rattle.siri_ends.specs.Turns.{Brings, TakesFor}
@@ -140,7 +144,13 @@ pub asks_directly : (message : Message) (request : ServiceRequest) (known : Know
     → Prepares known known (Some message) (message_response message) (reply.Direct request) × (is_lent request ≡ true)
 asks_directly (message.ServiceRequest asked) request known direct is =
     let same : asked ≡ request = cc is in (
-      record { asked = ap (λ (r : ServiceRequest). Some (message.ServiceRequest r)) same; same = refl; answer_is = λ name h. ap (λ (r : ServiceRequest). Some (replying (producer_reply name h (message.ServiceRequest r)))) same },
+      record {
+        asked = ap
+            (λ (r : ServiceRequest). Some (message.ServiceRequest r)) same;
+        same = refl;
+        answer_is = λ name h. ap
+            (λ (r : ServiceRequest). Some (replying (producer_reply name h (message.ServiceRequest r)))) same;
+      },
       subst (λ (r : ServiceRequest). is_lent r ≡ true) same direct,
     )
 asks_directly (message.ServiceDelivery m) request known direct is = absurd (cc direct)
@@ -157,12 +167,15 @@ asks_directly (message.CheckStatusResponse m) request known direct is = absurd (
 asks_directly (message.HeartbeatNotification m) request known direct is = absurd (cc direct)
 
 -- a part is supplied
-pub supplies_part : (request : DataSupplyRequest) (first taken : Known) (outcome : Supplied) (subscriber subscription : List ℕ)
+pub supplies_part : (request : DataSupplyRequest) (first taken : Known) (outcome : Supplied)
+    (subscriber subscription : List ℕ)
     → subscriber ≡ request.consumer_ref → subscription ≡ request.extensions.subscription
     → GoesOn first taken (Take (message.DataSupplyRequest request))
-    → ((h : History) → StandsFor first h → outcome ≡ supplied_by (answer_to first.responder.name h (message.DataSupplyRequest request)).note)
+    → ((h : History) → StandsFor first h
+    → outcome ≡ supplied_by (answer_to first.responder.name h (message.DataSupplyRequest request)).note)
     → outcome ≡ supplied.Part
-    → Prepares first taken (Some (message.DataSupplyRequest request)) (message_response (message.DataSupplyRequest request)) (reply.Part subscriber subscription)
+    → Prepares first taken (Some (message.DataSupplyRequest request))
+    (message_response (message.DataSupplyRequest request)) (reply.Part subscriber subscription)
 supplies_part request first taken outcome subscriber subscription by to goes told is = record {
   request = request;
   of_subscriber = by;
@@ -174,12 +187,15 @@ supplies_part request first taken outcome subscriber subscription by to goes tol
 }
 
 -- none is
-pub supplies_none : (request : DataSupplyRequest) (first taken : Known) (outcome : Supplied) (why : SupplyError) (name : List ℕ) (now : ℕ)
+pub supplies_none : (request : DataSupplyRequest) (first taken : Known) (outcome : Supplied) (why : SupplyError)
+    (name : List ℕ) (now : ℕ)
     (response : Response) → GoesOn first taken (Take (message.DataSupplyRequest request))
-    → ((h : History) → StandsFor first h → outcome ≡ supplied_by (answer_to first.responder.name h (message.DataSupplyRequest request)).note)
+    → ((h : History) → StandsFor first h
+    → outcome ≡ supplied_by (answer_to first.responder.name h (message.DataSupplyRequest request)).note)
     → outcome ≡ supplied_by (supply_note (Err why)) → name ≡ first.responder.name → now ≡ first.responder.moment
     → response ≡ delivering (refused_supply name now why)
-    → Prepares first taken (Some (message.DataSupplyRequest request)) (message_response (message.DataSupplyRequest request)) (reply.Made (Some response))
+    → Prepares first taken (Some (message.DataSupplyRequest request))
+    (message_response (message.DataSupplyRequest request)) (reply.Made (Some response))
 supplies_none request first taken outcome why name now response goes told is named at made = record {
   stands = goes.stands;
   made_is = λ h stands.
@@ -191,17 +207,21 @@ supplies_none request first taken outcome why name now response goes told is nam
 
 -- ---- and after it
 
-turns_by : (asked : Asked) (reply : Reply) (outs : List Out) (first taken last : Known) → TakesFor first taken (message_asked asked)
-    → taken.responder.name ≡ first.responder.name → GoesOn taken last Settle → SendsFor taken outs → last.responder.name ≡ taken.responder.name
+turns_by : (asked : Asked) (reply : Reply) (outs : List Out) (first taken last : Known)
+    → TakesFor first taken (message_asked asked)
+    → taken.responder.name ≡ first.responder.name → GoesOn taken last Settle → SendsFor taken outs
+    → last.responder.name ≡ taken.responder.name
     → ((h : History) → StandsFor first h
-    → IsReply reply first.responder.name (h ++ turn_steps (message_asked asked)) (response_to first.responder.name h asked))
+    → IsReply reply first.responder.name (h ++ turn_steps (message_asked asked))
+    (response_to first.responder.name h asked))
     → Turned first last asked outs reply
 turns_by asked reply outs first taken last takes named settles sent kept is =
     let message = message_asked asked in
     record {
       name = kept ∙ named;
       stands = λ h stands.
-          subst (StandsFor last) (append_assoc h (taking message) (Settle ∷ [])) (settles.stands (h ++ taking message) (takes h stands));
+          subst (StandsFor last) (append_assoc h (taking message) (Settle ∷ []))
+          (settles.stands (h ++ taking message) (takes h stands));
       outs_are = λ h stands.
           sent (h ++ taking message) (takes h stands) ∙ ap (λ name. sends name (h ++ taking message)) named;
       reply_is = is;
@@ -210,7 +230,8 @@ turns_by asked reply outs first taken last takes named settles sent kept is =
 part_lends : (name : List ℕ) (h : History) (request : DataSupplyRequest) (response : Option Response)
     → response ≡ Some (replying (producer_reply name h (message.DataSupplyRequest request)))
     → supplied_by (answer_to name h (message.DataSupplyRequest request)).note ≡ supplied.Part
-    → LendsPart request.consumer_ref request.extensions.subscription name (h ++ turn_steps (Some (message.DataSupplyRequest request))) response
+    → LendsPart request.consumer_ref request.extensions.subscription name
+    (h ++ turn_steps (Some (message.DataSupplyRequest request))) response
 part_lends name h request response answered told =
     let stays = supplied_stays name h request told in
     let part = stays.part in
@@ -232,18 +253,27 @@ direct_is name h request response answered =
     answered ∙ ap (λ (d : ServiceDelivery). Some (delivering d)) (sym (response_forgets h name request))
 
 -- the turn of a connection, of which the reply is still to be written
-pub turns : (asked : Asked) (reply : Reply) (outs : List Out) (first taken last : Known) → PreparesFor first taken asked reply
-    → taken.responder.name ≡ first.responder.name → GoesOn taken last Settle → SendsFor taken outs → last.responder.name ≡ taken.responder.name
+pub turns : (asked : Asked) (reply : Reply) (outs : List Out) (first taken last : Known)
+    → PreparesFor first taken asked reply
+    → taken.responder.name ≡ first.responder.name → GoesOn taken last Settle → SendsFor taken outs
+    → last.responder.name ≡ taken.responder.name
     → Turned first last asked outs reply
 turns asked (reply.Made made) outs first taken last so named settles sent kept =
-    turns_by asked (reply.Made made) outs first taken last so.stands named settles sent kept (λ h stands. sym (so.made_is h stands))
+    turns_by asked (reply.Made made) outs first taken last so.stands named settles sent kept
+    (λ h stands. sym (so.made_is h stands))
 turns asked (reply.Part subscriber subscription) outs first taken last so named settles sent kept =
-    turns_by asked (reply.Part subscriber subscription) outs first taken last (subst (TakesFor first taken) (sym so.asked) so.stands)
+    turns_by asked (reply.Part subscriber subscription) outs first taken last
+    (subst (TakesFor first taken) (sym so.asked) so.stands)
     named settles sent kept
     (λ h stands.
-    subst (λ m. LendsPart subscriber subscription first.responder.name (h ++ turn_steps m) (response_to first.responder.name h asked)) (sym so.asked)
-    (subst (λ s. LendsPart s subscription first.responder.name (h ++ turn_steps (Some (message.DataSupplyRequest so.request))) (response_to first.responder.name h asked)) (sym so.of_subscriber)
-    (subst (λ s. LendsPart so.request.consumer_ref s first.responder.name (h ++ turn_steps (Some (message.DataSupplyRequest so.request))) (response_to first.responder.name h asked)) (sym so.of_subscription)
+    subst (λ m. LendsPart subscriber subscription first.responder.name (h ++ turn_steps m)
+    (response_to first.responder.name h asked)) (sym so.asked)
+    (subst (λ s. LendsPart s subscription first.responder.name
+    (h ++ turn_steps (Some (message.DataSupplyRequest so.request))) (response_to first.responder.name h asked))
+    (sym so.of_subscriber)
+    (subst (λ s. LendsPart so.request.consumer_ref s first.responder.name
+    (h ++ turn_steps (Some (message.DataSupplyRequest so.request))) (response_to first.responder.name h asked))
+    (sym so.of_subscription)
     (part_lends first.responder.name h so.request (response_to first.responder.name h asked)
     (so.answer_is first.responder.name h) (so.supplied_is h stands)))))
 turns asked (reply.Direct request) outs first taken last so named settles sent kept = record {
@@ -257,9 +287,11 @@ turns asked (reply.Direct request) outs first taken last so named settles sent k
       ∙ sends_asked first.responder.name h request
       ∙ ap (λ m. sends first.responder.name (h ++ taking m)) (sym so.asked);
   reply_is = λ h stands.
-      subst (λ m. IsReply (reply.Direct request) first.responder.name (h ++ turn_steps m) (response_to first.responder.name h asked))
+      subst (λ m. IsReply (reply.Direct request) first.responder.name (h ++ turn_steps m)
+      (response_to first.responder.name h asked))
       (sym so.asked)
-      (direct_is first.responder.name h request (response_to first.responder.name h asked) (so.answer_is first.responder.name h));
+      (direct_is first.responder.name h request (response_to first.responder.name h asked)
+      (so.answer_is first.responder.name h));
 }
 
 -- the request is read, its message taken and settled, and the answer written
@@ -271,27 +303,30 @@ pub answers_one : (outs : List Out) (asked : Asked) (reply : Reply) (first last 
     → AnswersWith response (surroundings old read between) (surroundings new after later))
     → SameButReads last end
     → Goes (Answers outs) (end_of first old before earlier) (end_of end new after later)
-answers_one outs asked reply first last end old new before read after earlier between later told cause turned writes same = record {
-  name = same_name last end same ∙ turned.name;
-  goes = λ h stands.
-      let steps = h ++ turn_steps (message_asked asked) in
-      let response = response_to first.responder.name h asked in
-      let there = turned.stands h stands in (
-        steps,
-        same_stands last end steps same there,
-        record {
-          asked = asked;
-          read = surroundings old read between;
-          reads = record { told = told; cause = cause; tally = refl };
-          answers = writes steps response there (subst (λ name. IsReply reply name steps response) (sym turned.name) (turned.reply_is h stands));
-          history = refl;
-          outs_are = turned.outs_are h stands;
-        },
-      );
-}
+answers_one outs asked reply first last end old new before read after earlier between later told cause turned writes
+    same = record {
+      name = same_name last end same ∙ turned.name;
+      goes = λ h stands.
+          let steps = h ++ turn_steps (message_asked asked) in
+          let response = response_to first.responder.name h asked in
+          let there = turned.stands h stands in (
+            steps,
+            same_stands last end steps same there,
+            record {
+              asked = asked;
+              read = surroundings old read between;
+              reads = record { told = told; cause = cause; tally = refl };
+              answers = writes steps response there
+                  (subst (λ name. IsReply reply name steps response) (sym turned.name) (turned.reply_is h stands));
+              history = refl;
+              outs_are = turned.outs_are h stands;
+            },
+          );
+    }
 
 -- where memory was wanting while the answer was written
-pub stops_writing : (outs : List Out) (asked : Asked) (reply : Reply) (first last : Known) (before read after : Option WireState)
+pub stops_writing : (outs : List Out) (asked : Asked) (reply : Reply) (first last : Known)
+    (before read after : Option WireState)
     → OnConnection (AsksOf (Some asked)) before read → Turned first last asked outs reply
     → ((h : History) (response : Option Response) → StandsFor last h → IsReply reply last.responder.name h response
     → StopsWriting response read after)
@@ -309,7 +344,8 @@ stops_writing outs asked reply first last before read after told turned stops h 
 
 -- ---- what is said where a call answers
 
-pub if_ok : {T E : Type 0} (result : Result T E) (P Q : T → Type 0) → ((value : T) → P value → Q value) → IfOk result P → IfOk result Q
+pub if_ok : {T E : Type 0} (result : Result T E) (P Q : T → Type 0) → ((value : T) → P value → Q value) → IfOk result P
+    → IfOk result Q
 if_ok (Ok value) P Q f p = f value p
 if_ok (Err error) P Q f p = tt
 
@@ -327,17 +363,25 @@ on_err_too (Err error) P Q f p = f p
 pub sent_body : (count : ℕ) (text body : List ℕ) (Said : List ℕ → Type 0) → count ≡ length text → text ≡ body
     → Said (head_text 200 false count ++ text) → Said (response_text 200 false body)
 sent_body count text body Said long is said =
-    subst (λ t. Said (head_text 200 false (length t) ++ t)) is (subst (λ n. Said (head_text 200 false n ++ text)) long said)
+    subst (λ t. Said (head_text 200 false (length t) ++ t)) is
+    (subst (λ n. Said (head_text 200 false n ++ text)) long said)
 
 -- nothing was written yet
 pub stops_unwritten : (response : Response) (wire : Option WireState) → StopsWriting (Some response) wire wire
 stops_unwritten response None = tt
 stops_unwritten response (Some wire) =
     on_same (WroteFront (response_text response.status response.plain response.body)) (Some wire)
-    (λ a. record { front = []; rest = response_text response.status response.plain response.body; parts = refl; written = sym (append-nil a.written) })
+    (λ a. record {
+      front = [];
+      rest = response_text response.status response.plain response.body;
+      parts = refl;
+      written = sym
+          (append-nil a.written);
+    })
 
 -- a part that is lent is the one that is kept
-pub lends_kept : (lent : LentPart) (part : OwnPart) (kept : Option OwnPart) → Some (part_of lent) ≡ kept → kept ≡ Some part → part_of lent ≡ part
+pub lends_kept : (lent : LentPart) (part : OwnPart) (kept : Option OwnPart) → Some (part_of lent) ≡ kept
+    → kept ≡ Some part → part_of lent ≡ part
 lends_kept lent part kept lends is = let same : Some (part_of lent) ≡ Some part = lends ∙ is in cc same
 
 pub part_said : (Said : Response → Type 0) (name other : List ℕ) (start number : ℕ) (lent : LentPart) (part : OwnPart)
@@ -347,7 +391,8 @@ pub part_said : (Said : Response → Type 0) (name other : List ℕ) (start numb
 part_said Said name other start number lent part named at is said =
     subst (λ (p : OwnPart). Said (delivering (part_delivery other p.wanted p.number number p.part))) is
     (subst (λ n. Said (delivering (part_delivery other lent.wanted.now lent.number n (part_sent lent.part)))) at
-    (subst (λ n. Said (delivering (part_delivery n lent.wanted.now lent.number start (part_sent lent.part)))) named said))
+    (subst (λ n. Said (delivering (part_delivery n lent.wanted.now lent.number start (part_sent lent.part)))) named
+    said))
 
 -- ---- unless there was no memory
 

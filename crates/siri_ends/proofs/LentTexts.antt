@@ -1,5 +1,7 @@
 -- The texts of what is lent: piece after piece they are the documents of the messages.
-use Rattle.std.proofs.Common.{◌≡◌, ◌<◌, ◌≤◌, ℕ, zero, suc, List, [], ◌∷◌, ◌++◌, Bool, true, false, cond, map, length, Option, None, Some, Result, Ok, Err, slice_get, refl, sym, ap, ◌∙◌, subst, append-nil, arith}
+use Rattle.std.proofs.Common.{◌≡◌, ◌<◌, ℕ, zero, suc, List, [], ◌∷◌, ◌++◌, Bool, true, false, cond, map, length}
+use Rattle.std.proofs.Common.{Option, None, Some, Result, Ok, Err, slice_get, refl, sym, ap, ◌∙◌, subst, append-nil}
+use Rattle.std.proofs.Common.{arith}
 use Rattle.std.specs.Prelude.{IfOk, MatchOption, flat_map, nat_lt, option_map, unwrap_or, option_and_then}
 use Rattle.std.specs.List.{list_all}
 use Rattle.std.proofs.lemmas.Bool.{and_parts, ltb-true}
@@ -23,12 +25,15 @@ use Rattle.siri_store.specs.declared.selected.Selected.{Selected}
 use Rattle.siri_model.specs.Direct.{answer, response}
 use Rattle.siri_change.specs.Parts.{Carried, carried}
 use Rattle.siri_rounds.specs.Wanted.{WantedPart, part_sent}
-use Rattle.siri_replies.specs.Parts.{in_estimated_timetable, in_situation_exchange, in_stop_monitoring, in_vehicle_monitoring, part_delivery, part_functional}
-use Rattle.siri_producer.specs.Lent.{has_all, if_it_has_all, is_lent, lent_topic, topics_of, without_items, without_own_items}
+use Rattle.siri_replies.specs.Parts.{in_estimated_timetable, in_situation_exchange, in_stop_monitoring}
+use Rattle.siri_replies.specs.Parts.{in_vehicle_monitoring, part_delivery, part_functional}
+use Rattle.siri_producer.specs.Lent.{has_all, if_it_has_all, is_lent, topics_of, without_items}
+use Rattle.siri_producer.specs.Lent.{without_own_items}
 use Rattle.siri_producer.specs.declared.lending.LentPart.{LentPart}
 use Rattle.siri_producer.proofs.Lends.{all_lent, answer_lent}
 use Rattle.siri_wire.specs.Canonical.{canonical}
-use Rattle.siri_deliveries.specs.Pieces.{LentItem, SaysOf, StepsTo, delivery_of_head, delivery_text, item_text_left, items_of_changes, removals_of_changes}
+use Rattle.siri_deliveries.specs.Pieces.{LentItem, SaysOf, StepsTo, delivery_of_head, delivery_text, item_text_left}
+use Rattle.siri_deliveries.specs.Pieces.{items_of_changes, removals_of_changes}
 use Rattle.siri_deliveries.specs.Frame.{deliveries_of, filled, filled_text, is_of, without_entries, without_own_entries}
 use Rattle.siri_deliveries.specs.declared.pieces.DeliveryHead.{DeliveryHead}
 use Rattle.siri_deliveries.specs.declared.pieces.ItemPieces.{ItemPieces}
@@ -40,7 +45,8 @@ use Rattle.siri_ends.specs.Pieces.{FramesPart, direct_piece, direct_text, items_
 
 -- ---- a delivery whose items are lent
 
-ended : (s : Service) (head : DeliveryHead) (next : ItemStage) (items : List Item) → next ≡ item_stage.Ended → item_text_left s head next items ≡ []
+ended : (s : Service) (head : DeliveryHead) (next : ItemStage) (items : List Item) → next ≡ item_stage.Ended
+    → item_text_left s head next items ≡ []
 unfolding item_text_left
 ended s head next items is = ap (λ n. item_text_left s head n items) is
 
@@ -49,8 +55,10 @@ abbrev pub Leaves : Service → DeliveryHead → ItemStage → Selected → Opti
 Leaves s head now old piece next new = MatchOption piece (item_text_left s head now (to_lend old) ≡ [])
     (λ text. item_text_left s head now (to_lend old) ≡ text ++ item_text_left s head next (to_lend new))
 
-gives_leaves : (s : Service) (head : DeliveryHead) (now : ItemStage) (old : Selected) (piece : Option (List ℕ)) (next : ItemStage) (new : Selected)
-    (given : Option LentItem) → Steps old given new → SaysOf steps s head now given piece next → Leaves s head now old piece next new
+gives_leaves : (s : Service) (head : DeliveryHead) (now : ItemStage) (old : Selected) (piece : Option (List ℕ))
+    (next : ItemStage) (new : Selected)
+    (given : Option LentItem) → Steps old given new → SaysOf steps s head now given piece next
+    → Leaves s head now old piece next new
 gives_leaves s head now old None next new None gave says = let no = says.1 in absurd (cc no)
 gives_leaves s head now old (Some text) next new None gave says =
     let is = says.1 in
@@ -70,29 +78,36 @@ at_the_end : (s : Service) (head : DeliveryHead) (old new : Selected) (piece : O
 at_the_end s head old new None next is = ended s head item_stage.Ended (to_lend old) refl
 at_the_end s head old new (Some text) next is = absurd (cc is)
 
-pub step_leaves : (s : Service) (head : DeliveryHead) (now : ItemStage) (old : Selected) (piece : Option (List ℕ)) (next : ItemStage) (new : Selected)
+pub step_leaves : (s : Service) (head : DeliveryHead) (now : ItemStage) (old : Selected) (piece : Option (List ℕ))
+    (next : ItemStage) (new : Selected)
     → StepsTo steps s head now old piece next new → Leaves s head now old piece next new
-step_leaves s head item_stage.Begin old piece next new step = gives_leaves s head item_stage.Begin old piece next new step.given step.gave step.says
-step_leaves s head item_stage.Later old piece next new step = gives_leaves s head item_stage.Later old piece next new step.given step.gave step.says
+step_leaves s head item_stage.Begin old piece next new step = gives_leaves s head item_stage.Begin old piece next new
+    step.given step.gave step.says
+step_leaves s head item_stage.Later old piece next new step = gives_leaves s head item_stage.Later old piece next new
+    step.given step.gave step.says
 step_leaves s head item_stage.Ended old piece next new step = at_the_end s head old new piece next step.0
 step_leaves s head item_stage.Lost old piece next new step = absurd step
 
 -- the same of the pieces themselves
 pub items_next : (old new : ItemPieces Selected) (piece : Option (Vec ℕ Global))
-    → StepsTo steps old.service old.head.now old.stage old.items (option_map (λ text. text.items) piece) new.stage new.items
+    → StepsTo steps old.service old.head.now old.stage old.items
+    (option_map (λ text. text.items) piece) new.stage new.items
     → new.service ≡ old.service → new.head.now ≡ old.head.now
     → MatchOption piece (items_left old ≡ []) (λ text. items_left old ≡ text.items ++ items_left new)
-items_next old new None step service head = step_leaves old.service old.head.now old.stage old.items None new.stage new.items step
+items_next old new None step service head = step_leaves old.service old.head.now old.stage old.items None new.stage
+    new.items step
 items_next old new (Some text) step service head =
     step_leaves old.service old.head.now old.stage old.items (Some text.items) new.stage new.items step
     ∙ (λ i. text.items ++ item_text_left (sym service i) (sym head i) new.stage (to_lend new.items))
 
 -- all of it
-whole_left : (s : Service) (head : DeliveryHead) (items : List Item) → item_text_left s head item_stage.Begin items ≡ delivery_text s (delivery_of_head head items [])
+whole_left : (s : Service) (head : DeliveryHead) (items : List Item)
+    → item_text_left s head item_stage.Begin items ≡ delivery_text s (delivery_of_head head items [])
 unfolding item_text_left
 whole_left s head items = refl
 
-pub items_first : (pieces : ItemPieces Selected) (s : Service) (head : DeliveryHead) (items : List Item) → pieces.service ≡ s
+pub items_first : (pieces : ItemPieces Selected) (s : Service) (head : DeliveryHead) (items : List Item)
+    → pieces.service ≡ s
     → pieces.head.now ≡ head → pieces.stage ≡ item_stage.Begin → to_lend pieces.items ≡ items
     → items_left pieces ≡ delivery_text s (delivery_of_head head items [])
 items_first pieces s head items service is stage lends =
@@ -100,7 +115,8 @@ items_first pieces s head items service is stage lends =
 
 -- ---- frames
 
-same_pieces : (f g : FramePiece → List ℕ) → ((piece : FramePiece) → f piece ≡ g piece) → (frame : List FramePiece) → flat_map f frame ≡ flat_map g frame
+same_pieces : (f g : FramePiece → List ℕ) → ((piece : FramePiece) → f piece ≡ g piece) → (frame : List FramePiece)
+    → flat_map f frame ≡ flat_map g frame
 same_pieces f g same [] = refl
 same_pieces f g same (first ∷ rest) = λ i. same first i ++ same_pieces f g same rest i
 
@@ -114,7 +130,8 @@ answers_of name now items request service.Timetable = refl
 answers_of name now items request service.Vehicle = refl
 answers_of name now items request service.Situation = refl
 
-has_all_if : (topic : Topic) (b : Bool) → has_all topic ≡ b → cond b (Some topic) None ≡ Some topic → has_all topic ≡ true
+has_all_if : (topic : Topic) (b : Bool) → has_all topic ≡ b → cond b (Some topic) None ≡ Some topic
+    → has_all topic ≡ true
 has_all_if topic true is some = is
 has_all_if topic false is some = absurd (cc some)
 
@@ -133,12 +150,15 @@ module _ (name : List ℕ) (now : ℕ) (items : Items) (request : ServiceRequest
   piece_filled (piece.Delivery s place) =
       let lent = all_lent request s place all in
       topic_filled s place (slice_get (topics_of request s) place) refl lent
-      ∙ ap (λ found. unwrap_or (option_map (delivery_text s) found) []) (sym (slice_get-map (answer now items) (topics_of request s) place))
-      ∙ ap (λ list. unwrap_or (option_map (delivery_text s) (slice_get list place)) []) (sym (answers_of name now items request s))
+      ∙ ap (λ found. unwrap_or (option_map (delivery_text s) found) [])
+      (sym (slice_get-map (answer now items) (topics_of request s) place))
+      ∙ ap (λ list. unwrap_or (option_map (delivery_text s) (slice_get list place)) [])
+      (sym (answers_of name now items request s))
 
   pub direct_filled : (frame : List FramePiece)
       → direct_text now items request frame ≡ filled_text (response name now items request) frame
-  direct_filled frame = same_pieces (direct_piece now items request) (filled (response name now items request)) piece_filled frame
+  direct_filled frame = same_pieces (direct_piece now items request)
+      (filled (response name now items request)) piece_filled frame
 
 -- ---- a part
 
@@ -150,7 +170,8 @@ list_of service.Vehicle topic d = in_vehicle_monitoring topic d
 list_of service.Situation topic d = in_situation_exchange topic d
 
 part_list : (name : List ℕ) (wanted : Subscription) (number start : ℕ) (part : WantedPart) (s : Service)
-    → deliveries_of s (part_delivery name wanted number start part) ≡ list_of s wanted.topic (part_functional wanted start part)
+    → deliveries_of s (part_delivery name wanted number start part)
+    ≡ list_of s wanted.topic (part_functional wanted start part)
 unfolding part_delivery
 part_list name wanted number start part service.Stop = refl
 part_list name wanted number start part service.Timetable = refl
@@ -161,11 +182,13 @@ part_list name wanted number start part service.Situation = refl
 text_in : Service → List FunctionalDelivery → ℕ → List ℕ
 text_in s list place = unwrap_or (option_map (delivery_text s) (slice_get list place)) []
 
-only_one : (s : Service) (d : FunctionalDelivery) (place : ℕ) → place < 1 → delivery_text s d ≡ unwrap_or (option_map (delivery_text s) (slice_get (d ∷ []) place)) []
+only_one : (s : Service) (d : FunctionalDelivery) (place : ℕ) → place < 1
+    → delivery_text s d ≡ unwrap_or (option_map (delivery_text s) (slice_get (d ∷ []) place)) []
 only_one s d zero less = refl
 only_one s d (suc place) less = absurd (omega (arith, less))
 
-one_of : (s : Service) (topic : Topic) (d other : FunctionalDelivery) (place : ℕ) → place < length (list_of s topic other)
+one_of : (s : Service) (topic : Topic) (d other : FunctionalDelivery) (place : ℕ)
+    → place < length (list_of s topic other)
     → delivery_text s d ≡ unwrap_or (option_map (delivery_text s) (slice_get (list_of s topic d) place)) []
 one_of service.Stop (topic.Stop t) d other place less = only_one service.Stop d place less
 one_of service.Stop (topic.Timetable t) d other place less = absurd (omega (arith, less))
@@ -185,8 +208,10 @@ one_of service.Situation (topic.Vehicle t) d other place less = absurd (omega (a
 one_of service.Situation (topic.Situation t) d other place less = only_one service.Situation d place less
 
 -- the functional delivery that the pieces say is that of the part
-functional_said : (wanted : Subscription) (start : ℕ) (part : WantedPart) (changes : List KeyChange) → part.carried ≡ carried changes
-    → delivery_of_head (part_head wanted start part) (items_of_changes changes) (removals_of_changes changes) ≡ part_functional wanted start part
+functional_said : (wanted : Subscription) (start : ℕ) (part : WantedPart) (changes : List KeyChange)
+    → part.carried ≡ carried changes
+    → delivery_of_head (part_head wanted start part) (items_of_changes changes) (removals_of_changes changes)
+    ≡ part_functional wanted start part
 unfolding part_functional
 functional_said wanted start part changes is =
     ap (λ (c : Carried). delivery_of_head (part_head wanted start part) c.items c.removals) (sym is)
@@ -198,13 +223,17 @@ module _ (name : List ℕ) (wanted : Subscription) (number start : ℕ) (part ot
   part_piece_filled (piece.Text text) there = refl
   part_piece_filled (piece.Delivery s place) there =
       let less : place < length (list_of s wanted.topic (part_functional wanted start other)) =
-      ltb-true place _ (ap (λ list. nat_lt place (length list)) (sym (part_list name wanted number start other s)) ∙ there) in
+      ltb-true place _
+      (ap (λ list. nat_lt place (length list)) (sym (part_list name wanted number start other s)) ∙ there) in
       ap (delivery_text s) (functional_said wanted start part changes is)
       ∙ one_of s wanted.topic (part_functional wanted start part) (part_functional wanted start other) place less
-      ∙ ap (λ list. unwrap_or (option_map (delivery_text s) (slice_get list place)) []) (sym (part_list name wanted number start part s))
+      ∙ ap (λ list. unwrap_or (option_map (delivery_text s) (slice_get list place)) [])
+      (sym (part_list name wanted number start part s))
 
-  pub part_filled : (frame : List FramePiece) → list_all (is_of (part_delivery name wanted number start other)) frame ≡ true
-      → part_text (part_head wanted start part) changes frame ≡ filled_text (part_delivery name wanted number start part) frame
+  pub part_filled : (frame : List FramePiece)
+      → list_all (is_of (part_delivery name wanted number start other)) frame ≡ true
+      → part_text (part_head wanted start part) changes frame
+      ≡ filled_text (part_delivery name wanted number start part) frame
   part_filled [] there = refl
   part_filled (first ∷ rest) there =
       let parts = and_parts (is_of (part_delivery name wanted number start other) first)
@@ -218,7 +247,8 @@ bare_answers : (now : ℕ) (items : Items) (topics : List Topic)
     → map without_own_entries (map (answer now items) topics) ≡ map without_own_items (map (answer now items) topics)
 unfolding answer
 bare_answers now items [] = refl
-bare_answers now items (topic ∷ topics) = ap (λ rest. without_own_items (answer now items topic) ∷ rest) (bare_answers now items topics)
+bare_answers now items (topic ∷ topics) = ap (λ rest. without_own_items (answer now items topic) ∷ rest)
+    (bare_answers now items topics)
 
 pub bare_response : (name : List ℕ) (now : ℕ) (items : Items) (request : ServiceRequest)
     → without_entries (response name now items request) ≡ without_items (response name now items request)
@@ -230,25 +260,29 @@ bare_response name now items request = λ i. record (response name now items req
   situation_exchange_delivery = bare_answers now items request.situation_exchange_request i;
 }
 
-bare_stop : (topic : Topic) (d : FunctionalDelivery) → map without_own_entries (in_stop_monitoring topic d) ≡ in_stop_monitoring topic (without_own_entries d)
+bare_stop : (topic : Topic) (d : FunctionalDelivery)
+    → map without_own_entries (in_stop_monitoring topic d) ≡ in_stop_monitoring topic (without_own_entries d)
 bare_stop (topic.Stop t) d = refl
 bare_stop (topic.Timetable t) d = refl
 bare_stop (topic.Vehicle t) d = refl
 bare_stop (topic.Situation t) d = refl
 
-bare_timetable : (topic : Topic) (d : FunctionalDelivery) → map without_own_entries (in_estimated_timetable topic d) ≡ in_estimated_timetable topic (without_own_entries d)
+bare_timetable : (topic : Topic) (d : FunctionalDelivery)
+    → map without_own_entries (in_estimated_timetable topic d) ≡ in_estimated_timetable topic (without_own_entries d)
 bare_timetable (topic.Stop t) d = refl
 bare_timetable (topic.Timetable t) d = refl
 bare_timetable (topic.Vehicle t) d = refl
 bare_timetable (topic.Situation t) d = refl
 
-bare_vehicle : (topic : Topic) (d : FunctionalDelivery) → map without_own_entries (in_vehicle_monitoring topic d) ≡ in_vehicle_monitoring topic (without_own_entries d)
+bare_vehicle : (topic : Topic) (d : FunctionalDelivery)
+    → map without_own_entries (in_vehicle_monitoring topic d) ≡ in_vehicle_monitoring topic (without_own_entries d)
 bare_vehicle (topic.Stop t) d = refl
 bare_vehicle (topic.Timetable t) d = refl
 bare_vehicle (topic.Vehicle t) d = refl
 bare_vehicle (topic.Situation t) d = refl
 
-bare_situation : (topic : Topic) (d : FunctionalDelivery) → map without_own_entries (in_situation_exchange topic d) ≡ in_situation_exchange topic (without_own_entries d)
+bare_situation : (topic : Topic) (d : FunctionalDelivery)
+    → map without_own_entries (in_situation_exchange topic d) ≡ in_situation_exchange topic (without_own_entries d)
 bare_situation (topic.Stop t) d = refl
 bare_situation (topic.Timetable t) d = refl
 bare_situation (topic.Vehicle t) d = refl
@@ -271,9 +305,12 @@ bare_part name wanted number start part =
     }
 
 -- the frame of a part that carries nothing is that of the part
-pub frames_part : (producer : List ℕ) (start : ℕ) (lent : LentPart) (head : ServiceDelivery) (result : Result (List FramePiece) OutOfMemory)
+pub frames_part : (producer : List ℕ) (start : ℕ) (lent : LentPart) (head : ServiceDelivery)
+    (result : Result (List FramePiece) OutOfMemory)
     → head ≡ part_delivery producer lent.wanted.now lent.number start (bare (part_sent lent.part))
-    → IfOk result (λ pieces. (d : ServiceDelivery) → without_entries d ≡ head → filled_text d pieces ≡ canonical (message.ServiceDelivery d))
+    → IfOk result
+    (λ pieces. (d : ServiceDelivery) → without_entries d ≡ head
+    → filled_text d pieces ≡ canonical (message.ServiceDelivery d))
     → IfOk result (λ pieces. list_all (is_of head) pieces ≡ true)
     → IfOk result (FramesPart producer start lent)
 frames_part producer start lent head (Err error) is text there = tt
@@ -282,4 +319,5 @@ frames_part producer start lent head (Ok frame) is text there =
     let part = part_sent lent.part in
     part_filled producer wanted lent.number start part (bare part) lent.part.changes.now refl frame
     (subst (λ d. list_all (is_of d) frame ≡ true) is there)
-    ∙ text (part_delivery producer wanted lent.number start part) (bare_part producer wanted lent.number start part ∙ sym is)
+    ∙ text (part_delivery producer wanted lent.number start part)
+    (bare_part producer wanted lent.number start part ∙ sym is)

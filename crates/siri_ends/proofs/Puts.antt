@@ -1,5 +1,6 @@
 -- A text that is put piece by piece.
-use Rattle.std.proofs.Common.{◌≡◌, ◌<◌, ◌≤◌, ◌+◌, ℕ, List, [], ◌∷◌, ◌++◌, length, Option, None, Some, Result, Ok, Err, refl, sym, ap, ◌∙◌, subst, append-nil, append_assoc, length-append, arith, drop, get_or}
+use Rattle.std.proofs.Common.{◌≡◌, ◌<◌, ◌+◌, ℕ, List, [], ◌++◌, length, Result, Ok, Err}
+use Rattle.std.proofs.Common.{refl, sym, ap, ◌∙◌, subst, append-nil, append_assoc, length-append, arith, drop, get_or}
 use Rattle.std.specs.Prelude.{flat_map}
 use Rattle.std.proofs.lemmas.List.{drop_more}
 use Rattle.siri_http.specs.declared.errors.HttpError.{HttpError}
@@ -19,7 +20,8 @@ module _ {S : Type 0} (takes : S → S → List ℕ → Result (Unit {0}) HttpEr
   module _ (both : (x y z : S) (text more : List ℕ) (result : Result (Unit {0}) HttpError)
       → takes x y text (Ok tt) → takes y z more result → takes x z (text ++ more) result) where
     -- a piece more was put
-    pub puts_more : (text left rest piece : List ℕ) (old now next : S) → PutsFront text left old now → left ≡ piece ++ rest
+    pub puts_more : (text left rest piece : List ℕ) (old now next : S) → PutsFront text left old now
+        → left ≡ piece ++ rest
         → takes now next piece (Ok tt) → PutsFront text rest old next
     puts_more text left rest piece old now next puts is took = record {
       front = puts.front ++ piece;
@@ -28,13 +30,18 @@ module _ {S : Type 0} (takes : S → S → List ℕ → Result (Unit {0}) HttpEr
     }
 
     -- all was put
-    pub puts_all : (text left : List ℕ) (old now : S) → PutsFront text left old now → left ≡ [] → takes old now text (Ok tt)
+    pub puts_all : (text left : List ℕ) (old now : S) → PutsFront text left old now → left ≡ []
+        → takes old now text (Ok tt)
     puts_all text left old now puts none =
-        subst (λ l. takes old now l (Ok tt)) (sym (puts.parts ∙ ap (λ l. puts.front ++ l) none ∙ append-nil puts.front)) puts.put
+        subst (λ l. takes old now l (Ok tt))
+        (sym (puts.parts ∙ ap (λ l. puts.front ++ l) none ∙ append-nil puts.front)) puts.put
 
     -- a piece wasn't put whole
-    pub puts_short : ((x y : S) (text more : List ℕ) (error : HttpError) → takes x y text (Err error) → takes x y (text ++ more) (Err error))
-        → (text left rest piece : List ℕ) (error : HttpError) (old now next : S) → PutsFront text left old now → left ≡ piece ++ rest
+    pub puts_short :
+        ((x y : S) (text more : List ℕ) (error : HttpError) → takes x y text (Err error)
+        → takes x y (text ++ more) (Err error))
+        → (text left rest piece : List ℕ) (error : HttpError) (old now next : S) → PutsFront text left old now
+        → left ≡ piece ++ rest
         → takes now next piece (Err error) → takes old next text (Err error)
     puts_short first text left rest piece error old now next puts is took =
         subst (λ l. takes old next l (Err error))

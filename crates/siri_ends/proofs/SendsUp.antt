@@ -4,9 +4,11 @@ use Rattle.siri_base.specs.Wires.{WireState}
 use Rattle.siri_messages.specs.declared.message.Message.{Message}
 use Rattle.siri_http.specs.Tallies.{with_unsent}
 use Rattle.siri_ends.specs.At.{ConsumerAt}
-use Rattle.siri_ends.specs.SendingUp.{FirstSendsUp, LeavesUnsentUp, PostsUp, SendsOneUp, SendsUp, consumer_after, replies_after}
+use Rattle.siri_ends.specs.SendingUp.{FirstSendsUp, LeavesUnsentUp, PostsUp, SendsOneUp, SendsUp, consumer_after}
+use Rattle.siri_ends.specs.SendingUp.{replies_after}
 use Rattle.siri_ends.specs.Turns.{SendsNextUp, StopsAt}
-use Rattle.siri_ends.proofs.InTurn.{FirstLeads, Leads, first_leads_next, first_leads_stop, leads_full, leads_last, leads_next}
+use Rattle.siri_ends.proofs.InTurn.{FirstLeads, Leads, first_leads_next, first_leads_stop, leads_full, leads_last}
+use Rattle.siri_ends.proofs.InTurn.{leads_next}
 use Rattle.siri_ends.specs.Sending.{most_sends}
 
 -- nothing of an exchange was made
@@ -15,9 +17,13 @@ up_still host path message None = tt
 up_still host path message (Some wire) = inl refl
 
 -- Some messages were sent: whatever the rest of the sends comes to is what all of them come to.
-pub record ComesUp (host path : List ℕ) (list : List Message) (start now : ConsumerAt) (left : ℕ) (queue : List Message) : Type 0 where
-  pub sends : Leads (SendsOneUp host path) (λ outcome at. replies_after outcome at.consumer) LeavesUnsentUp most_sends list start left queue now
-  pub first : FirstLeads (PostsUp host path) replies_after consumer_after most_sends list start.consumer start.wire left queue now.consumer now.wire
+pub record ComesUp (host path : List ℕ) (list : List Message) (start now : ConsumerAt) (left : ℕ)
+    (queue : List Message) : Type 0 where
+  pub sends : Leads (SendsOneUp host path)
+      (λ outcome at. replies_after outcome at.consumer) LeavesUnsentUp most_sends list start left queue now
+  pub first : FirstLeads
+      (PostsUp host path) replies_after consumer_after most_sends list start.consumer start.wire left queue now.consumer
+      now.wire
 
 pub up_next : (host path : List ℕ) (list queue later : List Message) (start now next : ConsumerAt) (left less : ℕ)
     (message : Message) (rest more : List Message)
@@ -29,7 +35,8 @@ up_next host path list queue later start now next left less message rest more c 
     record {
       sends = leads_next (SendsOneUp host path) _ LeavesUnsentUp most_sends list queue later start now next left less
           message rest s.outcome c.sends front one s.sends joined;
-      first = first_leads_next (PostsUp host path) replies_after consumer_after most_sends list queue later start.consumer
+      first = first_leads_next
+          (PostsUp host path) replies_after consumer_after most_sends list queue later start.consumer
           now.consumer next.consumer start.wire now.wire next.wire left less message rest s.outcome c.first front one
           s.sends.told joined s.sends.consumer;
     }

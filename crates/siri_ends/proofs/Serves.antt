@@ -1,25 +1,21 @@
 -- A connection that is served.
-use Rattle.std.proofs.Common.{◌≡◌, ℕ, List, [], ◌∷◌, ◌++◌, Option, None, Some, refl, ap, ◌∙◌, subst, append_assoc, inl, inr}
+use Rattle.std.proofs.Common.{List, Option, None, Some, refl, ◌∙◌, subst, inl}
+use Rattle.std.proofs.Common.{inr}
 use Rattle.siri_base.specs.Wires.{WireState}
 use Rattle.siri_http.specs.Connections.{OnConnection}
-use Rattle.siri_model.specs.History.{History, Settle}
-use Rattle.siri_producer.specs.Known.{Known, StandsFor, GoesOn, SendsFor}
+use Rattle.siri_model.specs.History.{History}
+use Rattle.siri_producer.specs.Known.{Known, StandsFor}
 use Rattle.siri_producer.specs.Sends.{sends}
 use Rattle.siri_subscriptions.specs.declared.outs.Out.{Out}
-use Rattle.siri_http.specs.ExchangeCauses.{HasAskedCause}
 use Rattle.siri_http.specs.Requests.{Asks}
 use Rattle.siri_http.specs.declared.asked.Asked.{Asked}
-use Rattle.siri_http.specs.declared.tally.Tally.{Tally}
-use Rattle.siri_ends.specs.declared.response.Response.{Response}
-use Rattle.siri_ends.specs.Responses.{message_asked, response_to, taking, turn_steps}
-use Rattle.siri_ends.specs.At.{End, Goes, at_of, end_of, surroundings}
+use Rattle.siri_ends.specs.At.{End, Goes, at_of}
 use Rattle.siri_ends.specs.Sending.{FirstSends, SendsAll, SendsSome, most_sends}
-use Rattle.siri_ends.specs.Answering.{AnswersWith, StopsWriting}
 use Rattle.siri_ends.specs.Serving.{Answers, FirstAnswer, ServesOne, ServesSome}
-use Rattle.siri_ends.specs.Turns.{TakesFor}
 
 -- and then what was settled is sent out
-pub serves_one : (outs : List Out) (old mid new : End) → Goes (Answers outs) old mid → Goes (SendsAll outs) mid new → Goes ServesOne old new
+pub serves_one : (outs : List Out) (old mid new : End) → Goes (Answers outs) old mid → Goes (SendsAll outs) mid new
+    → Goes ServesOne old new
 serves_one outs old mid new answers sends = record {
   name = sends.name ∙ answers.name;
   goes = λ h stands.
@@ -56,4 +52,9 @@ pub stops_in_sends : (outs : List Out) (old mid : End) (after : Option WireState
     → SendsSome outs mid.producer mid.wire after → ServesSome old after
 stops_in_sends outs old mid after answers some h stands =
     let one = answers.goes h stands in
-    inr (outs, at_of mid one.0, one.2, subst (λ name. FirstSends name most_sends outs one.0 mid.wire after) answers.name (some one.0 one.1))
+    inr (
+      outs,
+      at_of mid one.0,
+      one.2,
+      subst (λ name. FirstSends name most_sends outs one.0 mid.wire after) answers.name (some one.0 one.1),
+    )

@@ -13,8 +13,8 @@ use Rattle.siri_http.specs.declared.tally.Tally.{Tally}
 use Rattle.siri_ends.specs.declared.response.Response.{Response}
 use Rattle.siri_ends.specs.At.{Surroundings}
 
--- a connection more was served; it counts as refused where it is answered a refusal, and as dropped where its answer wasn't
--- written whole
+-- a connection more was served; it counts as refused where it is answered a refusal, and as dropped where its answer
+-- wasn't written whole
 abbrev pub answered_tally : (refused whole : Bool) → Tally → Tally
 answered_tally refused whole tally =
     let told : Tally = if refused then with_refused (with_served tally) else with_served tally in
@@ -27,7 +27,8 @@ dropped_tally tally = with_dropped (with_served tally)
 -- a response is written, as far as the connection takes it
 pub record Writes (response : Response) (at mid : Surroundings) : Type 0 where
   pub whole : Bool
-  pub told : WhereTold at.wire mid.wire (Responds (response_text response.status response.plain response.body) (Some whole))
+  pub told : WhereTold at.wire mid.wire
+      (Responds (response_text response.status response.plain response.body) (Some whole))
   pub cause : HasResponseCause at.faults mid.faults (Some whole)
   pub tally : mid.tally ≡ answered_tally response.plain whole at.tally
 
@@ -51,10 +52,11 @@ pub record Reads (asked : Asked) (at mid : Surroundings) : Type 0 where
 -- where memory was wanting for an answer, a front of it was written
 abbrev pub StopsWriting : Option Response → (before after : Option WireState) → Type 0
 StopsWriting None before after = ⊥
-StopsWriting (Some response) before after = WhereTold before after (Responds (response_text response.status response.plain response.body) None)
+StopsWriting (Some response) before after = WhereTold before after
+    (Responds (response_text response.status response.plain response.body) None)
 
--- where memory was wanting before the connection was answered: some of its request was read, or all of it and a front of the
--- answer was written, if any
+-- where memory was wanting before the connection was answered: some of its request was read, or all of it and a front
+-- of the answer was written, if any
 abbrev pub StopsAnswering : (answer : Asked → Option Response) → (before after : Option WireState) → Type 0
 StopsAnswering answer before after =
     OnConnection (Asks None) before after

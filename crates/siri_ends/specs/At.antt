@@ -38,7 +38,8 @@ end_of producer tally wire faults = record { producer = producer; tally = tally;
 abbrev pub at_of : End → History → At
 at_of end history = record { history = history; tally = end.tally; wire = end.wire; faults = end.faults }
 
--- A call does this: whatever history the producer stood for before it, it stands for the one that the call leaves. Its name stays.
+-- A call does this: whatever history the producer stood for before it, it stands for the one that the call leaves. Its
+-- name stays.
 pub record Goes (Does : (name : List ℕ) → At → At → Type 0) (old new : End) : Type 0 where
   pub name : new.producer.responder.name ≡ old.producer.responder.name
   pub goes : (h : History) → StandsFor old.producer h → (after : History) × StandsFor new.producer after

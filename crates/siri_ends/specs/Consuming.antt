@@ -32,8 +32,8 @@ consumer_response consumer asked = responding (consumer_reply consumer) asked
 abbrev pub further_replies : Consuming → Asked → List Message
 further_replies consumer asked = further_of (replies_to consumer (message_asked asked))
 
--- The connection that is there is answered: its request is read, its message is taken, where it brings one, and the answer is
--- written.
+-- The connection that is there is answered: its request is read, its message is taken, where it brings one, and the
+-- answer is written.
 pub record AnswersFirst (asked : Asked) (at mid : ConsumerAt) : Type 0 where
   pub read : Surroundings
   pub reads : Reads asked (around_consumer at) read

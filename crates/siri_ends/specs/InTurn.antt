@@ -3,8 +3,8 @@ use Rattle.std.specs.Prelude.{◌≡◌, ◌⊎◌, ℕ, zero, suc, List, [], �
 use Rattle.siri_base.specs.Wires.{WireState}
 use Rattle.siri_http.specs.declared.posting.Sent.{Sent}
 
--- They are sent in their order, each with its outcome, and what an outcome brings joins the end. Of more than so many the rest
--- are left.
+-- They are sent in their order, each with its outcome, and what an outcome brings joins the end. Of more than so many
+-- the rest are left.
 unfoldable pub InTurn : {M At : Type 0} → (Sends : M → Sent → At → At → Type 0) → (brings : Sent → At → List M)
     → (Leaves : List M → At → At → Type 0) → (limit : ℕ) → List M → At → At → Type 0
 InTurn Sends brings Leaves zero list at end = Leaves list at end
@@ -13,8 +13,8 @@ InTurn Sends brings Leaves (suc limit) (first ∷ rest) at end =
     (outcome : Sent) × (next : _) × Sends first outcome at next
     × InTurn Sends brings Leaves limit (rest ++ brings outcome at) next end
 
--- Where memory was wanting, the first of them were sent, and of the next one the first steps were made. `Posts` tells of the wire
--- what a send does to it, or its first steps; `after` is the end after an outcome, apart from the wire.
+-- Where memory was wanting, the first of them were sent, and of the next one the first steps were made. `Posts` tells
+-- of the wire what a send does to it, or its first steps; `after` is the end after an outcome, apart from the wire.
 unfoldable pub FirstInTurn : {M End : Type 0} → (Posts : M → Option Sent → (before after : Option WireState) → Type 0)
     → (brings : Sent → End → List M) → (after : Sent → End → End) → (limit : ℕ) → List M → End
     → (before now : Option WireState) → Type 0

@@ -1,16 +1,13 @@
 -- Inner words: cited by private functions alone. An answer that is written from what a producer lends.
-use Rattle.std.specs.Prelude.{◌≡◌, ⊤, ℕ, Bool, true, false, List, [], ◌++◌, map, Option, None, Some, Result, option_map}
-use Rattle.std.specs.Option.{option_map_or}
-use Rattle.siri_base.specs.Wires.{WireState}
+use Rattle.std.specs.Prelude.{◌≡◌, ⊤, ℕ, Bool, true, false, List, ◌++◌, Option, Some}
 use Rattle.siri_http.specs.declared.asked.Asked.{Asked}
-use Rattle.siri_http.specs.declared.errors.HttpError.{HttpError}
 use Rattle.siri_messages.specs.declared.deliveries.ServiceDelivery.{ServiceDelivery}
 use Rattle.siri_messages.specs.declared.message.Message.{Message}
 use Rattle.siri_messages.specs.declared.message.Message.TheVariants as message
 use Rattle.siri_messages.specs.declared.requests.ServiceRequest.{ServiceRequest}
 use Rattle.siri_messages.specs.declared.supplies.DataSupplyRequest.{DataSupplyRequest}
 use Rattle.siri_model.specs.Direct as direct
-use Rattle.siri_model.specs.History.{History, Settle, Take, current, now_of, start_of}
+use Rattle.siri_model.specs.History.{History, current, now_of, start_of}
 use Rattle.siri_model.specs.Lives.{table_of}
 use Rattle.siri_model.specs.Rows.{rows_of}
 use Rattle.siri_producer.specs.Answers.{answer_to}
@@ -58,15 +55,18 @@ CanBeWritten (reply.Part subscriber subscription) = ⊤
 -- ---- what is taken before the settle
 
 -- a response was made, and what is asked was taken
-pub record Makes (first taken : Known) (message : Option Message) (answer : List ℕ → History → Option Response) (made : Option Response) : Type 0 where
+pub record Makes (first taken : Known) (message : Option Message) (answer : List ℕ → History → Option Response)
+    (made : Option Response) : Type 0 where
   pub stands : TakesFor first taken message
   pub made_is : (h : History) → StandsFor first h → made ≡ answer first.responder.name h
 
 -- a request is to be answered directly, and nothing was taken yet
-pub record Asks (first taken : Known) (brought : Option Message) (answer : List ℕ → History → Option Response) (request : ServiceRequest) : Type 0 where
+pub record Asks (first taken : Known) (brought : Option Message) (answer : List ℕ → History → Option Response)
+    (request : ServiceRequest) : Type 0 where
   pub asked : brought ≡ Some (message.ServiceRequest request)
   pub same : taken ≡ first
-  pub answer_is : (name : List ℕ) (h : History) → answer name h ≡ Some (replying (producer_reply name h (message.ServiceRequest request)))
+  pub answer_is : (name : List ℕ) (h : History)
+      → answer name h ≡ Some (replying (producer_reply name h (message.ServiceRequest request)))
 
 -- a request for a part was taken, and the part is supplied
 pub record Supplies (first taken : Known) (brought : Option Message) (answer : List ℕ → History → Option Response)
@@ -76,7 +76,8 @@ pub record Supplies (first taken : Known) (brought : Option Message) (answer : L
   pub of_subscription : subscription ≡ request.extensions.subscription
   pub asked : brought ≡ Some (message.DataSupplyRequest request)
   pub stands : TakesFor first taken (Some (message.DataSupplyRequest request))
-  pub answer_is : (name : List ℕ) (h : History) → answer name h ≡ Some (replying (producer_reply name h (message.DataSupplyRequest request)))
+  pub answer_is : (name : List ℕ) (h : History)
+      → answer name h ≡ Some (replying (producer_reply name h (message.DataSupplyRequest request)))
   pub supplied_is : (h : History) → StandsFor first h
       → supplied_by (answer_to first.responder.name h (message.DataSupplyRequest request)).note ≡ supplied.Part
 
@@ -84,7 +85,8 @@ pub record Supplies (first taken : Known) (brought : Option Message) (answer : L
 abbrev pub Prepares : Known → Known → Option Message → (List ℕ → History → Option Response) → Reply → Type 0
 Prepares first taken message answer (reply.Made made) = Makes first taken message answer made
 Prepares first taken message answer (reply.Direct request) = Asks first taken message answer request
-Prepares first taken message answer (reply.Part subscriber subscription) = Supplies first taken message answer subscriber subscription
+Prepares first taken message answer
+    (reply.Part subscriber subscription) = Supplies first taken message answer subscriber subscription
 
 -- a message is a request for items, and its answer is lent
 abbrev pub is_direct : Message → Bool
@@ -97,15 +99,18 @@ message_response message name h = Some (replying (producer_reply name h message)
 
 -- what a connection is answered
 abbrev pub PreparesFor : Known → Known → Asked → Reply → Type 0
-PreparesFor first taken asked reply = Prepares first taken (message_asked asked) (λ name h. response_to name h asked) reply
+PreparesFor first taken asked reply = Prepares first taken (message_asked asked)
+    (λ name h. response_to name h asked) reply
 
 -- ---- and after it
 
--- The producer went through the turn of a connection, these messages are to be sent, and the reply is what the connection is
--- answered.
+-- The producer went through the turn of a connection, these messages are to be sent, and the reply is what the
+-- connection is answered.
 pub record Turned (first last : Known) (asked : Asked) (outs : List Out) (reply : Reply) : Type 0 where
   pub name : last.responder.name ≡ first.responder.name
   pub stands : GoesBy first last (turn_steps (message_asked asked))
-  pub outs_are : (h : History) → StandsFor first h → outs ≡ sends first.responder.name (h ++ taking (message_asked asked))
+  pub outs_are : (h : History) → StandsFor first h
+      → outs ≡ sends first.responder.name (h ++ taking (message_asked asked))
   pub reply_is : (h : History) → StandsFor first h
-      → IsReply reply first.responder.name (h ++ turn_steps (message_asked asked)) (response_to first.responder.name h asked)
+      → IsReply reply first.responder.name (h ++ turn_steps (message_asked asked))
+      (response_to first.responder.name h asked)

@@ -1,5 +1,5 @@
 -- Inner words: cited by private functions alone. The text of an answer whose items or changes are lent, piece by piece.
-use Rattle.std.specs.Prelude.{◌≡◌, ℕ, List, [], map, flat_map, Option, None, Some}
+use Rattle.std.specs.Prelude.{◌≡◌, ℕ, List, [], map, flat_map, None, Some}
 use Rattle.std.specs.Option.{option_map_or}
 use Rattle.siri_records.specs.declared.item.Service.{Service}
 use Rattle.siri_records.specs.Keyed.{Items, KeyChange}
@@ -14,7 +14,8 @@ use Rattle.siri_rounds.specs.Wanted.{WantedPart, part_sent}
 use Rattle.siri_replies.specs.Parts.{part_delivery}
 use Rattle.siri_producer.specs.Lent.{lent_topic}
 use Rattle.siri_producer.specs.declared.lending.LentPart.{LentPart}
-use Rattle.siri_deliveries.specs.Pieces.{delivery_of_head, delivery_text, item_text_left, items_of_changes, removals_of_changes}
+use Rattle.siri_deliveries.specs.Pieces.{delivery_of_head, delivery_text, item_text_left, items_of_changes}
+use Rattle.siri_deliveries.specs.Pieces.{removals_of_changes}
 use Rattle.siri_deliveries.specs.declared.pieces.DeliveryHead.{DeliveryHead}
 use Rattle.siri_deliveries.specs.declared.pieces.ItemPieces.{ItemPieces}
 use Rattle.siri_deliveries.specs.declared.frame.FramePiece.{FramePiece}
@@ -76,4 +77,5 @@ part_text head changes frame = flat_map (part_piece head changes) frame
 abbrev pub FramesPart : (producer : List ℕ) → (start : ℕ) → LentPart → List FramePiece → Type 0
 FramesPart producer start lent frame =
     part_text (part_head lent.wanted.now start (part_sent lent.part)) lent.part.changes.now frame
-    ≡ canonical (message.ServiceDelivery (part_delivery producer lent.wanted.now lent.number start (part_sent lent.part)))
+    ≡ canonical
+    (message.ServiceDelivery (part_delivery producer lent.wanted.now lent.number start (part_sent lent.part)))

@@ -70,9 +70,11 @@ settled_by name outcome h = sends_after name h (acknowledgement outcome)
 abbrev pub LeavesUnsent : List Out → At → At → Type 0
 LeavesUnsent outs at end = end ≡ record at { tally = with_unsent (length outs) at.tally }
 
--- Messages are sent in their order, and what an acknowledgement settles joins the end. Of more than so many the rest are unsent.
+-- Messages are sent in their order, and what an acknowledgement settles joins the end. Of more than so many the rest
+-- are unsent.
 abbrev pub SendsOut : (name : List ℕ) → ℕ → List Out → At → At → Type 0
-SendsOut name limit outs at end = InTurn SendsOne (λ outcome at. settled_by name outcome at.history) LeavesUnsent limit outs at end
+SendsOut name limit outs at end = InTurn SendsOne
+    (λ outcome at. settled_by name outcome at.history) LeavesUnsent limit outs at end
 
 -- the most messages that one turn sends
 abbrev pub most_sends : ℕ
@@ -84,7 +86,8 @@ SendsAll outs name at end = SendsOut name most_sends outs at end
 
 -- a message's exchange with its address, or the first steps of it, which `Posts` tells
 abbrev pub PostsOut : Out → Option Sent → (before after : Option WireState) → Type 0
-PostsOut out outcome before after = WhereTold before after (Posts (target_of out.address) (canonical out.message) outcome)
+PostsOut out outcome before after = WhereTold before after
+    (Posts (target_of out.address) (canonical out.message) outcome)
 
 -- the history after it
 abbrev pub history_after : Sent → History → History
@@ -97,4 +100,5 @@ FirstSends name limit outs h before after =
 
 -- the first sends of one turn, whatever history the producer stood for before them
 abbrev pub SendsSome : List Out → Known → (before after : Option WireState) → Type 0
-SendsSome outs producer before after = (h : History) → StandsFor producer h → FirstSends producer.responder.name most_sends outs h before after
+SendsSome outs producer before after = (h : History) → StandsFor producer h
+    → FirstSends producer.responder.name most_sends outs h before after

@@ -1,5 +1,5 @@
--- Messages that a consumer sends up to its producer, one after the other (EN 15531-2, deliveries, notifications and their
--- acknowledgements).
+-- Messages that a consumer sends up to its producer, one after the other (EN 15531-2, deliveries, notifications and
+-- their acknowledgements).
 use Rattle.std.specs.Prelude.{◌≡◌, ℕ, List, [], length, Option, None, Some}
 use Rattle.siri_base.specs.Wires.{WireState}
 use Rattle.siri_base.specs.OutsideCalls.{WhereTold}
@@ -43,10 +43,11 @@ replies_after outcome consumer = replies_to consumer (message_answered outcome)
 
 -- a message's exchange with the producer's address, or the first steps of it, which `PostsTo` tells
 abbrev pub PostsUp : (host path : List ℕ) → Message → Option Sent → (before after : Option WireState) → Type 0
-PostsUp host path message outcome before after = WhereTold before after (PostsTo host (request_text host path (canonical message)) outcome)
+PostsUp host path message outcome before after = WhereTold before after
+    (PostsTo host (request_text host path (canonical message)) outcome)
 
--- one message is sent up: its canonical document goes to the producer's address, this became of it, and the consumer takes the
--- message of the response, where it brings one
+-- one message is sent up: its canonical document goes to the producer's address, this became of it, and the consumer
+-- takes the message of the response, where it brings one
 pub record SendsOneUp (host path : List ℕ) (message : Message) (outcome : Sent) (at next : ConsumerAt) : Type 0 where
   pub told : PostsUp host path message (Some outcome) at.wire next.wire
   pub cause : HasSentCause at.faults next.faults (Some outcome)
@@ -57,9 +58,11 @@ pub record SendsOneUp (host path : List ℕ) (message : Message) (outcome : Sent
 abbrev pub LeavesUnsentUp : List Message → ConsumerAt → ConsumerAt → Type 0
 LeavesUnsentUp list at end = end ≡ record at { tally = with_unsent (length list) at.tally }
 
--- Messages are sent up in their order, and all replies to a response join the end. Of more than 100,000 the rest are unsent.
+-- Messages are sent up in their order, and all replies to a response join the end. Of more than 100,000 the rest are
+-- unsent.
 abbrev pub SendsUp : (host path : List ℕ) → List Message → (at end : ConsumerAt) → Type 0
-SendsUp host path list at end = InTurn (SendsOneUp host path) (λ outcome at. replies_after outcome at.consumer) LeavesUnsentUp most_sends list at end
+SendsUp host path list at end = InTurn (SendsOneUp host path)
+    (λ outcome at. replies_after outcome at.consumer) LeavesUnsentUp most_sends list at end
 
 -- Where memory was wanting, the first of these sends were made, and of the next one the first steps.
 abbrev pub FirstSendsUp : (host path : List ℕ) → List Message → Consuming → (before after : Option WireState) → Type 0

@@ -11,8 +11,8 @@ use Rattle.siri_ends.specs.At.{At, End, Surroundings, around, at_of}
 use Rattle.siri_ends.specs.Answering.{AnswersWith, Reads, StopsAnswering}
 use Rattle.siri_ends.specs.Sending.{FirstSends, SendsAll, most_sends}
 
--- The connection that is there is answered: its request is read, its message is taken, where it brings one, and settled, and the
--- answer is written. These messages are to be sent.
+-- The connection that is there is answered: its request is read, its message is taken, where it brings one, and
+-- settled, and the answer is written. These messages are to be sent.
 pub record Answers (outs : List Out) (name : List ℕ) (at mid : At) : Type 0 where
   pub asked : Asked
   pub read : Surroundings

@@ -1,20 +1,26 @@
 -- Texts that are put one after the other.
-use Rattle.std.proofs.Common.{◌≡◌, ◌+◌, ◌≤◌, ℕ, List, [], ◌++◌, length, Option, Result, Ok, Err, refl, sym, ap, ◌∙◌, subst, append-nil, append_assoc, length-append, arith}
+use Rattle.std.proofs.Common.{◌+◌, ◌≤◌, ℕ, Bool, List, [], ◌++◌, Option, Result, Ok, Err, refl, sym, ap}
+use Rattle.std.proofs.Common.{◌∙◌, subst, append-nil, append_assoc, length-append, arith}
 use Rattle.siri_base.specs.Causes.{Rose}
 use Rattle.siri_base.specs.Wires.{WireState}
 use Rattle.siri_http.specs.declared.errors.HttpError.{HttpError}
 use Rattle.siri_http.specs.declared.errors.HttpError.TheVariants as http
-use Rattle.siri_http.specs.HttpCauses.{HasWriteCause}
-use Rattle.siri_ends.specs.Sinks.{Counts, Gathers, WritesText}
+use Rattle.siri_ends.specs.Sinks.{Gathers, Measures, WritesText}
 use Rattle.siri_http.proofs.Sending.{puts_both, puts_first, wrote_all, wrote_none, wrote_nothing}
 
-pub counts_none : (s : ℕ) → Counts s s [] (Ok tt)
-counts_none s = omega arith
+pub measures_none : (s : ℕ × Bool × List ℕ) → Measures s s [] (Ok tt)
+measures_none s = (omega arith, λ kept. (kept, sym (append-nil s.2)))
 
-pub counts_both : (x y z : ℕ) (text more : List ℕ) (result : Result (Unit {0}) HttpError)
-    → Counts x y text (Ok tt) → Counts y z more result → Counts x z (text ++ more) result
-counts_both x y z text more (Ok done) first then = omega (arith, first, then, length-append text more)
-counts_both x y z text more (Err error) first then = tt
+pub measures_both : (x y z : ℕ × Bool × List ℕ) (text more : List ℕ) (result : Result (Unit {0}) HttpError)
+    → Measures x y text (Ok tt) → Measures y z more result → Measures x z (text ++ more) result
+measures_both x y z text more (Ok done) first then = (
+  omega (arith, first.0, then.0, length-append text more),
+  λ kept.
+      let after = then.1 kept in
+      let before = first.1 after.0 in
+      (before.0, after.1 ∙ ap (λ l. l ++ more) before.1 ∙ append_assoc x.2 text more),
+)
+measures_both x y z text more (Err error) first then = tt
 
 rose_later : (x y z : ℕ) → x ≤ y → Rose y z → Rose x z
 rose_later x y z le rose = omega (arith, le, rose)
@@ -51,10 +57,12 @@ writes_nothing text wire faults = record {
 
 -- ---- texts that are gathered
 
-pub gathers_none : (gathered : List ℕ) (wire : Option WireState) (faults : ℕ) → Gathers [] (Ok tt) gathered gathered wire wire faults faults
+pub gathers_none : (gathered : List ℕ) (wire : Option WireState) (faults : ℕ)
+    → Gathers [] (Ok tt) gathered gathered wire wire faults faults
 gathers_none gathered wire faults = record { front = []; parts = append-nil gathered; writes = writes_none wire faults }
 
-pub gathers_both : (text more : List ℕ) (result : Result (Unit {0}) HttpError) (g h k : List ℕ) (a b c : Option WireState) (x y z : ℕ)
+pub gathers_both : (text more : List ℕ) (result : Result (Unit {0}) HttpError) (g h k : List ℕ)
+    (a b c : Option WireState) (x y z : ℕ)
     → Gathers text (Ok tt) g h a b x y → Gathers more result h k b c y z → Gathers (text ++ more) result g k a c x z
 gathers_both text more (Ok done) g h k a b c x y z first then = record {
   front = first.front ++ then.front;
@@ -73,21 +81,28 @@ gathers_both text more (Err error) g h k a b c x y z first then =
 pub gathers_first : (text more : List ℕ) (error : HttpError) (g h : List ℕ) (a b : Option WireState) (x y : ℕ)
     → Gathers text (Err error) g h a b x y → Gathers (text ++ more) (Err error) g h a b x y
 gathers_first text more error g h a b x y first =
-    subst (λ l. WritesText l (Err error) a b x y) (append_assoc g text more) (writes_first (g ++ text) more error a b x y first)
+    subst (λ l. WritesText l (Err error) a b x y) (append_assoc g text more)
+    (writes_first (g ++ text) more error a b x y first)
 
-pub gathers_nothing : (text : List ℕ) (g : List ℕ) (wire : Option WireState) (faults : ℕ) → Gathers text (Err http.OutOfMemory) g g wire wire faults faults
+pub gathers_nothing : (text : List ℕ) (g : List ℕ) (wire : Option WireState) (faults : ℕ)
+    → Gathers text (Err http.OutOfMemory) g g wire wire faults faults
 gathers_nothing text g wire faults = writes_nothing (g ++ text) wire faults
 
 -- what is left is written at the end
-pub gathers_all : (text : List ℕ) (result : Result (Unit {0}) HttpError) (g h : List ℕ) (a b c : Option WireState) (x y z : ℕ)
+pub gathers_all : (text : List ℕ) (result : Result (Unit {0}) HttpError) (g h : List ℕ) (a b c : Option WireState)
+    (x y z : ℕ)
     → Gathers text (Ok tt) g h a b x y → WritesText h result b c y z → WritesText (g ++ text) result a c x z
 gathers_all text result g h a b c x y z first then =
-    subst (λ l. WritesText l result a c x z) (sym first.parts) (writes_both first.front h result a b c x y z first.writes then)
+    subst (λ l. WritesText l result a c x z) (sym first.parts)
+    (writes_both first.front h result a b c x y z first.writes then)
 
 -- nothing is written yet of what is gathered
-pub gathers_more : (piece g : List ℕ) (wire : Option WireState) (faults : ℕ) → Gathers piece (Ok tt) g (g ++ piece) wire wire faults faults
+pub gathers_more : (piece g : List ℕ) (wire : Option WireState) (faults : ℕ)
+    → Gathers piece (Ok tt) g (g ++ piece) wire wire faults faults
 gathers_more piece g wire faults = record { front = []; parts = refl; writes = writes_none wire faults }
 
 -- all of it is written
-pub gathers_out : (piece g : List ℕ) (a b : Option WireState) (x y : ℕ) → WritesText (g ++ piece) (Ok tt) a b x y → Gathers piece (Ok tt) g [] a b x y
-gathers_out piece g a b x y writes = record { front = g ++ piece; parts = sym (append-nil (g ++ piece)); writes = writes }
+pub gathers_out : (piece g : List ℕ) (a b : Option WireState) (x y : ℕ) → WritesText (g ++ piece) (Ok tt) a b x y
+    → Gathers piece (Ok tt) g [] a b x y
+gathers_out piece g a b x y writes = record
+    { front = g ++ piece; parts = sym (append-nil (g ++ piece)); writes = writes }

@@ -87,7 +87,8 @@ pub record AnswersOne (further : List Message) (at mid : ConsumerAt) : Type 0 wh
   pub further_are : further ≡ further_replies at.consumer asked
 
 -- a message is sent up, and the replies to what is answered are more to be sent
-pub record SendsNextUp (host path : List ℕ) (message : Message) (more : List Message) (at next : ConsumerAt) : Type 0 where
+pub record SendsNextUp (host path : List ℕ) (message : Message) (more : List Message)
+    (at next : ConsumerAt) : Type 0 where
   pub outcome : Sent
   pub sends : SendsOneUp host path message outcome at next
   pub more_are : more ≡ replies_after outcome at.consumer
@@ -95,5 +96,6 @@ pub record SendsNextUp (host path : List ℕ) (message : Message) (more : List M
 -- ---- where memory was wanting
 
 -- an exchange was made whole, or its first steps
-abbrev pub StopsAt : (Posts : Option Sent → (before after : Option WireState) → Type 0) → (before after : Option WireState) → Type 0
+abbrev pub StopsAt : (Posts : Option Sent → (before after : Option WireState) → Type 0)
+    → (before after : Option WireState) → Type 0
 StopsAt Posts before after = Posts None before after ⊎ ((outcome : Sent) × Posts (Some outcome) before after)

@@ -1,5 +1,6 @@
 //! Writes answers from what a producer lends: no message is made of them, and no item is copied. The text is walked over
-//! twice: once for its length, which stands in the head, and once to write it.
+//! twice: once for its length, which stands in the head, and once to write it. Where it is short, it is kept at the first walk,
+//! and there is no second one.
 
 ghost use Rattle.std.specs.Prelude.{◌≡◌, ◌<◌, ◌++◌, [], IfErr, IfOk, IfSome, MatchOption, OnErr, OnOk, Some, true, false, length};
 ghost use Rattle.siri_http.specs.HttpCauses.{EndsWrite};
@@ -18,11 +19,11 @@ ghost use Rattle.siri_ends.specs.Answering.{StopsWriting, Writes};
 ghost use Rattle.siri_ends.specs.At.{surroundings};
 ghost use Rattle.siri_ends.specs.Lending.{delivering};
 ghost use Rattle.siri_ends.specs.Pieces.{FramesPart, FramesResponse, direct_head, direct_piece, direct_text, items_left, part_head, part_piece, part_text, topic_text};
-ghost use Rattle.siri_ends.specs.Sinks.{WritesText};
+ghost use Rattle.siri_ends.specs.Sinks.{IsMeasured, WritesText};
 
 use crate::Tally;
 use crate::answering::{drop_connection, end_answer};
-use crate::sink::{Length, Sink};
+use crate::sink::{Measure, Measured, Sink};
 use siri_base::{Copies, List, Moment, Name, OutOfMemory, Wire};
 use siri_http::{HttpError, response_head, write_piece};
 use siri_messages::ServiceRequest;
@@ -81,6 +82,22 @@ fn put_changes<S: Sink>(
         sink.put(gathered, &piece)?;
     }
     Ok(())
+}
+
+/// Writes a body of so many bytes that is kept, with its head before it.
+fn send_text<W: Wire>(
+    alloc: Global,
+    wire: &mut W,
+    length: u64,
+    text: &[u8],
+) -> Result<(), HttpError>
+    requires { W.is_open wire.old }
+    ensures told { WritesText (head_text 200 false length ++ text.now) result (W.tells wire.old) (W.tells wire.new) (W.faults wire.old) (W.faults wire.new) }
+    ensures ends { IfErr result EndsWrite }
+{
+    let mut gathered = response_head(alloc, 200, false, length)?;
+    wire.put(&mut gathered, text)?;
+    write_piece(wire, &gathered)
 }
 
 // ---- a direct response
@@ -168,26 +185,27 @@ fn put_direct<S: Sink>(
     Ok(())
 }
 
-/// How many bytes the text of a direct response has. It answers `OutOfMemory` where they would pass 2^64 - 1, too.
-fn direct_length(
+/// How many bytes the text of a direct response has, and the text where it is short. It answers `OutOfMemory` where they would
+/// pass 2^64 - 1, too.
+fn measure_direct(
     alloc: Global,
     producer: &mut Producer,
     request: &ServiceRequest,
     frame: &List<FramePiece>,
-) -> Result<u64, OutOfMemory>
-    ensures length { IfOk result (λ count. (h : History) → StandsFor producer.old h → count ≡ length (direct_text (now_of h) (current h) request.now frame.now)) }
+) -> Result<Measured, OutOfMemory>
+    ensures measured { IfOk result (λ measured. (h : History) → StandsFor producer.old h → IsMeasured (direct_text (now_of h) (current h) request.now frame.now) measured) }
     ensures rest { OnOk result (SameButReads producer.old producer.new) }
 {
-    let mut length = Length { bytes: 0 };
-    let mut gathered = Vec::new(alloc);
-    match put_direct(alloc, &mut length, &mut gathered, producer, request, frame) {
-        Ok(()) => Ok(length.bytes),
+    let mut measure = Measure::new();
+    let mut gathered = Measure::room(alloc)?;
+    match put_direct(alloc, &mut measure, &mut gathered, producer, request, frame) {
+        Ok(()) => Ok(measure.end(gathered)),
         Err(_) => Err(OutOfMemory),
     }
 }
 
-/// Writes a direct response of which the length is known.
-fn send_direct<W: Wire>(
+/// Writes a direct response of which the length is known, as it is walked over.
+fn walk_direct<W: Wire>(
     alloc: Global,
     wire: &mut W,
     producer: &mut Producer,
@@ -203,6 +221,27 @@ fn send_direct<W: Wire>(
     let mut gathered = response_head(alloc, 200, false, length)?;
     put_direct(alloc, wire, &mut gathered, producer, request, frame)?;
     write_piece(wire, &gathered)
+}
+
+/// Writes a direct response that is measured.
+fn send_direct<W: Wire>(
+    alloc: Global,
+    wire: &mut W,
+    producer: &mut Producer,
+    request: &ServiceRequest,
+    frame: &List<FramePiece>,
+    measured: &Measured,
+) -> Result<(), HttpError>
+    requires there { W.is_open wire.old }
+    requires measured { (h : History) → StandsFor producer.old h → IsMeasured (direct_text (now_of h) (current h) request.now frame.now) measured.now }
+    ensures told { (h : History) → StandsFor producer.old h → WritesText (head_text 200 false measured.now.length ++ direct_text (now_of h) (current h) request.now frame.now) result (W.tells wire.old) (W.tells wire.new) (W.faults wire.old) (W.faults wire.new) }
+    ensures rest { UnlessMemory result (SameButReads producer.old producer.new) }
+    ensures ends { IfErr result EndsWrite }
+{
+    if let Some(text) = &measured.text {
+        return send_text(alloc, wire, measured.length, text);
+    }
+    walk_direct(alloc, wire, producer, request, frame, measured.length)
 }
 
 /// The frame of the direct response to a request.
@@ -236,8 +275,8 @@ pub(crate) fn write_direct<W: Wire>(
     ensures rest { OnOk result (SameButReads producer.old producer.new) }
 {
     let frame = direct_frame(alloc, producer, request)?;
-    let length = direct_length(alloc, producer, request, &frame)?;
-    let written = send_direct(alloc, wire, producer, request, &frame, length);
+    let measured = measure_direct(alloc, producer, request, &frame)?;
+    let written = send_direct(alloc, wire, producer, request, &frame, &measured);
     end_answer(wire, written, tally)
 }
 
@@ -303,25 +342,26 @@ fn put_part<S: Sink>(
     Ok(())
 }
 
-/// How many bytes the text of a part has. It answers `OutOfMemory` where they would pass 2^64 - 1, too.
-fn part_length(
+/// How many bytes the text of a part has, and the text where it is short. It answers `OutOfMemory` where they would pass
+/// 2^64 - 1, too.
+fn measure_part(
     alloc: Global,
     head: &DeliveryHead,
     changes: &[Change],
     frame: &List<FramePiece>,
-) -> Result<u64, OutOfMemory>
-    ensures { IfOk result (λ count. count ≡ length (part_text head.now changes.now frame.now)) }
+) -> Result<Measured, OutOfMemory>
+    ensures { IfOk result (IsMeasured (part_text head.now changes.now frame.now)) }
 {
-    let mut length = Length { bytes: 0 };
-    let mut gathered = Vec::new(alloc);
-    match put_part(alloc, &mut length, &mut gathered, head, changes, frame) {
-        Ok(()) => Ok(length.bytes),
+    let mut measure = Measure::new();
+    let mut gathered = Measure::room(alloc)?;
+    match put_part(alloc, &mut measure, &mut gathered, head, changes, frame) {
+        Ok(()) => Ok(measure.end(gathered)),
         Err(_) => Err(OutOfMemory),
     }
 }
 
-/// Writes a part of which the length is known.
-fn send_part<W: Wire>(
+/// Writes a part of which the length is known, as it is walked over.
+fn walk_part<W: Wire>(
     alloc: Global,
     wire: &mut W,
     head: &DeliveryHead,
@@ -336,6 +376,26 @@ fn send_part<W: Wire>(
     let mut gathered = response_head(alloc, 200, false, length)?;
     put_part(alloc, wire, &mut gathered, head, changes, frame)?;
     write_piece(wire, &gathered)
+}
+
+/// Writes a part that is measured.
+fn send_part<W: Wire>(
+    alloc: Global,
+    wire: &mut W,
+    head: &DeliveryHead,
+    changes: &[Change],
+    frame: &List<FramePiece>,
+    measured: &Measured,
+) -> Result<(), HttpError>
+    requires there { W.is_open wire.old }
+    requires measured { IsMeasured (part_text head.now changes.now frame.now) measured.now }
+    ensures told { WritesText (head_text 200 false measured.now.length ++ part_text head.now changes.now frame.now) result (W.tells wire.old) (W.tells wire.new) (W.faults wire.old) (W.faults wire.new) }
+    ensures ends { IfErr result EndsWrite }
+{
+    if let Some(text) = &measured.text {
+        return send_text(alloc, wire, measured.length, text);
+    }
+    walk_part(alloc, wire, head, changes, frame, measured.length)
 }
 
 /// The frame of a part by a producer of this name, in a start.
@@ -376,8 +436,8 @@ fn write_lent_part<W: Wire>(
     let frame = part_frame(alloc, producer, start, lent)?;
     let head = part_head(lent, start)?;
     let changes = lent.part.changes;
-    let length = part_length(alloc, &head, changes, &frame)?;
-    let written = send_part(alloc, wire, &head, changes, &frame, length);
+    let measured = measure_part(alloc, &head, changes, &frame)?;
+    let written = send_part(alloc, wire, &head, changes, &frame, &measured);
     end_answer(wire, written, tally)
 }
 

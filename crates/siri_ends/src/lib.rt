@@ -14,7 +14,8 @@
 //! ```
 //!
 //! What a producer holds is not copied for an answer: the items of a direct response and the changes of a supplied part are
-//! written from what the producer lends after it settled, in two walks, one for the length that stands in the head.
+//! written from what the producer lends after it settled. The length stands before them, in the head: a short text is
+//! kept as its length is taken, a longer one is walked over twice.
 //!
 //! A call is a function of what the wire brings and of the producer's history, or of the consumer: its contract says
 //! which bytes go to which connection, which addresses are dialled, and what is counted. It ends well, or for want of

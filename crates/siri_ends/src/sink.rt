@@ -1,17 +1,24 @@
-//! Where the text of an answer goes, piece by piece: its bytes are counted, or written to a connection.
+//! Where the text of an answer goes, piece by piece: it is measured, or written to a connection.
 
-ghost use Rattle.std.specs.Prelude.{◌≡◌, ◌++◌, ℕ, List, [], Result, Ok, Err, IfErr, ⊤};
+ghost use Rattle.std.specs.Prelude.{◌≡◌, ◌++◌, ℕ, List, [], Result, Ok, Err, IfErr, IfOk, IfSome, true, ⊤};
 ghost use Rattle.siri_http.specs.declared.errors.HttpError.{HttpError};
 ghost use Rattle.siri_http.specs.declared.errors.HttpError.TheVariants as http;
 ghost use Rattle.siri_http.specs.HttpCauses.{EndsWrite};
-ghost use Rattle.siri_ends.specs.Sinks.{Counts, Gathers};
+ghost use Rattle.siri_ends.specs.Sinks.{Gathers, Measures};
 ghost use Rattle.siri_ends.specs.SinkLaws as law;
 
-use siri_base::{Wire, append};
+use siri_base::{OutOfMemory, Wire, append};
 use siri_http::{HttpError, write_piece};
+use std::alloc::Global;
 
 /// How many bytes are gathered at least before they are written: a write is a call of the system, and a piece is short.
 const GATHERED: usize = 16_384;
+
+/// How many bytes of a text are kept at most where its length is taken.
+const MOST_KEPT: u64 = 524_288;
+
+/// Room for the text of most answers, in bytes: it is taken at once, and not many times.
+const ROOM: usize = 65_536;
 
 /// Where a text goes, piece by piece, together with the bytes that are gathered and didn't go there yet.
 pub(crate) trait Sink {
@@ -43,30 +50,75 @@ pub(crate) trait Sink {
     ghost takes_nothing: { (s : Self × List ℕ) (text : List ℕ) → takes s s text (Err http.OutOfMemory) };
 }
 
-/// Counts bytes, and gathers none. Where they would pass 2^64 - 1 it answers `OutOfMemory`.
+/// Takes the length of a text, and keeps the text where it is short, so that it needn't be made again. Where its bytes would
+/// pass 2^64 - 1 it answers `OutOfMemory`.
 #[derive(Drop)]
-pub(crate) struct Length {
-    pub(crate) bytes: u64,
+pub(crate) struct Measure {
+    bytes: u64,
+    /// Whether all that was put is gathered.
+    is_kept: bool,
 }
 
-impl Sink for Length {
-    ghost is_ready = { λ s. ⊤ };
-
-    ghost takes = { λ x y text result. Counts x.0.bytes y.0.bytes text result };
-
-    fn put(&mut self, _gathered: &mut Vec<u8>, piece: &[u8]) -> Result<(), HttpError> {
-        match self.bytes.checked_add(piece.len() as u64) {
-            Some(bytes) => {
-                self.bytes = bytes;
-                Ok(())
-            }
-            None => Err(HttpError::OutOfMemory),
+impl Measure {
+    /// Of nothing.
+    pub(crate) fn new() -> Measure
+        ensures { result ≡ record { bytes = 0; is_kept = true } }
+    {
+        Measure {
+            bytes: 0,
+            is_kept: true,
         }
     }
 
-    ghost takes_none = { λ s. law.counts_none s.0.bytes };
+    /// Where a text that is measured is gathered.
+    pub(crate) fn room(alloc: Global) -> Result<Vec<u8>, OutOfMemory>
+        ensures { IfOk result (λ room. room.items ≡ []) }
+    {
+        Ok(Vec::with_capacity(alloc, ROOM)?)
+    }
 
-    ghost takes_both = { λ x y z text more result first then. law.counts_both x.0.bytes y.0.bytes z.0.bytes text more result first then };
+    /// What it came to, with what was gathered.
+    pub(crate) fn end(self, gathered: Vec<u8>) -> Measured
+        ensures length { result.length ≡ self.bytes }
+        ensures text { IfSome result.text (λ text. (self.is_kept ≡ true) × (text.items ≡ gathered.items)) }
+    {
+        Measured {
+            length: self.bytes,
+            text: if self.is_kept { Some(gathered) } else { None },
+        }
+    }
+}
+
+/// The length of a text in bytes, and the text itself where it is short.
+#[derive(Drop)]
+pub(crate) struct Measured {
+    pub(crate) length: u64,
+    pub(crate) text: Option<Vec<u8>>,
+}
+
+impl Sink for Measure {
+    ghost is_ready = { λ s. ⊤ };
+
+    ghost takes = { λ x y text result. Measures (x.0.bytes, x.0.is_kept, x.1) (y.0.bytes, y.0.is_kept, y.1) text result };
+
+    fn put(&mut self, gathered: &mut Vec<u8>, piece: &[u8]) -> Result<(), HttpError> {
+        let Some(bytes) = self.bytes.checked_add(piece.len() as u64) else {
+            return Err(HttpError::OutOfMemory);
+        };
+        if self.is_kept && bytes <= MOST_KEPT {
+            append(gathered, piece)?;
+        } else {
+            self.is_kept = false;
+            gathered.clear();
+        }
+        self.bytes = bytes;
+        Ok(())
+    }
+
+    ghost takes_none = { λ s. law.measures_none (s.0.bytes, s.0.is_kept, s.1) };
+
+    ghost takes_both = { λ x y z text more result first then.
+        law.measures_both (x.0.bytes, x.0.is_kept, x.1) (y.0.bytes, y.0.is_kept, y.1) (z.0.bytes, z.0.is_kept, z.1) text more result first then };
 
     ghost takes_first = { λ x y text more error first. tt };
 

@@ -1,4 +1,4 @@
-use Rattle.std.proofs.Common.{sym, ap, ◌∙◌}
+use Rattle.std.proofs.Common.{sym, ◌∙◌}
 use Rattle.siri_model.specs.Direct.{response}
 use Rattle.siri_model.specs.History.{current, now_of}
 use Rattle.siri_ends.proofs.Lends.{if_ok}
@@ -13,5 +13,6 @@ returns c = if_ok c.reply_frame-frame.result _ _
     let items = current h in
     let request = c.args.request.now in
     direct_filled name now items request c.requires frame
-    ∙ said (response name now items request) (bare_response name now items request ∙ sym (c.in_ok-head.ensures h stands)))
+    ∙ said (response name now items request)
+    (bare_response name now items request ∙ sym (c.in_ok-head.ensures h stands)))
     c.reply_frame-frame.ensures.text

@@ -14,16 +14,21 @@ loop-piece-preserved g c =
     let same = c.loop-piece.invariant.rest in
     record {
       ready = c.put_direct_piece.ensures.ready;
-      rest = same_then c.args.producer.now c.loop-piece.producer c.put_direct_piece.new.producer same c.in_ok-put_direct_piece.ensures.rest;
+      rest = same_then c.args.producer.now c.loop-piece.producer c.put_direct_piece.new.producer same
+          c.in_ok-put_direct_piece.ensures.rest;
       puts = λ h stands.
           let text_of = direct_piece (now_of h) (current h) c.args.request.now in
-          puts_more g.S.Sink.takes g.met.S.Sink.takes_both _ _ _ (text_of c.piece-item.result) _ _ _ (c.loop-piece.invariant.puts h stands)
+          puts_more g.S.Sink.takes g.met.S.Sink.takes_both _ _ _ (text_of c.piece-item.result) _ _ _
+          (c.loop-piece.invariant.puts h stands)
           (pieces_left text_of frame c.loop-piece.piece-index c.piece-item.result lt is)
-          (c.in_ok-put_direct_piece.ensures.takes h (same_stands c.args.producer.now c.loop-piece.producer h same stands));
+          (c.in_ok-put_direct_piece.ensures.takes h
+          (same_stands c.args.producer.now c.loop-piece.producer h same stands));
     }
 
 pub returns-in_err-put_direct_piece-clause-rest : goal.returns-in_err-put_direct_piece-clause-rest
 returns-in_err-put_direct_piece-clause-rest g c =
     let p = err_from_is_err_and c.from_residual.result c.from_residual.ensures.1 in
-    rw (p.1, p.2) (unless_then {T = Unit {0}} (Err _) c.args.producer.now c.loop-piece.producer c.put_direct_piece.new.producer c.loop-piece.invariant.rest
+    rw (p.1, p.2)
+    (unless_then {T = Unit {0}}
+    (Err _) c.args.producer.now c.loop-piece.producer c.put_direct_piece.new.producer c.loop-piece.invariant.rest
     c.in_err-put_direct_piece.ensures.rest)

@@ -11,5 +11,6 @@ invariant-loop-piece g l = record {
   rest : SameButReads l.fn.producer l.producer;
   puts : (h : History) → StandsFor l.fn.producer h
       → PutsFront g.S.Sink.takes (direct_text (now_of h) (current h) l.fn.request l.fn.frame)
-      (direct_text (now_of h) (current h) l.fn.request (drop l.piece-index l.fn.frame)) (l.fn.sink, l.fn.gathered.items) (l.sink, l.gathered.items);
+      (direct_text (now_of h) (current h) l.fn.request (drop l.piece-index l.fn.frame)) (l.fn.sink, l.fn.gathered.items)
+      (l.sink, l.gathered.items);
 }

@@ -6,7 +6,8 @@ use Rattle.siri_ends.proofs.lending.put_items.Given as goal
 abbrev pub invariant-loop-piece : goal.invariant-loop-piece
 invariant-loop-piece g l = record {
   ready : g.S.Sink.is_ready l.sink;
-  puts : PutsFront g.S.Sink.takes (items_left l.fn.pieces) (items_left l.pieces) (l.fn.sink, l.fn.gathered.items) (l.sink, l.gathered.items);
+  puts : PutsFront g.S.Sink.takes (items_left l.fn.pieces) (items_left l.pieces) (l.fn.sink, l.fn.gathered.items)
+      (l.sink, l.gathered.items);
   same : l.pieces.items.counter.ghost_name ≡ l.fn.pieces.items.counter.ghost_name;
 }
 

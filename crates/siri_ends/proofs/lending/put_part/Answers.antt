@@ -10,6 +10,8 @@ loop-piece-preserved g c =
     let is = rw c.slice-piece-items.ensures at c.piece-item.is in
     record {
       ready = c.put_part_piece.ensures.ready;
-      puts = puts_more g.S.Sink.takes g.met.S.Sink.takes_both _ _ _ (text_of c.piece-item.result) _ _ _ c.loop-piece.invariant.puts
-          (pieces_left text_of frame c.loop-piece.piece-index c.piece-item.result lt is) c.in_ok-put_part_piece.ensures.takes;
+      puts = puts_more g.S.Sink.takes g.met.S.Sink.takes_both _ _ _
+          (text_of c.piece-item.result) _ _ _ c.loop-piece.invariant.puts
+          (pieces_left text_of frame c.loop-piece.piece-index c.piece-item.result lt is)
+          c.in_ok-put_part_piece.ensures.takes;
     }

@@ -7,5 +7,6 @@ abbrev pub invariant-loop-piece : goal.invariant-loop-piece
 invariant-loop-piece g l = record {
   ready : g.S.Sink.is_ready l.sink;
   puts : PutsFront g.S.Sink.takes (part_text l.fn.head l.fn.changes l.fn.frame)
-      (part_text l.fn.head l.fn.changes (drop l.piece-index l.fn.frame)) (l.fn.sink, l.fn.gathered.items) (l.sink, l.gathered.items);
+      (part_text l.fn.head l.fn.changes (drop l.piece-index l.fn.frame)) (l.fn.sink, l.fn.gathered.items)
+      (l.sink, l.gathered.items);
 }

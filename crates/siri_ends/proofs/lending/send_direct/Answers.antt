@@ -1,9 +1,12 @@
-use Rattle.std.proofs.Common.{◌++◌}
-use Rattle.siri_ends.specs.SinkLaws.{gathers_all}
+use Rattle.std.proofs.Common.{◌++◌, ◌∙◌, subst, false}
+use Rattle.siri_http.specs.Texts.{head_text}
+use Rattle.siri_ends.specs.Sinks.{WritesText}
 use Rattle.siri_ends.proofs.lending.send_direct.Goals as goal
 
-pub returns-clause-told : goal.returns-clause-told
-returns-clause-told g c = λ h stands.
-    rw c.in_ok-gathered.ensures at
-    (gathers_all _ c.write_piece.result c.in_ok-gathered.gathered.items c.put_direct.new.gathered.items _ _ _ _ _ _ (c.in_ok-put_direct.ensures.takes h stands)
-    (record { told = rw c.deref.ensures.value at c.write_piece.ensures.told; cause = c.write_piece.ensures.cause }))
+pub returns-in-Some-clause-told : goal.returns-in-Some-clause-told
+returns-in-Some-clause-told g c = λ h stands.
+    subst (λ text. WritesText (head_text 200 false c.args.measured.now.length ++ text) c.send_text.result
+    (g.W.Wire.tells c.args.wire.now) (g.W.Wire.tells c.send_text.new.wire)
+    (g.W.Wire.faults c.args.wire.now) (g.W.Wire.faults c.send_text.new.wire))
+    (c.deref.ensures.value ∙ (rw c.in-Some.is at (c.requires.measured h stands).1))
+    c.send_text.ensures.told

@@ -3,7 +3,8 @@ use Rattle.siri_ends.proofs.reply.reply_for.Goals as goal
 
 pub returns-in-Message-clause-prepares : goal.returns-in-Message-clause-prepares
 returns-in-Message-clause-prepares c = if_ok c.reply_to.result _ _
-    (λ reply so. prepares_message c.args.asked.now c.in-Message.message c.args.producer.now c.reply_to.new.producer reply
+    (λ reply so. prepares_message c.args.asked.now c.in-Message.message c.args.producer.now c.reply_to.new.producer
+    reply
     (rw c.in-Message.is at c.in_ok-message.ensures) so) c.reply_to.ensures.prepares
 
 pub returns-in-Refused-clause-prepares : goal.returns-in-Refused-clause-prepares
@@ -11,4 +12,5 @@ returns-in-Refused-clause-prepares c = prepares_refusal c.args.asked.now c.in-Re
     (rw c.in-Refused.is at c.in_ok-message.ensures)
 
 pub returns-in-Nothing-clause-prepares : goal.returns-in-Nothing-clause-prepares
-returns-in-Nothing-clause-prepares c = prepares_nothing c.args.asked.now c.args.producer.now (rw c.in-Nothing.is at c.in_ok-message.ensures)
+returns-in-Nothing-clause-prepares c = prepares_nothing c.args.asked.now c.args.producer.now
+    (rw c.in-Nothing.is at c.in_ok-message.ensures)

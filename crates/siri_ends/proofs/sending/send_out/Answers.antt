@@ -6,9 +6,11 @@ use Rattle.siri_ends.proofs.sending.send_out.Goals as goal
 
 pub returns-in_default-clause-ok : goal.returns-in_default-clause-ok
 returns-in_default-clause-ok g c =
-    let none : c.loop-left.queue.items ≡ [] = none_left c.loop-left.queue.items (c.in_default.ensures.items ∙ c.in_default.ensures.rest) in
+    let none : c.loop-left.queue.items
+    ≡ [] = none_left c.loop-left.queue.items (c.in_default.ensures.items ∙ c.in_default.ensures.rest) in
     let one : c.loop-left.left ≡ suc (c.loop-left.left - 1) = omega (arith, c.loop-left-test.true) in
-    comes_last c.args.outs c.loop-left.queue.items _ _ c.loop-left.left (c.loop-left.left - 1) c.loop-left.invariant none one
+    comes_last c.args.outs c.loop-left.queue.items _ _ c.loop-left.left
+    (c.loop-left.left - 1) c.loop-left.invariant none one
 
 pub loop-left-preserved : goal.loop-left-preserved
 loop-left-preserved g c =
@@ -26,7 +28,9 @@ returns-clause-ok g c =
 pub returns-in_err-more-clause-err : goal.returns-in_err-more-clause-err
 returns-in_err-more-clause-err g c =
     let one : c.loop-left.left ≡ suc (c.loop-left.left - 1) = omega (arith, c.loop-left-test.true) in
-    on_err c.from_residual.result (SendsSome c.args.outs c.args.producer.now (g.W.Wire.tells c.args.wire.now) (g.W.Wire.tells c.send_next.new.wire))
+    on_err c.from_residual.result
+    (SendsSome c.args.outs c.args.producer.now (g.W.Wire.tells c.args.wire.now)
+    (g.W.Wire.tells c.send_next.new.wire))
     (comes_short c.args.outs c.loop-left.queue.items _ _ c.loop-left.left
     (c.loop-left.left - 1) c.in-Some.out c.pop_front.new.self.items _ c.loop-left.invariant c.in-Some.ensures.items
     one c.in_err-more.ensures.err)

@@ -6,9 +6,11 @@ use Rattle.siri_ends.proofs.sending_up.send_up.Goals as goal
 
 pub returns-in_default-clause-ok : goal.returns-in_default-clause-ok
 returns-in_default-clause-ok g c =
-    let none : c.loop-left.queue.items ≡ [] = none_left c.loop-left.queue.items (c.in_default.ensures.items ∙ c.in_default.ensures.rest) in
+    let none : c.loop-left.queue.items
+    ≡ [] = none_left c.loop-left.queue.items (c.in_default.ensures.items ∙ c.in_default.ensures.rest) in
     let one : c.loop-left.left ≡ suc (c.loop-left.left - 1) = omega (arith, c.loop-left-test.true) in
-    up_last _ _ c.args.list c.loop-left.queue.items _ _ c.loop-left.left (c.loop-left.left - 1) c.loop-left.invariant none one
+    up_last _ _ c.args.list c.loop-left.queue.items _ _ c.loop-left.left
+    (c.loop-left.left - 1) c.loop-left.invariant none one
 
 pub loop-left-preserved : goal.loop-left-preserved
 loop-left-preserved g c =

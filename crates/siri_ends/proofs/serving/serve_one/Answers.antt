@@ -11,4 +11,5 @@ returns-in_err-outs-clause-err g c =
 
 pub returns-in_err-send_out-clause-err : goal.returns-in_err-send_out-clause-err
 returns-in_err-send_out-clause-err g c =
-    on_err c.from_residual-in_err-send_out.result _ (stops_in_sends c.in_ok-outs.outs _ _ _ c.in_ok-outs.ensures.ok c.in_err-send_out.ensures.err)
+    on_err c.from_residual-in_err-send_out.result _
+    (stops_in_sends c.in_ok-outs.outs _ _ _ c.in_ok-outs.ensures.ok c.in_err-send_out.ensures.err)
