@@ -1,222 +1,164 @@
-//! Runs of `serve` and `consume` over an outside of which calls fail.
+//! Runs of `check`, `convert`, `load` and `consume` over a source and a sink that fail: nothing but a front of the text is
+//! written. For `replay` see that file.
 
-use crate::harness::{Comes, NO_CALLS, Run, UNFAILING, comes_of};
-use crate::network::{
-    ACKNOWLEDGED_UP, CHECK, CHECKED, CONSUMER, EIGHT, FED, FEED, LISTEN, NOTIFIED, READY, REQUEST,
-    SEVEN, SUBSCRIBE, SUBSCRIBED, SUPPLIED, SUPPLY, TAKEN, WANTED,
-};
-use siri_base::{FailingCalls, FailingConnection};
+use crate::harness::{Comes, DONE, READ_FAULT, Run, UNFAILING, WRITE_FAULT, first_wrong};
 
-/// A connection that asks for the producer's status.
-const ASKS: FailingConnection<'static> = FailingConnection {
-    input: CHECK,
-    read_fails: &[],
-    write_fails: &[],
-};
-
-/// `serve` for one connection, where two come.
-const SERVE: Run<'static> = Run {
-    words: &["serve", "p", LISTEN, "1"],
-    moments: &[SEVEN, EIGHT, EIGHT],
-    to_accept: &[ASKS, ASKS],
+/// `check` of a document of 34 bytes.
+const CHECK: Run<'static> = Run {
+    words: &["check"],
+    input: "{\"Siri\":{\"CheckStatusRequest\":{}}}",
     ..UNFAILING
 };
 
-const SERVE_TWO: Run<'static> = Run {
-    words: &["serve", "p", LISTEN, "2"],
-    ..SERVE
+const CONVERT: Run<'static> = Run {
+    words: &["convert"],
+    ..CHECK
 };
 
-/// `consume` for one connection, by which a part is notified.
-const CONSUME: Run<'static> = Run {
-    words: &["consume", "c", CONSUMER, "http://127.0.0.1:7001/", "1"],
-    moments: &[EIGHT, EIGHT],
-    input: WANTED,
-    to_accept: &[FailingConnection {
-        input: NOTIFIED,
-        ..ASKS
-    }],
-    ..SERVE
+/// `check` of a document that is refused.
+const REFUSE: Run<'static> = Run {
+    input: "{}",
+    ..CHECK
 };
 
-/// What is run, and what comes of it.
-static ROWS: [(Run<'static>, Comes<'static>); 9] = [
+const LOAD: Run<'static> = Run {
+    words: &["load", "7", "0"],
+    ..UNFAILING
+};
+
+/// What is run, and what comes of it: reads that fail, up to the one that would tell the end.
+static READS: [(Run<'static>, Comes<'static>); 7] = [
     (
         Run {
-            raise: &[0],
-            ..SERVE
+            read: &[0],
+            ..CHECK
+        },
+        READ_FAULT,
+    ),
+    (
+        Run {
+            read: &[33],
+            ..CHECK
+        },
+        READ_FAULT,
+    ),
+    (
+        Run {
+            read: &[34],
+            ..CHECK
+        },
+        READ_FAULT,
+    ),
+    (
+        Run {
+            read: &[1],
+            ..REFUSE
+        },
+        READ_FAULT,
+    ),
+    (
+        Run {
+            read: &[10],
+            ..CONVERT
+        },
+        READ_FAULT,
+    ),
+    (
+        Run {
+            read: &[34],
+            ..CONVERT
+        },
+        READ_FAULT,
+    ),
+    // No byte of the source is read.
+    (
+        Run { read: &[0], ..LOAD },
+        Comes {
+            output: "load 7 0 lines 24 packets 19 lost 0 quiet 4 items 0\n",
+            ..DONE
+        },
+    ),
+];
+
+/// Writes that fail.
+static WRITES: [(Run<'static>, Comes<'static>); 8] = [
+    (
+        Run {
+            write: &[0],
+            ..CHECK
+        },
+        WRITE_FAULT,
+    ),
+    (
+        Run {
+            write: &[3],
+            ..CHECK
         },
         Comes {
-            answered: &[],
-            named: &[],
-            output: "",
-            number: 76,
-            text: "siri: keeper fault",
+            output: "ok ",
+            ..WRITE_FAULT
+        },
+    ),
+    // A refusal that wasn't written whole is none.
+    (
+        Run {
+            write: &[13],
+            ..REFUSE
+        },
+        Comes {
+            output: "Siri: Missing",
+            ..WRITE_FAULT
         },
     ),
     (
         Run {
-            calls: FailingCalls {
-                listen: &[0],
-                ..NO_CALLS
-            },
-            ..SERVE
+            write: &[14],
+            ..REFUSE
         },
         Comes {
-            answered: &[],
-            named: &[LISTEN],
-            output: "",
-            number: 69,
-            text: "siri: wire fault",
+            output: "Siri: Missing\n",
+            number: 1,
+            ..DONE
         },
     ),
     (
         Run {
-            calls: FailingCalls {
-                accept: &[1],
-                ..NO_CALLS
-            },
-            ..SERVE_TWO
+            write: &[0],
+            ..CONVERT
         },
-        Comes {
-            answered: &[CHECKED],
-            named: &[LISTEN],
-            output: "",
-            number: 69,
-            text: "siri: wire fault",
-        },
+        WRITE_FAULT,
     ),
     (
-        Run { now: &[1], ..SERVE },
+        Run {
+            write: &[8],
+            ..CONVERT
+        },
         Comes {
-            answered: &[""],
-            named: &[LISTEN],
-            output: "",
-            number: 75,
-            text: "siri: clock fault",
+            output: "{\"Siri\":",
+            ..WRITE_FAULT
         },
     ),
     (
         Run {
-            to_accept: &[
-                FailingConnection {
-                    read_fails: &[0],
-                    ..ASKS
-                },
-                ASKS,
-            ],
-            ..SERVE_TWO
+            write: &[0],
+            ..LOAD
         },
-        Comes {
-            answered: &["", CHECKED],
-            named: &[LISTEN],
-            output: "served 2 refused 0 dropped 1 unsent 0\n",
-            number: 0,
-            text: "",
-        },
+        WRITE_FAULT,
     ),
     (
         Run {
-            to_accept: &[FailingConnection {
-                write_fails: &[0],
-                ..ASKS
-            }],
-            ..SERVE
+            write: &[7],
+            ..LOAD
         },
         Comes {
-            answered: &[""],
-            named: &[LISTEN],
-            output: "served 1 refused 0 dropped 1 unsent 0\n",
-            number: 0,
-            text: "",
-        },
-    ),
-    // A subscription's first round can't be sent.
-    (
-        Run {
-            to_accept: &[
-                FailingConnection {
-                    input: SUBSCRIBE,
-                    ..ASKS
-                },
-                FailingConnection {
-                    input: FEED,
-                    ..ASKS
-                },
-            ],
-            calls: FailingCalls {
-                dial: &[0],
-                ..NO_CALLS
-            },
-            ..SERVE_TWO
-        },
-        Comes {
-            answered: &[SUBSCRIBED, FED],
-            named: &[LISTEN, CONSUMER],
-            output: "served 2 refused 0 dropped 0 unsent 1\n",
-            number: 0,
-            text: "",
-        },
-    ),
-    // The consumer's request for its subscription can't be sent, and what is notified all the same is fetched.
-    (
-        Run {
-            to_dial: &[
-                FailingConnection {
-                    input: SUPPLIED,
-                    ..ASKS
-                },
-                FailingConnection {
-                    input: TAKEN,
-                    ..ASKS
-                },
-            ],
-            calls: FailingCalls {
-                dial: &[0],
-                ..NO_CALLS
-            },
-            ..CONSUME
-        },
-        Comes {
-            answered: &[READY, SUPPLY, ACKNOWLEDGED_UP],
-            named: &[CONSUMER, LISTEN, LISTEN, LISTEN],
-            output: "view c S number 1000000 start 1 round 1 items 0\nserved 1 refused 0 dropped 0 unsent 1\n",
-            number: 0,
-            text: "",
-        },
-    ),
-    // Its request for the part that is notified can't be sent.
-    (
-        Run {
-            to_dial: &[
-                FailingConnection {
-                    input: TAKEN,
-                    ..ASKS
-                },
-                FailingConnection {
-                    input: SUPPLIED,
-                    ..ASKS
-                },
-            ],
-            calls: FailingCalls {
-                dial: &[1],
-                ..NO_CALLS
-            },
-            ..CONSUME
-        },
-        Comes {
-            answered: &[REQUEST, READY],
-            named: &[CONSUMER, LISTEN, LISTEN],
-            output: "view c S number 0 start 0 round 0 items 0\nserved 1 refused 0 dropped 0 unsent 1\n",
-            number: 0,
-            text: "",
+            output: "load 7 ",
+            ..WRITE_FAULT
         },
     ),
 ];
 
 #[test]
-fn failing_calls_end_a_run_or_leave_a_connection_or_a_message(rt: HostRuntime) {
-    for (place, (run, comes)) in ROWS.iter().enumerate() {
-        assert!(rt; comes_of(rt.alloc(), run, comes), "row {place}");
-    }
+fn a_source_or_a_sink_that_fails_ends_a_run(rt: HostRuntime) {
+    assert_eq!(rt; first_wrong(rt.alloc(), &READS), None);
+    assert_eq!(rt; first_wrong(rt.alloc(), &WRITES), None);
 }

@@ -3,14 +3,14 @@
 
 use crate::running::{Ended, end_over};
 use siri_base::{
-    FailingCalls, FailingClock, FailingConnection, FailingKeeper, FailingWire, InMemorySink,
-    InMemorySource, Moment, Name,
+    FailingCalls, FailingClock, FailingConnection, FailingKeeper, FailingSink, FailingSource,
+    FailingWire, Moment, Name,
 };
 use std::alloc::Global;
 
 /// What is run: the words, the number that is kept, the moments to come, what the source has, and the connections to
-/// come and to be dialled, each with its failures; and the calls that fail, each by how many of that name come before
-/// it.
+/// come and to be dialled, each with its failures; the calls that fail, each by how many of that name come before it;
+/// and where the source and the sink fail, each by how many bytes come before it.
 #[derive(Clone, Copy)]
 pub(crate) struct Run<'a> {
     pub(crate) words: &'a [&'a str],
@@ -22,6 +22,8 @@ pub(crate) struct Run<'a> {
     pub(crate) calls: FailingCalls<'a>,
     pub(crate) now: &'a [usize],
     pub(crate) raise: &'a [usize],
+    pub(crate) read: &'a [usize],
+    pub(crate) write: &'a [usize],
 }
 
 /// No call of a wire that fails.
@@ -42,6 +44,8 @@ pub(crate) const UNFAILING: Run<'static> = Run {
     calls: NO_CALLS,
     now: &[],
     raise: &[],
+    read: &[],
+    write: &[],
 };
 
 /// What comes of it: what is written to the connections, in the order in which they came, where it is listened and
@@ -54,6 +58,45 @@ pub(crate) struct Comes<'a> {
     pub(crate) number: u8,
     pub(crate) text: &'a str,
 }
+
+/// The end of a run that was done whole, with nothing written, answered or named, and of runs that a failure ended so.
+pub(crate) const DONE: Comes<'static> = Comes {
+    answered: &[],
+    named: &[],
+    output: "",
+    number: 0,
+    text: "",
+};
+
+pub(crate) const READ_FAULT: Comes<'static> = Comes {
+    number: 66,
+    text: "siri: read fault",
+    ..DONE
+};
+
+pub(crate) const WIRE_FAULT: Comes<'static> = Comes {
+    number: 69,
+    text: "siri: wire fault",
+    ..DONE
+};
+
+pub(crate) const WRITE_FAULT: Comes<'static> = Comes {
+    number: 74,
+    text: "siri: write fault",
+    ..DONE
+};
+
+pub(crate) const CLOCK_FAULT: Comes<'static> = Comes {
+    number: 75,
+    text: "siri: clock fault",
+    ..DONE
+};
+
+pub(crate) const KEEPER_FAULT: Comes<'static> = Comes {
+    number: 76,
+    text: "siri: keeper fault",
+    ..DONE
+};
 
 /// The moments of these numbers of milliseconds since 1970.
 pub(crate) fn moments_of(alloc: Global, moments: &[i64]) -> Option<Vec<Moment>> {
@@ -98,11 +141,11 @@ fn end_of(
     alloc: Global,
     run: &Run<'_>,
     wire: &mut FailingWire<'_>,
-    sink: &mut InMemorySink,
+    sink: &mut FailingSink<'_>,
 ) -> Option<Ended> {
     let moments = moments_of(alloc, run.moments)?;
     let mut clock = FailingClock::new(&moments, run.now);
-    let mut source = InMemorySource::new(run.input.as_bytes());
+    let mut source = FailingSource::new(run.input.as_bytes(), run.read);
     let mut keeper = FailingKeeper::new(run.kept, run.raise);
     end_over(
         alloc,
@@ -119,7 +162,7 @@ fn end_of(
 /// Whether this comes of a run.
 pub(crate) fn comes_of(alloc: Global, run: &Run<'_>, comes: &Comes<'_>) -> bool {
     let mut wire = FailingWire::new(alloc, run.to_accept, run.to_dial, run.calls);
-    let mut sink = InMemorySink::new(alloc);
+    let mut sink = FailingSink::new(alloc, run.write);
     match end_of(alloc, run, &mut wire, &mut sink) {
         Some(ended) => {
             ended.is(comes.number, comes.text)
@@ -150,4 +193,14 @@ pub(crate) fn comes_of_bytes(
         ..*run
     };
     comes_of(alloc, &run, comes)
+}
+
+/// The first row of which something else comes.
+pub(crate) fn first_wrong(alloc: Global, rows: &[(Run<'_>, Comes<'_>)]) -> Option<usize> {
+    for (place, (run, comes)) in rows.iter().enumerate() {
+        if !comes_of(alloc, run, comes) {
+            return Some(place);
+        }
+    }
+    None
 }

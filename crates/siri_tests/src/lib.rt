@@ -17,7 +17,13 @@ mod documents;
 #[cfg(test)]
 mod failing;
 #[cfg(test)]
+mod failing_consume;
+#[cfg(test)]
+mod failing_serve;
+#[cfg(test)]
 mod harness;
+#[cfg(test)]
+mod hostile;
 #[cfg(test)]
 mod items;
 #[cfg(test)]

@@ -16,7 +16,7 @@ pub const CHECK: &[u8] =
     b"POST / HTTP/1.1\r\nHost: a\r\nContent-Length: 34\r\n\r\n{\"Siri\":{\"CheckStatusRequest\":{}}}";
 
 /// The same without its last 24 bytes.
-const CUT: &[u8] = b"POST / HTTP/1.1\r\nHost: a\r\nContent-Length: 34\r\n\r\n{\"Siri\":{\"";
+pub const CUT: &[u8] = b"POST / HTTP/1.1\r\nHost: a\r\nContent-Length: 34\r\n\r\n{\"Siri\":{\"";
 
 /// What `p` answers to it that started at 7 and stands at 8.
 pub const CHECKED: &str =
@@ -29,7 +29,7 @@ const SIXTY_FOUR: &[u8] =
 const SIXTY_FIVE: &[u8] =
     b"POST / HTTP/1.1\r\na:\r\na:\r\na:\r\na:\r\na:\r\na:\r\na:\r\na:\r\na:\r\na:\r\na:\r\na:\r\na:\r\na:\r\na:\r\na:\r\na:\r\na:\r\na:\r\na:\r\na:\r\na:\r\na:\r\na:\r\na:\r\na:\r\na:\r\na:\r\na:\r\na:\r\na:\r\na:\r\na:\r\na:\r\na:\r\na:\r\na:\r\na:\r\na:\r\na:\r\na:\r\na:\r\na:\r\na:\r\na:\r\na:\r\na:\r\na:\r\na:\r\na:\r\na:\r\na:\r\na:\r\na:\r\na:\r\na:\r\na:\r\na:\r\na:\r\na:\r\na:\r\na:\r\na:\r\na:\r\nContent-Length: 34\r\n\r\n{\"Siri\":{\"CheckStatusRequest\":{}}}";
 
-const NOT_POST: &str =
+pub const NOT_POST: &str =
     "HTTP/1.1 405 Method Not Allowed\r\nContent-Type: text/plain\r\nContent-Length: 8\r\nConnection: close\r\n\r\nNotPost\n";
 
 const MISSING: &str =
@@ -37,11 +37,36 @@ const MISSING: &str =
 
 pub const LISTEN: &str = "127.0.0.1:7001";
 
-/// COUNT, the number that is kept, the moments and the connections to come, and what comes of it.
-static SERVED: [(&str, u64, &[i64], &[&[u8]], Comes<'static>); 7] = [
+/// A feed of three visits at a stop, and its acknowledgement.
+const THREE_FED: &[u8] =
+    b"POST / HTTP/1.1\r\nContent-Length: 542\r\n\r\n{\"Siri\":{\"ServiceDelivery\":{\"StopMonitoringDelivery\":[{\"MonitoredStopVisit\":[{\"ItemIdentifier\":\"a\",\"MonitoredVehicleJourney\":{\"LineRef\":\"L1\",\"MonitoredCall\":{\"ExpectedDepartureTime\":\"2024-05-01T08:00:00Z\"}},\"MonitoringRef\":\"S1\"},{\"ItemIdentifier\":\"b\",\"MonitoredVehicleJourney\":{\"LineRef\":\"L1\",\"MonitoredCall\":{\"ExpectedDepartureTime\":\"2024-05-01T08:30:00Z\"}},\"MonitoringRef\":\"S1\"},{\"ItemIdentifier\":\"c\",\"MonitoredVehicleJourney\":{\"LineRef\":\"L1\",\"MonitoredCall\":{\"ExpectedDepartureTime\":\"2024-05-01T08:29:59.999Z\"}},\"MonitoringRef\":\"S1\"}]}]}}}";
+
+const THREE_TAKEN: &str =
+    "HTTP/1.1 200 OK\r\nContent-Type: application/json\r\nContent-Length: 117\r\nConnection: close\r\n\r\n{\"Siri\":{\"DataReceivedAcknowledgement\":{\"ConsumerRef\":\"p\",\"ResponseTimestamp\":\"2024-05-01T08:00:00Z\",\"Status\":true}}}";
+
+/// A request for those of the next half hour, and the answer: the end of the window isn't in it.
+const HALF_AN_HOUR: &[u8] =
+    b"POST / HTTP/1.1\r\nContent-Length: 104\r\n\r\n{\"Siri\":{\"ServiceRequest\":{\"StopMonitoringRequest\":[{\"MonitoringRef\":\"S1\",\"PreviewInterval\":\"PT30M\"}]}}}";
+
+const TWO_SHOWN: &str =
+    "HTTP/1.1 200 OK\r\nContent-Type: application/json\r\nContent-Length: 522\r\nConnection: close\r\n\r\n{\"Siri\":{\"ServiceDelivery\":{\"ProducerRef\":\"p\",\"ResponseTimestamp\":\"2024-05-01T08:00:00Z\",\"Status\":true,\"StopMonitoringDelivery\":[{\"MonitoredStopVisit\":[{\"ItemIdentifier\":\"a\",\"MonitoredVehicleJourney\":{\"LineRef\":\"L1\",\"MonitoredCall\":{\"ExpectedDepartureTime\":\"2024-05-01T08:00:00Z\"}},\"MonitoringRef\":\"S1\"},{\"ItemIdentifier\":\"c\",\"MonitoredVehicleJourney\":{\"LineRef\":\"L1\",\"MonitoredCall\":{\"ExpectedDepartureTime\":\"2024-05-01T08:29:59.999Z\"}},\"MonitoringRef\":\"S1\"}],\"ResponseTimestamp\":\"2024-05-01T08:00:00Z\",\"Status\":true}]}}}";
+
+/// COUNT, the moments and the connections to come, and what comes of it.
+static SERVED: [(&str, &[i64], &[&[u8]], Comes<'static>); 5] = [
+    (
+        "2",
+        &[EIGHT, EIGHT, EIGHT],
+        &[THREE_FED, HALF_AN_HOUR],
+        Comes {
+            answered: &[THREE_TAKEN, TWO_SHOWN],
+            named: &[LISTEN],
+            output: "served 2 refused 0 dropped 0 unsent 0\n",
+            number: 0,
+            text: "",
+        },
+    ),
     (
         "1",
-        0,
         &[SEVEN, EIGHT],
         &[CHECK],
         Comes {
@@ -54,7 +79,6 @@ static SERVED: [(&str, u64, &[i64], &[&[u8]], Comes<'static>); 7] = [
     ),
     (
         "1",
-        0,
         &[SEVEN, EIGHT],
         &[SIXTY_FOUR],
         Comes {
@@ -67,7 +91,6 @@ static SERVED: [(&str, u64, &[i64], &[&[u8]], Comes<'static>); 7] = [
     ),
     (
         "1",
-        0,
         &[SEVEN, EIGHT],
         &[CUT],
         Comes {
@@ -79,47 +102,7 @@ static SERVED: [(&str, u64, &[i64], &[&[u8]], Comes<'static>); 7] = [
         },
     ),
     (
-        "2",
-        0,
-        &[SEVEN, EIGHT, EIGHT],
-        &[CHECK],
-        Comes {
-            answered: &[CHECKED],
-            named: &[LISTEN],
-            output: "",
-            number: 69,
-            text: "siri: wire fault",
-        },
-    ),
-    (
-        "1",
-        0,
-        &[SEVEN],
-        &[CHECK],
-        Comes {
-            answered: &[""],
-            named: &[LISTEN],
-            output: "",
-            number: 75,
-            text: "siri: clock fault",
-        },
-    ),
-    (
-        "1",
-        99_999_999_999,
-        &[SEVEN, EIGHT],
-        &[CHECK],
-        Comes {
-            answered: &[],
-            named: &[],
-            output: "",
-            number: 76,
-            text: "siri: keeper fault",
-        },
-    ),
-    (
         "0",
-        0,
         &[SEVEN, EIGHT],
         &[CHECK],
         Comes {
@@ -134,10 +117,9 @@ static SERVED: [(&str, u64, &[i64], &[&[u8]], Comes<'static>); 7] = [
 
 #[test]
 fn a_producer_serves_connections(rt: HostRuntime) {
-    for (count, kept, moments, to_accept, comes) in &SERVED {
+    for (count, moments, to_accept, comes) in &SERVED {
         let run = Run {
             words: &["serve", "p", LISTEN, *count],
-            kept: *kept,
             moments: *moments,
             ..UNFAILING
         };
@@ -213,10 +195,10 @@ pub const FED: &str =
     "HTTP/1.1 200 OK\r\nContent-Type: application/json\r\nContent-Length: 141\r\nConnection: close\r\n\r\n{\"Siri\":{\"DataReceivedAcknowledgement\":{\"ConsumerRef\":\"p\",\"RequestMessageRef\":\"f\",\"ResponseTimestamp\":\"2024-05-01T08:00:00Z\",\"Status\":true}}}";
 
 /// The first round, of nothing, the acknowledgement of it, and the second round, of that visit.
-const FIRST: &str =
+pub const FIRST: &str =
     "POST / HTTP/1.1\r\nHost: 127.0.0.1:7002\r\nContent-Type: application/json\r\nContent-Length: 301\r\nConnection: close\r\n\r\n{\"Siri\":{\"ServiceDelivery\":{\"ProducerRef\":\"p\",\"RequestMessageRef\":\"1\",\"ResponseTimestamp\":\"2024-05-01T08:00:00Z\",\"Status\":true,\"StopMonitoringDelivery\":[{\"Extensions\":{\"Part\":1,\"Round\":1,\"Start\":1},\"ResponseTimestamp\":\"2024-05-01T08:00:00Z\",\"Status\":true,\"SubscriberRef\":\"c\",\"SubscriptionRef\":\"S\"}]}}}";
 
-const RECEIVED: &[u8] =
+pub const RECEIVED: &[u8] =
     b"HTTP/1.1 200 OK\r\nContent-Length: 151\r\n\r\n{\"Siri\":{\"DataReceivedAcknowledgement\":{\"ConsumerRef\":\"c\",\"Extensions\":{\"Number\":1,\"Part\":1,\"Round\":1,\"Start\":1,\"SubscriptionRef\":\"S\"},\"Status\":true}}}";
 
 const SECOND: &str =
@@ -293,11 +275,11 @@ pub const REQUEST: &str =
     "POST / HTTP/1.1\r\nHost: 127.0.0.1:7001\r\nContent-Type: application/json\r\nContent-Length: 432\r\nConnection: close\r\n\r\n{\"Siri\":{\"SubscriptionRequest\":{\"ConsumerAddress\":\"http://127.0.0.1:7002/\",\"MessageIdentifier\":\"1000000\",\"RequestTimestamp\":\"2024-05-01T08:00:00Z\",\"RequestorRef\":\"c\",\"StopMonitoringSubscriptionRequest\":[{\"ChangeBeforeUpdates\":\"PT0S\",\"IncrementalUpdates\":true,\"InitialTerminationTime\":\"2024-05-01T20:00:00Z\",\"StopMonitoringRequest\":{\"MonitoringRef\":\"S1\",\"PreviewInterval\":\"PT1H\"},\"SubscriberRef\":\"c\",\"SubscriptionIdentifier\":\"S\"}]}}}";
 
 /// The first part of its first round, and nothing in it.
-const ROUND: &[u8] =
+pub const ROUND: &[u8] =
     b"POST / HTTP/1.1\r\nContent-Length: 314\r\n\r\n{\"Siri\":{\"ServiceDelivery\":{\"ProducerRef\":\"producer\",\"RequestMessageRef\":\"1000000\",\"ResponseTimestamp\":\"2024-05-01T08:00:00Z\",\"Status\":true,\"StopMonitoringDelivery\":[{\"Extensions\":{\"Part\":1,\"Round\":1,\"Start\":1},\"ResponseTimestamp\":\"2024-05-01T08:00:00Z\",\"Status\":true,\"SubscriberRef\":\"c\",\"SubscriptionRef\":\"S\"}]}}}";
 
 /// What it answers to that.
-const ACKNOWLEDGED: &str =
+pub const ACKNOWLEDGED: &str =
     "HTTP/1.1 200 OK\r\nContent-Type: application/json\r\nContent-Length: 200\r\nConnection: close\r\n\r\n{\"Siri\":{\"DataReceivedAcknowledgement\":{\"ConsumerRef\":\"c\",\"Extensions\":{\"Number\":1000000,\"Part\":1,\"Round\":1,\"Start\":1,\"SubscriptionRef\":\"S\"},\"ResponseTimestamp\":\"2024-05-01T08:00:00Z\",\"Status\":true}}}";
 
 /// The same part, notified, the answer to that, the request for the part, its response, and the acknowledgement of the
@@ -322,7 +304,7 @@ pub const TAKEN: &[u8] = b"HTTP/1.1 200 OK\r\nContent-Length: 0\r\n\r\n";
 pub const CONSUMER: &str = "127.0.0.1:7002";
 
 /// What the source has, the connection to come, those to be dialled, and what comes of it.
-static ASKED: [(&str, &[u8], &[&[u8]], Comes<'static>); 8] = [
+static ASKED: [(&str, &[u8], &[&[u8]], Comes<'static>); 7] = [
     (
         WANTED,
         ROUND,
@@ -331,18 +313,6 @@ static ASKED: [(&str, &[u8], &[&[u8]], Comes<'static>); 8] = [
             answered: &[REQUEST, ACKNOWLEDGED],
             named: &[CONSUMER, LISTEN],
             output: "view c S number 1000000 start 1 round 1 items 0\nserved 1 refused 0 dropped 0 unsent 0\n",
-            number: 0,
-            text: "",
-        },
-    ),
-    (
-        WANTED,
-        ROUND,
-        &[],
-        Comes {
-            answered: &[ACKNOWLEDGED],
-            named: &[CONSUMER, LISTEN],
-            output: "view c S number 1000000 start 1 round 1 items 0\nserved 1 refused 0 dropped 0 unsent 1\n",
             number: 0,
             text: "",
         },

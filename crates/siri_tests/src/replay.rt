@@ -347,6 +347,7 @@ fn a_failed_read_ends_the_run(rt: HostRuntime) -> Result<(), Fail> {
         (0, ""),
         (EIGHT.len() - 1, ""),
         (EIGHT.len(), "started 1\n"),
+        (40, "started 1\n"),
         (fed - 1, "started 1\n"),
         (fed + 1, "started 1\nfed 3 0 0\n"),
         (script.len(), SHOWN),
