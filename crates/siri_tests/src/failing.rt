@@ -1,5 +1,5 @@
-//! Runs of `check`, `convert`, `load` and `consume` over a source and a sink that fail: nothing but a front of the text is
-//! written. For `replay` see that file.
+//! Runs of `check`, `convert` and `load` over a source or a sink that fails: nothing but a front of the text is
+//! written. Those of the other commands stand in `replay`, `failing_serve` and `failing_consume`.
 
 use crate::harness::{Comes, DONE, READ_FAULT, Run, UNFAILING, WRITE_FAULT, first_wrong};
 

@@ -1,5 +1,5 @@
-//! Runs of `consume` over an outside of which a call fails: at each place, by a failure that is named beforehand or since
-//! nothing more comes.
+//! Runs of `consume` over an outside of which a call fails: at each place, by a failure that is named beforehand or
+//! since nothing more comes.
 
 use crate::harness::{
     CLOCK_FAULT, Comes, DONE, KEEPER_FAULT, NO_CALLS, READ_FAULT, Run, UNFAILING, WIRE_FAULT,

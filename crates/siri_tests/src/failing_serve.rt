@@ -1,5 +1,5 @@
-//! Runs of `serve` over an outside of which a call fails: at each place, by a failure that is named beforehand or since
-//! nothing more comes.
+//! Runs of `serve` over an outside of which a call fails: at each place, by a failure that is named beforehand or
+//! since nothing more comes.
 
 use crate::harness::{
     CLOCK_FAULT, Comes, DONE, KEEPER_FAULT, NO_CALLS, Run, UNFAILING, WIRE_FAULT, WRITE_FAULT,

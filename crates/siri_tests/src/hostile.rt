@@ -1,12 +1,13 @@
-//! Hostile documents: nested as deep as may be and deeper, no text, too long, with too many entries, and of members that
-//! are what they may not be. Each with the line by which `check` refuses it.
+//! Hostile documents: nested as deep as may be and deeper, no text, too long, with too many entries, and of members
+//! that are what they may not be. Each with the line by which `check` refuses it.
 
 use crate::running::brings;
 use siri_base::OutOfMemory;
 use std::alloc::{AllocError, Global};
 use std::test::Fail;
 
-/// A document: a front, a piece so many times, a closing piece as many times, and a back; and what `check` writes of it.
+/// A document: a front, a piece so many times, a closing piece as many times, and a back; and what `check` writes of
+/// it.
 struct Hostile {
     front: &'static [u8],
     piece: &'static [u8],
