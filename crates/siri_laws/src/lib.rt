@@ -6,6 +6,7 @@
 //!   proper feeds and a proper request --response--> a proper delivery --canonical--> text --message_of--> that delivery
 //!   a proper item --item_line--> its line                 of no other proper item
 //!   a history --settle--> what is due --settle--> nothing
+//!   a history --settle without memory--> that history
 //! ```
 #![tactic(auto)]
 
@@ -17,4 +18,4 @@ mod settle_laws;
 pub use document_laws::converting_twice_is_converting_once;
 pub use history_laws::{answer_is_read, feed_is_proper, response_is_proper};
 pub use item_laws::item_lines_determine_their_items;
-pub use settle_laws::a_second_settle_sends_nothing;
+pub use settle_laws::{a_refused_settle_changes_nothing, a_second_settle_sends_nothing};
