@@ -1,5 +1,5 @@
 -- A producer of which nothing changed but the counter of steps stands for the same histories.
-use Rattle.std.proofs.Common.{◌≡◌, ℕ, sym, subst}
+use Rattle.std.proofs.Common.{ℕ, sym, subst}
 use Rattle.std.specs.Prelude.{◌↔◌}
 use Rattle.siri_model.specs.History.{History}
 use Rattle.siri_producer.specs.Known.{Known, StandsFor, Follows, SameButReads}
