@@ -26,11 +26,13 @@ pub record Outstanding (V P : Type 0) : Type 0 where
   pub acknowledged_parts : ℕ
   pub last_sent : Option ℕ
 
--- a life: the producer's start and the number of the request that it was accepted in, what that wants, the acknowledged
--- view, each round that ever opened, the oldest first, the outstanding one
+-- a life: the producer's start and the number of the request that it began with, the number of the SubscriptionRequest
+-- that it goes back to, what that wants, the acknowledged view, each round that ever opened, the oldest first, the
+-- outstanding one
 pub record Life (V P W : Type 0) : Type 0 where
   pub start : ℕ
   pub number : ℕ
+  pub base : ℕ
   pub wanted : W
   pub acknowledged : V
   pub rounds : List (Round V P)
@@ -55,6 +57,7 @@ pub data Packet (P W : Type 0) : Type 0 where
   Subscribe : (number : ℕ) → (wanted : W) → Packet P W  -- SubscriptionRequest
   Terminate : (number : ℕ) → Packet P W  -- TerminateSubscriptionRequest
   Supply : Mark → Packet P W  -- DataSupplyRequest
+  AllData : (number base : ℕ) → Packet P W  -- DataSupplyRequest with AllData, of the acceptance with this base
   Acknowledge : Mark → Packet P W  -- DataReceivedAcknowledgement
   Notify : Mark → (moment : ℕ) → Packet P W  -- DataReadyNotification, with the moment at which its round opened
   Delivery : Mark → (moment : ℕ) → (more : Bool) → P → Packet P W  -- ServiceDelivery, with that moment and MoreData
@@ -79,12 +82,13 @@ module _ {V P : Type 0} where
 
 module _ {V P W H E : Type 0} (f : Meaning V P W H E) where
   -- ---- what begins, and what changes in a life
-  -- accepted in this start at this moment, under a number
-  abbrev pub new_life : ℕ → ℕ → ℕ → W → Life V P W
-  new_life start now number wanted =
+  -- accepted in this start at this moment, under a number, and with a base
+  abbrev pub new_life : ℕ → ℕ → ℕ → ℕ → W → Life V P W
+  new_life start now number base wanted =
       record {
         start = start;
         number = number;
+        base = base;
         wanted = wanted;
         acknowledged = f.empty;
         rounds = [];
@@ -252,6 +256,10 @@ module _ {V P W H E : Type 0} (f : Meaning V P W H E) where
   abbrev pub can_accept : (is_full : Bool) → ℕ → ℕ → W → Option (Life V P W) → Bool
   can_accept is_full now number wanted None = nat_lt now (f.termination wanted) && not is_full
   can_accept is_full now number wanted (Some l) = nat_lt l.number number && nat_lt now (f.termination wanted)
+
+  -- an AllData request of its base renews it under a greater number, whatever its moment
+  abbrev pub can_renew : Life V P W → (number base : ℕ) → Bool
+  can_renew l number base = l.base == base && nat_lt l.number number
 
   -- a TerminateSubscriptionRequest under a greater number ends it
   abbrev pub is_before : Option (Life V P W) → ℕ → Bool

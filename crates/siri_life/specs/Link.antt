@@ -3,8 +3,10 @@
 use Rattle.std.specs.Prelude.{◌≡◌, ℕ, zero, suc, nat_lt, ◌==◌, max, Bool, true, false, cond, ◌&&◌, ◌||◌, List, [], ◌∷◌, ◌++◌, length}
 use Rattle.std.specs.Prelude.{Option, Some, None, slice_get}
 use Rattle.siri_life.specs.Meaning.{Meaning, most_parts, apply_parts, base_view}
-use Rattle.siri_life.specs.Life.{can_accept, is_before, is_past, greatest_round, Round, Outstanding, Life, Mark, is_mark, Packet, Subscribe}
-use Rattle.siri_life.specs.Life.{Terminate, Supply, Acknowledge, Notify, Delivery, is_due, new_life, after_heartbeat, opened}
+use Rattle.siri_life.specs.Life.{can_accept, can_renew, is_before, is_past, greatest_round, Round, Outstanding, Life}
+use Rattle.siri_life.specs.Life.{Mark, is_mark, Packet, Subscribe}
+use Rattle.siri_life.specs.Life.{Terminate, AllData, Supply, Acknowledge, Notify, Delivery, is_due, new_life}
+use Rattle.siri_life.specs.Life.{after_heartbeat, opened}
 use Rattle.siri_life.specs.Life.{with_outstanding, part_message, message, sent_at, advanced}
 
 -- the round whose target a view is; all are 0 where there is none
@@ -16,6 +18,7 @@ pub record Origin : Type 0 where
 -- what a consumer keeps of a subscription that it holds
 pub record Holding (V P W : Type 0) : Type 0 where
   pub number : ℕ  -- of its last request
+  pub base : ℕ  -- of its last SubscriptionRequest
   pub wanted : W
   pub start : ℕ  -- the greatest that a part came of; 0 before any
   pub round : ℕ  -- the last whole round of that start
@@ -41,6 +44,7 @@ pub data LinkEvent (W E : Type 0) : Type 0 where
   Feed : (entries : List E) → LinkEvent W E
   Ask : (wanted : W) → LinkEvent W E  -- the consumer subscribes, or renews
   Stop : LinkEvent W E  -- the consumer terminates
+  Restart : LinkEvent W E  -- the consumer restarts, and asks for all that it held
   Spend : LinkEvent W E  -- the consumer uses a number for another subscription
   Deliver : (which : ℕ) → (full : Bool) → LinkEvent W E  -- a packet that was sent comes; the table is full, or not
 
@@ -148,12 +152,22 @@ module _ {V P W H E : Type 0} (f : Meaning V P W H E) where
 
   -- a SubscriptionRequest begins a life, or doesn't
   abbrev pub accept_if : Bool → Link V P W H → ℕ → W → Link V P W H
-  accept_if true w n x = replaces w (Some (new_life f w.start w.now n x))
+  accept_if true w n x = replaces w (Some (new_life f w.start w.now n n x))
   accept_if false w n x = w
 
   -- a SubscriptionRequest under a number comes
   abbrev pub accepts : Bool → Link V P W H → ℕ → W → Link V P W H
   accepts full w n x = accept_if (can_accept f full w.now n x w.life) w n x
+
+  -- an AllData request begins another life of the same acceptance, or doesn't
+  abbrev pub renew_if : Bool → Link V P W H → (number base : ℕ) → W → Link V P W H
+  renew_if true w n b x = replaces w (Some (new_life f w.start w.now n b x))
+  renew_if false w n b x = w
+
+  -- an AllData request comes, with this life in the table
+  abbrev pub renews : Link V P W H → (number base : ℕ) → Option (Life V P W) → Link V P W H
+  renews w n b None = w
+  renews w n b (Some l) = renew_if (can_renew f l n b) w n b l.wanted
 
   -- the life in the table ends, or doesn't
   abbrev pub end_if : Bool → Link V P W H → Link V P W H
@@ -236,13 +250,34 @@ module _ {V P W H E : Type 0} (f : Meaning V P W H E) where
   -- what is kept after a request under a number: no start and no round yet, and the view that was held
   abbrev pub asked : ℕ → W → Option (Holding V P W) → Holding V P W
   asked n x None =
-      record { number = n; wanted = x; start = 0; round = 0; parts = []; view = f.empty; origin = no_origin }
+      record { number = n; base = n; wanted = x; start = 0; round = 0; parts = []; view = f.empty; origin = no_origin }
   asked n x (Some h) =
-      record { number = n; wanted = x; start = 0; round = 0; parts = []; view = h.view; origin = h.origin }
+      record { number = n; base = n; wanted = x; start = 0; round = 0; parts = []; view = h.view; origin = h.origin }
 
   -- the consumer subscribes, or renews
   abbrev pub asks : Link V P W H → W → Link V P W H
   asks w x = uses_number w (Some (asked w.next_number x w.held)) (Subscribe w.next_number x ∷ [])
+
+  -- what is kept after a restart, under a number: what was asked for and the base, and no view
+  abbrev pub restarted : ℕ → Holding V P W → Holding V P W
+  restarted n h =
+      record {
+        number = n;
+        base = h.base;
+        wanted = h.wanted;
+        start = 0;
+        round = 0;
+        parts = [];
+        view = f.empty;
+        origin =
+            no_origin;
+      }
+
+  -- the consumer restarts, with this kept
+  abbrev pub restarts_of : Link V P W H → Option (Holding V P W) → Link V P W H
+  restarts_of w None = w
+  restarts_of w (Some h) =
+      uses_number w (Some (restarted w.next_number h)) (AllData w.next_number h.base ∷ [])
 
   -- the consumer terminates what it holds
   abbrev pub stops_of : Link V P W H → Option (Holding V P W) → Link V P W H
@@ -368,6 +403,7 @@ module _ {V P W H E : Type 0} (f : Meaning V P W H E) where
   abbrev pub comes : Bool → Link V P W H → Packet P W → Link V P W H
   comes full w (Subscribe n x) = settle (accepts full w n x)
   comes full w (Terminate n) = settle (ends w n)
+  comes full w (AllData n b) = settle (renews w n b w.life)
   comes full w (Supply m) = settle (supplies w m w.life)
   comes full w (Acknowledge m) = settle (acknowledges w m w.life)
   comes full w (Notify m moment) = notified w w.held m
@@ -384,6 +420,7 @@ module _ {V P W H E : Type 0} (f : Meaning V P W H E) where
   happens w (Feed es) = settle (fed w es)
   happens w (Ask x) = asks w x
   happens w Stop = stops_of w w.held
+  happens w Restart = restarts_of w w.held
   happens w Spend = uses_number w w.held []
   happens w (Deliver k full) = comes_if full w (slice_get w.packets k)
 

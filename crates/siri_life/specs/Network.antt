@@ -1,9 +1,11 @@
 -- A producer with a table of subscriptions, many consumers, and one network between them.
 use Rattle.std.specs.Prelude.{◌≡◌, ℕ, suc, Bool, true, false, cond, List, [], ◌∷◌, ◌++◌, Option, Some, None, slice_get}
 use Rattle.siri_life.specs.Meaning.{Meaning}
-use Rattle.siri_life.specs.Life.{Life, Mark, Packet, Subscribe, Terminate, Supply, Acknowledge, Notify, Delivery, can_accept, is_before}
-use Rattle.siri_life.specs.Link.{Link, Holding, Outcome, UnknownSubscription, OldStart, Gap, Repeat, Overlong, Wanted, outcome, asked, taken, replies, asks_for}
-use Rattle.siri_life.specs.Named.{Name, Of, same_subscription, those, find, with_under, with_number, next_of}
+use Rattle.siri_life.specs.Life.{Life, Mark, Packet, Subscribe, Terminate, AllData, Supply, Acknowledge, Notify}
+use Rattle.siri_life.specs.Life.{Delivery, can_accept, is_before}
+use Rattle.siri_life.specs.Link.{Link, Holding, Outcome, UnknownSubscription, OldStart, Gap, Repeat, Overlong, Wanted}
+use Rattle.siri_life.specs.Link.{outcome, asked, restarted, taken, replies, asks_for}
+use Rattle.siri_life.specs.Named.{Name, Of, same_name, same_subscription, those, find, with_under, with_number, next_of}
 use Rattle.siri_life.specs.Serving
 use Rattle.siri_life.specs.Serving.{Serving, About, Carries, ToProducer, ToConsumer, Act, Clocked, Fed, Heard, Settled, letters_for}
 use Rattle.siri_life.specs.Serving.{row_letters, settled_serving, expired_serving, clocked_serving, fed_serving, started_serving}
@@ -23,6 +25,8 @@ pub data Happening (W E : Type 0) : Type 0 where
   Feeds : (entries : List E) → Happening W E
   Asks : (subscriber identifier : Name) → (wanted : W) → Happening W E  -- a consumer subscribes, or renews
   Stops : (subscriber identifier : Name) → Happening W E  -- a consumer terminates
+  Restarts : (subscriber identifier : Name)
+      → Happening W E  -- a consumer that restarts asks for all of one subscription
   Requests : (subscriber : Name) → Happening W E  -- a consumer sends another request (CheckStatusRequest)
   Delivers : (which : ℕ) → Happening W E  -- a letter that was sent comes
 
@@ -52,6 +56,10 @@ module _ {V P W H E : Type 0} (f : Meaning V P W H E) where
   abbrev pub ended_if : Bool → Network V P W H → Name → Name → Network V P W H
   ended_if b n c s = with_serving n (Serving.ended_if f b n.serving c s) []
 
+  -- an AllData request of a subscription with this life
+  abbrev pub renewed : Network V P W H → Name → Name → (number base : ℕ) → Option (Life V P W) → Network V P W H
+  renewed n c s number base e = with_serving n (Serving.renewed f n.serving c s number base e) []
+
   -- a DataSupplyRequest of a subscription with this life
   abbrev pub supplied : Network V P W H → Name → Name → Mark → Option (Life V P W) → Network V P W H
   supplied n c s m e = with_serving n (Serving.supplied f n.serving c s m e) (supply_replies f n.serving c s m e)
@@ -65,6 +73,7 @@ module _ {V P W H E : Type 0} (f : Meaning V P W H E) where
   hears n c s (Subscribe number x) =
       tells (accepted_if (Serving.accepts f n.serving c s number x) n c s number x) c ToConsumer
   hears n c s (Terminate number) = tells (ended_if (is_before f (find c s n.serving.table) number) n c s) c ToConsumer
+  hears n c s (AllData number base) = tells (renewed n c s number base (find c s n.serving.table)) c ToConsumer
   hears n c s (Supply m) = supplied n c s m (find c s n.serving.table)
   hears n c s (Acknowledge m) = takes_acknowledgement n c s m (find c s n.serving.table)
   hears n c s (Notify m moment) = n
@@ -118,6 +127,7 @@ module _ {V P W H E : Type 0} (f : Meaning V P W H E) where
   takes n c s ToConsumer = n
   takes n c s (Carries (Subscribe number x)) = settles (hears n c s (Subscribe number x))
   takes n c s (Carries (Terminate number)) = settles (hears n c s (Terminate number))
+  takes n c s (Carries (AllData number base)) = settles (hears n c s (AllData number base))
   takes n c s (Carries (Supply m)) = settles (hears n c s (Supply m))
   takes n c s (Carries (Acknowledge m)) = settles (hears n c s (Acknowledge m))
   takes n c s (Carries (Notify m moment)) = notified n c s m (n.holdings c s)
@@ -144,6 +154,38 @@ module _ {V P W H E : Type 0} (f : Meaning V P W H E) where
   stopped n c s (Some h) =
       uses n c (with_under c s None n.holdings) (letters_for f c s (Terminate (next_of (n.numbers c)) ∷ []))
 
+  -- a consumer that restarts asks for all of what it holds
+  abbrev pub restarted_one : Network V P W H → Name → Name → Option (Holding V P W) → Network V P W H
+  restarted_one n c s None = n
+  restarted_one n c s (Some h) =
+      let number = next_of (n.numbers c) in
+      uses n c (with_under c s (Some (restarted f number h)) n.holdings)
+      (letters_for f c s (AllData number h.base ∷ []))
+
+  -- ---- a consumer restarts: it asks for all of each subscription that it holds, one after the other
+
+  -- what it keeps after that: the first asks under this number, each next under the one after
+  abbrev pub restarted_from : ℕ → List (Name × Holding V P W) → List (Name × Holding V P W)
+  restarted_from number [] = []
+  restarted_from number (kept ∷ held) = (kept.0, restarted f number kept.1) ∷ restarted_from (suc number) held
+
+  -- the letters that it sends
+  abbrev pub all_data_letters : Name → ℕ → List (Name × Holding V P W) → List (Of (About P W))
+  all_data_letters c number [] = []
+  all_data_letters c number (kept ∷ held) =
+      record { subscriber = c; identifier = kept.0; it = Carries (AllData number kept.1.base) } ∷ all_data_letters c
+      (suc number) held
+
+  -- what happens then
+  abbrev pub restarts_of_all : Name → List (Name × Holding V P W) → List (Happening W E)
+  restarts_of_all c [] = []
+  restarts_of_all c (kept ∷ held) = Restarts c kept.0 ∷ restarts_of_all c held
+
+  -- what is kept under an identifier
+  abbrev pub kept_at : Name → List (Name × Holding V P W) → Option (Holding V P W)
+  kept_at s [] = None
+  kept_at s (kept ∷ held) = cond (same_name s kept.0) (Some kept.1) (kept_at s held)
+
   -- one happening
   abbrev pub step : Network V P W H → Happening W E → Network V P W H
   step n (Starts t) = starts n t
@@ -153,6 +195,7 @@ module _ {V P W H E : Type 0} (f : Meaning V P W H E) where
       let number = next_of (n.numbers c) in
       uses n c (with_under c s (Some (asked f number x (n.holdings c s))) n.holdings) (letters_for f c s (Subscribe number x ∷ []))
   step n (Stops c s) = stopped n c s (n.holdings c s)
+  step n (Restarts c s) = restarted_one n c s (n.holdings c s)
   step n (Requests c) = tells n c (ToProducer true)
   step n (Delivers k) = takes_letter n (slice_get n.letters k)
 
@@ -206,6 +249,7 @@ module _ {V P W H E : Type 0} (f : Meaning V P W H E) where
   acts_about c s ToConsumer = []
   acts_about c s (Carries (Subscribe number x)) = Heard c s (Subscribe number x) ∷ Settled ∷ []
   acts_about c s (Carries (Terminate number)) = Heard c s (Terminate number) ∷ Settled ∷ []
+  acts_about c s (Carries (AllData number base)) = Heard c s (AllData number base) ∷ Settled ∷ []
   acts_about c s (Carries (Supply m)) = Heard c s (Supply m) ∷ Settled ∷ []
   acts_about c s (Carries (Acknowledge m)) = Heard c s (Acknowledge m) ∷ Settled ∷ []
   acts_about c s (Carries (Notify m moment)) = []
@@ -223,6 +267,7 @@ module _ {V P W H E : Type 0} (f : Meaning V P W H E) where
   serving_by n (Feeds es) = serving_after f (Fed es ∷ Settled ∷ []) n.serving
   serving_by n (Asks c s x) = n.serving
   serving_by n (Stops c s) = n.serving
+  serving_by n (Restarts c s) = n.serving
   serving_by n (Requests c) = n.serving
   serving_by n (Delivers k) = serving_after f (acts_of_letter (slice_get n.letters k)) n.serving
 
@@ -246,6 +291,7 @@ module _ {V P W H E : Type 0} (f : Meaning V P W H E) where
   HasRoom c s n (Heard d t (Subscribe number x)) =
       same_subscription c s d t ≡ true → Serving.accepts f n.serving c s number x ≡ can_accept f false n.serving.now number x (find c s n.serving.table)
   HasRoom c s n (Heard d t (Terminate number)) = Unit {0}
+  HasRoom c s n (Heard d t (AllData number base)) = Unit {0}
   HasRoom c s n (Heard d t (Supply m)) = Unit {0}
   HasRoom c s n (Heard d t (Acknowledge m)) = Unit {0}
   HasRoom c s n (Heard d t (Notify m moment)) = Unit {0}

@@ -2,8 +2,10 @@
 -- (EN 15531-2, subscriptions and deliveries).
 use Rattle.std.specs.Prelude.{ℕ, suc, nat_le, max, Bool, true, false, not, List, [], ◌∷◌, ◌++◌, length, Option, Some, None}
 use Rattle.siri_life.specs.Meaning.{Meaning}
-use Rattle.siri_life.specs.Life.{Life, Mark, Packet, Subscribe, Terminate, Supply, Acknowledge, Notify, Delivery, new_life, can_accept}
-use Rattle.siri_life.specs.Life.{is_before, sends_heartbeat, settled, settle_sends, after_acknowledgement, after_supply, supply_sends}
+use Rattle.siri_life.specs.Life.{Life, Mark, Packet, Subscribe, Terminate, AllData, Supply, Acknowledge, Notify}
+use Rattle.siri_life.specs.Life.{Delivery, new_life, can_accept}
+use Rattle.siri_life.specs.Life.{can_renew, is_before, sends_heartbeat, settled, settle_sends, after_acknowledgement}
+use Rattle.siri_life.specs.Life.{after_supply, supply_sends}
 use Rattle.siri_life.specs.Named.{Name, Of, find, put, without, keep}
 
 -- what a letter is about: a packet of one subscription; any other message to the producer (CheckStatusRequest, which it
@@ -88,8 +90,19 @@ module _ {V P W H E : Type 0} (f : Meaning V P W H E) where
   -- the table after a SubscriptionRequest that is accepted, or isn't: a subscription keeps its place
   abbrev pub accepted_if : Bool → Serving V P W H → Name → Name → ℕ → W → Serving V P W H
   accepted_if true v c s number x =
-      with_rows v (put c s (new_life f v.start v.now number x) v.table) (row_of c s (find c s v.table))
+      with_rows v (put c s (new_life f v.start v.now number number x) v.table) (row_of c s (find c s v.table))
   accepted_if false v c s number x = v
+
+  -- the table after an AllData request that renews a subscription, or doesn't: it keeps its place
+  abbrev pub renewed_if : Bool → Serving V P W H → Name → Name → (number base : ℕ) → W → Serving V P W H
+  renewed_if true v c s number base x =
+      with_rows v (put c s (new_life f v.start v.now number base x) v.table) (row_of c s (find c s v.table))
+  renewed_if false v c s number base x = v
+
+  -- the table after an AllData request of a subscription with this life
+  abbrev pub renewed : Serving V P W H → Name → Name → (number base : ℕ) → Option (Life V P W) → Serving V P W H
+  renewed v c s number base None = v
+  renewed v c s number base (Some l) = renewed_if (can_renew f l number base) v c s number base l.wanted
 
   -- a SubscriptionRequest is accepted
   abbrev pub accepts : Serving V P W H → Name → Name → ℕ → W → Bool
@@ -150,6 +163,7 @@ module _ {V P W H E : Type 0} (f : Meaning V P W H E) where
   abbrev pub heard : Serving V P W H → Name → Name → Packet P W → Serving V P W H
   heard v c s (Subscribe number x) = accepted_if (accepts v c s number x) v c s number x
   heard v c s (Terminate number) = ended_if (is_before f (find c s v.table) number) v c s
+  heard v c s (AllData number base) = renewed v c s number base (find c s v.table)
   heard v c s (Supply m) = supplied v c s m (find c s v.table)
   heard v c s (Acknowledge m) = acknowledged v c s m (find c s v.table)
   heard v c s (Notify m moment) = v
@@ -159,6 +173,7 @@ module _ {V P W H E : Type 0} (f : Meaning V P W H E) where
   abbrev pub replies_to : Serving V P W H → Name → Name → Packet P W → List (Of (About P W))
   replies_to v c s (Subscribe number x) = told c
   replies_to v c s (Terminate number) = told c
+  replies_to v c s (AllData number base) = told c
   replies_to v c s (Supply m) = supply_replies v c s m (find c s v.table)
   replies_to v c s (Acknowledge m) = []
   replies_to v c s (Notify m moment) = []

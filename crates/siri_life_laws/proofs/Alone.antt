@@ -3,7 +3,8 @@ use Rattle.std.proofs.Common.{◌≡◌, ℕ, ◌+◌, ◌≤◌, Bool, true, fa
 use Rattle.std.proofs.Common.{◌∙◌, subst, arith, append-nil}
 use Rattle.std.proofs.lemmas.Bool.{lt-leb}
 use Rattle.siri_life.specs.Meaning.{Meaning}
-use Rattle.siri_life.specs.Life.{is_before, resend_interval, Outstanding, Life, Packet, Subscribe, Terminate, Supply, Acknowledge, Notify}
+use Rattle.siri_life.specs.Life.{is_before, resend_interval, Outstanding, Life, Packet, Subscribe, Terminate, AllData}
+use Rattle.siri_life.specs.Life.{Supply, Acknowledge, Notify}
 use Rattle.siri_life.specs.Life.{Delivery, is_due, with_round, new_round, wants_round, opened, opened_if, sent_at, settled, settle_sends}
 use Rattle.siri_life.specs.Life.{after_send, sent_if, due_messages, message_if, sends_heartbeat, heartbeat_if}
 use Rattle.siri_life.specs.Link
@@ -29,6 +30,7 @@ module _ {V P W H E : Type 0} (f : Meaning V P W H E) where
   with_at l o b = record {
     start = l.start;
     number = l.number;
+    base = l.base;
     wanted = l.wanted;
     acknowledged = l.acknowledged;
     rounds = l.rounds;
@@ -140,6 +142,7 @@ module _ {V P W H E : Type 0} (f : Meaning V P W H E) where
     heard : Link V P W H → Packet P W → Link V P W H
     heard w (Subscribe number x) = Link.accepts f false w number x
     heard w (Terminate number) = Link.ends f w number
+    heard w (AllData number base) = Link.renews f w number base w.life
     heard w (Supply m) = Link.supplies f w m w.life
     heard w (Acknowledge m) = Link.acknowledges f w m w.life
     heard w (Notify m moment) = w
@@ -148,6 +151,7 @@ module _ {V P W H E : Type 0} (f : Meaning V P W H E) where
     mine_one : (n : Network V P W H) (p : Packet P W) → One n → One (Network.hears f n c s p)
     mine_one n (Subscribe number x) one = Sees.accepts_one f c s n (Serving.accepts f n.serving c s number x) number x one
     mine_one n (Terminate number) one = Sees.ends_one f c s n (is_before f (find c s n.serving.table) number) one
+    mine_one n (AllData number base) one = Sees.renews_one f c s n number base (find c s n.serving.table) one
     mine_one n (Supply m) one = Sees.supplies_one f c s n m (find c s n.serving.table) one
     mine_one n (Acknowledge m) one = Sees.acknowledges_one f c s n m (find c s n.serving.table) one
     mine_one n (Notify m moment) one = one
@@ -163,6 +167,9 @@ module _ {V P W H E : Type 0} (f : Meaning V P W H E) where
     mine_sees n (Terminate number) r q =
         let b = is_before f (find c s n.serving.table) number in
         Sees.tells_sees f c s (Network.ended_if f b n c s) c ToConsumer refl ∙ Sees.ends_sees f c s n b
+    mine_sees n (AllData number base) r q =
+        Sees.tells_sees f c s (Network.renewed f n c s number base (find c s n.serving.table)) c ToConsumer refl
+        ∙ Sees.renews_sees f c s n number base (find c s n.serving.table)
     mine_sees n (Supply m) r q = Sees.supplies_sees f c s n m (find c s n.serving.table) refl
     mine_sees n (Acknowledge m) r q = Sees.acknowledges_sees f c s n m (find c s n.serving.table) refl
     mine_sees n (Notify m moment) r q = refl
@@ -171,6 +178,8 @@ module _ {V P W H E : Type 0} (f : Meaning V P W H E) where
     other_one : (n : Network V P W H) (d t : Name) → same_subscription c s d t ≡ false → (p : Packet P W) → One n → One (Network.hears f n d t p)
     other_one n d t apart (Subscribe number x) one = Sees.accepts_other_one f c s d t apart n (Serving.accepts f n.serving d t number x) number x one
     other_one n d t apart (Terminate number) one = Sees.ends_other_one f c s d t apart n (is_before f (find d t n.serving.table) number) one
+    other_one n d t apart (AllData number base) one = Sees.renews_other_one f c s d t apart n number base
+        (find d t n.serving.table) one
     other_one n d t apart (Supply m) one = Sees.supplies_other_one f c s d t apart n m (find d t n.serving.table) one
     other_one n d t apart (Acknowledge m) one = Sees.acknowledges_other_one f c s d t apart n m (find d t n.serving.table) one
     other_one n d t apart (Notify m moment) one = one
@@ -184,6 +193,9 @@ module _ {V P W H E : Type 0} (f : Meaning V P W H E) where
     other_sees n d t apart (Terminate number) =
         let b = is_before f (find d t n.serving.table) number in
         Sees.tells_sees f c s (Network.ended_if f b n d t) d ToConsumer refl ∙ Sees.ends_other f c s d t apart n b
+    other_sees n d t apart (AllData number base) =
+        Sees.tells_sees f c s (Network.renewed f n d t number base (find d t n.serving.table)) d ToConsumer refl
+        ∙ Sees.renews_other f c s d t apart n number base (find d t n.serving.table)
     other_sees n d t apart (Supply m) = Sees.supplies_other f c s d t apart n m (find d t n.serving.table)
     other_sees n d t apart (Acknowledge m) = Sees.acknowledges_other f c s d t apart n m (find d t n.serving.table)
     other_sees n d t apart (Notify m moment) = refl

@@ -17,9 +17,10 @@ module _ {V P W H E : Type 0} (f : Meaning V P W H E) where
   ended_same n s (Some l) [] = refl
   ended_same n s e (l ∷ ls) = ap (λ rs. cond (matches l n s) l.rounds rs) (ended_same n s e ls)
 
-  pub fresh_same : (n s k t m : ℕ) (w : W) (ls : List (Life V P W)) → rounds_of n s (Some (new_life f k t m w)) ls ≡ rounds_of n s None ls
-  fresh_same n s k t m w [] = cond_same (m == n && k == s) []
-  fresh_same n s k t m w (l ∷ ls) = ap (λ rs. cond (matches l n s) l.rounds rs) (fresh_same n s k t m w ls)
+  pub fresh_same : (n s k t m b : ℕ) (w : W) (ls : List (Life V P W))
+      → rounds_of n s (Some (new_life f k t m b w)) ls ≡ rounds_of n s None ls
+  fresh_same n s k t m b w [] = cond_same (m == n && k == s) []
+  fresh_same n s k t m b w (l ∷ ls) = ap (λ rs. cond (matches l n s) l.rounds rs) (fresh_same n s k t m b w ls)
 
   -- no round is lost, and none changes
   abbrev pub Kept : Option (Life V P W) → List (Life V P W) → Option (Life V P W) → List (Life V P W) → Type 0
@@ -56,8 +57,10 @@ module _ {V P W H E : Type 0} (f : Meaning V P W H E) where
   pub kept_ended : (e : Option (Life V P W)) (ls : List (Life V P W)) → Kept e ls None (ls ++ retire f e)
   kept_ended e ls n s i x h = subst (λ rs. slice_get rs i ≡ Some x) (sym (ended_same n s e ls)) h
 
-  pub kept_fresh : (e : Option (Life V P W)) (ls : List (Life V P W)) (k t m : ℕ) (w : W) → Kept e ls (Some (new_life f k t m w)) (ls ++ retire f e)
-  kept_fresh e ls k t m w n s i x h = subst (λ rs. slice_get rs i ≡ Some x) (sym (fresh_same n s k t m w (ls ++ retire f e) ∙ ended_same n s e ls)) h
+  pub kept_fresh : (e : Option (Life V P W)) (ls : List (Life V P W)) (k t m b : ℕ) (w : W)
+      → Kept e ls (Some (new_life f k t m b w)) (ls ++ retire f e)
+  kept_fresh e ls k t m b w n s i x h = subst (λ rs. slice_get rs i ≡ Some x)
+      (sym (fresh_same n s k t m b w (ls ++ retire f e) ∙ ended_same n s e ls)) h
 
   none_cond : (b c : Bool) (xs ys : List (Round V P)) → (b || c) ≡ false → (c ≡ false → xs ≡ ys) → cond b ys xs ≡ ys
   none_cond true c xs ys h g = refl

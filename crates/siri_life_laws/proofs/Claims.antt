@@ -4,7 +4,8 @@ use Rattle.std.proofs.Common.{refl, sym, ap, ◌∙◌, subst, ⊎_elim, arith}
 use Rattle.std.specs.Prelude.{slice_get, ◌==◌}
 use Rattle.std.proofs.lemmas.Bool.{and_parts, not-true, eqb-false}
 use Rattle.siri_life.specs.Meaning.{Meaning, IsLawful, most_parts}
-use Rattle.siri_life.specs.Life.{greatest_round, Round, Outstanding, Life, Mark, Packet, Subscribe, Terminate, Supply, Acknowledge, Notify}
+use Rattle.siri_life.specs.Life.{greatest_round, Round, Outstanding, Life, Mark, Packet, Subscribe, Terminate, AllData}
+use Rattle.siri_life.specs.Life.{Supply, Acknowledge, Notify}
 use Rattle.siri_life.specs.Life.{Delivery, is_quiet, quiet_at}
 use Rattle.siri_life.specs.Link
 use Rattle.siri_life.specs.Link.{Link, Holding, LinkEvent, Deliver, GoalAt, Outcome, UnknownSubscription, OldStart, Gap, Repeat, Overlong}
@@ -86,6 +87,7 @@ module _ {V P W H E : Type 0} (f : Meaning V P W H E) where
   carries_fact : (w : Link V P W H) (h : Holding V P W) (p : Packet P W) → Fact f w.start w.life w.ended h p → CarriesItsRound f w (Some h) p
   carries_fact w h (Subscribe n x) a = tt
   carries_fact w h (Terminate n) a = tt
+  carries_fact w h (AllData n b) a = tt
   carries_fact w h (Supply m) a = tt
   carries_fact w h (Acknowledge m) a = tt
   carries_fact w h (Notify m moment) a = λ same. let c = (a same).tells in
@@ -135,6 +137,7 @@ module _ {V P W H E : Type 0} (f : Meaning V P W H E) where
       → (NotPast f h m) × (m.round ≤ greatest_round) × (m.part ≤ most_parts)
   sent_fact k e ended h (Subscribe n x) m is a = absurd is
   sent_fact k e ended h (Terminate n) m is a = absurd is
+  sent_fact k e ended h (AllData n b) m is a = absurd is
   sent_fact k e ended h (Supply n) m is a = absurd is
   sent_fact k e ended h (Acknowledge n) m is a = absurd is
   sent_fact k e ended h (Notify n t) m is a = λ same. let s = a (ap (λ (z : Mark). z.number) is ∙ same) in

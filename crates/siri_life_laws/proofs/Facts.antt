@@ -3,13 +3,15 @@
 use Rattle.std.proofs.Common.{◌≡◌, ◌⊎◌, ℕ, suc, ◌<◌, ◌≤◌, Bool, true, List, [], ◌∷◌, length, take, Option, Some, None}
 use Rattle.std.specs.Prelude.{slice_get, nat_lt}
 use Rattle.siri_life.specs.Meaning.{Meaning, most_parts}
-use Rattle.siri_life.specs.Life.{greatest_round, Round, Outstanding, Life, Mark, Packet, Subscribe, Terminate, Supply, Acknowledge, Notify, Delivery}
+use Rattle.siri_life.specs.Life.{greatest_round, Round, Outstanding, Life, Mark, Packet, Subscribe, Terminate, AllData}
+use Rattle.siri_life.specs.Life.{Supply, Acknowledge, Notify, Delivery}
 use Rattle.siri_life.specs.Link.{Link, Holding, has, rounds_of, GoalAt}
 use Rattle.siri_life_laws.proofs.Lists.{Each}
 
 abbrev pub number_of : {P W : Type 0} → Packet P W → ℕ
 number_of (Subscribe n x) = n
 number_of (Terminate n) = n
+number_of (AllData n b) = n
 number_of (Supply m) = 0
 number_of (Acknowledge m) = m.number
 number_of (Notify m t) = m.number
@@ -35,10 +37,12 @@ module _ {V P W H E : Type 0} (f : Meaning V P W H E) where
   OutstandingFact l None = GoalAt f l.rounds (length l.rounds) l.acknowledged
   OutstandingFact l (Some o) = IsOutstanding l o
 
-  -- the life in the table is of the latest start, under a number that its consumer used; its termination time is to come
+  -- the life in the table is of the latest start, under a number that its consumer used, which is its base or came after it;
+  -- its termination time is to come
   pub record LifeFact (k now next : ℕ) (l : Life V P W) : Type 0 where
     pub start : l.start ≡ k
     pub number : l.number < next
+    pub based : l.base ≤ l.number
     pub alive : now < f.termination l.wanted
     pub acknowledged_is_view : f.is_view l.acknowledged ≡ true
     pub count : length l.rounds ≤ greatest_round
@@ -118,11 +122,13 @@ module _ {V P W H E : Type 0} (f : Meaning V P W H E) where
     pub content : Content (rounds_of h.number m.start e ended) h.wanted m moment more x
     pub behind : BehindLife h.number k e m
 
-  -- a request under the consumer's number wants what it wants; a termination is under a smaller number; an acknowledgement is
-  -- of a part that was taken; what the producer sent is never past what the consumer wants
+  -- a request under the consumer's base wants what it wants, and none has a greater number; an AllData request under its
+  -- number has its base; a termination is under a smaller number; an acknowledgement is of a part that was taken; what the
+  -- producer sent is never past what the consumer wants
   abbrev pub Fact : ℕ → Option (Life V P W) → List (Life V P W) → Holding V P W → Packet P W → Type 0
-  Fact k e ended h (Subscribe n x) = (n ≤ h.number) × (n ≡ h.number → x ≡ h.wanted)
+  Fact k e ended h (Subscribe n x) = (n ≤ h.base) × (n ≡ h.base → x ≡ h.wanted)
   Fact k e ended h (Terminate n) = n < h.number
+  Fact k e ended h (AllData n b) = (n ≤ h.number) × (n ≡ h.number → b ≡ h.base)
   Fact k e ended h (Supply m) = Unit {0}
   Fact k e ended h (Acknowledge m) = m.number ≡ h.number → Before h m
   Fact k e ended h (Notify m moment) = m.number ≡ h.number → Notifies k e ended h m moment
@@ -156,6 +162,7 @@ module _ {V P W H E : Type 0} (f : Meaning V P W H E) where
   pub record Shared (k : ℕ) (h : Holding V P W) (l : Life V P W) : Type 0 where
     pub number : l.number ≤ h.number
     pub wanted : l.number ≡ h.number → l.wanted ≡ h.wanted
+    pub of_base : l.base ≡ h.base → l.wanted ≡ h.wanted
     pub wanting : l.number ≡ h.number → Wanting k h (length l.rounds) l.outstanding
 
   abbrev pub SharedLife : ℕ → Holding V P W → Option (Life V P W) → Type 0
@@ -170,6 +177,7 @@ module _ {V P W H E : Type 0} (f : Meaning V P W H E) where
   -- what the consumer keeps, the packets and the life in the table fit together
   pub record Tied (k now : ℕ) (e : Option (Life V P W)) (ended : List (Life V P W)) (next : ℕ) (packets : List (Packet P W)) (h : Holding V P W) : Type 0 where
     pub number : h.number < next
+    pub based : h.base ≤ h.number
     pub start : h.start ≤ k
     pub facts : Each (Fact k e ended h) packets
     pub shared : SharedLife k h e

@@ -2,18 +2,21 @@
 use Rattle.std.proofs.Common.{◌≡◌, ℕ, ◌≤◌, Bool, true, false, cond, List, [], ◌∷◌, length, Option, Some, None, refl, sym, ap, subst, arith}
 use Rattle.std.specs.Prelude.{slice_get, nat_le}
 use Rattle.siri_life.specs.Meaning.{Meaning, IsLawful}
-use Rattle.siri_life.specs.Life.{can_accept, is_before, Packet, Subscribe, Terminate, Supply, Acknowledge, Notify, Delivery}
+use Rattle.siri_life.specs.Life.{can_accept, is_before, Packet, Subscribe, Terminate, AllData, Supply, Acknowledge}
+use Rattle.siri_life.specs.Life.{Notify, Delivery}
 use Rattle.siri_life.specs.Link
-use Rattle.siri_life.specs.Link.{Link, Holding, asked, settle}
+use Rattle.siri_life.specs.Link.{Link, Holding, asked, restarted, settle}
 use Rattle.siri_life.specs.Network
 use Rattle.siri_life.specs.Named.{Of, same_subscription, Name, same_name, those, find, with_under, next_of}
 use Rattle.siri_life.specs.Serving
 use Rattle.siri_life.specs.Serving.{most_subscriptions, About, Carries, ToProducer, ToConsumer, letters_for}
-use Rattle.siri_life.specs.Network.{Network, Happening, Starts, Clocks, Feeds, Asks, Stops, Requests, Delivers, settles, seen_by}
+use Rattle.siri_life.specs.Network.{Network, Happening, Starts, Clocks, Feeds, Asks, Stops, Restarts, Requests}
+use Rattle.siri_life.specs.Network.{Delivers, settles, seen_by}
 use Rattle.siri_life.specs.Network.{packets_of, takes, takes_letter, step, network_after, opening}
 use Rattle.siri_life_laws.proofs.Names.{name_is, same_parts, same_refl, those_get, packets_get}
-use Rattle.siri_life_laws.proofs.Facts.{Good}
-use Rattle.siri_life_laws.proofs.Steps.{settle_good, accept_good, end_good, supply_good, acknowledgement_good, delivered_good}
+use Rattle.siri_life_laws.proofs.Facts.{HeldFact, Good}
+use Rattle.siri_life_laws.proofs.Steps.{settle_good, accept_good, renew_good, restarts_good, end_good, supply_good}
+use Rattle.siri_life_laws.proofs.Steps.{acknowledgement_good, delivered_good}
 use Rattle.siri_life_laws.proofs.Steps.{notified_good, clock_good, anew_good, fed_good, asks_good, stops_good, spend_good, begin_good}
 use Rattle.siri_life_laws.proofs.Sees
 
@@ -51,6 +54,13 @@ module _ {V P W H E : Type 0} (f : Meaning V P W H E) (c s : Name) where
       let m = Network.ended_if f b n c s in
       fit_settles laws (Network.tells f m c ToConsumer) (fit_tells m c ToConsumer refl
       (fit m (Link.ends f w number) (Sees.ends_one f c s n b g.one) (Sees.ends_sees f c s n b) (end_good f w j number at g.good)))
+  takes_mine laws n j (AllData number base) at g =
+      let w = seen_by f c s n in
+      let e = find c s n.serving.table in
+      let m = Network.renewed f n c s number base e in
+      fit_settles laws (Network.tells f m c ToConsumer) (fit_tells m c ToConsumer refl
+      (fit m (Link.renews f w number base e) (Sees.renews_one f c s n number base e g.one)
+      (Sees.renews_sees f c s n number base e) (renew_good f laws w j number base e refl at g.good)))
   takes_mine laws n j (Supply m) at g =
       let w = seen_by f c s n in
       let e = find c s n.serving.table in
@@ -93,6 +103,13 @@ module _ {V P W H E : Type 0} (f : Meaning V P W H E) (c s : Name) where
       fit_settles laws (Network.tells f m d ToConsumer)
       (fit_tells m d ToConsumer refl (fit m (seen_by f c s n) (Sees.ends_other_one f c s d t apart n b g.one)
       (Sees.ends_other f c s d t apart n b) g.good))
+  takes_other laws d t apart n (Carries (AllData number base)) g =
+      let e = find d t n.serving.table in
+      let m = Network.renewed f n d t number base e in
+      fit_settles laws (Network.tells f m d ToConsumer)
+      (fit_tells m d ToConsumer refl
+      (fit m (seen_by f c s n) (Sees.renews_other_one f c s d t apart n number base e g.one)
+      (Sees.renews_other f c s d t apart n number base e) g.good))
   takes_other laws d t apart n (Carries (Supply m)) g =
       let e = find d t n.serving.table in
       fit_settles laws (Network.supplied f n d t m e)
@@ -209,6 +226,49 @@ module _ {V P W H E : Type 0} (f : Meaning V P W H E) (c s : Name) where
           (mine (n.holdings c s) refl)
       by false q = other (same_name c d) d (n.holdings d t) refl q
 
+  restarts_fit : IsLawful f → (n : Network V P W H) (d t : Name) → Fit n → Fit (step f n (Restarts d t))
+  restarts_fit laws n d t g = by (same_subscription c s d t) refl
+    where
+      mine : (held : Option (Holding V P W)) → n.holdings c s ≡ held → Fit (Network.restarted_one f n c s held)
+      mine None is = g
+      mine (Some h) is =
+          let h' = restarted f (next_of (n.numbers c)) h in
+          let ps : List (Packet P W) = AllData (next_of (n.numbers c)) h.base ∷ [] in
+          fit (Network.restarted_one f n c s (Some h)) (Link.restarts_of f (seen_by f c s n) (Some h)) g.one
+          (Sees.uses_sees f c s n (with_under c s (Some h') n.holdings) (letters_for f c s ps) (Some h') ps
+          (ap (λ b. cond b (Some h') (n.holdings c s)) (same_refl c s)) (Sees.letters_mine f c s ps))
+          (restarts_good f (seen_by f c s n) (Some h) g.good
+          (subst (λ held. HeldFact f n.serving.start n.serving.now (find c s n.serving.table)
+          (those c s n.serving.ended) (next_of (n.numbers c)) (packets_of f (those c s n.letters)) held) is
+          g.good.tied))
+
+      other : (b : Bool) (d : Name) (held : Option (Holding V P W)) → same_name c d ≡ b
+          → same_subscription c s d t ≡ false → Fit (Network.restarted_one f n d t held)
+      other b d None q apart = g
+      other true d (Some h) q apart =
+          let a = name_is c d q in
+          subst (λ z. Fit (Network.restarted_one f n z t (Some h))) a
+          (let apart' : same_subscription c s c t ≡ false = subst (λ z. same_subscription c s z t ≡ false) (sym a) apart in
+          let h' = restarted f (next_of (n.numbers c)) h in
+          let ps : List (Packet P W) = AllData (next_of (n.numbers c)) h.base ∷ [] in
+          fit (Network.restarted_one f n c t (Some h)) (Link.uses_number f (seen_by f c s n) (n.holdings c s) []) g.one
+          (Sees.uses_sees f c s n (with_under c t (Some h') n.holdings) (letters_for f c t ps) (n.holdings c s) []
+          (ap (λ b. cond b (Some h') (n.holdings c s)) apart') (Sees.letters_other f c s c t apart' ps))
+          (spend_good f (seen_by f c s n) g.good))
+      other false d (Some h) q apart =
+          let h' = restarted f (next_of (n.numbers d)) h in
+          let ps : List (Packet P W) = AllData (next_of (n.numbers d)) h.base ∷ [] in
+          fit (Network.restarted_one f n d t (Some h)) (seen_by f c s n) g.one
+          (Sees.uses_other f c s n d (with_under d t (Some h') n.holdings) (letters_for f d t ps) q
+          (ap (λ b. cond b (Some h') (n.holdings c s)) apart) (Sees.letters_other f c s d t apart ps))
+          g.good
+
+      by : (b : Bool) → same_subscription c s d t ≡ b → Fit (Network.restarted_one f n d t (n.holdings d t))
+      by true q = let a = same_parts c s d t q in subst
+          (λ (z : Name × Name). Fit (Network.restarted_one f n z.0 z.1 (n.holdings z.0 z.1))) (λ i. (a.0 i, a.1 i))
+          (mine (n.holdings c s) refl)
+      by false q = other (same_name c d) d (n.holdings d t) refl q
+
   requests_fit : (n : Network V P W H) (d : Name) → Fit n → Fit (step f n (Requests d))
   requests_fit n d g = fit_tells n d (ToProducer true) refl g
 
@@ -225,6 +285,7 @@ module _ {V P W H E : Type 0} (f : Meaning V P W H E) (c s : Name) where
       (fit (Network.feeds f n es) (Link.fed f (seen_by f c s n) es) g.one refl (fed_good f (seen_by f c s n) es g.good))
   step_fit laws n (Asks d t x) g = asks_fit laws n d t x g
   step_fit laws n (Stops d t) g = stops_fit laws n d t g
+  step_fit laws n (Restarts d t) g = restarts_fit laws n d t g
   step_fit laws n (Requests d) g = requests_fit n d g
   step_fit laws n (Delivers k) g = letter_fit laws n k (slice_get n.letters k) refl g
 

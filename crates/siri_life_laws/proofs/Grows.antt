@@ -2,10 +2,12 @@
 use Rattle.std.proofs.Common.{◌≡◌, ℕ, suc, max, Bool, true, false, List, [], ◌∷◌, length, Option, Some, None, ◌&&◌}
 use Rattle.std.specs.Prelude.{slice_get}
 use Rattle.siri_life.specs.Meaning.{Meaning}
-use Rattle.siri_life.specs.Life.{can_accept, is_before, is_past, Outstanding, Life, Mark, is_mark, Packet, Subscribe, Terminate, Supply}
+use Rattle.siri_life.specs.Life.{can_accept, can_renew, is_before, is_past, Outstanding, Life, Mark, is_mark, Packet}
+use Rattle.siri_life.specs.Life.{Subscribe, Terminate, AllData, Supply}
 use Rattle.siri_life.specs.Life.{Acknowledge, Notify, Delivery, is_due, part_message, message}
 use Rattle.siri_life.specs.Link
-use Rattle.siri_life.specs.Link.{Link, Holding, LinkEvent, Start, Clock, Feed, Ask, Stop, Spend, Deliver, Outcome, UnknownSubscription}
+use Rattle.siri_life.specs.Link.{Link, Holding, LinkEvent, Start, Clock, Feed, Ask, Stop, Restart, Spend, Deliver}
+use Rattle.siri_life.specs.Link.{Outcome, UnknownSubscription}
 use Rattle.siri_life.specs.Link.{OldStart, Gap, Repeat, Overlong, Wanted, outcome, settle, happens, link_after}
 use Rattle.siri_life_laws.proofs.Lists.{get_front}
 
@@ -94,11 +96,25 @@ module _ {V P W H E : Type 0} (f : Meaning V P W H E) where
       by Gap = a
       by Overlong = a
 
+  renew_grows : (w : Link V P W H) (n b : ℕ) (e : Option (Life V P W)) → Grows w (Link.renews f w n b e)
+  renew_grows w n b None i p a = a
+  renew_grows w n b (Some l) i p a = by (can_renew f l n b)
+    where
+      by : (c : Bool) → slice_get (Link.renew_if f c w n b l.wanted).packets i ≡ Some p
+      by true = a
+      by false = a
+
+  restarts_grows : (w : Link V P W H) (held : Option (Holding V P W)) → Grows w (Link.restarts_of f w held)
+  restarts_grows w None i p a = a
+  restarts_grows w (Some h) i p a = get_front w.packets (AllData w.next_number h.base ∷ []) i p a
+
   comes_grows : (w : Link V P W H) (full : Bool) (q : Option (Packet P W)) → Grows w (Link.comes_if f full w q)
   comes_grows w full None i p a = a
   comes_grows w full (Some (Subscribe n x)) i p a = let v = Link.accepts f full w n x in
       settle_grows v i p (accept_grows w n x (can_accept f full w.now n x w.life) i p a)
   comes_grows w full (Some (Terminate n)) i p a = let v = Link.ends f w n in settle_grows v i p (end_grows w (is_before f w.life n) i p a)
+  comes_grows w full (Some (AllData n b)) i p a = let v = Link.renews f w n b w.life in settle_grows v i p
+      (renew_grows w n b w.life i p a)
   comes_grows w full (Some (Supply m)) i p a = let v = Link.supplies f w m w.life in settle_grows v i p (supply_grows w m w.life i p a)
   comes_grows w full (Some (Acknowledge m)) i p a = let v = Link.acknowledges f w m w.life in settle_grows v i p (acknowledgement_grows w m w.life i p a)
   comes_grows w full (Some (Notify m moment)) i p a = notified_grows w w.held m i p a
@@ -114,6 +130,7 @@ module _ {V P W H E : Type 0} (f : Meaning V P W H E) where
       settle_grows v i p (end_grows (Link.at_moment f w t) (is_past f w.life (max w.now t)) i p a)
   happens_grows w (Feed es) i p a = settle_grows (Link.fed f w es) i p a
   happens_grows w (Ask x) i p a = get_front w.packets (Subscribe w.next_number x ∷ []) i p a
+  happens_grows w Restart i p a = restarts_grows w w.held i p a
   happens_grows w Stop i p a = stops_grows w w.held i p a
   happens_grows w Spend i p a = get_front w.packets [] i p a
   happens_grows w (Deliver k full) i p a = comes_grows w full (slice_get w.packets k) i p a

@@ -13,3 +13,4 @@ pub mod Longer
 pub mod Every
 pub mod Alone
 pub mod Serves
+pub mod Restarting

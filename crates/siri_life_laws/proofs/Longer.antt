@@ -2,13 +2,15 @@
 use Rattle.std.proofs.Common.{◌≡◌, ℕ, Bool, true, false, List, [], ◌∷◌, Option, Some, None}
 use Rattle.std.specs.Prelude.{slice_get}
 use Rattle.siri_life.specs.Meaning.{Meaning}
-use Rattle.siri_life.specs.Life.{is_before, Life, Mark, Subscribe, Terminate, Supply, Acknowledge, Notify, Delivery, supply_sends}
+use Rattle.siri_life.specs.Life.{is_before, can_renew, Life, Mark, Subscribe, Terminate, AllData, Supply, Acknowledge}
+use Rattle.siri_life.specs.Life.{Notify, Delivery, supply_sends}
 use Rattle.siri_life.specs.Link.{Holding, Outcome, UnknownSubscription, OldStart, Gap, Repeat, Overlong, Wanted, outcome, replies, asks_for}
 use Rattle.siri_life.specs.Network
 use Rattle.siri_life.specs.Named.{Of, Name, find, next_of}
 use Rattle.siri_life.specs.Serving
 use Rattle.siri_life.specs.Serving.{About, Carries, ToProducer, ToConsumer, supply_letters, letters_for, row_letters}
-use Rattle.siri_life.specs.Network.{Network, Happening, Starts, Clocks, Feeds, Asks, Stops, Requests, Delivers, settles, takes}
+use Rattle.siri_life.specs.Network.{Network, Happening, Starts, Clocks, Feeds, Asks, Stops, Restarts, Requests}
+use Rattle.siri_life.specs.Network.{Delivers, settles, takes}
 use Rattle.siri_life.specs.Network.{takes_letter, step, network_after}
 use Rattle.siri_life_laws.proofs.Lists.{get_front}
 
@@ -33,6 +35,17 @@ module _ {V P W H E : Type 0} (f : Meaning V P W H E) where
   accepted_longer : (n : Network V P W H) (b : Bool) (c s : Name) (number : ℕ) (x : W) → Longer n (Network.accepted_if f b n c s number x)
   accepted_longer n true c s number x i y a = get_front n.letters [] i y a
   accepted_longer n false c s number x i y a = get_front n.letters [] i y a
+
+  renewed_if_longer : (n : Network V P W H) (q : Bool) (c s : Name) (number base : ℕ) (x : W)
+      → Longer n (Network.with_serving f n (Serving.renewed_if f q n.serving c s number base x) [])
+  renewed_if_longer n true c s number base x i y a = get_front n.letters [] i y a
+  renewed_if_longer n false c s number base x i y a = get_front n.letters [] i y a
+
+  renewed_longer : (n : Network V P W H) (c s : Name) (number base : ℕ) (e : Option (Life V P W))
+      → Longer n (Network.renewed f n c s number base e)
+  renewed_longer n c s number base None i y a = get_front n.letters [] i y a
+  renewed_longer n c s number base (Some l) i y a = renewed_if_longer n
+      (can_renew f l number base) c s number base l.wanted i y a
 
   ended_longer : (n : Network V P W H) (b : Bool) (c s : Name) → Longer n (Network.ended_if f b n c s)
   ended_longer n true c s i y a = get_front n.letters [] i y a
@@ -67,6 +80,10 @@ module _ {V P W H E : Type 0} (f : Meaning V P W H E) where
   takes_longer n c s (Carries (Terminate number)) i y a =
       let b = is_before f (find c s n.serving.table) number in
       let m = Network.ended_if f b n c s in settles_longer (Network.tells f m c ToConsumer) i y (tells_longer m c ToConsumer i y (ended_longer n b c s i y a))
+  takes_longer n c s (Carries (AllData number base)) i y a =
+      let m = Network.renewed f n c s number base (find c s n.serving.table) in
+      settles_longer (Network.tells f m c ToConsumer) i y
+      (tells_longer m c ToConsumer i y (renewed_longer n c s number base (find c s n.serving.table) i y a))
   takes_longer n c s (Carries (Supply m)) i y a = let e = find c s n.serving.table in
       settles_longer (Network.supplied f n c s m e) i y (supplied_longer n c s m e i y a)
   takes_longer n c s (Carries (Acknowledge m)) i y a = let e = find c s n.serving.table in
@@ -82,12 +99,19 @@ module _ {V P W H E : Type 0} (f : Meaning V P W H E) where
   stopped_longer n c s None i y a = a
   stopped_longer n c s (Some h) i y a = get_front n.letters (letters_for f c s (Terminate (next_of (n.numbers c)) ∷ [])) i y a
 
+  restarted_longer : (n : Network V P W H) (c s : Name) (h : Option (Holding V P W))
+      → Longer n (Network.restarted_one f n c s h)
+  restarted_longer n c s None i y a = a
+  restarted_longer n c s (Some h) i y a = get_front n.letters
+      (letters_for f c s (AllData (next_of (n.numbers c)) h.base ∷ [])) i y a
+
   pub step_longer : (n : Network V P W H) (e : Happening W E) → Longer n (step f n e)
   step_longer n (Starts t) i y a = a
   step_longer n (Clocks t) i y a = let m = Network.expires f (Network.at_moment f n t) in settles_longer m i y (get_front n.letters [] i y a)
   step_longer n (Feeds es) i y a = settles_longer (Network.feeds f n es) i y a
   step_longer n (Asks c s x) i y a = get_front n.letters (letters_for f c s (Subscribe (next_of (n.numbers c)) x ∷ [])) i y a
   step_longer n (Stops c s) i y a = stopped_longer n c s (n.holdings c s) i y a
+  step_longer n (Restarts c s) i y a = restarted_longer n c s (n.holdings c s) i y a
   step_longer n (Requests c) i y a = tells_longer n c (ToProducer true) i y a
   step_longer n (Delivers k) i y a = letter_longer n (slice_get n.letters k) i y a
 

@@ -4,7 +4,8 @@ use Rattle.std.proofs.Common.{refl, sym, ap, ◌∙◌, subst, inl, inr, ⊎_eli
 use Rattle.std.specs.Prelude.{slice_get, nat_lt}
 use Rattle.std.proofs.lemmas.Bool.{or_cases}
 use Rattle.siri_life.specs.Meaning.{Meaning, IsLawful}
-use Rattle.siri_life.specs.Life.{greatest_round, Round, Outstanding, Life, Mark, Packet, Subscribe, Terminate, Supply, Acknowledge, Notify}
+use Rattle.siri_life.specs.Life.{greatest_round, Round, Outstanding, Life, Mark, Packet, Subscribe, Terminate, AllData}
+use Rattle.siri_life.specs.Life.{Supply, Acknowledge, Notify}
 use Rattle.siri_life.specs.Life.{Delivery, new_life, with_round, new_round, with_outstanding, sent_at, with_heartbeat, closed, wanted_mark}
 use Rattle.siri_life.specs.Life.{part_message, message_by}
 use Rattle.siri_life.specs.Link.{Holding, has, matches, rounds_of, life_rounds, GoalAt, retire}
@@ -67,6 +68,7 @@ module _ {V P W H E : Type 0} (f : Meaning V P W H E) where
   tied_moves k now k' now' e e' ended ended' next packets h le kept behind shared once t =
       record {
         number = t.number;
+        based = t.based;
         start = let a = t.start in omega arith;
         facts = each_map (Fact f k e ended h) (Fact f k' e' ended' h) one packets t.facts;
         shared = shared;
@@ -80,6 +82,7 @@ module _ {V P W H E : Type 0} (f : Meaning V P W H E) where
       one : (p : Packet P W) → Fact f k e ended h p → Fact f k' e' ended' h p
       one (Subscribe n x) g = g
       one (Terminate n) g = g
+      one (AllData n b) g = g
       one (Supply m) g = g
       one (Acknowledge m) g = g
       one (Notify m moment) g = λ same. let s = g same in
@@ -106,6 +109,7 @@ module _ {V P W H E : Type 0} (f : Meaning V P W H E) where
   tied_sends k now e ended next ps qs h new t =
       record {
         number = t.number;
+        based = t.based;
         start = t.start;
         facts = each_append (Fact f k e ended h) ps qs t.facts new;
         shared = t.shared;
@@ -132,6 +136,7 @@ module _ {V P W H E : Type 0} (f : Meaning V P W H E) where
       record {
         start = q.start;
         number = q.number;
+        based = q.based;
         alive = q.alive;
         acknowledged_is_view = q.acknowledged_is_view;
         count = let len = length_push l.rounds x in omega arith;
@@ -166,6 +171,7 @@ module _ {V P W H E : Type 0} (f : Meaning V P W H E) where
       (record {
         number = t.shared.number;
         wanted = t.shared.wanted;
+        of_base = t.shared.of_base;
         wanting = λ same.
             let v : Level f k h (length l.rounds) = subst (Wanting f k h (length l.rounds)) none (t.shared.wanting same) in
             let len = length_push l.rounds x in
@@ -286,6 +292,7 @@ module _ {V P W H E : Type 0} (f : Meaning V P W H E) where
       record {
         start = q.start;
         number = q.number;
+        based = q.based;
         alive = q.alive;
         acknowledged_is_view = q.acknowledged_is_view;
         count = q.count;
@@ -313,6 +320,7 @@ module _ {V P W H E : Type 0} (f : Meaning V P W H E) where
       (record {
         number = t.shared.number;
         wanted = t.shared.wanted;
+        of_base = t.shared.of_base;
         wanting = λ same. let a = ahead_of k h l o is (t.shared.wanting same) in
             record { same = a.same; older_round = a.older_round; older_part = a.older_part };
       })
@@ -338,6 +346,7 @@ module _ {V P W H E : Type 0} (f : Meaning V P W H E) where
   life_heartbeat k now next l t q = record {
     start = q.start;
     number = q.number;
+    based = q.based;
     alive = q.alive;
     acknowledged_is_view = q.acknowledged_is_view;
     count = q.count;
@@ -351,7 +360,13 @@ module _ {V P W H E : Type 0} (f : Meaning V P W H E) where
       tied_moves k now k now (Some l) (Some (with_heartbeat f l time)) ended ended next packets h (omega arith)
       (kept_life f l (with_heartbeat f l time) refl refl (λ i y e. e) ended)
       (λ m moment more y d same. let b = d.behind same in record { round = b.round; part = b.part })
-      (record { number = t.shared.number; wanted = t.shared.wanted; wanting = t.shared.wanting })
+      (record {
+        number = t.shared.number;
+        wanted = t.shared.wanted;
+        of_base = t.shared.of_base;
+        wanting =
+            t.shared.wanting;
+      })
       t.once t
 
   -- ---- the wanted part is acknowledged
@@ -364,6 +379,7 @@ module _ {V P W H E : Type 0} (f : Meaning V P W H E) where
       record {
         start = q.start;
         number = q.number;
+        based = q.based;
         alive = q.alive;
         acknowledged_is_view = q.acknowledged_is_view;
         count = q.count;
@@ -387,6 +403,7 @@ module _ {V P W H E : Type 0} (f : Meaning V P W H E) where
       record {
         start = q.start;
         number = q.number;
+        based = q.based;
         alive = q.alive;
         acknowledged_is_view = outstanding.target_is_view;
         count = q.count;
@@ -422,6 +439,7 @@ module _ {V P W H E : Type 0} (f : Meaning V P W H E) where
       (record {
         number = t.shared.number;
         wanted = t.shared.wanted;
+        of_base = t.shared.of_base;
         wanting = λ same.
             let a = ahead_of k h l o is (t.shared.wanting same) in
             let b = acknowledged.before same in
@@ -456,6 +474,7 @@ module _ {V P W H E : Type 0} (f : Meaning V P W H E) where
       (record {
         number = t.shared.number;
         wanted = t.shared.wanted;
+        of_base = t.shared.of_base;
         wanting = λ same.
             let a = ahead_of k h l o is (t.shared.wanting same) in
             let b = acknowledged.before same in
@@ -529,6 +548,7 @@ module _ {V P W H E : Type 0} (f : Meaning V P W H E) where
   tied_clock k now now' e ended next packets h le t =
       record {
         number = t.number;
+        based = t.based;
         start = t.start;
         facts = t.facts;
         shared = t.shared;
@@ -557,12 +577,16 @@ module _ {V P W H E : Type 0} (f : Meaning V P W H E) where
   smaller_up n m None le g = tt
   smaller_up n m (Some l) le g = omega arith
 
-  pub tied_accepts : (k now next n : ℕ) (x : W) (e : Option (Life V P W)) (ended : List (Life V P W))
+  -- by a SubscriptionRequest or an AllData request
+
+  pub tied_accepts : (k now next n b : ℕ) (x : W) (e : Option (Life V P W)) (ended : List (Life V P W))
       (packets : List (Packet P W)) (h : Holding V P W) → 1 ≤ k → Smaller n e → now < f.termination x
-      → Fact f k e ended h (Subscribe n x) → Tied f k now e ended next packets h
-      → Tied f k now (Some (new_life f k now n x)) (ended ++ retire f e) next packets h
-  tied_accepts k now next n x e ended packets h first small alive fact t =
-      tied_moves k now k now e (Some (new_life f k now n x)) ended (ended ++ retire f e) next packets h (omega arith) (kept_fresh f e ended k now n x)
+      → (n ≤ h.number) × (n ≡ h.number → x ≡ h.wanted) → (b ≡ h.base → x ≡ h.wanted)
+      → Tied f k now e ended next packets h
+      → Tied f k now (Some (new_life f k now n b x)) (ended ++ retire f e) next packets h
+  tied_accepts k now next n b x e ended packets h first small alive fact of_base t =
+      tied_moves k now k now e (Some (new_life f k now n b x)) ended (ended ++ retire f e) next packets h (omega arith)
+      (kept_fresh f e ended k now n b x)
       (λ m moment more y d same. record {
         round = λ s. absurd (no_round same m.start s d.content.i d.content.r d.content.at);
         part = λ s r. tt;
@@ -570,6 +594,7 @@ module _ {V P W H E : Type 0} (f : Meaning V P W H E) where
       (record {
         number = fact.0;
         wanted = fact.1;
+        of_base = of_base;
         wanting = λ same. record {
           round = λ s. absurd (unseen same s);
           parts = λ s. absurd (unseen same s);

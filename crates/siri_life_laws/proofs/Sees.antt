@@ -3,7 +3,8 @@ use Rattle.std.proofs.Common.{◌≡◌, ℕ, suc, ◌≤◌, Bool, true, false,
 use Rattle.std.proofs.Common.{sym, ap, ◌∙◌, subst, arith, append-nil}
 use Rattle.std.specs.Prelude.{nat_le}
 use Rattle.siri_life.specs.Meaning.{Meaning}
-use Rattle.siri_life.specs.Life.{Outstanding, Life, Mark, is_mark, Packet, is_due, new_life, opened, settled, settle_sends, after_send}
+use Rattle.siri_life.specs.Life.{Outstanding, Life, Mark, is_mark, Packet, is_due, new_life, can_renew, opened, settled}
+use Rattle.siri_life.specs.Life.{settle_sends, after_send}
 use Rattle.siri_life.specs.Life.{sent_if, due_messages, message_if, after_acknowledgement, acknowledged_at, acknowledged_if, after_supply}
 use Rattle.siri_life.specs.Life.{supplied_at, supply_sends, part_at, part_if}
 use Rattle.siri_life.specs.Link
@@ -270,7 +271,7 @@ module _ {V P W H E : Type 0} (f : Meaning V P W H E) where
         → seen_by f c s (Network.accepted_if f b n c s number x) ≡ Link.accept_if f b (seen_by f c s n) number x
     accepts_sees n false number x = served_same n
     accepts_sees n true number x =
-        let l = new_life f n.serving.start n.serving.now number x in
+        let l = new_life f n.serving.start n.serving.now number number x in
         table_sees n (put c s l n.serving.table) (row_of f c s (find c s n.serving.table)) [] (Some l)
         (retire f (find c s n.serving.table)) [] (ap (λ ls. first ls) (put_mine l n.serving.table))
         (row_mine (find c s n.serving.table)) refl
@@ -278,7 +279,33 @@ module _ {V P W H E : Type 0} (f : Meaning V P W H E) where
 
     pub accepts_one : (n : Network V P W H) (b : Bool) (number : ℕ) (x : W) → One n → One (Network.accepted_if f b n c s number x)
     accepts_one n false number x one = one
-    accepts_one n true number x one = put_one (new_life f n.serving.start n.serving.now number x) n.serving.table one
+    accepts_one n true number x one = put_one
+        (new_life f n.serving.start n.serving.now number number x) n.serving.table one
+
+    renewed_sees : (n : Network V P W H) (b : Bool) (number base : ℕ) (x : W)
+        → seen_by f c s (Network.with_serving f n (Serving.renewed_if f b n.serving c s number base x) [])
+        ≡ Link.renew_if f b (seen_by f c s n) number base x
+    renewed_sees n false number base x = served_same n
+    renewed_sees n true number base x =
+        let l = new_life f n.serving.start n.serving.now number base x in
+        table_sees n (put c s l n.serving.table) (row_of f c s (find c s n.serving.table)) [] (Some l)
+        (retire f (find c s n.serving.table)) [] (ap (λ ls. first ls) (put_mine l n.serving.table))
+        (row_mine (find c s n.serving.table)) refl
+        ∙ changed_replaces (seen_by f c s n) (Some l)
+
+    pub renews_sees : (n : Network V P W H) (number base : ℕ) (e : Option (Life V P W))
+        → seen_by f c s (Network.renewed f n c s number base e) ≡ Link.renews f (seen_by f c s n) number base e
+    renews_sees n number base None = served_same n
+    renews_sees n number base (Some l) = renewed_sees n (can_renew f l number base) number base l.wanted
+
+    pub renews_one : (n : Network V P W H) (number base : ℕ) (e : Option (Life V P W)) → One n
+        → One (Network.renewed f n c s number base e)
+    renews_one n number base None one = one
+    renews_one n number base (Some l) one = by (can_renew f l number base)
+      where
+        by : (b : Bool) → One (Network.with_serving f n (Serving.renewed_if f b n.serving c s number base l.wanted) [])
+        by true = put_one (new_life f n.serving.start n.serving.now number base l.wanted) n.serving.table one
+        by false = one
 
     pub ends_sees : (n : Network V P W H) (b : Bool) → seen_by f c s (Network.ended_if f b n c s) ≡ Link.end_if f b (seen_by f c s n)
     ends_sees n false = served_same n
@@ -355,16 +382,43 @@ module _ {V P W H E : Type 0} (f : Meaning V P W H E) where
       pub accepts_other : (n : Network V P W H) (b : Bool) (number : ℕ) (x : W) → seen_by f c s (Network.accepted_if f b n d t number x) ≡ seen_by f c s n
       accepts_other n false number x = served_same n
       accepts_other n true number x = table_other n
-          (put d t (new_life f n.serving.start n.serving.now number x) n.serving.table)
+          (put d t (new_life f n.serving.start n.serving.now number number x) n.serving.table)
           (row_of f d t (find d t n.serving.table)) []
-          (put_other (new_life f n.serving.start n.serving.now number x) n.serving.table)
+          (put_other (new_life f n.serving.start n.serving.now number number x) n.serving.table)
           (row_other (find d t n.serving.table)) refl
 
       pub accepts_other_one : (n : Network V P W H) (b : Bool) (number : ℕ) (x : W) → One n → One (Network.accepted_if f b n d t number x)
       accepts_other_one n false number x one = one
       accepts_other_one n true number x one = same_one n.serving.table
-          (put d t (new_life f n.serving.start n.serving.now number x) n.serving.table)
-          (put_other (new_life f n.serving.start n.serving.now number x) n.serving.table) one
+          (put d t (new_life f n.serving.start n.serving.now number number x) n.serving.table)
+          (put_other (new_life f n.serving.start n.serving.now number number x) n.serving.table) one
+
+      pub renews_other : (n : Network V P W H) (number base : ℕ) (e : Option (Life V P W))
+          → seen_by f c s (Network.renewed f n d t number base e) ≡ seen_by f c s n
+      renews_other n number base None = served_same n
+      renews_other n number base (Some l) = by (can_renew f l number base)
+        where
+          by : (b : Bool)
+              → seen_by f c s (Network.with_serving f n (Serving.renewed_if f b n.serving d t number base l.wanted) [])
+              ≡ seen_by f c s n
+          by true = table_other n
+              (put d t (new_life f n.serving.start n.serving.now number base l.wanted) n.serving.table)
+              (row_of f d t (find d t n.serving.table)) []
+              (put_other (new_life f n.serving.start n.serving.now number base l.wanted) n.serving.table)
+              (row_other (find d t n.serving.table)) refl
+          by false = served_same n
+
+      pub renews_other_one : (n : Network V P W H) (number base : ℕ) (e : Option (Life V P W)) → One n
+          → One (Network.renewed f n d t number base e)
+      renews_other_one n number base None one = one
+      renews_other_one n number base (Some l) one = by (can_renew f l number base)
+        where
+          by : (b : Bool)
+              → One (Network.with_serving f n (Serving.renewed_if f b n.serving d t number base l.wanted) [])
+          by true = same_one n.serving.table
+              (put d t (new_life f n.serving.start n.serving.now number base l.wanted) n.serving.table)
+              (put_other (new_life f n.serving.start n.serving.now number base l.wanted) n.serving.table) one
+          by false = one
 
       pub ends_other : (n : Network V P W H) (b : Bool) → seen_by f c s (Network.ended_if f b n d t) ≡ seen_by f c s n
       ends_other n false = served_same n

@@ -3,13 +3,14 @@ use Rattle.std.proofs.Common.{◌≡◌, Bool, true, false, List, [], ◌∷◌,
 use Rattle.std.proofs.lemmas.List.{append_assoc}
 use Rattle.std.specs.Prelude.{slice_get}
 use Rattle.siri_life.specs.Meaning.{Meaning}
-use Rattle.siri_life.specs.Life.{Mark, Subscribe, Terminate, Supply, Acknowledge, Notify, Delivery}
+use Rattle.siri_life.specs.Life.{Mark, Subscribe, Terminate, AllData, Supply, Acknowledge, Notify, Delivery}
 use Rattle.siri_life.specs.Link.{Holding, Outcome, UnknownSubscription, OldStart, Gap, Repeat, Overlong, Wanted, outcome}
 use Rattle.siri_life.specs.Named.{Of, Name}
 use Rattle.siri_life.specs.Serving.{Serving, Act, Clocked, Fed, Heard, Settled, About, Carries, ToProducer, ToConsumer, served}
 use Rattle.siri_life.specs.Serving.{served_letters, serving_after, serving_letters, told}
 use Rattle.siri_life.specs.Network
-use Rattle.siri_life.specs.Network.{Network, Happening, Starts, Clocks, Feeds, Asks, Stops, Requests, Delivers, act, acts, takes}
+use Rattle.siri_life.specs.Network.{Network, Happening, Starts, Clocks, Feeds, Asks, Stops, Restarts, Requests}
+use Rattle.siri_life.specs.Network.{Delivers, act, acts, takes}
 use Rattle.siri_life.specs.Network.{takes_letter, step, acts_about, acts_of_letter, serving_by}
 
 told_after : {A : Type 0} (xs ys : List A) → (xs ++ []) ++ ys ≡ xs ++ ys
@@ -22,6 +23,7 @@ module _ {V P W H E : Type 0} (f : Meaning V P W H E) where
   act_serves n (Fed es) = refl
   act_serves n (Heard c s (Subscribe number x)) = refl
   act_serves n (Heard c s (Terminate number)) = refl
+  act_serves n (Heard c s (AllData number base)) = refl
   act_serves n (Heard c s (Supply m)) = refl
   act_serves n (Heard c s (Acknowledge m)) = refl
   act_serves n (Heard c s (Notify m moment)) = refl
@@ -33,6 +35,7 @@ module _ {V P W H E : Type 0} (f : Meaning V P W H E) where
   act_sends n (Fed es) = sym (append-nil n.letters)
   act_sends n (Heard c s (Subscribe number x)) = told_after n.letters (told f c)
   act_sends n (Heard c s (Terminate number)) = told_after n.letters (told f c)
+  act_sends n (Heard c s (AllData number base)) = told_after n.letters (told f c)
   act_sends n (Heard c s (Supply m)) = refl
   act_sends n (Heard c s (Acknowledge m)) = refl
   act_sends n (Heard c s (Notify m moment)) = sym (append-nil n.letters)
@@ -75,6 +78,7 @@ module _ {V P W H E : Type 0} (f : Meaning V P W H E) where
   takes_serves n c s ToConsumer = refl
   takes_serves n c s (Carries (Subscribe number x)) = refl
   takes_serves n c s (Carries (Terminate number)) = refl
+  takes_serves n c s (Carries (AllData number base)) = refl
   takes_serves n c s (Carries (Supply m)) = refl
   takes_serves n c s (Carries (Acknowledge m)) = refl
   takes_serves n c s (Carries (Notify m moment)) = notified_serves n c s m (n.holdings c s)
@@ -88,6 +92,11 @@ module _ {V P W H E : Type 0} (f : Meaning V P W H E) where
   stopped_serves n c s None = refl
   stopped_serves n c s (Some h) = refl
 
+  restarted_serves : (n : Network V P W H) (c s : Name) (held : Option (Holding V P W))
+      → (Network.restarted_one f n c s held).serving ≡ n.serving
+  restarted_serves n c s None = refl
+  restarted_serves n c s (Some h) = refl
+
   -- one happening
   pub step_serves : (n : Network V P W H) (e : Happening W E) → (step f n e).serving ≡ serving_by f n e
   step_serves n (Starts t) = refl
@@ -95,5 +104,6 @@ module _ {V P W H E : Type 0} (f : Meaning V P W H E) where
   step_serves n (Feeds es) = refl
   step_serves n (Asks c s x) = refl
   step_serves n (Stops c s) = stopped_serves n c s (n.holdings c s)
+  step_serves n (Restarts c s) = restarted_serves n c s (n.holdings c s)
   step_serves n (Requests c) = refl
   step_serves n (Delivers k) = letter_serves n (slice_get n.letters k)

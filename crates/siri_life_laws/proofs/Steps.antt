@@ -4,18 +4,22 @@ use Rattle.std.proofs.Common.{refl, sym, ap, ◌∙◌, subst, ⊎_elim, arith}
 use Rattle.std.specs.Prelude.{slice_get, nat_lt}
 use Rattle.std.proofs.lemmas.Bool.{and_parts, ltb-true, ltb-false, leb-true, leb-false, eqb-true}
 use Rattle.siri_life.specs.Meaning.{Meaning, IsLawful}
-use Rattle.siri_life.specs.Life.{can_accept, is_before, is_past, greatest_round, Outstanding, Life, Mark, is_mark, Packet, Subscribe}
-use Rattle.siri_life.specs.Life.{Terminate, Supply, Acknowledge, Notify, Delivery, is_due, new_life, sends_heartbeat, with_heartbeat}
+use Rattle.siri_life.specs.Life.{can_accept, can_renew, is_before, is_past, greatest_round, Outstanding, Life, Mark}
+use Rattle.siri_life.specs.Life.{is_mark, Packet, Subscribe}
+use Rattle.siri_life.specs.Life.{Terminate, AllData, Supply, Acknowledge, Notify, Delivery, is_due, new_life}
+use Rattle.siri_life.specs.Life.{sends_heartbeat, with_heartbeat}
 use Rattle.siri_life.specs.Life.{heartbeat_if, with_round, new_round, wants_round, opened_if, opened_at, with_outstanding, sent_at, closed}
 use Rattle.siri_life.specs.Life.{next_part, part_message, message, message_by}
 use Rattle.siri_life.specs.Link
-use Rattle.siri_life.specs.Link.{Link, Holding, LinkEvent, Start, Clock, Feed, Ask, Stop, Spend, Deliver, rounds_of, GoalAt, Outcome}
+use Rattle.siri_life.specs.Link.{Link, Holding, LinkEvent, Start, Clock, Feed, Ask, Stop, Restart, Spend, Deliver}
+use Rattle.siri_life.specs.Link.{rounds_of, GoalAt, Outcome}
 use Rattle.siri_life.specs.Link.{UnknownSubscription, OldStart, Gap, Repeat, Overlong, Wanted, outcome, with_start, with_start_if}
 use Rattle.siri_life.specs.Link.{with_buffered, with_whole_round, with_part, asked, retire, with_life, sends, settle, happens, link_after}
 use Rattle.siri_life.specs.Link.{first_link}
-use Rattle.siri_life_laws.proofs.Lists.{Each, each_map, each_append, each_get, length_push}
+use Rattle.siri_life_laws.proofs.Lists.{Each, each_map, each_both, each_append, each_get, length_push}
 use Rattle.siri_life_laws.proofs.Book.{has_one}
-use Rattle.siri_life_laws.proofs.Facts.{number_of, OutstandingFact, TableFact, Before, Delivers, Fact, SharedLife, Buffer, Tied, HeldFact}
+use Rattle.siri_life_laws.proofs.Facts.{number_of, OutstandingFact, LifeFact, TableFact, Before, Delivers, Fact}
+use Rattle.siri_life_laws.proofs.Facts.{SharedLife, Buffer, Tied, HeldFact}
 use Rattle.siri_life_laws.proofs.Facts.{Old, Inv, InvAt, Good}
 use Rattle.siri_life_laws.proofs.Moves
 use Rattle.siri_life_laws.proofs.Moves.{held_map, tied_sends}
@@ -140,6 +144,7 @@ module _ {V P W H E : Type 0} (f : Meaning V P W H E) where
               start = refl;
               number = each_get (λ p. number_of p < w.next_number) w.packets k
                   (Subscribe n x) g.numbers at;
+              based = omega arith;
               alive = s.1;
               acknowledged_is_view = laws.empty_is_view;
               count = omega arith;
@@ -147,10 +152,53 @@ module _ {V P W H E : Type 0} (f : Meaning V P W H E) where
             };
             olds = each_append (Old f w.start w.next_number) w.ended (retire f w.life) g.olds (retired w.start w.next_number w.now w.life g.life);
             numbers = g.numbers;
-            tied = held_map f w.start w.now w.start w.now w.life (Some (new_life f w.start w.now n x)) w.ended
+            tied = held_map f w.start w.now w.start w.now w.life (Some (new_life f w.start w.now n n x)) w.ended
                 (w.ended ++ retire f w.life) w.next_number w.next_number w.packets w.packets w.held
-                (λ h t. Moves.tied_accepts f w.start w.now w.next_number n x w.life w.ended w.packets h g.first s.0 s.1
-                (each_get (Fact f w.start w.life w.ended h) w.packets k (Subscribe n x) t.facts at) t) g.tied;
+                (λ h t.
+                let c = each_get (Fact f w.start w.life w.ended h) w.packets k (Subscribe n x) t.facts at in
+                Moves.tied_accepts f w.start w.now w.next_number n n x w.life w.ended w.packets h g.first s.0 s.1
+                (let a = c.0 in let b = t.based in (omega arith, λ same. c.1 (omega arith))) c.1 t) g.tied;
+          }
+
+  pub renew_good : IsLawful f → (w : Link V P W H) (k n b : ℕ) (e : Option (Life V P W)) → w.life ≡ e
+      → slice_get w.packets k ≡ Some (AllData n b) → Good f w → Good f (Link.renews f w n b e)
+  renew_good laws w k n b None is at g = g
+  renew_good laws w k n b (Some l) is at g = by (can_renew f l n b) refl
+    where
+      q : LifeFact f w.start w.now w.next_number l
+      q = subst (TableFact f w.start w.now w.next_number) is g.life
+
+      by : (c : Bool) → can_renew f l n b ≡ c → Good f (Link.renew_if f c w n b l.wanted)
+      by false t = g
+      by true t =
+          let p = and_parts _ _ t in
+          let base = eqb-true l.base b p.0 in
+          let less = ltb-true l.number n p.1 in
+          let low : n < w.next_number = each_get (λ p. number_of p < w.next_number) w.packets k
+          (AllData n b) g.numbers at in
+          let based = q.based in
+          record {
+            first = g.first;
+            life = record {
+              start = refl;
+              number = low;
+              based = omega arith;
+              alive = q.alive;
+              acknowledged_is_view =
+                  laws.empty_is_view;
+              count = omega arith;
+              outstanding = refl;
+            };
+            olds = each_append (Old f w.start w.next_number) w.ended (retire f w.life) g.olds (retired w.start w.next_number w.now w.life g.life);
+            numbers = g.numbers;
+            tied = held_map f w.start w.now w.start w.now w.life (Some (new_life f w.start w.now n b l.wanted)) w.ended
+                (w.ended ++ retire f w.life) w.next_number w.next_number w.packets w.packets w.held
+                (λ h t.
+                let c = each_get (Fact f w.start w.life w.ended h) w.packets k (AllData n b) t.facts at in
+                let shared : SharedLife f w.start h (Some l) = subst (SharedLife f w.start h) is t.shared in
+                Moves.tied_accepts f w.start w.now w.next_number n b l.wanted w.life w.ended w.packets h g.first
+                (subst (λ e. Moves.Smaller f n e) (sym is) less) q.alive
+                (c.0, λ same. shared.of_base (base ∙ c.1 same)) (λ same. shared.of_base (base ∙ same)) t) g.tied;
           }
 
   -- the life in the table ends, as the clock comes to now'
@@ -276,6 +324,7 @@ module _ {V P W H E : Type 0} (f : Meaning V P W H E) where
       alive (Some l) p q = record {
         start = q.start;
         number = q.number;
+        based = q.based;
         alive = leb-false (f.termination l.wanted) (max w.now t) p;
         acknowledged_is_view = q.acknowledged_is_view;
         count = q.count;
@@ -318,6 +367,7 @@ module _ {V P W H E : Type 0} (f : Meaning V P W H E) where
   more_life k now next (Some l) q = record {
     start = q.start;
     number = let a = q.number in omega arith;
+    based = q.based;
     alive = q.alive;
     acknowledged_is_view = q.acknowledged_is_view;
     count = q.count;
@@ -330,13 +380,15 @@ module _ {V P W H E : Type 0} (f : Meaning V P W H E) where
       (each_map (λ (p : Packet P W). number_of p < next) (λ p. number_of p < suc next) (λ p a. omega arith) ps h) k
 
   -- what a number that no packet has makes of a packet
-  new_fact : (k : ℕ) (e : Option (Life V P W)) (ended : List (Life V P W)) (h : Holding V P W) (p : Packet P W) → number_of p < h.number → Fact f k e ended h p
-  new_fact k e ended h (Subscribe n x) low = (omega arith, λ same. absurd (omega arith))
-  new_fact k e ended h (Terminate n) low = low
-  new_fact k e ended h (Supply m) low = tt
-  new_fact k e ended h (Acknowledge m) low = λ same. absurd (omega arith)
-  new_fact k e ended h (Notify m t) low = λ same. absurd (omega arith)
-  new_fact k e ended h (Delivery m t more x) low = λ same. absurd (omega arith)
+  new_fact : (k : ℕ) (e : Option (Life V P W)) (ended : List (Life V P W)) (h : Holding V P W) (p : Packet P W)
+      → number_of p < h.number → h.base ≡ h.number → Fact f k e ended h p
+  new_fact k e ended h (Subscribe n x) low is = (omega arith, λ same. absurd (omega arith))
+  new_fact k e ended h (AllData n b) low is = (omega arith, λ same. absurd (omega arith))
+  new_fact k e ended h (Terminate n) low is = low
+  new_fact k e ended h (Supply m) low is = tt
+  new_fact k e ended h (Acknowledge m) low is = λ same. absurd (omega arith)
+  new_fact k e ended h (Notify m t) low is = λ same. absurd (omega arith)
+  new_fact k e ended h (Delivery m t more x) low is = λ same. absurd (omega arith)
 
   pub asks_good : (w : Link V P W H) (x : W) → Good f w → Good f (Link.asks f w x)
   asks_good w x g =
@@ -348,20 +400,29 @@ module _ {V P W H E : Type 0} (f : Meaning V P W H E) where
         tied = by w.held g.tied;
       }
     where
-      shared : (h : Holding V P W) → h.number ≡ w.next_number → (e : Option (Life V P W)) → TableFact f w.start w.now w.next_number e → SharedLife f w.start h e
+      shared : (h : Holding V P W) → (h.number ≡ w.next_number) × (h.base ≡ w.next_number) → (e : Option (Life V P W))
+          → TableFact f w.start w.now w.next_number e → SharedLife f w.start h e
       shared h is None q = tt
-      shared h is (Some l) q = let a = q.number in
-          record { number = omega arith; wanted = λ same. absurd (omega arith); wanting = λ same. absurd (omega arith) }
+      shared h is (Some l) q = let a = q.number in let b = q.based in
+          record {
+            number = omega arith;
+            wanted = λ same. absurd (omega arith);
+            of_base = λ same. absurd
+                (omega arith);
+            wanting = λ same. absurd (omega arith);
+          }
 
-      tied : (h : Holding V P W) → h.number ≡ w.next_number → h.wanted ≡ x → h.start ≡ 0 → h.round ≡ 0 → h.parts ≡ []
+      tied : (h : Holding V P W) → (h.number ≡ w.next_number) × (h.base ≡ w.next_number) → h.wanted ≡ x → h.start ≡ 0
+          → h.round ≡ 0 → h.parts ≡ []
           → GoalAt f (rounds_of h.origin.number h.origin.start w.life w.ended) h.origin.round h.view
           → Tied f w.start w.now w.life w.ended (suc w.next_number) (w.packets ++ Subscribe w.next_number x ∷ []) h
       tied h is wanted start round parts view = record {
-        number = omega arith;
+        number = let a = is.0 in omega arith;
+        based = omega arith;
         start = omega arith;
         facts = each_append (Fact f w.start w.life w.ended h) w.packets (Subscribe w.next_number x ∷ [])
             (each_map (λ (p : Packet P W). number_of p < w.next_number) (Fact f w.start w.life w.ended h)
-            (λ p low. new_fact w.start w.life w.ended h p (omega arith)) w.packets g.numbers)
+            (λ p low. new_fact w.start w.life w.ended h p (omega arith) (omega arith)) w.packets g.numbers)
             ((omega arith, λ _. sym wanted), tt);
         shared = shared h is w.life g.life;
         once = λ b. absurd (has_one f (Old f w.start w.next_number) ⊥ h.number w.start w.ended (λ l en es o. let a = o.number in omega arith) g.olds b);
@@ -374,8 +435,60 @@ module _ {V P W H E : Type 0} (f : Meaning V P W H E) where
       by : (held : Option (Holding V P W)) → HeldFact f w.start w.now w.life w.ended w.next_number w.packets held
           → Tied f w.start w.now w.life w.ended (suc w.next_number) (w.packets ++ Subscribe w.next_number x ∷ [])
           (asked f w.next_number x held)
-      by None t = tied (asked f w.next_number x None) refl refl refl refl refl refl
-      by (Some h) t = tied (asked f w.next_number x (Some h)) refl refl refl refl refl t.view
+      by None t = tied (asked f w.next_number x None) (refl, refl) refl refl refl refl refl
+      by (Some h) t = tied (asked f w.next_number x (Some h)) (refl, refl) refl refl refl refl t.view
+
+  pub restarts_good : (w : Link V P W H) (held : Option (Holding V P W)) → Good f w
+      → HeldFact f w.start w.now w.life w.ended w.next_number w.packets held → Good f (Link.restarts_of f w held)
+  restarts_good w None g t = g
+  restarts_good w (Some h) g t =
+      record {
+        first = g.first;
+        life = more_life w.start w.now w.next_number w.life g.life;
+        olds = more_old w.start w.next_number w.ended g.olds;
+        numbers = more_numbers w.next_number w.packets (AllData w.next_number h.base ∷ []) g.numbers (omega arith, tt);
+        tied = let a = t.number in let b = t.based in record {
+          number = omega arith;
+          based = omega arith;
+          start = omega arith;
+          facts = each_append (Fact f w.start w.life w.ended (Link.restarted f w.next_number h)) w.packets
+              (AllData w.next_number h.base ∷ [])
+              (each_map (λ (p : Packet P W). (number_of p < w.next_number) × Fact f w.start w.life w.ended h p)
+              (Fact f w.start w.life w.ended (Link.restarted f w.next_number h)) one w.packets
+              (each_both (λ (p : Packet P W). number_of p < w.next_number)
+              (Fact f w.start w.life w.ended h) w.packets g.numbers t.facts))
+              ((omega arith, λ same. refl), tt);
+          shared = shared w.life g.life t.shared;
+          once = λ b. absurd
+              (has_one f (Old f w.start w.next_number) ⊥ w.next_number w.start w.ended
+              (λ l en es o. let a = o.number in omega arith) g.olds b);
+          seen = λ c. absurd (omega arith);
+          buffer = tt;
+          current = λ c. absurd (omega arith);
+          view = refl;
+        };
+      }
+    where
+      one : (p : Packet P W) → (number_of p < w.next_number) × Fact f w.start w.life w.ended h p
+          → Fact f w.start w.life w.ended (Link.restarted f w.next_number h) p
+      one (Subscribe n x) c = c.1
+      one (Terminate n) c = c.0
+      one (AllData n b) c = let low = c.0 in (omega arith, λ same. absurd (omega arith))
+      one (Supply m) c = tt
+      one (Acknowledge m) c = let low = c.0 in λ same. absurd (omega arith)
+      one (Notify m t) c = let low = c.0 in λ same. absurd (omega arith)
+      one (Delivery m t more x) c = let low = c.0 in λ same. absurd (omega arith)
+
+      shared : (e : Option (Life V P W)) → TableFact f w.start w.now w.next_number e → SharedLife f w.start h e
+          → SharedLife f w.start (Link.restarted f w.next_number h) e
+      shared None q s = tt
+      shared (Some l) q s = let a = q.number in record {
+        number = omega arith;
+        wanted = λ same. absurd (omega arith);
+        of_base = s.of_base;
+        wanting = λ same. absurd
+            (omega arith);
+      }
 
   pub stops_good : (w : Link V P W H) (held : Option (Holding V P W)) → Good f w → Good f (Link.stops_of f w held)
   stops_good w None g = g
@@ -398,6 +511,7 @@ module _ {V P W H E : Type 0} (f : Meaning V P W H E) where
         tied = held_map f w.start w.now w.start w.now w.life w.life w.ended w.ended w.next_number (suc w.next_number) w.packets (w.packets ++ []) w.held
             (λ h t. tied_sends f w.start w.now w.life w.ended (suc w.next_number) w.packets [] h tt (record {
               number = let a = t.number in omega arith;
+              based = t.based;
               start = t.start;
               facts = t.facts;
               shared = t.shared;
@@ -566,6 +680,8 @@ module _ {V P W H E : Type 0} (f : Meaning V P W H E) where
   comes_good laws w k full None at g = g
   comes_good laws w k full (Some (Subscribe n x)) at g = settle_good laws (Link.accepts f full w n x) (accept_good laws w k n x full at g)
   comes_good laws w k full (Some (Terminate n)) at g = settle_good laws (Link.ends f w n) (end_good w k n at g)
+  comes_good laws w k full (Some (AllData n b)) at g = settle_good laws (Link.renews f w n b w.life)
+      (renew_good laws w k n b w.life refl at g)
   comes_good laws w k full (Some (Supply m)) at g = settle_good laws (Link.supplies f w m w.life) (supply_good w m w.life g g)
   comes_good laws w k full (Some (Acknowledge m)) at g = settle_good laws (Link.acknowledges f w m w.life) (acknowledgement_good w k m w.life at g g)
   comes_good laws w k full (Some (Notify m moment)) at g = notified_good w k w.held m moment at refl g
@@ -580,6 +696,7 @@ module _ {V P W H E : Type 0} (f : Meaning V P W H E) where
   happens_good laws w (Feed es) g = settle_good laws (Link.fed f w es) (fed_good w es g)
   happens_good laws w (Ask x) g = asks_good w x g
   happens_good laws w Stop g = stops_good w w.held g
+  happens_good laws w Restart g = restarts_good w w.held g g.tied
   happens_good laws w Spend g = spend_good w g
   happens_good laws w (Deliver k full) g = comes_good laws w k full (slice_get w.packets k) refl g
 

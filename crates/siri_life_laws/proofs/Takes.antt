@@ -4,7 +4,8 @@ use Rattle.std.proofs.Common.{Option, Some, None, refl, sym, ap, ◌∙◌, subs
 use Rattle.std.specs.Prelude.{slice_get, nat_lt, ◌==◌}
 use Rattle.std.proofs.lemmas.Bool.{or_cases, or_parts, and_parts, and_cases, ltb-true, ltb-false, eqb-true, eqb-false, ne_eqb}
 use Rattle.siri_life.specs.Meaning.{Meaning, IsLawful, apply_parts, base_view}
-use Rattle.siri_life.specs.Life.{greatest_round, Round, Outstanding, Life, Mark, Packet, Subscribe, Terminate, Supply, Acknowledge, Notify, Delivery}
+use Rattle.siri_life.specs.Life.{greatest_round, Round, Outstanding, Life, Mark, Packet, Subscribe, Terminate, AllData}
+use Rattle.siri_life.specs.Life.{Supply, Acknowledge, Notify, Delivery}
 use Rattle.siri_life.specs.Link.{Holding, rounds_of, GoalAt, Outcome, UnknownSubscription, OldStart, Gap, Repeat, Overlong, Wanted, outcome}
 use Rattle.siri_life.specs.Link.{outcome_at, with_start_if, with_buffered, with_whole_round, base_of}
 use Rattle.siri_life_laws.proofs.Lists.{each_map, get_same, length_push, take_push, take_whole}
@@ -129,6 +130,7 @@ module _ {V P W H E : Type 0} (f : Meaning V P W H E) where
   tied_turns k now next s e ended packets h less le r at t =
       record {
         number = t.number;
+        based = t.based;
         start = le;
         facts = each_map (Fact f k e ended h) (Fact f k e ended (with_start_if f true h s)) one packets t.facts;
         shared = life e t.shared;
@@ -150,6 +152,7 @@ module _ {V P W H E : Type 0} (f : Meaning V P W H E) where
       one : (p : Packet P W) → Fact f k e ended h p → Fact f k e ended (with_start_if f true h s) p
       one (Subscribe n x) c = c
       one (Terminate n) c = c
+      one (AllData n b) c = c
       one (Supply m) c = c
       one (Acknowledge m) c = λ same. let b = c same in
           record {
@@ -173,7 +176,13 @@ module _ {V P W H E : Type 0} (f : Meaning V P W H E) where
 
       life : (e : Option (Life V P W)) → SharedLife f k h e → SharedLife f k (with_start_if f true h s) e
       life None q = tt
-      life (Some l) q = record { number = q.number; wanted = q.wanted; wanting = λ same. wanting (length l.rounds) l.outstanding (q.wanting same) }
+      life (Some l) q = record {
+        number = q.number;
+        wanted = q.wanted;
+        of_base = q.of_base;
+        wanting = λ same. wanting
+            (length l.rounds) l.outstanding (q.wanting same);
+      }
 
   -- ---- the wanted part is taken
   -- a delivery of the wanted place of the start kept
@@ -273,6 +282,7 @@ module _ {V P W H E : Type 0} (f : Meaning V P W H E) where
       one : (p : Packet P W) → Fact f k e ended h p → Fact f k e ended (with_buffered f h y) p
       one (Subscribe n x) c = c
       one (Terminate n) c = c
+      one (AllData n b) c = c
       one (Supply m) c = c
       one (Acknowledge m) c = λ same. let b = c same in
           record { start = b.start; round = b.round; part = λ s r. let a = b.part s r in let d = len in omega arith }
@@ -289,6 +299,7 @@ module _ {V P W H E : Type 0} (f : Meaning V P W H E) where
       let got = taken_parts k e ended h m true x n t.buffer in
       record {
         number = t.number;
+        based = t.based;
         start = t.start;
         facts = each_map (Fact f k e ended h) (Fact f k e ended (with_buffered f h x)) (buffered_facts k e ended h x) packets t.facts;
         shared = life e q n t;
@@ -324,7 +335,13 @@ module _ {V P W H E : Type 0} (f : Meaning V P W H E) where
       life : (e : Option (Life V P W)) → TableFact f k now next e → Next k e ended h m true x
           → Tied f k now e ended next packets h → SharedLife f k (with_buffered f h x) e
       life None q n t = tt
-      life (Some l) q n t = record { number = t.shared.number; wanted = t.shared.wanted; wanting = wanting l l.outstanding refl q n t }
+      life (Some l) q n t = record {
+        number = t.shared.number;
+        wanted = t.shared.wanted;
+        of_base = t.shared.of_base;
+        wanting = wanting l
+            l.outstanding refl q n t;
+      }
 
   -- ---- a round is whole
   whole_facts : (k : ℕ) (e : Option (Life V P W)) (ended : List (Life V P W)) (h : Holding V P W) (y : P)
@@ -343,6 +360,7 @@ module _ {V P W H E : Type 0} (f : Meaning V P W H E) where
       one : (p : Packet P W) → Fact f k e ended h p → Fact f k e ended (with_whole_round f h y) p
       one (Subscribe n x) c = c
       one (Terminate n) c = c
+      one (AllData n b) c = c
       one (Supply m) c = c
       one (Acknowledge m) c = λ same. let b = c same in
           record {
@@ -401,6 +419,7 @@ module _ {V P W H E : Type 0} (f : Meaning V P W H E) where
       let v = whole_view laws k now next e ended packets h m x n t in
       record {
         number = t.number;
+        based = t.based;
         start = t.start;
         facts = each_map (Fact f k e ended h) (Fact f k e ended (with_whole_round f h x)) (whole_facts k e ended h x) packets t.facts;
         shared = life e q n t;
@@ -435,4 +454,10 @@ module _ {V P W H E : Type 0} (f : Meaning V P W H E) where
       life : (e : Option (Life V P W)) → TableFact f k now next e → Next k e ended h m false x
           → Tied f k now e ended next packets h → SharedLife f k (with_whole_round f h x) e
       life None q n t = tt
-      life (Some l) q n t = record { number = t.shared.number; wanted = t.shared.wanted; wanting = wanting l l.outstanding refl q n t }
+      life (Some l) q n t = record {
+        number = t.shared.number;
+        wanted = t.shared.wanted;
+        of_base = t.shared.of_base;
+        wanting = wanting l
+            l.outstanding refl q n t;
+      }

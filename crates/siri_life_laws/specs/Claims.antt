@@ -1,7 +1,8 @@
 -- What is claimed of one subscription between its producer, its consumer and the network (EN 15531-2, subscriptions).
 use Rattle.std.specs.Prelude.{◌≡◌, ℕ, suc, nat_lt, Bool, true, List, length, Option, Some, None, slice_get}
 use Rattle.siri_life.specs.Meaning.{Meaning}
-use Rattle.siri_life.specs.Life.{Round, Life, Mark, Packet, Subscribe, Terminate, Supply, Acknowledge, Notify, Delivery, is_quiet}
+use Rattle.siri_life.specs.Life.{Round, Life, Mark, Packet, Subscribe, Terminate, AllData, Supply, Acknowledge, Notify}
+use Rattle.siri_life.specs.Life.{Delivery, is_quiet}
 use Rattle.siri_life.specs.Link.{Link, Holding, Origin, rounds_of, GoalAt, Outcome, UnknownSubscription, OldStart, Gap, Repeat, Overlong, Wanted}
 
 -- ---- outcomes and marks
@@ -20,6 +21,7 @@ module _ {P W : Type 0} where
   abbrev pub HasMark : Packet P W → Mark → Type 0
   HasMark (Subscribe n x) m = ⊥
   HasMark (Terminate n) m = ⊥
+  HasMark (AllData n b) m = ⊥
   HasMark (Supply n) m = ⊥
   HasMark (Acknowledge n) m = ⊥
   HasMark (Notify n t) m = n ≡ m
@@ -55,6 +57,7 @@ module _ {V P W H E : Type 0} (f : Meaning V P W H E) where
   CarriesItsRound w None p = Unit {0}
   CarriesItsRound w (Some h) (Subscribe n x) = Unit {0}
   CarriesItsRound w (Some h) (Terminate n) = Unit {0}
+  CarriesItsRound w (Some h) (AllData n b) = Unit {0}
   CarriesItsRound w (Some h) (Supply m) = Unit {0}
   CarriesItsRound w (Some h) (Acknowledge m) = Unit {0}
   CarriesItsRound w (Some h) (Notify m moment) = m.number ≡ h.number → NamesRound (rounds_under w h m.start) m moment

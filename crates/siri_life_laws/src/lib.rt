@@ -2,8 +2,8 @@
 //! loses, repeats and reorders: each law is the contract of a function that does nothing when it is called.
 //!
 //! ```text
-//!     starts, clocks, feeds, requests,     -> a network after them -+-> what a consumer's view is, and where it meets
-//!     packets lost, repeated, reordered                             +-> what each packet carries
+//!     starts, restarts, clocks, feeds,     -> a network after them -+-> what a consumer's view is, and where it meets
+//!     requests, packets lost, repeated                              +-> what each packet carries
 //!                                                                   +-> what is said of a packet that comes again
 //!     a producer's history                 -> what it serves       ---> what other subscriptions change of it: nothing
 //! ```
@@ -29,11 +29,13 @@ pub use link_laws::{
     link_view_is_goal,
 };
 pub use network_laws::{
-    no_gap_is_shown, packets_carry_their_rounds, parts_are_taken_once, views_are_goals,
-    views_meet_where_quiet,
+    consumers_restart, no_gap_is_shown, packets_carry_their_rounds, parts_are_taken_once,
+    views_are_goals, views_meet_where_quiet,
 };
 pub use producer_laws::{
     networks_serve_as_their_producer, other_subscriptions_change_nothing, producers_serve_alone,
     second_settle_does_nothing,
 };
-pub use schedules::{direct_rounds, fetched_rounds, heartbeats, numbers, starts};
+pub use schedules::{
+    direct_rounds, expired_bases, fetched_rounds, heartbeats, numbers, restarts, starts,
+};

@@ -2,12 +2,13 @@
 
 ghost use Rattle.std.specs.Prelude.{◌≡◌, ◌≢◌, ℕ, Bool, List, Some, slice_get};
 ghost use Rattle.siri_life.specs.Life.{Mark, Packet, Delivery};
-ghost use Rattle.siri_life.specs.Link.{outcome_of, Gap, Overlong, Wanted};
+ghost use Rattle.siri_life.specs.Link.{Holding, outcome_of, Gap, Overlong, Wanted};
 ghost use Rattle.siri_life.specs.Meaning.{Meaning, IsLawful};
-ghost use Rattle.siri_life.specs.Named.{Name, Of, find};
-ghost use Rattle.siri_life.specs.Network.{Happening, Delivers, seen_by, step, network_after, opening};
+ghost use Rattle.siri_life.specs.Named.{Name, Of, find, next_of};
+ghost use Rattle.siri_life.specs.Network.{Network, Happening, Delivers, restarts_of_all, seen_by, step, network_after, opening};
 ghost use Rattle.siri_life.specs.Serving.{About, Carries};
 ghost use Rattle.siri_life_laws.specs.Claims.{ChangesNoView, HasMark, CarriesItsRound, ViewIsGoal, MeetsWhereQuiet};
+ghost use Rattle.siri_life_laws.specs.Restarts.{AreApart, Holds, HasRestarted};
 
 /// At every moment each consumer's view of each subscription is the target of the round that it comes from, or empty
 /// where it comes from none.
@@ -50,4 +51,11 @@ pub fn no_gap_is_shown<V, P, W, H, E>()
         → slice_get (network_after f es (opening f 1 t)).letters k ≡ Some x → x.it ≡ Carries p → HasMark p m
         → (outcome_of f ((network_after f es (opening f 1 t)).holdings x.subscriber x.identifier) m ≢ Gap)
         × (outcome_of f ((network_after f es (opening f 1 t)).holdings x.subscriber x.identifier) m ≢ Overlong) }
+{}
+
+/// A consumer that restarts asks for all of each subscription that it holds, in the order that is told, under a number of its
+/// own, and keeps no view of any; nothing else changes.
+pub fn consumers_restart<V, P, W, H, E>()
+    ensures { (f : Meaning V P W H E) (c : Name) (number : ℕ) (held : List (Name × Holding V P W)) (n : Network V P W H) → AreApart f held → Holds f n c held
+        → next_of (n.numbers c) ≡ number → HasRestarted f c number held n (network_after f (restarts_of_all f c held) n) }
 {}

@@ -12,7 +12,7 @@
 //! Each function has schedules for its clauses, and does nothing when it is called.
 
 ghost use Rattle.std.specs.Prelude.{◌≡◌, [], ◌∷◌, ◌++◌};
-ghost use Rattle.siri_life.specs.Network.{Starts, Clocks, Feeds, Asks, Stops, Requests, Delivers};
+ghost use Rattle.siri_life.specs.Network.{Starts, Clocks, Feeds, Asks, Stops, Restarts, Requests, Delivers};
 ghost use Rattle.siri_life_laws.specs.Schedules.{line, first_round, fetched_round, c1, s1};
 
 /// Direct delivery: after the first round the consumer holds number 1, start 1, round 1, no part, one item, and the
@@ -53,4 +53,19 @@ pub fn numbers()
     ensures superseded { line (Asks c1 s1 0 ∷ Asks c1 s1 0 ∷ Delivers 1 ∷ Delivers 1 ∷ Delivers 0 ∷ []) ≡ 2 ∷ 0 ∷ 0 ∷ 0 ∷ 0 ∷ 0 ∷ 6 ∷ [] }
     ensures not_held { line (first_round 0 ++ Stops c1 s1 ∷ Delivers 6 ∷ []) ≡ [] }
     ensures expired { line (Asks c1 s1 60 ∷ Delivers 0 ∷ Clocks 60 ∷ Delivers 2 ∷ Delivers 3 ∷ []) ≡ 1 ∷ 1 ∷ 0 ∷ 1 ∷ 0 ∷ 0 ∷ 4 ∷ [] }
+{}
+
+/// A consumer that restarts loses its view, and asks for all under a new number: the producer begins a life of the same
+/// subscription, which a repeated request doesn't begin again, and which the request that it goes back to doesn't supersede.
+pub fn restarts()
+    ensures before { line (first_round 0 ++ Restarts c1 s1 ∷ []) ≡ 2 ∷ 0 ∷ 0 ∷ 0 ∷ 0 ∷ 0 ∷ 7 ∷ [] }
+    ensures after { line (first_round 0 ++ Restarts c1 s1 ∷ Delivers 6 ∷ Delivers 8 ∷ Delivers 9 ∷ Delivers 10 ∷ Delivers 11 ∷ []) ≡ 2 ∷ 1 ∷ 1 ∷ 0 ∷ 1 ∷ 1 ∷ 12 ∷ [] }
+    ensures again { line (first_round 0 ++ Restarts c1 s1 ∷ Delivers 6 ∷ Delivers 8 ∷ Delivers 9 ∷ Delivers 10 ∷ Delivers 11 ∷ Delivers 6 ∷ Delivers 0 ∷ []) ≡ 2 ∷ 1 ∷ 1 ∷ 0 ∷ 1 ∷ 1 ∷ 14 ∷ [] }
+    ensures old_part { line (first_round 0 ++ Restarts c1 s1 ∷ Delivers 2 ∷ Delivers 4 ∷ []) ≡ 2 ∷ 0 ∷ 0 ∷ 0 ∷ 0 ∷ 0 ∷ 7 ∷ [] }
+{}
+
+/// An acceptance that expired isn't renewed: another of the same identifier, under an older number, has another base.
+pub fn expired_bases()
+    ensures renewed { line (Asks c1 s1 0 ∷ Asks c1 s1 60 ∷ Delivers 1 ∷ Restarts c1 s1 ∷ Delivers 4 ∷ Delivers 6 ∷ []) ≡ 3 ∷ 1 ∷ 0 ∷ 1 ∷ 0 ∷ 0 ∷ 8 ∷ [] }
+    ensures not_renewed { line (Asks c1 s1 0 ∷ Asks c1 s1 60 ∷ Delivers 1 ∷ Restarts c1 s1 ∷ Clocks 60 ∷ Delivers 0 ∷ Delivers 4 ∷ []) ≡ 3 ∷ 0 ∷ 0 ∷ 0 ∷ 0 ∷ 0 ∷ 8 ∷ [] }
 {}
