@@ -1,4 +1,6 @@
 pub mod Answered
 pub mod Mapped
+pub mod Numbered
 pub mod Once
 pub mod Placed
+pub mod Renumbered

@@ -1,14 +1,14 @@
 -- A table whose slots are mapped answers and changes as the table does.
-use Rattle.std.proofs.Common.{◌≡◌, ℕ, suc, ◌+◌, List, [], ◌∷◌, length, Bool, true, false, not, cond, Some, None, Ok, Err, Result, refl, ap, ◌∙◌}
+use Rattle.std.proofs.Common.{◌≡◌, ℕ, suc, ◌+◌, List, [], ◌∷◌, length, Bool, true, false, not, cond, ◌&&◌, Some, None, Ok, Err, Result, refl, ap, ◌∙◌}
 use Rattle.std.specs.Prelude.{nat_lt, nat_le}
-use Rattle.std.specs.List.{filter, position_or_len}
+use Rattle.std.specs.List.{filter, find, position_or_len}
 use Rattle.siri_subs.specs.declared.entry.Row.{Row}
 use Rattle.siri_subs.specs.declared.errors.Accepted.{Accepted}
 use Rattle.siri_subs.specs.declared.errors.Accepted.TheVariants as accepted_as
 use Rattle.siri_subs.specs.declared.errors.AcceptError.{AcceptError}
 use Rattle.siri_subs.specs.Mapped.{mapped_row, with_mapped_slots}
 use Rattle.siri_subs.specs.Table.{most_subscriptions, answer_of, is_above, is_of, number_of, place_of, is_terminated, answer, put, after, accepted}
-use Rattle.siri_subs.specs.Table.{without, is_ended_by, ended, expired}
+use Rattle.siri_subs.specs.Table.{without, is_ended_by, ended, expired, renumbered, is_renumbered_by, renumber_answer}
 
 module _ {E F : Type 0} (slot_of : E → F) where
   pub length_mapped : (table : List (Row E)) → length (with_mapped_slots slot_of table) ≡ length table
@@ -92,3 +92,21 @@ module _ {E F : Type 0} (slot_of : E → F) where
   ended_mapped number s i table =
       ap (λ b. cond b (without s i (with_mapped_slots slot_of table)) (with_mapped_slots slot_of table))
       (is_ended_mapped number s i table) ∙ ended_case (is_ended_by number s i table) s i table
+
+  pub renumbered_mapped : (n b : ℕ) (s i : List ℕ) (slot : E) (table : List (Row E)) → renumbered n b s i (slot_of slot) (with_mapped_slots slot_of table) ≡ with_mapped_slots slot_of (renumbered n b s i slot table)
+  renumbered_mapped n b s i slot [] = refl
+  renumbered_mapped n b s i slot (h ∷ table) = λ j. renumbered_case (is_of s i h && is_renumbered_by n b h) h j ∷ renumbered_mapped n b s i slot table j
+    where
+      renumbered_case : (c : Bool) (h : Row E) → cond c (record (mapped_row slot_of h) { number = n; slot = slot_of slot }) (mapped_row slot_of h) ≡ mapped_row slot_of (cond c (record h { number = n; slot = slot }) h)
+      renumbered_case true h = refl
+      renumbered_case false h = refl
+
+  renumber_case : (n b : ℕ) (s i : List ℕ) (h : Row E) (table : List (Row E)) (c : Bool) → is_of s i h ≡ c
+      → renumber_answer n b (find (is_of s i) (with_mapped_slots slot_of table)) ≡ renumber_answer n b (find (is_of s i) table)
+      → renumber_answer n b (find (is_of s i) (with_mapped_slots slot_of (h ∷ table))) ≡ renumber_answer n b (find (is_of s i) (h ∷ table))
+  renumber_case n b s i h table true is rest = rw is refl
+  renumber_case n b s i h table false is rest = rw is rest
+
+  pub renumber_mapped : (n b : ℕ) (s i : List ℕ) (table : List (Row E)) → renumber_answer n b (find (is_of s i) (with_mapped_slots slot_of table)) ≡ renumber_answer n b (find (is_of s i) table)
+  renumber_mapped n b s i [] = refl
+  renumber_mapped n b s i (h ∷ table) = renumber_case n b s i h table (is_of s i h) refl (renumber_mapped n b s i table)

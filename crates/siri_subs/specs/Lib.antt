@@ -1,4 +1,5 @@
 pub mod Lent
 pub mod Loans
 pub mod Mapped
+pub mod Numbered
 pub mod Table

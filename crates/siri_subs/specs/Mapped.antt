@@ -5,7 +5,14 @@ use Rattle.siri_subs.specs.declared.entry.Row.{Row}
 module _ {E F : Type 0} where
   -- a row with another slot
   abbrev pub mapped_row : (E → F) → Row E → Row F
-  mapped_row slot_of h = record { wanted = h.wanted; number = h.number; address = h.address; beat = h.beat; slot = slot_of h.slot }
+  mapped_row slot_of h = record {
+    wanted = h.wanted;
+    number = h.number;
+    base = h.base;
+    address = h.address;
+    beat = h.beat;
+    slot = slot_of h.slot;
+  }
 
   -- a table with other slots
   abbrev pub with_mapped_slots : (E → F) → List (Row E) → List (Row F)

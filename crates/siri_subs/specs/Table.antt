@@ -1,5 +1,5 @@
 -- The subscription table (EN 15531-2, subscriptions): what is held of each subscription, in order of first acceptance.
-use Rattle.std.specs.Prelude.{◌≡◌, ℕ, ◌≤◌, ◌==◌, nat_lt, nat_le, List, [], ◌∷◌, length, position, find, Bool, false, not, ◌&&◌}
+use Rattle.std.specs.Prelude.{◌≡◌, ℕ, ◌≤◌, ◌==◌, nat_lt, nat_le, List, [], ◌∷◌, length, map, position, find, Bool, false, not, ◌&&◌}
 use Rattle.std.specs.Prelude.{if◌then◌else◌, Option, Some, None, option_map, Result, Ok, Err}
 use Rattle.std.specs.List.{filter, list_any}
 use Rattle.siri_topic.specs.Agreement.{same_name}
@@ -8,6 +8,8 @@ use Rattle.siri_subs.specs.declared.errors.Accepted.{Accepted}
 use Rattle.siri_subs.specs.declared.errors.Accepted.TheVariants as accepted_as
 use Rattle.siri_subs.specs.declared.errors.AcceptError.{AcceptError}
 use Rattle.siri_subs.specs.declared.errors.AcceptError.TheVariants as refused_as
+use Rattle.siri_subs.specs.declared.errors.RenumberError.{RenumberError}
+use Rattle.siri_subs.specs.declared.errors.RenumberError.TheVariants as not_renumbered_as
 
 -- how many subscriptions a table holds at most
 abbrev pub most_subscriptions : ℕ
@@ -81,6 +83,39 @@ module _ {E : Type 0} where
   -- the table after a SubscriptionRequest at a moment
   abbrev pub accepted : ℕ → Row E → List (Row E) → List (Row E)
   accepted now h table = after (answer now h table) h table
+
+  -- ---- an AllData request: another number for an acceptance, which is known by its base, the number of its SubscriptionRequest
+
+  -- the number under which the acceptance of a base is held, by the entry of its subscription, where one is held
+  abbrev pub acceptance_of : (base : ℕ) → Option (Row E) → Option ℕ
+  acceptance_of base None = None
+  acceptance_of base (Some h) = if h.base == base then Some h.number else None
+
+  -- the same in a table
+  abbrev pub number_of_acceptance : (base : ℕ) → List ℕ → List ℕ → List (Row E) → Option ℕ
+  number_of_acceptance base subscriber identifier table = acceptance_of base (find (is_of subscriber identifier) table)
+
+  -- the answer by the entry of its subscription
+  abbrev pub renumber_answer_of : (number base : ℕ) → Row E → Result Accepted RenumberError
+  renumber_answer_of number base h =
+      if not (h.base == base) then Err not_renumbered_as.UnknownSubscription
+      else (if h.number == number then Ok accepted_as.Again
+      else (if nat_lt number h.number then Err (not_renumbered_as.Superseded h.number) else Ok accepted_as.Renewed))
+
+  -- and where none is held
+  abbrev pub renumber_answer : (number base : ℕ) → Option (Row E) → Result Accepted RenumberError
+  renumber_answer number base None = Err not_renumbered_as.UnknownSubscription
+  renumber_answer number base (Some h) = renumber_answer_of number base h
+
+  -- an entry has that base, and is held under a smaller number
+  abbrev pub is_renumbered_by : (number base : ℕ) → Row E → Bool
+  is_renumbered_by number base h = h.base == base && nat_lt h.number number
+
+  -- the table after it: the entry keeps its place, and all but its number and its slot
+  abbrev pub renumbered : (number base : ℕ) → List ℕ → List ℕ → E → List (Row E) → List (Row E)
+  renumbered number base subscriber identifier slot table =
+      map (λ h. if is_of subscriber identifier h && is_renumbered_by number base h
+      then record h { number = number; slot = slot } else h) table
 
   -- the table without a subscription
   abbrev pub without : List ℕ → List ℕ → List (Row E) → List (Row E)

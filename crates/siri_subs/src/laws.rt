@@ -1,9 +1,9 @@
 //! What follows from the definitions of the table.
 
-ghost use Rattle.std.specs.Prelude.{◌≡◌, ℕ, List};
+ghost use Rattle.std.specs.Prelude.{◌≡◌, ℕ, List, find};
 ghost use Rattle.siri_subs.specs.declared.entry.Row.{Row};
 ghost use Rattle.siri_subs.specs.Mapped.{mapped_row, with_mapped_slots};
-ghost use Rattle.siri_subs.specs.Table.{accepted, answer, ended, expired, is_ended_by, number_of, place_of, put, without};
+ghost use Rattle.siri_subs.specs.Table.{accepted, answer, ended, expired, is_ended_by, is_of, number_of, place_of, put, renumber_answer, renumbered, without};
 
 /// A law, which does nothing when it is called: the table never looks into a slot. So a table whose slots are mapped
 /// answers as the table itself, and is after each change what the changed table is, mapped.
@@ -22,6 +22,10 @@ pub fn slots_decide_nothing<E, F>()
         → without subscriber identifier (with_mapped_slots slot_of table) ≡ with_mapped_slots slot_of (without subscriber identifier table) }
     ensures expired { (slot_of : E → F) (now : ℕ) (table : List (Row E))
         → expired now (with_mapped_slots slot_of table) ≡ with_mapped_slots slot_of (expired now table) }
+    ensures renumbered { (slot_of : E → F) (number base : ℕ) (subscriber identifier : List ℕ) (slot : E) (table : List (Row E))
+        → renumbered number base subscriber identifier (slot_of slot) (with_mapped_slots slot_of table) ≡ with_mapped_slots slot_of (renumbered number base subscriber identifier slot table) }
+    ensures renumber_answer { (slot_of : E → F) (number base : ℕ) (subscriber identifier : List ℕ) (table : List (Row E))
+        → renumber_answer number base (find (is_of subscriber identifier) (with_mapped_slots slot_of table)) ≡ renumber_answer number base (find (is_of subscriber identifier) table) }
     ensures number { (slot_of : E → F) (subscriber identifier : List ℕ) (table : List (Row E))
         → number_of subscriber identifier (with_mapped_slots slot_of table) ≡ number_of subscriber identifier table }
     ensures place { (slot_of : E → F) (subscriber identifier : List ℕ) (table : List (Row E))

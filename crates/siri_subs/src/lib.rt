@@ -3,6 +3,7 @@
 //! ```text
 //!     a request under a number   -> accept  ---+
 //!     a termination              -> end     ---+--> the entries, each subscription once
+//!     a request for all data     -> renumber --+
 //!     a moment                   -> expire  ---+
 //!
 //!     a place                    -> at, at_mut    ---> what is held there
@@ -10,8 +11,10 @@
 //! ```
 //!
 //! A subscription is known by its subscriber and its identifier. Its subscriber numbers its requests, so that a request
-//! that comes again isn't taken for a renewal, and one that comes late doesn't undo a later one. At most 200
-//! subscriptions are held, and the memory for them is taken when the table is made.
+//! that comes again isn't taken for a renewal, and one that comes late doesn't undo a later one. A
+//! request for all data puts an acceptance under a number of its own; it names it by its *base*, the number of the
+//! SubscriptionRequest that was accepted. At most 200 subscriptions are held, and the memory for them is taken when the
+//! table is made.
 //!
 //! With each entry the table keeps a slot, which is its owner's own: the table never looks into it.
 //!
@@ -24,6 +27,6 @@ mod laws;
 mod table;
 
 pub use entry::{Entry, Row};
-pub use errors::{AcceptError, Accepted, EndError};
+pub use errors::{AcceptError, Accepted, EndError, RenumberError};
 pub use laws::slots_decide_nothing;
 pub use table::{MOST_SUBSCRIPTIONS, Table};

@@ -1,12 +1,14 @@
 //! The table of subscriptions.
 
-ghost use Rattle.std.specs.Prelude.{◌≡◌, ◌≢◌, ◌↔◌, ◌<◌, ◌≤◌, ℕ, OnErr, Ok, Err, [], length, slice_get, option_map, is_ok, IfOk, Some, None};
+ghost use Rattle.std.specs.Prelude.{◌≡◌, ◌≢◌, ◌↔◌, ◌<◌, ◌≤◌, ℕ, OnErr, Ok, Err, [], length, slice_get, option_map, find, is_ok, IfOk, true, Some, None};
 ghost use Rattle.std.specs.Option.{option_copied_mut};
 ghost use Rattle.std.specs.Borrow.{sem};
 ghost use Rattle.siri_subs.specs.Lent.{entry_of};
-ghost use Rattle.siri_subs.specs.Table.{EachOnce, accepted, answer, ended, expired, is_ended_by, number_of, place_of, put, most_subscriptions};
+ghost use Rattle.siri_subs.specs.Numbered.{with_numbered};
+ghost use Rattle.siri_subs.specs.Table.{EachOnce, accepted, answer, ended, expired, is_above, is_ended_by, is_of, number_of, number_of_acceptance};
+ghost use Rattle.siri_subs.specs.Table.{place_of, put, renumber_answer, renumbered, most_subscriptions};
 
-use crate::{AcceptError, Accepted, EndError, Entry, Row};
+use crate::{AcceptError, Accepted, EndError, Entry, RenumberError, Row};
 use siri_base::{Moment, Name, OutOfMemory, Span};
 use siri_topic::Subscription;
 use std::alloc::Global;
@@ -69,8 +71,8 @@ impl<E> Table<E> {
     ) -> Result<Accepted, AcceptError>
     where
         E: Drop,
-        ensures answer { result ≡ answer now (record { wanted = wanted; number = number; address = address; beat = beat; slot = slot }) self.old }
-        ensures table { self.new ≡ accepted now (record { wanted = wanted; number = number; address = address; beat = beat; slot = slot }) self.old }
+        ensures answer { result ≡ answer now (record { wanted = wanted; number = number; base = number; address = address; beat = beat; slot = slot }) self.old }
+        ensures table { self.new ≡ accepted now (record { wanted = wanted; number = number; base = number; address = address; beat = beat; slot = slot }) self.old }
 
         // When each of these comes.
         ensures again { (result ≡ Ok Accepted.Again) ↔ (number_of wanted.subscriber wanted.identifier self.old ≡ Some number) }
@@ -86,6 +88,7 @@ impl<E> Table<E> {
         let entry = Row {
             wanted,
             number,
+            base: number,
             address,
             beat,
             slot,
@@ -94,6 +97,47 @@ impl<E> Table<E> {
         match answer {
             Ok(Accepted::New) | Ok(Accepted::Renewed) => self.put(entry),
             Ok(Accepted::Again) | Err(_) => drop(entry),
+        }
+        answer
+    }
+
+    /// Takes a request for all of a subscription under a number of its own (DataSupplyRequest with AllData, EN 15531-2). It
+    /// means the acceptance by the SubscriptionRequest of number `base`.
+    ///
+    /// Where that acceptance is held under this very number it is `Again` and nothing changes. Otherwise it is refused by
+    /// the first of these that fits, and nothing changes: `UnknownSubscription` where it isn't held, `Superseded` where it
+    /// is held under a greater number. Otherwise it is `Renewed`: its number and its slot are replaced, and all else stays.
+    /// It takes no memory.
+    pub fn renumber(
+        &mut self,
+        number: u64,
+        base: u64,
+        subscriber: &Name,
+        identifier: &Name,
+        slot: E,
+    ) -> Result<Accepted, RenumberError>
+    where
+        E: Drop,
+        ensures answer { result ≡ renumber_answer number base (find (is_of subscriber.now identifier.now) self.old) }
+        ensures table { self.new ≡ renumbered number base subscriber.now identifier.now slot self.old }
+
+        // When each of these comes.
+        ensures renewed { (result ≡ Ok Accepted.Renewed) ↔ (is_above number (number_of_acceptance base subscriber.now identifier.now self.old) ≡ true) }
+        ensures again { (result ≡ Ok Accepted.Again) ↔ (number_of_acceptance base subscriber.now identifier.now self.old ≡ Some number) }
+        ensures unknown { (result ≡ Err RenumberError.UnknownSubscription) ↔ (number_of_acceptance base subscriber.now identifier.now self.old ≡ None) }
+        ensures superseded { (held : ℕ) → (result ≡ Err (RenumberError.Superseded held))
+            ↔ ((number_of_acceptance base subscriber.now identifier.now self.old ≡ Some held) × (number < held)) }
+        ensures refused { OnErr result (self.new ≡ self.old) }
+        ensures once { EachOnce self.new }
+    {
+        let Some(place) = self.place_of(subscriber, identifier) else {
+            return Err(RenumberError::UnknownSubscription);
+        };
+        let entry = &self.entries[place];
+        let answer = entry.renumber_answer(number, base);
+        let renews = entry.is_renumbered_by(number, base);
+        if renews {
+            self.write_at(place, number, slot);
         }
         answer
     }
@@ -176,6 +220,19 @@ impl<E> Table<E> {
         ensures value { option_map (λ h. h.slot) (slice_get self.old place) ≡ Some result.now }
     {
         &mut self.entries[place].slot
+    }
+
+    /// Replaces the number and the slot of the entry at a place.
+    fn write_at(&mut self, place: usize, number: u64, slot: E)
+    where
+        E: Drop,
+        requires { place < length self.old }
+        ensures table { self.new ≡ with_numbered self.old place number slot }
+        ensures once { EachOnce self.new }
+    {
+        let entry = &mut self.entries[place];
+        entry.number = number;
+        entry.slot = slot;
     }
 
     /// What the request for an entry's subscription is answered.

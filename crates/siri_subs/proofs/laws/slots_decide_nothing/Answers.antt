@@ -1,5 +1,5 @@
 use Rattle.siri_subs.proofs.Mapped.{answer_mapped, accepted_mapped, put_mapped, is_ended_mapped, ended_mapped, without_mapped}
-use Rattle.siri_subs.proofs.Mapped.{expired_mapped, number_mapped, place_mapped}
+use Rattle.siri_subs.proofs.Mapped.{expired_mapped, renumbered_mapped, renumber_mapped, number_mapped, place_mapped}
 use Rattle.siri_subs.proofs.laws.slots_decide_nothing.Goals as goal
 
 pub returns-clause-answer : goal.returns-clause-answer
@@ -22,6 +22,12 @@ returns-clause-without g c = without_mapped
 
 pub returns-clause-expired : goal.returns-clause-expired
 returns-clause-expired g c = expired_mapped
+
+pub returns-clause-renumbered : goal.returns-clause-renumbered
+returns-clause-renumbered g c = renumbered_mapped
+
+pub returns-clause-renumber_answer : goal.returns-clause-renumber_answer
+returns-clause-renumber_answer g c = renumber_mapped
 
 pub returns-clause-number : goal.returns-clause-number
 returns-clause-number g c = number_mapped
