@@ -22,7 +22,7 @@ use Rattle.siri_life.specs.Named.{Name}
 use Rattle.siri_life.specs.Slot.{Slot, opens_round}
 use Rattle.siri_subs.specs.declared.entry.Row.{Row}
 use Rattle.siri_subs.specs.Mapped.{mapped_row}
-use Rattle.siri_subs.specs.Table.{is_of, accepted, ended, expired}
+use Rattle.siri_subs.specs.Table.{is_of, accepted, ended, expired, is_renumbered_by}
 use Rattle.siri_model.specs.History.{State, Step, Start, Clock, Feed, Take, Settle, History, nothing, after_step, entries_fed}
 use Rattle.siri_model.specs.Last.{entry_key}
 use Rattle.siri_model.specs.Lives.{mark_of}
@@ -80,10 +80,25 @@ abbrev pub new_row : ℕ → ℕ → Asked → Row Followed
 new_row now number asked = record {
   wanted = asked.subscription;
   number = number;
+  base = number;
   address = asked.address;
   beat = asked.beat;
   slot = record { life = nothing_kept now asked; look = None };
 }
+
+-- nor was one that an AllData request renews
+abbrev pub renewed_row : ℕ → (number base : ℕ) → Row Followed → Row Followed
+renewed_row now number base row =
+    if is_renumbered_by number base row
+    then record row { number = number; slot = record { life = nothing_kept now (asked_of (life_row row)); look = None } } else row
+
+abbrev pub rows_renewed : ℕ → (number base : ℕ) → Name → Name → List (Row Followed) → List (Row Followed)
+rows_renewed now number base subscriber identifier rows =
+    map (λ row. if is_of subscriber identifier row then renewed_row now number base row else row) rows
+
+abbrev pub rows_supplied : ℕ → ℕ → (all_data : Bool) → Name → MarkOf → List (Row Followed) → List (Row Followed)
+rows_supplied start now true consumer mark rows = rows_renewed now mark.number mark.round consumer mark.subscription rows
+rows_supplied start now false consumer mark rows = with_row_of consumer mark.subscription (supplied_row start now (mark_of mark)) rows
 
 abbrev pub rows_acknowledged : ℕ → ℕ → Bool → Option Name → Option MarkOf → List (Row Followed) → List (Row Followed)
 rows_acknowledged start now true (Some consumer) (Some mark) rows = with_row_of consumer mark.subscription (acknowledged_row start now (mark_of mark)) rows
@@ -93,7 +108,7 @@ unfoldable pub rows_taken : ℕ → ℕ → Message → List (Row Followed) → 
 rows_taken start now (message.SubscriptionRequest r) rows = fold (λ rows asked. accepted now (new_row now r.message_identifier asked) rows) rows (asked_in r)
 rows_taken start now (message.TerminateSubscriptionRequest r) rows = fold (λ rows identifier. ended r.message_identifier r.subscriber_ref identifier rows) rows r.subscription_ref
 rows_taken start now (message.DataReceivedAcknowledgement a) rows = rows_acknowledged start now a.status a.consumer_ref a.extensions rows
-rows_taken start now (message.DataSupplyRequest r) rows = with_row_of r.consumer_ref r.extensions.subscription (supplied_row start now (mark_of r.extensions)) rows
+rows_taken start now (message.DataSupplyRequest r) rows = rows_supplied start now r.all_data r.consumer_ref r.extensions rows
 rows_taken start now other rows = rows
 
 -- ---- a look

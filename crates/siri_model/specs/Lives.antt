@@ -9,7 +9,7 @@ use Rattle.siri_messages.specs.declared.message.Message.TheVariants as message
 use Rattle.siri_messages.specs.declared.supplies.Mark.{Mark}
 use Rattle.siri_change.specs.Parts.{Carried}
 use Rattle.siri_life.specs.Life as life
-use Rattle.siri_life.specs.Life.{Life, Subscribe, Terminate, Supply, Acknowledge, is_quiet}
+use Rattle.siri_life.specs.Life.{Life, Packet, Subscribe, Terminate, AllData, Supply, Acknowledge, is_quiet}
 use Rattle.siri_life.specs.Named.{Name, Of, find}
 use Rattle.siri_life.specs.Serving.{Serving, Act, Clocked, Fed, Heard, Settled, opening_serving, serving_after}
 use Rattle.siri_model.specs.History.{Entry, Step, Start, Clock, Feed, Take, Settle, History, entries_of}
@@ -20,6 +20,12 @@ use Rattle.siri_model.specs.Meaning.{direct_of, meaning}
 -- the part that a mark names
 abbrev pub mark_of : Mark → life.Mark
 mark_of m = record { number = m.number; start = m.start; round = m.round; part = m.part }
+
+-- a DataSupplyRequest: it fetches a part; or with AllData it asks for all of an acceptance, and its mark has the request's
+-- number as Number and the base of the acceptance as Round
+abbrev pub supply_of : (all_data : Bool) → Mark → Packet Carried Asked
+supply_of true mark = AllData mark.number mark.round
+supply_of false mark = Supply (mark_of mark)
 
 -- the acknowledgement of a part: it has Status true, a ConsumerRef and a mark
 abbrev pub acknowledgement_of : Bool → Option Name → Option Mark → List (Act Carried Asked Entry)
@@ -32,7 +38,7 @@ acts_in (message.SubscriptionRequest r) =
     map (λ asked. Heard asked.subscription.subscriber asked.subscription.identifier (Subscribe r.message_identifier asked)) (asked_in r)
 acts_in (message.TerminateSubscriptionRequest r) = map (λ identifier. Heard r.subscriber_ref identifier (Terminate r.message_identifier)) r.subscription_ref
 acts_in (message.DataReceivedAcknowledgement a) = acknowledgement_of a.status a.consumer_ref a.extensions
-acts_in (message.DataSupplyRequest r) = Heard r.consumer_ref r.extensions.subscription (Supply (mark_of r.extensions)) ∷ []
+acts_in (message.DataSupplyRequest r) = Heard r.consumer_ref r.extensions.subscription (supply_of r.all_data r.extensions) ∷ []
 acts_in (message.ServiceDelivery d) = if has_round d then [] else Fed (entries_of d) ∷ []
 acts_in other = []
 

@@ -1,5 +1,5 @@
 -- What a producer keeps of the subscriptions of its history, row by row of its table, and what its steps do to a row.
-use Rattle.std.specs.Prelude.{ℕ, ◌==◌, max, List, [], map, fold, Bool, true, ◌&&◌, Option, Some, None, if◌then◌else◌}
+use Rattle.std.specs.Prelude.{ℕ, ◌==◌, max, List, [], map, fold, Bool, true, false, ◌&&◌, Option, Some, None, if◌then◌else◌}
 use Rattle.siri_records.specs.Keyed.{Items}
 use Rattle.siri_messages.specs.Asked.{Asked, asked_in}
 use Rattle.siri_messages.specs.declared.message.Message.{Message}
@@ -10,7 +10,7 @@ use Rattle.siri_life.specs.Life.{Mark, Round}
 use Rattle.siri_life.specs.Named.{Name, Of}
 use Rattle.siri_life.specs.Slot.{Slot, slot_of, opens_round, begun, is_message_due, sent, with_acknowledgement, with_supply}
 use Rattle.siri_subs.specs.declared.entry.Row.{Row}
-use Rattle.siri_subs.specs.Table.{is_of, accepted, ended, expired}
+use Rattle.siri_subs.specs.Table.{is_of, accepted, ended, expired, is_renumbered_by}
 use Rattle.siri_model.specs.Direct.{shown}
 use Rattle.siri_model.specs.History.{State, Step, Start, Clock, Feed, Take, Settle}
 use Rattle.siri_model.specs.Lives.{Living, mark_of}
@@ -25,11 +25,12 @@ pub record KeptLife : Type 0 where
 abbrev pub kept_of : Living → KeptLife
 kept_of life = record { rounds = slot_of meaning life; last_heartbeat = life.last_heartbeat }
 
--- the row of what was asked for under a number
-abbrev pub row_with : ℕ → Asked → KeptLife → Row KeptLife
-row_with number asked kept = record {
+-- the row of what was asked for under a number, by the SubscriptionRequest whose number is the base
+abbrev pub row_with : (number base : ℕ) → Asked → KeptLife → Row KeptLife
+row_with number base asked kept = record {
   wanted = asked.subscription;
   number = number;
+  base = base;
   address = asked.address;
   beat = asked.beat;
   slot = kept;
@@ -37,7 +38,7 @@ row_with number asked kept = record {
 
 -- the row of a life
 abbrev pub row_of : Living → Row KeptLife
-row_of life = row_with life.number life.wanted (kept_of life)
+row_of life = row_with life.number life.base life.wanted (kept_of life)
 
 -- the rows of a table, in its order
 abbrev pub rows_of : List (Of Living) → List (Row KeptLife)
@@ -58,7 +59,7 @@ nothing_kept now asked = record {
 
 -- the row of a subscription that is accepted at a moment
 abbrev pub new_row : ℕ → ℕ → Asked → Row KeptLife
-new_row now number asked = row_with number asked (nothing_kept now asked)
+new_row now number asked = row_with number number asked (nothing_kept now asked)
 
 -- a row with other rounds
 abbrev pub with_rounds : Row KeptLife → Slot Items Carried → Row KeptLife
@@ -77,6 +78,11 @@ acknowledged_row start now m row =
 abbrev pub supplied_row : ℕ → ℕ → Mark → Row KeptLife → Row KeptLife
 supplied_row start now m row =
     if is_numbered m row.number start then with_rounds row (with_supply row.slot.rounds m.round m.part now) else row
+
+-- after a request for all of the acceptance with a base, under a number, at a moment: where that renews it, it begins anew
+abbrev pub renewed_row : ℕ → (number base : ℕ) → Row KeptLife → Row KeptLife
+renewed_row now number base row =
+    if is_renumbered_by number base row then record row { number = number; slot = nothing_kept now (asked_of row) } else row
 
 -- the rows with the one of a subscription changed
 abbrev pub with_row_of : Name → Name → (Row KeptLife → Row KeptLife) → List (Row KeptLife) → List (Row KeptLife)
@@ -126,13 +132,17 @@ abbrev pub rows_acknowledged : ℕ → ℕ → Bool → Option Name → Option M
 rows_acknowledged start now true (Some consumer) (Some mark) rows = with_row_of consumer mark.subscription (acknowledged_row start now (mark_of mark)) rows
 rows_acknowledged start now status consumer mark rows = rows
 
+-- after a DataSupplyRequest, with AllData or without
+abbrev pub rows_supplied : ℕ → ℕ → (all_data : Bool) → Name → MarkOf → List (Row KeptLife) → List (Row KeptLife)
+rows_supplied start now true consumer mark rows = with_row_of consumer mark.subscription (renewed_row now mark.number mark.round) rows
+rows_supplied start now false consumer mark rows = with_row_of consumer mark.subscription (supplied_row start now (mark_of mark)) rows
+
 -- after a message that is taken, in a start at a moment
 unfoldable pub rows_taken : ℕ → ℕ → Message → List (Row KeptLife) → List (Row KeptLife)
 rows_taken start now (message.SubscriptionRequest r) rows = rows_asked now r.message_identifier (asked_in r) rows
 rows_taken start now (message.TerminateSubscriptionRequest r) rows = rows_ended r.message_identifier r.subscriber_ref r.subscription_ref rows
 rows_taken start now (message.DataReceivedAcknowledgement a) rows = rows_acknowledged start now a.status a.consumer_ref a.extensions rows
-rows_taken start now (message.DataSupplyRequest r) rows =
-    with_row_of r.consumer_ref r.extensions.subscription (supplied_row start now (mark_of r.extensions)) rows
+rows_taken start now (message.DataSupplyRequest r) rows = rows_supplied start now r.all_data r.consumer_ref r.extensions rows
 rows_taken start now other rows = rows
 
 -- after a step, by what was known before it
