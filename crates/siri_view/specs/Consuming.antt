@@ -8,17 +8,19 @@ use Rattle.siri_topic.specs.declared.subscription.Subscription.{Subscription}
 use Rattle.siri_change.specs.Parts.{Carried}
 use Rattle.siri_messages.specs.Asked.{Asked}
 use Rattle.siri_messages.specs.declared.message.Message.{Message}
-use Rattle.siri_life.specs.Life.{Mark, Packet, Subscribe, Terminate, Supply, Acknowledge, Notify, Delivery}
+use Rattle.siri_life.specs.Life.{Mark, Packet, Subscribe, Terminate, AllData, Supply, Acknowledge, Notify, Delivery}
 use Rattle.siri_life.specs.Link as life
 use Rattle.siri_life.specs.Link.{asked, taken, replies, asks_for}
 use Rattle.siri_life.specs.Named.{Name}
+use Rattle.siri_life.specs.Network.{restarted_from}
 use Rattle.siri_view.specs.declared.outcome.Outcome.{Outcome}
 use Rattle.siri_view.specs.declared.outcome.Outcome.TheVariants as outcome
 use Rattle.siri_view.specs.declared.outcome.Seen.{Seen}
 use Rattle.siri_view.specs.declared.outcome.Held.{Held}
 use Rattle.siri_view.specs.Kept.{meaning, KeptSubscription, Holdings, kept_of, with_kept, without_kept}
 use Rattle.siri_view.specs.Hearing.{Heard, Delivered, Notified, Noted, Foreign, heard}
-use Rattle.siri_view.specs.Sending.{acknowledgement, supply_request, ready_acknowledgement, termination_request, subscription_request, first_of_each, own}
+use Rattle.siri_view.specs.Sending.{acknowledgement, supply_request, ready_acknowledgement, termination_request, subscription_request}
+use Rattle.siri_view.specs.Sending.{all_data_request, first_of_each, own}
 
 -- a consumer: its name, where deliveries are to be sent, the number of its next request, its moment, and what it keeps of
 -- each subscription that it holds
@@ -69,6 +71,7 @@ reply c identifier (Acknowledge m) = acknowledgement c.name c.moment identifier 
 reply c identifier (Supply m) = supply_request c.name c.moment identifier m ∷ []
 reply c identifier (Subscribe number wanted) = []
 reply c identifier (Terminate number) = []
+reply c identifier (AllData number base) = []
 reply c identifier (Notify m moment) = []
 reply c identifier (Delivery m moment more part) = []
 
@@ -179,3 +182,22 @@ termination_of c identifier = termination_request c.name c.moment c.next_number 
 abbrev pub after_terminate : Consuming → Name → Consuming
 after_terminate c identifier =
     record c { next_number = suc c.next_number; held = without_kept identifier c.held }
+
+-- ---- what a restart makes of it
+
+-- a request for all of each subscription that is kept, the first under a number and each next under the one after it
+abbrev pub all_data_from : (name : Name) (now number : ℕ) → Holdings → List Message
+all_data_from name now number [] = []
+all_data_from name now number (kept ∷ held) =
+    all_data_request name now kept.0 number kept.1.base ∷ all_data_from name now (suc number) held
+
+-- the requests, and the consumer after them: it keeps what was asked for and the bases, and no view, start, round or part
+abbrev pub restart_requests : Consuming → List Message
+restart_requests c = all_data_from c.name c.moment c.next_number c.held
+
+abbrev pub after_restart : Consuming → Consuming
+after_restart c =
+    record c {
+      next_number = c.next_number + length c.held;
+      held = restarted_from meaning c.next_number c.held;
+    }

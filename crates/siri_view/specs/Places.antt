@@ -4,7 +4,7 @@ use Rattle.siri_change.specs.Parts.{Carried}
 use Rattle.siri_messages.specs.Asked.{Asked}
 use Rattle.siri_life.specs.Life.{Mark}
 use Rattle.siri_life.specs.Link as life
-use Rattle.siri_life.specs.Link.{asked, taken}
+use Rattle.siri_life.specs.Link.{asked, restarted, taken}
 use Rattle.siri_life.specs.Named.{Name}
 use Rattle.siri_view.specs.Kept.{meaning, KeptSubscription, Holdings, with_kept}
 
@@ -29,3 +29,15 @@ abbrev pub asked_at : ℕ → Asked → Holdings → ℕ → Holdings
 asked_at number wanted [] at = []
 asked_at number wanted (e ∷ held) zero = (e.0, asked meaning number wanted (Some e.1)) ∷ held
 asked_at number wanted (e ∷ held) (suc at) = e ∷ asked_at number wanted held at
+
+-- with what is kept at a place as after a restart, under a number
+abbrev pub restarted_at : ℕ → Holdings → ℕ → Holdings
+restarted_at number [] at = []
+restarted_at number (e ∷ held) zero = (e.0, restarted meaning number e.1) ∷ held
+restarted_at number (e ∷ held) (suc at) = e ∷ restarted_at number held at
+
+-- with so many from the front as after a restart, the first under a number and each next under the one after it
+abbrev pub restarted_to : (count number : ℕ) → Holdings → Holdings
+restarted_to zero number held = held
+restarted_to (suc count) number [] = []
+restarted_to (suc count) number (e ∷ held) = (e.0, restarted meaning number e.1) ∷ restarted_to count (suc number) held

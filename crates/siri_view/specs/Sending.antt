@@ -43,6 +43,17 @@ supply_request name now identifier m =
       extensions = mark_of identifier m;
     })
 
+-- DataSupplyRequest with AllData, for all of a subscription: its mark has the request's number, and in the place of a round the
+-- base, the number of the SubscriptionRequest that asked for it last
+abbrev pub all_data_request : (name : Name) (now : ℕ) → Name → (number base : ℕ) → Message
+all_data_request name now identifier number base =
+    message.DataSupplyRequest (record {
+      request_timestamp = Some now;
+      consumer_ref = name;
+      all_data = true;
+      extensions = record { number = number; start = 0; round = base; part = 0; subscription = identifier };
+    })
+
 -- DataReadyAcknowledgement of a notification
 abbrev pub ready_acknowledgement : (name : Name) (now : ℕ) → Message
 ready_acknowledgement name now =

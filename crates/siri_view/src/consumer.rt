@@ -3,7 +3,7 @@
 ghost use Rattle.std.specs.Prelude.{◌≡◌, ◌≢◌, ◌↔◌, ◌<◌, ◌≤◌, ◌+◌, [], length, suc, fold, Some, None, is_none, option_map, slice_get, Ok, IfOk, OnOk, OnErr, IsErrOf};
 ghost use Rattle.std.specs.List.Sorted.{IsStrictlySortedBy};
 ghost use Rattle.std.specs.Map.{keys_of};
-ghost use Rattle.siri_view.specs.Consuming.{with_request, requests_for, count_after, after_subscribe, after_terminate, request_for, termination_of, clocked, held_by, most_held};
+ghost use Rattle.siri_view.specs.Consuming.{with_request, requests_for, count_after, after_restart, after_subscribe, after_terminate, request_for, restart_requests, termination_of, clocked, held_by, most_held};
 ghost use Rattle.siri_view.specs.Kept.{kept_of, name_cmp};
 ghost use Rattle.siri_view.specs.Sending.{check_request};
 ghost use Rattle.siri_base.specs.Numbers.{greatest_number};
@@ -173,6 +173,32 @@ impl Consumer {
         self.held.remove(identifier);
         self.next_number = number + 1;
         Ok(request)
+    }
+
+    /// It restarts. What a consumer keeps across that is its name, address, moment and next number, and of each
+    /// subscription that is held its identifier, what was asked for and the base, the number of its last
+    /// SubscriptionRequest; the views, starts, rounds and buffered parts are lost. All of each is asked for again
+    /// (DataSupplyRequest with AllData, EN 15531-2), in order of the bytes of the identifiers, each under the next number.
+    ///
+    /// `Spent` exactly where the last number that is needed would pass 999,999,999,999,999,999. After it or want of memory
+    /// the consumer is as before.
+    pub fn restart(&mut self) -> Result<List<Message>, AskError>
+        ensures requests { IfOk result (λ requests. requests ≡ restart_requests self.old) }
+        ensures ok { OnOk result (self.new ≡ after_restart self.old) }
+        // When each of these comes. The last number that is needed is one less than the sum.
+        ensures spent { IsErrOf result AskError.Spent ↔ (greatest_number + 1 < self.old.next_number + length self.old.held) }
+        ensures not_others { (IsErrOf result AskError.TooMany → ⊥) × (IsErrOf result AskError.NotHeld → ⊥) }
+        ensures refused { OnErr result (self.new ≡ self.old) }
+    {
+        let count = self.held.len() as u64;
+        if count > GREATEST_NUMBER + 1 - self.next_number {
+            return Err(AskError::Spent);
+        }
+        let first = self.next_number;
+        let requests = self.held.all_data_requests(&self.name, self.moment, first)?;
+        self.held.restart(first);
+        self.next_number = first + count;
+        Ok(requests)
     }
 
     /// Asks whether the producer is there (CheckStatusRequest, EN 15531-2).

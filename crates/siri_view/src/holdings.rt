@@ -1,21 +1,24 @@
 //! What is kept of each subscription that is held, in order of identifier.
 
-ghost use Rattle.std.specs.Prelude.{◌≡◌, ◌<◌, ◌≤◌, ◌+◌, [], length, fold, Some, None, option_map, slice_get, IfSome, OnOk, OnErr, IsOk, Ok, vec_len};
+ghost use Rattle.std.specs.Prelude.{◌≡◌, ◌<◌, ◌≤◌, ◌+◌, ◌^◌, [], length, fold, Some, None, option_map, slice_get, IfSome, IfOk, OnOk, OnErr, IsOk, Ok, vec_len};
 ghost use Rattle.std.specs.Vec.{vec_capacity};
 ghost use Rattle.std.specs.List.{filter};
 ghost use Rattle.std.specs.List.Sorted.{IsStrictlySortedBy};
 ghost use Rattle.std.specs.Map.{keys_of};
+ghost use Rattle.siri_life.specs.Network.{restarted_from};
 ghost use Rattle.siri_records.specs.Places.{Finds};
-ghost use Rattle.siri_view.specs.Consuming.{with_request, is_new};
-ghost use Rattle.siri_view.specs.Kept.{name_cmp, kept_of, with_kept, without_kept};
+ghost use Rattle.siri_view.specs.Consuming.{all_data_from, with_request, is_new};
+ghost use Rattle.siri_view.specs.Kept.{meaning, name_cmp, kept_of, with_kept, without_kept};
 ghost use Rattle.siri_view.specs.Marks.{mark_by};
-ghost use Rattle.siri_view.specs.Places.{Wants, with_taken, taken_at, asked_at};
+ghost use Rattle.siri_view.specs.Places.{Wants, with_taken, taken_at, asked_at, restarted_at};
 
 use crate::asked::AskedFor;
 use crate::marks::Numbers;
+use crate::messages::all_data_request;
 use crate::part::Part;
 use crate::subscribed::Subscribed;
-use siri_base::{Name, OutOfMemory};
+use siri_base::{List, Moment, Name, OutOfMemory};
+use siri_messages::Message;
 use siri_topic::Subscription;
 use std::alloc::Global;
 use std::cmp::Ordering;
@@ -141,6 +144,30 @@ impl Holdings {
             .count()
     }
 
+    /// A request for all of each subscription that is held, in order, the first under this number and each next under the
+    /// one after it.
+    pub(crate) fn all_data_requests(
+        &self,
+        name: &Name,
+        now: Moment,
+        first: u64,
+    ) -> Result<List<Message>, OutOfMemory>
+        requires { first + length self.now < 2 ^ 64 }
+        ensures { IfOk result (λ requests. requests ≡ all_data_from name.now now first self.now) }
+    {
+        request_all(self.allocator(), &self.entries, name, now, first)
+    }
+
+    /// All of each subscription that is held is asked for again, in order, the first under this number and each next under
+    /// the one after it, by a consumer that restarted: what was asked for and the bases stay. It takes no memory.
+    pub(crate) fn restart(&mut self, first: u64)
+        requires { first + length self.old < 2 ^ 64 }
+        ensures { self.new ≡ restarted_from meaning first self.old }
+    {
+        let alloc = self.allocator();
+        restart_all(alloc, &mut self.entries, first);
+    }
+
     /// What is kept under an identifier goes.
     pub(crate) fn remove(&mut self, identifier: &Name)
         ensures { self.new ≡ without_kept identifier.now self.old }
@@ -221,4 +248,49 @@ fn take_at(
 {
     let entry = &mut entries[at];
     entry.1.take(alloc, mark, more, part)
+}
+
+/// A request for all of each of these, the first under a number and each next under the one after it.
+fn request_all(
+    alloc: Global,
+    entries: &[Entry],
+    name: &Name,
+    now: Moment,
+    first: u64,
+) -> Result<List<Message>, OutOfMemory>
+    requires { first + length entries.now < 2 ^ 64 }
+    ensures { IfOk result (λ requests. requests ≡ all_data_from name.now now first entries.now) }
+{
+    let mut requests = List::new(alloc);
+    let mut number = first;
+    for entry in entries {
+        let request = all_data_request(name, now, &entry.0, number, entry.1.base())?;
+        requests.push(request)?;
+        number += 1;
+    }
+    Ok(requests)
+}
+
+/// All of each of these is asked for again, the first under a number and each next under the one after it.
+fn restart_all(alloc: Global, entries: &mut Vec<Entry>, first: u64)
+    requires { first + vec_len entries.old < 2 ^ 64 }
+    ensures items { entries.new.items ≡ restarted_from meaning first entries.old.items }
+    ensures keys { keys_of entries.new.items ≡ keys_of entries.old.items }
+{
+    let mut number = first;
+    for place in 0..entries.len() {
+        restart_at(alloc, entries, place, number);
+        number += 1;
+    }
+}
+
+/// All of the subscription at a place is asked for again, under a number.
+fn restart_at(alloc: Global, entries: &mut Vec<Entry>, at: usize, number: u64)
+    requires { at < vec_len entries.old }
+    ensures items { entries.new.items ≡ restarted_at number entries.old.items at }
+    ensures keys { keys_of entries.new.items ≡ keys_of entries.old.items }
+    ensures len { vec_len entries.new ≡ vec_len entries.old }
+{
+    let entry = &mut entries[at];
+    entry.1.restart(alloc, number);
 }

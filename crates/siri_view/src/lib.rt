@@ -3,7 +3,8 @@
 //!
 //! ```text
 //!     subscriptions, an interval  -> subscribe --> SubscriptionRequest           ---+
-//!     an identifier               -> terminate --> TerminateSubscriptionRequest     +---> to the producer
+//!     an identifier               -> terminate --> TerminateSubscriptionRequest     |
+//!                                    restart   --> DataSupplyRequest with AllData   +---> to the producer
 //!                                    check     --> CheckStatusRequest            ---+
 //!
 //!     a message -> take --> an outcome, and the replies to the sender (`take_owned` of one that is handed over)
@@ -33,6 +34,9 @@
 //! parts at once: to the empty view where it is round 1 or the updates aren't incremental, else to the view held. What
 //! was taken is acknowledged, and acknowledged again where it comes again; with fetched delivery the next part is asked
 //! for as well.
+//!
+//! After `restart` each subscription is asked, under a new number, and its view is empty: what a consumer keeps of it is
+//! what was asked for and the base, the number of the SubscriptionRequest, by which the producer knows what to renew.
 //!
 //! Stands on `siri_base`, `siri_records`, `siri_topic`, `siri_change`, `siri_messages` and `siri_life`, whose words its
 //! contracts cite. It knows no wire, no clock and no text of a document: moments and messages are handed in.

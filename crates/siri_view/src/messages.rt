@@ -2,7 +2,7 @@
 
 ghost use Rattle.std.specs.Prelude.{◌≡◌, Some, None, IfOk};
 ghost use Rattle.siri_view.specs.Marks.{mark_by};
-ghost use Rattle.siri_view.specs.Sending.{acknowledgement, check_request, mark_of, ready_acknowledgement, supply_request, termination_request};
+ghost use Rattle.siri_view.specs.Sending.{acknowledgement, all_data_request, check_request, mark_of, ready_acknowledgement, supply_request, termination_request};
 
 use crate::marks::Numbers;
 use siri_base::{Copies, List, Moment, Name, OutOfMemory};
@@ -58,6 +58,31 @@ pub(crate) fn supply_request(
         consumer_ref: name.copy()?,
         all_data: false,
         extensions: mark_of(identifier, mark)?,
+    }))
+}
+
+/// All of a subscription is asked for under a number: of the one that was accepted by the SubscriptionRequest of number
+/// `base`, which stands in the place of a round.
+pub(crate) fn all_data_request(
+    name: &Name,
+    now: Moment,
+    identifier: &Name,
+    number: u64,
+    base: u64,
+) -> Result<Message, OutOfMemory>
+    ensures { IfOk result (λ made. made ≡ all_data_request name.now now identifier.now number base) }
+{
+    Ok(Message::DataSupplyRequest(DataSupplyRequest {
+        request_timestamp: Some(now),
+        consumer_ref: name.copy()?,
+        all_data: true,
+        extensions: Mark {
+            number,
+            start: 0,
+            round: base,
+            part: 0,
+            subscription: identifier.copy()?,
+        },
     }))
 }
 

@@ -19,11 +19,12 @@ use siri_change::{Change, View};
 use std::alloc::Global;
 use std::marker::Model;
 
-/// What is kept of a subscription: the number of its last request and what that asked for, the greatest start of its
-/// producer that a part came of, the last whole round of it, the parts of the next one, and the view with the round
-/// that it is of.
+/// What is kept of a subscription: the number of its last request, the base, which is that of its last
+/// SubscriptionRequest, and what that asked for, the greatest start of its producer that a part came of, the last whole
+/// round of it, the parts of the next one, and the view with the round that it is of.
 pub(crate) struct Subscribed {
     number: u64,
+    base: u64,
     asked: AskedFor,
     start: u64,
     round: u64,
@@ -36,6 +37,7 @@ impl Drop for Subscribed {
     fn drop(self) {
         let Subscribed {
             number: _,
+            base: _,
             asked: _,
             start: _,
             round: _,
@@ -56,6 +58,7 @@ impl Model for Subscribed {
 
     ghost view = { λ s. record {
       number = s.number;
+      base = s.base;
       wanted = s.asked;
       start = s.start;
       round = s.round;
@@ -81,6 +84,7 @@ impl Subscribed {
     {
         Subscribed {
             number,
+            base: number,
             asked,
             start: 0,
             round: 0,
@@ -95,10 +99,24 @@ impl Subscribed {
         ensures { self.new ≡ life.asked meaning number asked (Some self.old) }
     {
         self.number = number;
+        self.base = number;
         self.asked = asked;
         self.start = 0;
         self.round = 0;
         self.parts = List::new(alloc);
+    }
+
+    /// All of it is asked for again, under a number, by a consumer that restarted: what was asked for and the base stay,
+    /// and nothing else. It takes no memory.
+    pub(crate) fn restart(&mut self, alloc: Global, number: u64)
+        ensures { self.new ≡ life.restarted meaning number self.old }
+    {
+        self.number = number;
+        self.start = 0;
+        self.round = 0;
+        self.parts = List::new(alloc);
+        self.view = View::new(alloc);
+        self.origin = NO_ROUND;
     }
 
     /// The number of the request that asked for it last.
@@ -106,6 +124,13 @@ impl Subscribed {
         ensures { result ≡ self.now.number }
     {
         self.number
+    }
+
+    /// The number of the SubscriptionRequest that asked for it last.
+    pub(crate) fn base(&self) -> u64
+        ensures { result ≡ self.now.base }
+    {
+        self.base
     }
 
     /// What is shown of it: the target of the last whole round that came, whichever request that was of.
