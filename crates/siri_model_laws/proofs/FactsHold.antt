@@ -22,14 +22,14 @@ use Rattle.siri_life.specs.Life.{Mark, Outstanding, greatest_round}
 use Rattle.siri_life.specs.Named.{Name}
 use Rattle.siri_life.specs.Slot.{Slot, acknowledgement_if, acknowledgement_of, begun, is_message_due, next_if, opens_round, sent_of, supply_if, supply_of}
 use Rattle.siri_subs.specs.declared.entry.Row.{Row}
-use Rattle.siri_subs.specs.Table.{is_of, expired}
+use Rattle.siri_subs.specs.Table.{is_of, expired, is_renumbered_by}
 use Rattle.siri_model.specs.Facts.{Follows}
 use Rattle.siri_model.specs.Followed.{Followed, Look, followed_after, followed_from, followed_settled, goal_by, goal_of, life_row, lifted}
-use Rattle.siri_model.specs.Followed.{keys_apart, keys_dying, look_at, look_by, new_row, opens, rows_acknowledged, rows_taken, touch, touched_look, with_row_of}
+use Rattle.siri_model.specs.Followed.{keys_apart, keys_dying, look_at, look_by, new_row, opens, rows_acknowledged, rows_supplied, rows_taken, touch, touched_look, with_row_of}
 use Rattle.siri_model.specs.History.{Entry, State, Step, Start, Clock, Feed, Take, Settle, History, after_step, entries_fed, nothing}
 use Rattle.siri_model.specs.Last.{entry_key}
 use Rattle.siri_model.specs.Lives.{mark_of}
-use Rattle.siri_model.specs.Rows.{KeptLife, acknowledged_row, asked_of, is_numbered, looked, next_round, sent_if_due, settled_row, supplied_row}
+use Rattle.siri_model.specs.Rows.{KeptLife, acknowledged_row, asked_of, is_numbered, looked, next_round, nothing_kept, sent_if_due, settled_row, supplied_row}
 use Rattle.siri_model.specs.Direct.{shown}
 use Rattle.siri_model.specs.Meaning.{meaning}
 use Rattle.siri_model_laws.specs.Followed.{HoldsBy, RowHolds, AllHold, FactsHold}
@@ -162,6 +162,30 @@ module _ (now : ℕ) (held : Items) where
   acknowledged_rows start moment true None mark rows all = all
   acknowledged_rows start moment false consumer mark rows all = all
 
+  renewed_row : (here renews : Bool) (moment number : ℕ) (row : Row Followed) → RowHolds now held row
+      → RowHolds now held (cond here (cond renews
+      (record row { number = number; slot = record { life = nothing_kept moment (asked_of (life_row row)); look = None } }) row) row)
+  renewed_row true true moment number row holds = refl
+  renewed_row true false moment number row holds = holds
+  renewed_row false renews moment number row holds = holds
+
+  supplied_rows : (start moment : ℕ) (all : Bool) (consumer : Name) (mark : MarkOf) (rows : List (Row Followed))
+      → AllHold now held rows → AllHold now held (rows_supplied start moment all consumer mark rows)
+  supplied_rows start moment true consumer mark rows all =
+      All-map (RowHolds now held) (renewed moment mark.number mark.round consumer mark.subscription) rows
+      (All-weaker (RowHolds now held)
+      (λ row. RowHolds now held (renewed moment mark.number mark.round consumer mark.subscription row))
+      (λ row holds. renewed_row (is_of consumer mark.subscription row) (is_renumbered_by mark.number mark.round row)
+      moment mark.number row holds) rows all)
+    where
+      renewed : ℕ → (number base : ℕ) → Name → Name → Row Followed → Row Followed
+      renewed moment number base consumer identifier row =
+          cond (is_of consumer identifier row) (cond (is_renumbered_by number base row)
+          (record row { number = number; slot = record { life = nothing_kept moment (asked_of (life_row row)); look = None } }) row) row
+  supplied_rows start moment false consumer mark rows all =
+      one_row consumer mark.subscription (supplied_row start moment (mark_of mark))
+      (supplied_keeps start moment (mark_of mark)) rows all
+
   taken_rows : (start moment : ℕ) (m : Message) (rows : List (Row Followed)) → AllHold now held rows
       → AllHold now held (rows_taken start moment m rows)
   unfolding rows_taken
@@ -173,8 +197,7 @@ module _ (now : ℕ) (held : Items) where
   taken_rows start moment (message.DataReceivedAcknowledgement a) rows all =
       acknowledged_rows start moment a.status a.consumer_ref a.extensions rows all
   taken_rows start moment (message.DataSupplyRequest r) rows all =
-      one_row r.consumer_ref r.extensions.subscription (supplied_row start moment (mark_of r.extensions))
-      (supplied_keeps start moment (mark_of r.extensions)) rows all
+      supplied_rows start moment r.all_data r.consumer_ref r.extensions rows all
   taken_rows start moment (message.ServiceRequest r) rows all = all
   taken_rows start moment (message.ServiceDelivery d) rows all = all
   taken_rows start moment (message.SubscriptionResponse r) rows all = all

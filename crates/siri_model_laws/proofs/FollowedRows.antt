@@ -1,5 +1,5 @@
 -- The followed rows of a history are the rows of its table, each with its last look.
-use Rattle.std.proofs.Common.{◌≡◌, ℕ, max, List, [], ◌∷◌, ◌++◌, map, fold, Bool, true, false, Option, Some, None, refl}
+use Rattle.std.proofs.Common.{◌≡◌, ℕ, max, List, [], ◌∷◌, ◌++◌, map, fold, Bool, true, false, cond, Option, Some, None, refl}
 use Rattle.std.proofs.Common.{ap, sym, ◌∙◌, append_assoc, append-nil}
 use Rattle.siri_records.specs.declared.key.Key.{Key}
 use Rattle.siri_messages.specs.Asked.{Asked, asked_in}
@@ -10,18 +10,18 @@ use Rattle.siri_life.specs.Life.{Mark}
 use Rattle.siri_life.specs.Named.{Name}
 use Rattle.siri_records.specs.Keyed.{Items}
 use Rattle.siri_subs.specs.declared.entry.Row.{Row}
-use Rattle.siri_subs.specs.Table.{is_of, accepted, ended, expired}
+use Rattle.siri_subs.specs.Table.{is_of, accepted, ended, expired, is_renumbered_by}
 use Rattle.siri_subs.proofs.Mapped.{expired_mapped, accepted_mapped, ended_mapped}
 use Rattle.siri_model.specs.History.{State, Step, Start, Clock, Feed, Take, Settle, History, nothing, after_step}
 use Rattle.siri_model.specs.History.{state_of, entries_fed}
 use Rattle.siri_model.specs.Last.{entry_key}
 use Rattle.siri_model.specs.Lives.{table_of, mark_of}
-use Rattle.siri_model.specs.Rows.{KeptLife, is_numbered, acknowledged_row, supplied_row, settled_row, rows_of}
+use Rattle.siri_model.specs.Rows.{KeptLife, asked_of, nothing_kept, is_numbered, acknowledged_row, supplied_row, renewed_row, settled_row, rows_of}
 use Rattle.siri_model.specs.Rows.{rows_after}
 use Rattle.siri_model.specs.Rows as rows
 use Rattle.siri_model_laws.proofs.Histories.{rows_go_on}
 use Rattle.siri_model_laws.proofs.InOrder.{more_steps}
-use Rattle.siri_model.specs.Followed.{Followed, life_row, touch, with_row_of, new_row, rows_acknowledged, rows_taken}
+use Rattle.siri_model.specs.Followed.{Followed, life_row, touch, with_row_of, new_row, rows_acknowledged, rows_renewed, rows_supplied, rows_taken}
 use Rattle.siri_model.specs.Followed.{followed_settled, keys_dying, followed_after, followed_from}
 use Rattle.siri_model_laws.specs.Looks.{AreTheRows, GoOn}
 
@@ -96,6 +96,32 @@ acknowledged_lives start now true (Some consumer) None followed = refl
 acknowledged_lives start now true None mark followed = refl
 acknowledged_lives start now false consumer mark followed = refl
 
+-- a row that an AllData request renews, or doesn't
+renewed_case : (here renews : Bool) (now number : ℕ) (row : Row Followed)
+    → life_row (cond here (cond renews
+    (record row { number = number; slot = record { life = nothing_kept now (asked_of (life_row row)); look = None } }) row) row)
+    ≡ cond here (cond renews (record (life_row row) { number = number; slot = nothing_kept now (asked_of (life_row row)) })
+    (life_row row)) (life_row row)
+renewed_case true true now number row = refl
+renewed_case true false now number row = refl
+renewed_case false renews now number row = refl
+
+renewed_lives : (now number base : ℕ) (subscriber identifier : Name) (followed : List (Row Followed))
+    → lives (rows_renewed now number base subscriber identifier followed)
+    ≡ rows.with_row_of subscriber identifier (renewed_row now number base) (lives followed)
+renewed_lives now number base subscriber identifier [] = refl
+renewed_lives now number base subscriber identifier (row ∷ followed) = λ i.
+    renewed_case (is_of subscriber identifier row) (is_renumbered_by number base row) now number row i
+    ∷ renewed_lives now number base subscriber identifier followed i
+
+supplied_lives : (start now : ℕ) (all : Bool) (consumer : Name) (mark : MarkOf) (followed : List (Row Followed))
+    → lives (rows_supplied start now all consumer mark followed) ≡ rows.rows_supplied start now all consumer mark (lives followed)
+supplied_lives start now true consumer mark followed =
+    renewed_lives now mark.number mark.round consumer mark.subscription followed
+supplied_lives start now false consumer mark followed =
+    one_life consumer mark.subscription (supplied_row start now (mark_of mark))
+    (λ row. supplied_case (is_numbered (mark_of mark) row.number start) start now (mark_of mark) row refl) followed
+
 pub taken_lives : (start now : ℕ) (m : Message) (followed : List (Row Followed))
     → lives (rows_taken start now m followed) ≡ rows.rows_taken start now m (lives followed)
 unfolding rows_taken rows.rows_taken
@@ -103,9 +129,7 @@ taken_lives start now (message.SubscriptionRequest r) followed = asked_lives now
 taken_lives start now (message.TerminateSubscriptionRequest r) followed =
     ended_lives r.message_identifier r.subscriber_ref r.subscription_ref followed
 taken_lives start now (message.DataReceivedAcknowledgement a) followed = acknowledged_lives start now a.status a.consumer_ref a.extensions followed
-taken_lives start now (message.DataSupplyRequest r) followed =
-    one_life r.consumer_ref r.extensions.subscription (supplied_row start now (mark_of r.extensions))
-    (λ row. supplied_case (is_numbered (mark_of r.extensions) row.number start) start now (mark_of r.extensions) row refl) followed
+taken_lives start now (message.DataSupplyRequest r) followed = supplied_lives start now r.all_data r.consumer_ref r.extensions followed
 taken_lives start now (message.ServiceRequest r) followed = refl
 taken_lives start now (message.ServiceDelivery d) followed = refl
 taken_lives start now (message.SubscriptionResponse r) followed = refl

@@ -1,32 +1,32 @@
 -- The rows of a history's table after one more step.
 use Rattle.std.proofs.Common.{◌≡◌, ℕ, List, [], ◌∷◌, ◌++◌, map, fold, max, Bool, true, false, cond, not, ◌&&◌, ◌||◌, Option, None, Some}
 use Rattle.std.proofs.Common.{refl, sym, ap, ◌∙◌, subst}
-use Rattle.std.specs.Prelude.{if◌then◌else◌, option_map, find as find_first}
+use Rattle.std.specs.Prelude.{◌==◌, nat_lt, if◌then◌else◌, option_map, find as find_first}
 use Rattle.std.specs.Cmp.Lexicographic.{bytes_decides}
-use Rattle.std.proofs.lemmas.Bool.{and_parts}
+use Rattle.std.proofs.lemmas.Bool.{and_parts, eqb-true}
 use Rattle.siri_messages.specs.Rounds.{has_round}
 use Rattle.siri_messages.specs.declared.message.Message.{Message}
 use Rattle.siri_messages.specs.declared.message.Message.TheVariants as message
 use Rattle.siri_messages.specs.declared.supplies.Mark.{Mark}
 use Rattle.siri_change.specs.Parts.{Carried}
-use Rattle.siri_life.specs.Life.{Subscribe, Terminate, is_before, after_acknowledgement, after_supply, new_life}
+use Rattle.siri_life.specs.Life.{Subscribe, Terminate, can_renew, is_before, after_acknowledgement, after_supply, new_life}
 use Rattle.siri_life.specs.Named.{Name, Of, same_name, same_subscription, those, first, find, put, without, keep}
 use Rattle.siri_life.specs.Serving.{Act, Fed, Heard, accepted_if, accepts, acknowledged, clocked_serving, ended_if, expired_serving}
-use Rattle.siri_life.specs.Serving.{lives_on, serving_after, settled_rows, supplied, with_rows}
+use Rattle.siri_life.specs.Serving.{heard, lives_on, renewed, renewed_if, serving_after, settled_rows, supplied, with_rows}
 use Rattle.siri_subs.specs.declared.entry.Row.{Row}
 use Rattle.siri_subs.specs.Table as table
 use Rattle.siri_subs.specs.Table.{EachOnce, is_held, is_of}
 use Rattle.siri_subs.proofs.Once.{once_put, once_kept}
 use Rattle.siri_model.specs.Direct.{shown}
 use Rattle.siri_model.specs.History.{Entry, Step, Start, Clock, Feed, Take, Settle, History, State, entries_of, now_of, current, state_of}
-use Rattle.siri_model.specs.Lives.{Living, Served, acknowledgement_of, acts_in, mark_of, none_served, served_after, serving_of, table_of, life_of}
+use Rattle.siri_model.specs.Lives.{Living, Served, acknowledgement_of, acts_in, mark_of, supply_of, none_served, served_after, serving_of, table_of, life_of}
 use Rattle.siri_messages.specs.Asked.{Asked, asked_in}
 use Rattle.siri_model.specs.Meaning.{meaning}
-use Rattle.siri_model.specs.Rows.{KeptLife, acknowledged_row, supplied_row, row_of, rows_of, settled_row, with_row_of, rows_asked}
-use Rattle.siri_model.specs.Rows.{rows_ended as rows_terminated, rows_acknowledged, rows_taken, rows_after}
+use Rattle.siri_model.specs.Rows.{KeptLife, acknowledged_row, supplied_row, renewed_row, nothing_kept, row_of, rows_of, settled_row, with_row_of, rows_asked}
+use Rattle.siri_model.specs.Rows.{rows_ended as rows_terminated, rows_acknowledged, rows_supplied, rows_taken, rows_after}
 use Rattle.siri_model_laws.proofs.Moves.{IsLike, acknowledgement_like, acknowledgement_moves, supply_like, supply_moves, rows_settled, settled_like}
 use Rattle.siri_model_laws.proofs.Serves.{AreNamed, goes_with, heard_keeps, more_served}
-use Rattle.siri_model_laws.proofs.Tables.{rows_without, rows_expired, rows_put, rows_accepted, rows_ended, rows_none, rows_changed, row_found}
+use Rattle.siri_model_laws.proofs.Tables.{rows_without, rows_expired, rows_put, rows_accepted, rows_ended, rows_none, rows_changed, rows_same, row_found}
 
 -- ---- names
 
@@ -120,7 +120,7 @@ well_clocked v moment well =
 well_accepted : (v : Served) (n : ℕ) (x : Asked) (b : Bool) → IsWell v
     → IsWell (accepted_if meaning b v x.subscription.subscriber x.subscription.identifier n x)
 well_accepted v n x true well =
-    let l = new_life meaning v.start v.now n x in
+    let l = new_life meaning v.start v.now n n x in
     record {
       named = named_put x.subscription.subscriber x.subscription.identifier l v.table well.named refl refl;
       once = subst EachOnce (sym (rows_put x.subscription.subscriber x.subscription.identifier l v.table well.named refl
@@ -135,18 +135,23 @@ well_ended v c s true well = record {
 }
 well_ended v c s false well = record { named = well.named; once = well.once }
 
--- a life moves on, in its place
-well_moved : (v : Served) (c s : Name) (l l' : Living) → find c s v.table ≡ Some l → IsLike l' l → IsWell v
-    → IsWell (with_rows meaning v (put c s l' v.table) [])
-well_moved v c s l l' is alike well =
+-- a life that asks for the same stands in the place of another
+well_put : (v : Served) (c s : Name) (l l' : Living) (ended : List (Of Living)) → find c s v.table ≡ Some l
+    → l'.wanted ≡ l.wanted → IsWell v → IsWell (with_rows meaning v (put c s l' v.table) ended)
+well_put v c s l l' ended is same well =
     let names = found_named c s v.table l well.named is in
-    let wanted = sym alike.wanted in
+    let wanted = sym same in
     let a = names.0 ∙ ap (λ (w : Asked). w.subscription.subscriber) wanted in
     let b = names.1 ∙ ap (λ (w : Asked). w.subscription.identifier) wanted in
     record {
       named = named_put c s l' v.table well.named a b;
       once = subst EachOnce (sym (rows_put c s l' v.table well.named a b)) (once_put (row_of l') (rows_of v.table) well.once);
     }
+
+-- a life moves on, in its place
+well_moved : (v : Served) (c s : Name) (l l' : Living) → find c s v.table ≡ Some l → IsLike l' l → IsWell v
+    → IsWell (with_rows meaning v (put c s l' v.table) [])
+well_moved v c s l l' is alike well = well_put v c s l l' [] is alike.wanted well
 
 well_acknowledged : (v : Served) (c s : Name) (m : _) → IsWell v → IsWell (acknowledged meaning v c s m (find c s v.table))
 well_acknowledged v c s m well = by (find c s v.table) refl
@@ -161,6 +166,22 @@ well_supplied v c s m well = by (find c s v.table) refl
     by : (l : Option Living) → find c s v.table ≡ l → IsWell (supplied meaning v c s m l)
     by None is = record { named = well.named; once = well.once }
     by (Some l) is = well_moved v c s l (after_supply meaning l v.start m v.now) is (supply_like l v.start m v.now) well
+
+well_renewed : (v : Served) (c s : Name) (n b : ℕ) → IsWell v → IsWell (renewed meaning v c s n b (find c s v.table))
+well_renewed v c s n b well = by (find c s v.table) refl
+  where
+    test : (t : Bool) (l : Living) → find c s v.table ≡ Some l → IsWell (renewed_if meaning t v c s n b l.wanted)
+    test true l is = well_put v c s l (new_life meaning v.start v.now n b l.wanted) _ is refl well
+    test false l is = record { named = well.named; once = well.once }
+
+    by : (l : Option Living) → find c s v.table ≡ l → IsWell (renewed meaning v c s n b l)
+    by None is = record { named = well.named; once = well.once }
+    by (Some l) is = test (can_renew meaning l n b) l is
+
+well_asked_for : (v : Served) (all : Bool) (c : Name) (mark : Mark) → IsWell v
+    → IsWell (heard meaning v c mark.subscription (supply_of all mark))
+well_asked_for v true c mark well = well_renewed v c mark.subscription mark.number mark.round well
+well_asked_for v false c mark well = well_supplied v c mark.subscription (mark_of mark) well
 
 -- ---- what a message does
 
@@ -239,6 +260,36 @@ rows_after_supplied v c s m well = by (find c s v.table) refl
     by (Some l) is = rows_changed c s (supplied_row v.start v.now m) l
         (after_supply meaning l v.start m v.now) v.table well.named well.once is (supply_moves l v.start m v.now)
 
+-- a request for all of an acceptance
+rows_after_renewed : (v : Served) (c s : Name) (n b : ℕ) → IsWell v
+    → rows_of (renewed meaning v c s n b (find c s v.table)).table ≡ with_row_of c s (renewed_row v.now n b)
+    (rows_of v.table)
+rows_after_renewed v c s n b well = by (find c s v.table) refl
+  where
+    anew : Living → Row KeptLife
+    anew l = record (row_of l) { number = n; slot = nothing_kept v.now l.wanted }
+
+    test : (t : Bool) (l : Living) → find c s v.table ≡ Some l → can_renew meaning l n b ≡ t
+        → rows_of (renewed_if meaning t v c s n b l.wanted).table ≡ with_row_of c s (renewed_row v.now n b) (rows_of v.table)
+    test true l is renews =
+        let base : l.base ≡ b = eqb-true l.base b (and_parts (l.base == b) (nat_lt l.number n) renews).0 in
+        rows_changed c s (renewed_row v.now n b) l (new_life meaning v.start v.now n b l.wanted) v.table well.named well.once is
+        (ap (λ t. cond t (anew l) (row_of l)) renews ∙ (λ i. record (anew l) { base = base i }))
+    test false l is renews =
+        rows_same c s (renewed_row v.now n b) l v.table well.named well.once is
+        (ap (λ t. cond t (anew l) (row_of l)) renews)
+
+    by : (l : Option Living) → find c s v.table ≡ l → rows_of (renewed meaning v c s n b l).table ≡ with_row_of c s
+        (renewed_row v.now n b) (rows_of v.table)
+    by None is = sym (rows_none c s (renewed_row v.now n b) v.table well.named is)
+    by (Some l) is = test (can_renew meaning l n b) l is refl
+
+rows_after_asked_for : (v : Served) (all : Bool) (c : Name) (mark : Mark) → IsWell v
+    → rows_of (heard meaning v c mark.subscription (supply_of all mark)).table ≡ rows_supplied v.start v.now all c mark
+    (rows_of v.table)
+rows_after_asked_for v true c mark well = rows_after_renewed v c mark.subscription mark.number mark.round well
+rows_after_asked_for v false c mark well = rows_after_supplied v c mark.subscription (mark_of mark) well
+
 rows_after_received : (v : Served) (status : Bool) (consumer : Option Name) (mark : Option Mark) → IsWell v
     → rows_of (serving_after meaning (acknowledgement_of status consumer mark) v).table ≡ rows_acknowledged v.start
     v.now status consumer mark (rows_of v.table)
@@ -268,7 +319,7 @@ well_taken v (message.TerminateSubscriptionRequest r) well = well_terminated v r
 well_taken v (message.TerminateSubscriptionResponse m) well = well
 well_taken v (message.DataReadyNotification m) well = well
 well_taken v (message.DataReadyAcknowledgement m) well = well
-well_taken v (message.DataSupplyRequest r) well = well_supplied v r.consumer_ref r.extensions.subscription (mark_of r.extensions) well
+well_taken v (message.DataSupplyRequest r) well = well_asked_for v r.all_data r.consumer_ref r.extensions well
 well_taken v (message.DataReceivedAcknowledgement a) well = well_received v a.status a.consumer_ref a.extensions well
 well_taken v (message.CheckStatusRequest m) well = well
 well_taken v (message.CheckStatusResponse m) well = well
@@ -284,7 +335,7 @@ rows_after_taken v (message.TerminateSubscriptionRequest r) well = rows_after_te
 rows_after_taken v (message.TerminateSubscriptionResponse m) well = refl
 rows_after_taken v (message.DataReadyNotification m) well = refl
 rows_after_taken v (message.DataReadyAcknowledgement m) well = refl
-rows_after_taken v (message.DataSupplyRequest r) well = rows_after_supplied v r.consumer_ref r.extensions.subscription (mark_of r.extensions) well
+rows_after_taken v (message.DataSupplyRequest r) well = rows_after_asked_for v r.all_data r.consumer_ref r.extensions well
 rows_after_taken v (message.DataReceivedAcknowledgement a) well = rows_after_received v a.status a.consumer_ref a.extensions well
 rows_after_taken v (message.CheckStatusRequest m) well = refl
 rows_after_taken v (message.CheckStatusResponse m) well = refl

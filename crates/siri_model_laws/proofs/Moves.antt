@@ -18,18 +18,20 @@ use Rattle.siri_messages.specs.Asked.{Asked}
 use Rattle.siri_model.specs.Meaning.{meaning}
 use Rattle.siri_model.specs.Rows.{row_of, rows_of, is_numbered, acknowledged_row, supplied_row, looked, sent_if_due, settled_row}
 
--- a life asks for what another does, under its number, and its last heartbeat is the same
+-- a life asks for what another does, under its number and with its base, and its last heartbeat is the same
 pub record IsLike (new old : Living) : Type 0 where
   pub number : new.number ≡ old.number
+  pub base : new.base ≡ old.base
   pub wanted : new.wanted ≡ old.wanted
   pub heartbeat : new.last_heartbeat ≡ old.last_heartbeat
 
 like_itself : (l : Living) → IsLike l l
-like_itself l = record { number = refl; wanted = refl; heartbeat = refl }
+like_itself l = record { number = refl; base = refl; wanted = refl; heartbeat = refl }
 
 like_then : (a b c : Living) → IsLike b a → IsLike c b → IsLike c a
 like_then a b c first later = record {
   number = later.number ∙ first.number;
+  base = later.base ∙ first.base;
   wanted = later.wanted ∙ first.wanted;
   heartbeat = later.heartbeat ∙ first.heartbeat;
 }
@@ -39,6 +41,7 @@ row_like : (new old : Living) (rounds : Slot Items Carried) → IsLike new old �
     → record {
       wanted = old.wanted.subscription;
       number = old.number;
+      base = old.base;
       address = old.wanted.address;
       beat = old.wanted.beat;
       slot = record { rounds = rounds; last_heartbeat = old.last_heartbeat };
@@ -46,6 +49,7 @@ row_like : (new old : Living) (rounds : Slot Items Carried) → IsLike new old �
 row_like new old rounds alike is = sym (λ i. record {
   wanted = (alike.wanted i).subscription;
   number = alike.number i;
+  base = alike.base i;
   address = (alike.wanted i).address;
   beat = (alike.wanted i).beat;
   slot = record { rounds = is i; last_heartbeat = alike.heartbeat i };
@@ -55,8 +59,8 @@ row_like new old rounds alike is = sym (λ i. record {
 
 module _ (l : Living) (k : ℕ) (m : Mark) (now : ℕ) where
   next_like : (b : Bool) (o : Outstanding Items Carried) → IsLike (next_part meaning b l o now) l
-  next_like true o = record { number = refl; wanted = refl; heartbeat = refl }
-  next_like false o = record { number = refl; wanted = refl; heartbeat = refl }
+  next_like true o = record { number = refl; base = refl; wanted = refl; heartbeat = refl }
+  next_like false o = record { number = refl; base = refl; wanted = refl; heartbeat = refl }
 
   acknowledged_like : (b : Bool) (o : Outstanding Items Carried) → IsLike (acknowledged_if meaning b l o now) l
   acknowledged_like true o = next_like (nat_lt (suc o.acknowledged_parts) (length o.round.parts)) o
@@ -84,7 +88,7 @@ module _ (l : Living) (k : ℕ) (m : Mark) (now : ℕ) where
 
 -- a message of the outstanding round is sent
 sent_like : (l : Living) (now : ℕ) (b : Bool) (o : Outstanding Items Carried) → IsLike (sent_if meaning b l o now) l
-sent_like l now true o = record { number = refl; wanted = refl; heartbeat = refl }
+sent_like l now true o = record { number = refl; base = refl; wanted = refl; heartbeat = refl }
 sent_like l now false o = like_itself l
 
 -- no other number or start does anything
@@ -127,7 +131,7 @@ module _ (l : Living) (direct : Items) (now : ℕ) where
   opened_like = by l.outstanding
     where
       test : (b : Bool) → IsLike (opened_if meaning b l direct now) l
-      test true = record { number = refl; wanted = refl; heartbeat = refl }
+      test true = record { number = refl; base = refl; wanted = refl; heartbeat = refl }
       test false = like_itself l
 
       by : (o : Option (Outstanding Items Carried)) → IsLike (opened_at meaning o l direct now) l
@@ -185,6 +189,7 @@ settle_moves l items now =
     ∙ (λ i. record {
       wanted = (alike.wanted i).subscription;
       number = alike.number i;
+      base = alike.base i;
       address = (alike.wanted i).address;
       beat = (alike.wanted i).beat;
       slot = record {

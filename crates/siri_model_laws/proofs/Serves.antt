@@ -7,11 +7,11 @@ use Rattle.siri_messages.specs.Rounds.{has_round}
 use Rattle.siri_messages.specs.declared.message.Message.{Message}
 use Rattle.siri_messages.specs.declared.message.Message.TheVariants as message
 use Rattle.siri_change.specs.Parts.{Carried}
-use Rattle.siri_life.specs.Life.{Packet, Subscribe, Terminate, Supply, Acknowledge, Notify, Delivery, is_before}
+use Rattle.siri_life.specs.Life.{Packet, Subscribe, Terminate, AllData, Supply, Acknowledge, Notify, Delivery, is_before, can_renew}
 use Rattle.siri_life.specs.Named.{Name, Of, find}
-use Rattle.siri_life.specs.Serving.{Fed, Heard, accepted_if, accepts, ended_if, supplied, acknowledged, heard, serving_after}
+use Rattle.siri_life.specs.Serving.{Fed, Heard, accepted_if, accepts, ended_if, renewed, renewed_if, supplied, acknowledged, heard, serving_after}
 use Rattle.siri_model.specs.History.{Entry, Step, Start, Clock, Feed, Take, Settle, History, State, after_step, entries_of, entries_fed, fed, nothing, state_of}
-use Rattle.siri_model.specs.Lives.{Living, Served, acknowledgement_of, acts_in, mark_of, none_served, served_after, serving_of}
+use Rattle.siri_model.specs.Lives.{Living, Served, acknowledgement_of, acts_in, mark_of, supply_of, none_served, served_after, serving_of}
 use Rattle.siri_messages.specs.Asked.{Asked, asked_in}
 use Rattle.siri_model.specs.Meaning.{meaning}
 use Rattle.siri_model_laws.proofs.InOrder.{more_steps}
@@ -42,6 +42,15 @@ heard_keeps v c s (Terminate n) = by (is_before meaning (find c s v.table) n)
     by : (b : Bool) → Keeps (ended_if meaning b v c s) v
     by true = record { start = refl; now = refl; known = refl }
     by false = record { start = refl; now = refl; known = refl }
+heard_keeps v c s (AllData n b) = by (find c s v.table)
+  where
+    test : (t : Bool) (x : Asked) → Keeps (renewed_if meaning t v c s n b x) v
+    test true x = record { start = refl; now = refl; known = refl }
+    test false x = record { start = refl; now = refl; known = refl }
+
+    by : (l : Option Living) → Keeps (renewed meaning v c s n b l) v
+    by None = record { start = refl; now = refl; known = refl }
+    by (Some l) = test (can_renew meaning l n b) l.wanted
 heard_keeps v c s (Supply m) = by (find c s v.table)
   where
     by : (l : Option Living) → Keeps (supplied meaning v c s m l) v
@@ -106,7 +115,7 @@ goes_taken v state (message.TerminateSubscriptionResponse m) goes = goes
 goes_taken v state (message.DataReadyNotification m) goes = goes
 goes_taken v state (message.DataReadyAcknowledgement m) goes = goes
 goes_taken v state (message.DataSupplyRequest r) goes =
-    goes_on _ v state (heard_keeps v r.consumer_ref r.extensions.subscription (Supply (mark_of r.extensions))) goes
+    goes_on _ v state (heard_keeps v r.consumer_ref r.extensions.subscription (supply_of r.all_data r.extensions)) goes
 goes_taken v state (message.DataReceivedAcknowledgement a) goes = goes_on _ v state (acknowledged_keeps v a.status a.consumer_ref a.extensions) goes
 goes_taken v state (message.CheckStatusRequest m) goes = goes
 goes_taken v state (message.CheckStatusResponse m) goes = goes

@@ -1,5 +1,5 @@
 -- The rows of a table of lives change as a subscription table does.
-use Rattle.std.proofs.Common.{◌≡◌, ℕ, List, [], ◌∷◌, length, Bool, true, false, cond, not, ◌&&◌, Option, None, Some, Ok, Err, refl, sym, ap, ◌∙◌, arith}
+use Rattle.std.proofs.Common.{◌≡◌, ℕ, List, [], ◌∷◌, length, Bool, true, false, cond, not, ◌&&◌, Option, None, Some, Ok, Err, refl, sym, ap, ◌∙◌, subst, arith}
 use Rattle.std.specs.Prelude.{nat_lt, nat_le, ◌==◌, option_map, find as find_first}
 use Rattle.std.specs.Cmp.Lexicographic.{nat_list_eq_equiv}
 use Rattle.std.proofs.lemmas.Bool.{leb-true, leb-false, le-ltb, lt-ltb, ltb-true, ltb-false, eqb-true, eqb-false, and_from, and_left, and_right, or_parts}
@@ -106,7 +106,7 @@ lt_or a b = by (a == b) (nat_lt b a) refl refl
 module _ (v : Served) (x : Asked) (n : ℕ) (named : AreNamed v.table) where
   taken : (b : Bool) → b ≡ true → rows_of (accepted_if meaning b v x.subscription.subscriber x.subscription.identifier n
       x).table ≡ table.put (new_row v.now n x) (rows_of v.table)
-  taken true e = rows_put x.subscription.subscriber x.subscription.identifier (new_life meaning v.start v.now n x) v.table named refl refl
+  taken true e = rows_put x.subscription.subscriber x.subscription.identifier (new_life meaning v.start v.now n n x) v.table named refl refl
   taken false e = absurd (cc)
 
   refused : (b : Bool) → b ≡ false → rows_of (accepted_if meaning b v x.subscription.subscriber x.subscription.identifier n x).table ≡ rows_of v.table
@@ -207,6 +207,28 @@ module _ (c s : Name) (change : Row KeptLife → Row KeptLife) where
           → (find c s xs ≡ Some l → change (row_of l) ≡ row_of l' → rows_of (put c s l' xs) ≡ with_row_of c s change (rows_of xs))
           → rows_of (cond b (record { subscriber = c; identifier = s; it = l' } ∷ xs) (x ∷ put c s l' xs)) ≡ cond b'
           (change (row_of x.it)) (row_of x.it) ∷ with_row_of c s change (rows_of xs)
+      by true b' f e there r = let same : x.it ≡ l = cc in here b' f (sym e) same
+      by false false f e there r = ap (λ rows. row_of x.it ∷ rows) (r there is)
+      by false true f e there r = absurd (cc)
+
+  -- or isn't
+  pub rows_same : (l : Living) (t : List (Of Living)) → AreNamed t → EachOnce (rows_of t) → find c s t ≡ Some l
+      → change (row_of l) ≡ row_of l → rows_of t ≡ with_row_of c s change (rows_of t)
+  rows_same l [] n once there is = absurd (cc)
+  rows_same l (x ∷ xs) n once there is = by (same_subscription c s x.subscriber x.identifier)
+      (is_of c s (row_of x.it)) refl (like c s x n.0) there (rows_same l xs n.1 once.1)
+    where
+      here : (b' : Bool) → is_of c s (row_of x.it) ≡ b' → b' ≡ true → x.it ≡ l
+          → row_of x.it ∷ rows_of xs ≡ cond b' (change (row_of x.it)) (row_of x.it) ∷ with_row_of c s change (rows_of xs)
+      here false e f same = absurd (cc)
+      here true e f same =
+          let none = held_like c s (row_of x.it) (rows_of xs) e ∙ once.0 in
+          let stays = subst (λ (k : Living). change (row_of k) ≡ row_of k) (sym same) is in
+          λ i. sym stays i ∷ sym (unchanged (rows_of xs) none) i
+
+      by : (b b' : Bool) → is_of c s (row_of x.it) ≡ b' → b ≡ b' → first (cond b (x.it ∷ those c s xs) (those c s xs)) ≡ Some l
+          → (find c s xs ≡ Some l → change (row_of l) ≡ row_of l → rows_of xs ≡ with_row_of c s change (rows_of xs))
+          → row_of x.it ∷ rows_of xs ≡ cond b' (change (row_of x.it)) (row_of x.it) ∷ with_row_of c s change (rows_of xs)
       by true b' f e there r = let same : x.it ≡ l = cc in here b' f (sym e) same
       by false false f e there r = ap (λ rows. row_of x.it ∷ rows) (r there is)
       by false true f e there r = absurd (cc)
