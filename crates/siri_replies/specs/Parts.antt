@@ -1,6 +1,6 @@
--- What carries a part of a subscription's round to its consumer, announces it, or says that there is none (EN 15531-2,
--- ServiceDelivery, DataReadyNotification). All messages of a round carry the moment at which it began.
-use Rattle.std.specs.Prelude.{ℕ, List, [], ◌∷◌, true, false, Some, None}
+-- What carries a part of a subscription's round to its consumer, announces it, or says that there is none, and what a request
+-- for all of a subscription is answered (EN 15531-2, ServiceDelivery, DataReadyNotification). All messages of a round carry the moment at which it began.
+use Rattle.std.specs.Prelude.{ℕ, List, [], ◌∷◌, true, false, Option, Some, None, is_none, option_map}
 use Rattle.siri_topic.specs.declared.subscription.Subscription.{Subscription}
 use Rattle.siri_topic.specs.declared.topics.Topic.{Topic}
 use Rattle.siri_topic.specs.declared.topics.Topic.TheVariants as topic
@@ -9,6 +9,7 @@ use Rattle.siri_messages.specs.declared.deliveries.FunctionalDelivery.{Functiona
 use Rattle.siri_messages.specs.declared.supplies.DataReadyNotification.{DataReadyNotification}
 use Rattle.siri_rounds.specs.declared.answers.SupplyError.{SupplyError}
 use Rattle.siri_rounds.specs.Wanted.{WantedPart}
+use Rattle.siri_replies.specs.declared.refusal.Refusal.{Refusal}
 use Rattle.siri_replies.specs.Refusals.{refusal_text, not_supplied_as}
 use Rattle.siri_replies.specs.Responses.{number_text}
 
@@ -98,6 +99,25 @@ refused_supply producer now why = record {
   status = false;
   error_condition = Some (refusal_text (not_supplied_as why));
   more_data = false;
+  stop_monitoring_delivery = [];
+  estimated_timetable_delivery = [];
+  vehicle_monitoring_delivery = [];
+  situation_exchange_delivery = [];
+}
+
+-- ---- all of a subscription
+
+-- the answer at a moment to a request for all of a subscription under a number: no functional delivery, and MoreData, since
+-- the parts are delivered by themselves; where it is refused, Status false
+unfoldable pub all_data_response : (producer : List ℕ) → (now number : ℕ) → (why : Option Refusal) → ServiceDelivery
+all_data_response producer now number why = record {
+  response_timestamp = Some now;
+  producer_ref = Some producer;
+  response_message_identifier = None;
+  request_message_ref = Some (number_text number);
+  status = is_none why;
+  error_condition = option_map refusal_text why;
+  more_data = is_none why;
   stop_monitoring_delivery = [];
   estimated_timetable_delivery = [];
   vehicle_monitoring_delivery = [];

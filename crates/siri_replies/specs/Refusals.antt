@@ -3,6 +3,8 @@ use Rattle.std.specs.Prelude.{ℕ, List, ◌++◌, codes}
 use Rattle.std.specs.Fmt.{decimal}
 use Rattle.siri_subs.specs.declared.errors.AcceptError.{AcceptError}
 use Rattle.siri_subs.specs.declared.errors.AcceptError.TheVariants as not_accepted
+use Rattle.siri_subs.specs.declared.errors.RenumberError.{RenumberError}
+use Rattle.siri_subs.specs.declared.errors.RenumberError.TheVariants as not_renewed
 use Rattle.siri_rounds.specs.declared.answers.SupplyError.{SupplyError}
 use Rattle.siri_rounds.specs.declared.answers.SupplyError.TheVariants as not_supplied
 use Rattle.siri_replies.specs.declared.refusal.Refusal.{Refusal}
@@ -28,3 +30,8 @@ not_accepted_as not_accepted.TableFull = refused.TableFull
 abbrev pub not_supplied_as : SupplyError → Refusal
 not_supplied_as not_supplied.NothingReady = refused.NothingReady
 not_supplied_as (not_supplied.WrongPart wanted) = refused.WrongPart wanted
+
+-- the refusal of a request for all of a subscription
+abbrev pub not_renewed_as : RenumberError → Refusal
+not_renewed_as not_renewed.UnknownSubscription = refused.UnknownSubscription
+not_renewed_as (not_renewed.Superseded held) = refused.Superseded held

@@ -7,6 +7,7 @@
 //!
 //!     a part of a round                -> part_delivery, part_notification
 //!     a part that isn't supplied       -> refused_supply
+//!     a request for all data           -> all_data_response
 //!
 //!     what a feed was told             -> feed_acknowledgement
 //!     its start and its moment         -> status_response, heartbeat
@@ -27,7 +28,7 @@ mod responses;
 mod statuses;
 
 pub use number::number_text;
-pub use parts::{part_delivery, part_notification, refused_supply};
+pub use parts::{all_data_response, part_delivery, part_notification, refused_supply};
 pub use refusal::Refusal;
 pub use responses::{
     accepted_status, ended_status, refused_status, subscription_response, termination_response,

@@ -1,12 +1,13 @@
 //! A part of a round: its delivery, its notification, and the answer where it isn't supplied.
 
-ghost use Rattle.std.specs.Prelude.{◌≡◌, ◌++◌, IfOk, OnOk};
+ghost use Rattle.std.specs.Prelude.{◌≡◌, ◌++◌, IfOk, OnOk, option_map};
 ghost use Rattle.siri_change.specs.Parts.{carried};
 ghost use Rattle.siri_rounds.specs.Wanted.{part_sent};
-ghost use Rattle.siri_replies.specs.Parts.{in_estimated_timetable, in_situation_exchange, in_stop_monitoring, in_vehicle_monitoring, part_delivery, part_functional, part_notification, refused_supply};
+ghost use Rattle.siri_replies.specs.Parts.{all_data_response, in_estimated_timetable, in_situation_exchange, in_stop_monitoring, in_vehicle_monitoring, part_delivery, part_functional, part_notification, refused_supply};
+ghost use Rattle.siri_replies.specs.Refusals.{refusal_text};
 
 use crate::{Refusal, number_text};
-use siri_base::{Copies, List, Moment, Name, OutOfMemory};
+use siri_base::{Copies, List, Moment, Name, OutOfMemory, Text};
 use siri_change::Change;
 use siri_messages::{DataReadyNotification, FunctionalDelivery, Mark, ServiceDelivery};
 use siri_records::{Item, Key};
@@ -167,4 +168,44 @@ pub fn refused_supply(
         vehicle_monitoring_delivery: List::new(alloc),
         situation_exchange_delivery: List::new(alloc),
     })
+}
+
+/// The answer at a moment to a request for all of a subscription under a number (ServiceDelivery without functional
+/// deliveries): MoreData, since the parts are delivered by themselves; where it is refused, Status false.
+#[tactic(auto, unfolding(crate::specs::Parts::all_data_response))]
+pub fn all_data_response(
+    alloc: Global,
+    producer: &Name,
+    now: Moment,
+    number: u64,
+    why: Option<Refusal>,
+) -> Result<ServiceDelivery, OutOfMemory>
+    ensures { IfOk result (λ delivery. delivery ≡ all_data_response producer.now now number why) }
+{
+    Ok(ServiceDelivery {
+        response_timestamp: Some(now),
+        producer_ref: Some(producer.copy()?),
+        response_message_identifier: None,
+        request_message_ref: Some(number_text(alloc, number)?),
+        status: why.is_none(),
+        error_condition: refusal_text(alloc, why)?,
+        more_data: why.is_none(),
+        stop_monitoring_delivery: List::new(alloc),
+        estimated_timetable_delivery: List::new(alloc),
+        vehicle_monitoring_delivery: List::new(alloc),
+        situation_exchange_delivery: List::new(alloc),
+    })
+}
+
+/// The ErrorText of a refusal, where there is one.
+fn refusal_text(alloc: Global, why: Option<Refusal>) -> Result<Option<Text>, OutOfMemory>
+    ensures { IfOk result (λ text. text ≡ option_map refusal_text why) }
+{
+    match why {
+        Some(why) => {
+            let text = why.text(alloc)?;
+            Ok(Some(text))
+        }
+        None => Ok(None),
+    }
 }

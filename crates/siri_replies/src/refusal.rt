@@ -3,10 +3,11 @@
 ghost use Rattle.std.specs.Prelude.{◌≡◌, ◌++◌, ◌+◌, ◌≤◌, IfOk, OnOk, length, codes};
 ghost use Rattle.std.specs.Prelude.{string_bytes};
 ghost use Rattle.std.specs.Fmt.{decimal};
-ghost use Rattle.siri_replies.specs.Refusals.{refusal_text, not_supplied_as};
+ghost use Rattle.siri_replies.specs.Refusals.{refusal_text, not_renewed_as, not_supplied_as};
 
 use siri_base::{OutOfMemory, Place, Text, TextError};
 use siri_rounds::SupplyError;
+use siri_subs::RenumberError;
 use std::alloc::Global;
 
 /// Why something is refused. Its text is the ErrorText of an ErrorCondition (EN 15531-2).
@@ -21,7 +22,7 @@ pub enum Refusal {
     },
     /// As many subscriptions are held as may be.
     TableFull,
-    /// The subscription isn't held under a smaller number.
+    /// The subscription isn't held under a smaller number, or not as it is meant.
     UnknownSubscription,
     /// No part is there to be fetched.
     NothingReady,
@@ -45,6 +46,16 @@ impl Refusal {
         match why {
             SupplyError::NothingReady => Refusal::NothingReady,
             SupplyError::WrongPart { wanted } => Refusal::WrongPart { wanted },
+        }
+    }
+
+    /// The refusal of a request for all of a subscription.
+    pub fn of_renumber(why: RenumberError) -> Refusal
+        ensures { result ≡ not_renewed_as why }
+    {
+        match why {
+            RenumberError::UnknownSubscription => Refusal::UnknownSubscription,
+            RenumberError::Superseded { held } => Refusal::Superseded { held },
         }
     }
 
