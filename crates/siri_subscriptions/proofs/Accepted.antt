@@ -181,10 +181,17 @@ noted_answered now number asked rows noted = noted_ready now number rows asked n
 module _ (now number : ℕ) (candidate : Candidate) (course : Course) (table : List (Row Course))
     (new : kept course ≡ nothing_kept now (asked_by candidate)) where
   abbrev row_by : Row Course
-  row_by = record { wanted = candidate.wanted; number = number; address = candidate.address; beat = candidate.beat; slot = course }
+  row_by = record {
+    wanted = candidate.wanted;
+    number = number;
+    base = number;
+    address = candidate.address;
+    beat = candidate.beat;
+    slot = course;
+  }
 
   row_kept : mapped_row kept row_by ≡ new_row now number (asked_by candidate)
-  row_kept = ap (row_with number (asked_by candidate)) new
+  row_kept = ap (row_with number number (asked_by candidate)) new
 
   answer_kept : answer now row_by table ≡ answer now (new_row now number (asked_by candidate)) (kept_rows table)
   answer_kept = sym (answer_mapped kept now row_by table) ∙ ap (λ h. answer now h (kept_rows table)) row_kept

@@ -2,6 +2,7 @@ pub mod Kept
 pub mod Marked
 pub mod Acknowledged
 pub mod Supplied
+pub mod Renewed
 pub mod Ended
 pub mod Asked
 pub mod Accepted

@@ -10,6 +10,8 @@ pub mod Endings
 pub mod Acknowledgements
 pub mod Supplies
 pub mod Supplying
+pub mod Renewals
+pub mod Renewing
 pub mod Rounds
 pub mod Openings
 pub mod Messages

@@ -1,11 +1,11 @@
 -- What is noted of a subscription: what belongs to its life, and its last look.
-use Rattle.std.specs.Prelude.{ℕ, List, map, fold, Option, None}
+use Rattle.std.specs.Prelude.{ℕ, List, map, fold, Option, None, if◌then◌else◌}
 use Rattle.siri_messages.specs.Asked.{Asked}
 use Rattle.siri_life.specs.Named.{Name}
 use Rattle.siri_subs.specs.declared.entry.Row.{Row}
-use Rattle.siri_subs.specs.Mapped.{with_mapped_slots}
-use Rattle.siri_subs.specs.Table.{accepted, ended}
-use Rattle.siri_model.specs.Rows.{KeptLife, nothing_kept}
+use Rattle.siri_subs.specs.Mapped.{mapped_row, with_mapped_slots}
+use Rattle.siri_subs.specs.Table.{is_of, accepted, ended, is_renumbered_by}
+use Rattle.siri_model.specs.Rows.{KeptLife, asked_of, nothing_kept}
 use Rattle.siri_subscriptions.specs.declared.course.Course.{Course}
 use Rattle.siri_subscriptions.specs.declared.course.Looked.{Looked}
 use Rattle.siri_subscriptions.specs.Courses.{kept}
@@ -31,6 +31,7 @@ abbrev pub new_noted : ℕ → ℕ → Asked → Row Noted
 new_noted now number asked = record {
   wanted = asked.subscription;
   number = number;
+  base = number;
   address = asked.address;
   beat = asked.beat;
   slot = record { life = nothing_kept now asked; looked = None };
@@ -43,3 +44,20 @@ noted_asked now number asked rows = fold (λ rows wanted. accepted now (new_note
 -- after terminations under a number, one after the other
 abbrev pub noted_ended : ℕ → Name → List Name → List (Row Noted) → List (Row Noted)
 noted_ended number subscriber identifiers rows = fold (λ rows identifier. ended number subscriber identifier rows) rows identifiers
+
+-- what belongs to the life of a row
+abbrev pub noted_life : Row Noted → Row KeptLife
+noted_life row = mapped_row (λ noted. noted.life) row
+
+-- after a request for all of the acceptance with a base, under a number, at a moment: one that is renewed wasn't looked
+-- at yet
+abbrev pub renewed_noted : ℕ → (number base : ℕ) → Row Noted → Row Noted
+renewed_noted now number base row =
+    if is_renumbered_by number base row
+    then record row
+    { number = number; slot = record { life = nothing_kept now (asked_of (noted_life row)); looked = None } } else
+    row
+
+abbrev pub noted_renewed : ℕ → (number base : ℕ) → Name → Name → List (Row Noted) → List (Row Noted)
+noted_renewed now number base subscriber identifier rows =
+    map (λ row. if is_of subscriber identifier row then renewed_noted now number base row else row) rows

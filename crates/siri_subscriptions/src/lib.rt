@@ -6,6 +6,7 @@
 //!     TerminateSubscriptionRequest -> terminate    ---+--> the table of subscriptions, and the answer
 //!     DataSupplyRequest            -> supply       ---+
 //!        of a part that is lent    -> supply_lent  ---+
+//!        with AllData              -> renew        ---+
 //!     DataReceivedAcknowledgement  -> acknowledge  ---+
 //!
 //!     the responder, the table     -> settle       ---> what is sent, to whom; each row after it
@@ -23,7 +24,8 @@
 //! it belongs to the life of the subscription is told by `kept`, in the words of `siri_model`.
 //!
 //! A request may ask for many subscriptions. All memory that its answer may need is taken before the first is accepted,
-//! and the part that is supplied is made before it counts as sent, so after want of memory the table is as it was.
+//! and the part that is supplied is made before it counts as sent, so after want of memory the table is as it was. So
+//! are both answers that a request for all of a subscription may get.
 //!
 //! The first look at a subscription goes over all that is shown to its topic. Each later one reads only the stored
 //! items whose keys were touched since the last and those of which an end of the topic's window passed an edge, and
@@ -36,8 +38,8 @@
 //!
 //! Stands on `siri_base`, `siri_records`, `siri_topic`, `siri_messages`, `siri_change`, `siri_subs`, `siri_status`,
 //! `siri_rounds`, `siri_replies` and `siri_responder`; its contracts cite the words of `siri_model` for what a message
-//! and a settle do to the rows of a table. What is done with a message (`acknowledgements`, `prepared`, `requests`,
-//! `supplies`, `terminations`) knows no item and no store.
+//! and a settle do to the rows of a table. What is done with a message (`acknowledgements`, `prepared`, `renewals`,
+//! `requests`, `supplies`, `terminations`) knows no item and no store.
 #![tactic(auto)]
 
 mod acknowledgements;
@@ -48,6 +50,7 @@ mod looks;
 mod messages;
 mod outs;
 mod prepared;
+mod renewals;
 mod requests;
 mod settling;
 mod supplies;
@@ -59,6 +62,7 @@ pub use course::{Course, Looked};
 pub use looks::{Finding, Opening, look, move_on};
 pub use messages::message_due;
 pub use outs::Out;
+pub use renewals::{RenewAnswer, renew};
 pub use requests::subscribe;
 pub use settling::settle;
 pub use supplies::{SupplyAnswer, supply, supply_lent};
