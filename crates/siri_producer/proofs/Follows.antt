@@ -29,6 +29,7 @@ row_same : (a b : Row Followed) → life_row a ≡ life_row b → look_in a ≡ 
 row_same a b life look = λ i. record {
   wanted = (life i).wanted;
   number = (life i).number;
+  base = (life i).base;
   address = (life i).address;
   beat = (life i).beat;
   slot = record { life = (life i).slot; look = look i };

@@ -1,7 +1,7 @@
 -- What an answer that is lent rests on: a request is forgotten by what follows it, a settle changes no item, and it
 -- leaves the part that was just supplied.
 use Rattle.std.proofs.Common.{◌≡◌, ℕ, suc, zero, List, [], ◌∷◌, ◌++◌, map, Bool, true, false, cond, not, ◌&&◌, Option}
-use Rattle.std.proofs.Common.{None, Some, Err, slice_get, refl, sym, ap, ◌∙◌, append_assoc}
+use Rattle.std.proofs.Common.{None, Some, Result, Ok, Err, slice_get, refl, sym, ap, ◌∙◌, append_assoc}
 use Rattle.std.specs.Prelude.{if◌then◌else◌, ◌==◌, find, is_some, option_map, option_and_then}
 use Rattle.std.specs.List.{list_all}
 use Rattle.std.proofs.lemmas.Bool.{and_parts}
@@ -22,6 +22,8 @@ use Rattle.siri_rounds.specs.Wanted.{KeptRounds, WantedPart, wanted_part, wanted
 use Rattle.siri_rounds.specs.declared.answers.SupplyError.{SupplyError}
 use Rattle.siri_rounds.specs.declared.answers.SupplyError.TheVariants as refused_as
 use Rattle.siri_subs.specs.declared.entry.Row.{Row}
+use Rattle.siri_subs.specs.declared.errors.Accepted.{Accepted}
+use Rattle.siri_subs.specs.declared.errors.RenumberError.{RenumberError}
 use Rattle.siri_subs.specs.Table.{is_of}
 use Rattle.siri_model.specs.Direct.{answer, answering, at_most, most_of, response, shown}
 use Rattle.siri_model.specs.Followed.{Followed, followed_after, followed_of}
@@ -31,7 +33,8 @@ use Rattle.siri_model.specs.History.{state_of}
 use Rattle.siri_model.specs.Lives.{is_settle, is_settled, mark_of, table_of}
 use Rattle.siri_model.specs.Meaning.{meaning}
 use Rattle.siri_model.specs.Rows.{KeptLife, asked_of, is_numbered, looked, next_round, rows_after, rows_of}
-use Rattle.siri_model.specs.Rows.{rows_taken, sent_if_due, settled_row, supplied_row, with_rounds, with_row_of}
+use Rattle.siri_model.specs.Rows.{rows_supplied, rows_taken, sent_if_due, settled_row, supplied_row, with_rounds}
+use Rattle.siri_model.specs.Rows.{with_row_of}
 use Rattle.siri_model_laws.proofs.Current.{last_appended}
 use Rattle.siri_model_laws.proofs.FollowedRows.{go_on}
 use Rattle.siri_model_laws.proofs.Histories.{rows_go_on}
@@ -40,9 +43,11 @@ use Rattle.siri_replies.specs.Parts.{part_delivery, refused_supply}
 use Rattle.siri_responder.proofs.Stands.{stands_alike}
 use Rattle.siri_subscriptions.specs.Acknowledgements.{names_wanted}
 use Rattle.siri_subscriptions.specs.Sends.{table_sends}
+use Rattle.siri_subscriptions.specs.Renewals.{renew_answer}
 use Rattle.siri_subscriptions.specs.declared.supplies.SupplyAnswer.{SupplyAnswer}
 use Rattle.siri_subscriptions.specs.Supplies.{not_supplied, supplied, supply_answer, supply_by, supply_in}
-use Rattle.siri_producer.specs.Answers.{answer_to, supply_note, supply_reply}
+use Rattle.siri_producer.specs.Answers.{answer_to, renew_note, supply_answer_to, supply_note}
+use Rattle.siri_producer.specs.declared.answers.Answer.{Answer}
 use Rattle.siri_producer.specs.Known.{Known, StandsFor, Follows, looks_of}
 use Rattle.siri_producer.specs.Lent.{OwnPart, has_all, head_of, if_it_has_all, is_lent, lent_topic, own_part, part_in}
 use Rattle.siri_producer.specs.Lent.{supplied_by, topics_of}
@@ -353,30 +358,34 @@ module _ (h : History) (r : DataSupplyRequest) where
   abbrev settles : Row KeptLife → Row KeptLife
   settles = settled_row (now_of h) (current h)
 
-  rows_after_both : rows_of (table_of after_both)
+  rows_after_both : r.all_data ≡ false → rows_of (table_of after_both)
       ≡ map settles (with_row_of consumer subscription supplies (rows_of (table_of h)))
   unfolding rows_after rows_taken
-  rows_after_both =
+  rows_after_both of_part =
       ap (λ (h : History). rows_of (table_of h)) (sym (two_steps h (Take taken) Settle))
       ∙ rows_go_on (h ++ Take taken ∷ []) Settle
       ∙ (λ i. map (settled_row (state_supplied i).now (state_supplied i).current) (rows_go_on h (Take taken) i))
+      ∙ ap (λ all. map settles (rows_supplied (start_of h) (now_of h) all consumer r.extensions (rows_of (table_of h))))
+      of_part
 
-  found_after : find (is_of consumer subscription) (rows_of (table_of after_both))
+  found_after : r.all_data ≡ false → find (is_of consumer subscription) (rows_of (table_of after_both))
       ≡ option_map settles (option_map supplies (find (is_of consumer subscription) (rows_of (table_of h))))
-  found_after =
-      ap (find (is_of consumer subscription)) rows_after_both
+  found_after of_part =
+      ap (find (is_of consumer subscription)) (rows_after_both of_part)
       ∙ found_changed consumer subscription settles (λ row. refl)
       (with_row_of consumer subscription supplies (rows_of (table_of h)))
       ∙ ap (option_map settles) (found_with_row consumer subscription supplies
       (λ row. (stays_supplied (start_of h) (now_of h) (mark_of r.extensions) row).wanted) (rows_of (table_of h)))
 
   -- the wanted part of a row that has one stays
-  part_after : (row : Row KeptLife) → find (is_of consumer subscription) (rows_of (table_of h)) ≡ Some row
+  part_after : r.all_data ≡ false → (row : Row KeptLife)
+      → find (is_of consumer subscription) (rows_of (table_of h)) ≡ Some row
       → IsOutstanding row → part_in consumer subscription (rows_of (table_of after_both)) ≡ own_part row
-  part_after row found has =
+  part_after of_part row found has =
       let stays = stays_supplied (start_of h) (now_of h) (mark_of r.extensions) row in
       let still = stays.outstanding has in
-      ap (option_and_then own_part) (found_after ∙ ap (λ row. option_map settles (option_map supplies row)) found)
+      ap (option_and_then own_part)
+      (found_after of_part ∙ ap (λ row. option_map settles (option_map supplies row)) found)
       ∙ part_settled (now_of h) (current h) (supplies row) still.0 still.1
       ∙ stays.part
 
@@ -394,6 +403,12 @@ pub record StaysSupplied (name : List ℕ) (h : History) (r : DataSupplyRequest)
   pub reply : (answer_to name h (message.DataSupplyRequest r)).reply
       ≡ Some (message.ServiceDelivery (part_delivery name part.wanted part.number (start_of h) part.part))
 
+-- a request for a part is never told that it has AllData
+pub never_all : (outcome : Result (Unit {0}) SupplyError) → supplied_by (supply_note outcome) ≡ told.AllData → ⊥
+never_all (Ok done) is = absurd (cc is)
+never_all (Err refused_as.NothingReady) is = absurd (cc is)
+never_all (Err (refused_as.WrongPart wanted)) is = absurd (cc is)
+
 -- what is told of an answer
 abbrev told_by : SupplyAnswer → Supplied
 told_by answer = supplied_by (supply_note answer.outcome)
@@ -406,18 +421,49 @@ module _ (name : List ℕ) (h : History) (r : DataSupplyRequest) where
   abbrev found_row : Option (Row KeptLife)
   found_row = find (is_of r.consumer_ref r.extensions.subscription) (rows_of (table_of h))
 
-  told_is : supplied_by (answer_to name h (message.DataSupplyRequest r)).note ≡ told_by (by_row found_row)
-  unfolding answer_to supply_answer
-  told_is = refl
+  -- the answer by whether it has AllData
+  abbrev answer_at : Bool → Answer
+  answer_at all = supply_answer_to name (start_of h) (now_of h) all r (rows_of (table_of h))
 
-  reply_is : (answer : SupplyAnswer) → by_row found_row ≡ answer
+  answer_is_at : (all : Bool) → r.all_data ≡ all → answer_to name h (message.DataSupplyRequest r) ≡ answer_at all
+  unfolding answer_to
+  answer_is_at all is = ap answer_at is
+
+  all_told : (outcome : Result Accepted RenumberError) → supplied_by (renew_note outcome) ≡ told.AllData
+  all_told (Ok how) = refl
+  all_told (Err why) = refl
+
+  -- of one that has it nothing else is told
+  pub told_of_all : r.all_data ≡ true
+      → supplied_by (answer_to name h (message.DataSupplyRequest r)).note ≡ told.AllData
+  told_of_all has =
+      ap (λ (answer : Answer). supplied_by answer.note) (answer_is_at true has)
+      ∙ all_told (renew_answer name (now_of h) r (rows_of (table_of h))).outcome
+
+  -- what is told of it shows that it is of a part
+  is_of_part : (outcome : Supplied) → (told.AllData ≡ outcome → ⊥)
+      → supplied_by (answer_to name h (message.DataSupplyRequest r)).note ≡ outcome → r.all_data ≡ false
+  is_of_part outcome apart is = by r.all_data refl
+    where
+      by : (all : Bool) → r.all_data ≡ all → r.all_data ≡ false
+      by false has = has
+      by true has = absurd (apart (sym (told_of_all has) ∙ is))
+
+  told_is : r.all_data ≡ false
+      → supplied_by (answer_to name h (message.DataSupplyRequest r)).note ≡ told_by (by_row found_row)
+  unfolding supply_answer
+  told_is of_part = ap (λ (answer : Answer). supplied_by answer.note) (answer_is_at false of_part)
+
+  reply_is : r.all_data ≡ false → (answer : SupplyAnswer) → by_row found_row ≡ answer
       → (answer_to name h (message.DataSupplyRequest r)).reply ≡ Some (message.ServiceDelivery answer.delivery)
-  unfolding answer_to supply_answer
-  reply_is answer is = ap (λ (a : SupplyAnswer). Some (message.ServiceDelivery a.delivery)) is
+  unfolding supply_answer
+  reply_is of_part answer is =
+      ap (λ (answer : Answer). answer.reply) (answer_is_at false of_part)
+      ∙ ap (λ (a : SupplyAnswer). Some (message.ServiceDelivery a.delivery)) is
 
-  pub supplied_stays : supplied_by (answer_to name h (message.DataSupplyRequest r)).note ≡ told.Part
+  stays_of : r.all_data ≡ false → supplied_by (answer_to name h (message.DataSupplyRequest r)).note ≡ told.Part
       → StaysSupplied name h r
-  supplied_stays is = of found_row refl (sym told_is ∙ is)
+  stays_of of_part is = of found_row refl (sym (told_is of_part) ∙ is)
     where
       of_row : (row : Row KeptLife) → found_row ≡ Some row → (fetched : Bool) → row.slot.rounds.fetched ≡ fetched
           → (part : Option WantedPart) → wanted_part row.slot.rounds ≡ part
@@ -426,10 +472,11 @@ module _ (name : List ℕ) (h : History) (r : DataSupplyRequest) where
           → StaysSupplied name h r
       of_row row found true f (Some part) p true n is = record {
         part = record { number = row.number; wanted = row.wanted; part = part };
-        stays = part_after h r row found (outstanding_wanted row.slot.rounds part row.slot.rounds.outstanding refl p)
+        stays = part_after h r of_part row found
+            (outstanding_wanted row.slot.rounds part row.slot.rounds.outstanding refl p)
             ∙ ap (option_map (λ (part : WantedPart).
             record { number = row.number; wanted = row.wanted; part = part })) p;
-        reply = reply_is (supplied name (start_of h) row part)
+        reply = reply_is of_part (supplied name (start_of h) row part)
             (ap by_row found ∙ (λ i. supply_by name (start_of h) (now_of h) row (f i) (p i) (n i)));
       }
       of_row row found true f (Some part) p false n is = absurd (cc is)
@@ -441,12 +488,15 @@ module _ (name : List ℕ) (h : History) (r : DataSupplyRequest) where
       of (Some row) found is = of_row row found row.slot.rounds.fetched refl (wanted_part row.slot.rounds) refl
           (names_wanted (start_of h) r.extensions row) refl is
 
-  -- where no part is supplied, the reply says why
-  pub refused_reply : (why : SupplyError)
+  pub supplied_stays : supplied_by (answer_to name h (message.DataSupplyRequest r)).note ≡ told.Part
+      → StaysSupplied name h r
+  supplied_stays is = stays_of (is_of_part told.Part (λ e. cc e) is) is
+
+  refused_of : (why : SupplyError) → r.all_data ≡ false
       → supplied_by (answer_to name h (message.DataSupplyRequest r)).note ≡ supplied_by (supply_note (Err why))
       → (answer_to name h (message.DataSupplyRequest r)).reply
       ≡ Some (message.ServiceDelivery (refused_supply name (now_of h) why))
-  refused_reply why is = of found_row refl (sym told_is ∙ is)
+  refused_of why of_part is = of found_row refl (sym (told_is of_part) ∙ is)
     where
       same : (a b : SupplyError) → supplied_by (supply_note (Err a)) ≡ supplied_by (supply_note (Err b)) → a ≡ b
       same refused_as.NothingReady refused_as.NothingReady is = refl
@@ -464,7 +514,8 @@ module _ (name : List ℕ) (h : History) (r : DataSupplyRequest) where
           → (answer_to name h (message.DataSupplyRequest r)).reply
           ≡ Some (message.ServiceDelivery (refused_supply name (now_of h) why))
       of_other other answer is =
-          reply_is (not_supplied name (now_of h) why) (answer ∙ ap (not_supplied name (now_of h)) (same other why is))
+          reply_is of_part (not_supplied name (now_of h) why)
+          (answer ∙ ap (not_supplied name (now_of h)) (same other why is))
 
       of_row : (row : Row KeptLife) → found_row ≡ Some row → (fetched : Bool) → row.slot.rounds.fetched ≡ fetched
           → (part : Option WantedPart) → wanted_part row.slot.rounds ≡ part
@@ -487,3 +538,14 @@ module _ (name : List ℕ) (h : History) (r : DataSupplyRequest) where
       of None found is = of_other refused_as.NothingReady (ap by_row found) is
       of (Some row) found is = of_row row found row.slot.rounds.fetched refl (wanted_part row.slot.rounds) refl
           (names_wanted (start_of h) r.extensions row) refl is
+
+  -- where no part is supplied, the reply says why
+  pub refused_reply : (why : SupplyError)
+      → supplied_by (answer_to name h (message.DataSupplyRequest r)).note ≡ supplied_by (supply_note (Err why))
+      → (answer_to name h (message.DataSupplyRequest r)).reply
+      ≡ Some (message.ServiceDelivery (refused_supply name (now_of h) why))
+  refused_reply why is = refused_of why (is_of_part (supplied_by (supply_note (Err why))) (apart why) is) is
+    where
+      apart : (why : SupplyError) → told.AllData ≡ supplied_by (supply_note (Err why)) → ⊥
+      apart refused_as.NothingReady is = absurd (cc is)
+      apart (refused_as.WrongPart wanted) is = absurd (cc is)

@@ -2,7 +2,7 @@
 use Rattle.std.proofs.Common.{◌≡◌, ℕ, ◌≤◌, List, [], ◌∷◌, map, fold, Bool, true, false, cond, Option, None, Some, refl, sym, ap, ◌∙◌, subst}
 use Rattle.std.specs.Prelude.{option_map}
 use Rattle.std.specs.List.{All}
-use Rattle.std.proofs.lemmas.List.Elements.{All-nil, All-cons, All-head, All-tail, All-map}
+use Rattle.std.proofs.lemmas.List.Elements.{All-nil, All-cons, All-head, All-tail, All-map, All-weaker}
 use Rattle.siri_messages.specs.Asked.{Asked, asked_in}
 use Rattle.siri_messages.specs.declared.message.Message.TheVariants as message
 use Rattle.siri_messages.specs.declared.subscriptions.SubscriptionRequest.{SubscriptionRequest}
@@ -14,11 +14,13 @@ use Rattle.siri_life.specs.Named.{Name}
 use Rattle.siri_marks.specs.Marked.{Marked}
 use Rattle.siri_subs.specs.declared.entry.Row.{Row}
 use Rattle.siri_subs.specs.Mapped.{mapped_row, with_mapped_slots}
-use Rattle.siri_subs.specs.Table.{is_of, accepted, ended}
+use Rattle.siri_subs.specs.Table.{is_of, accepted, ended, is_renumbered_by}
 use Rattle.siri_subs.proofs.Mapped.{accepted_mapped, ended_mapped}
 use Rattle.siri_model.specs.Followed as followed
 use Rattle.siri_model.specs.Followed.{Followed, lifted}
-use Rattle.siri_model.specs.Rows.{KeptLife, acknowledged_row, rows_acknowledged, rows_taken, supplied_row}
+use Rattle.siri_model.specs.Rows as taken
+use Rattle.siri_model.specs.Rows.{KeptLife, acknowledged_row, asked_of, nothing_kept, rows_acknowledged, rows_taken}
+use Rattle.siri_model.specs.Rows.{supplied_row}
 use Rattle.siri_model.specs.Lives.{mark_of}
 use Rattle.siri_model_laws.proofs.AllRows.{accepted_all, ended_all}
 use Rattle.siri_model_laws.proofs.FollowedRows.{taken_lives}
@@ -26,7 +28,8 @@ use Rattle.siri_subscriptions.specs.declared.course.Course.{Course}
 use Rattle.siri_subscriptions.specs.declared.course.Looked.{Looked}
 use Rattle.siri_subscriptions.specs.Courses.{kept_rows}
 use Rattle.siri_subscriptions.specs.Looked.{look_of, followed_rows}
-use Rattle.siri_subscriptions.specs.Noted.{Noted, looked_in, new_noted, noted, noted_asked, noted_ended, noted_rows}
+use Rattle.siri_subscriptions.specs.Noted.{Noted, looked_in, new_noted, noted, noted_asked, noted_ended, noted_life}
+use Rattle.siri_subscriptions.specs.Noted.{noted_renewed, noted_rows}
 use Rattle.siri_subscriptions.specs.Supplies.{rows_supplied}
 use Rattle.siri_producer.specs.Standing.{AreNumbered, looks_in}
 use Rattle.siri_producer.proofs.Follows.{lives_in, looks_are, rows_same}
@@ -73,7 +76,42 @@ ended_each marks number subscriber (identifier ∷ identifiers) rows =
     ∙ ap (λ rows. fold (λ rows identifier. ended number subscriber identifier rows) rows identifiers)
     (sym (ended_mapped (follow marks) number subscriber identifier rows))
 
+-- a row that an AllData request renews, or doesn't
+renewed_case : (marks : Marked) (here renews : Bool) (now number : ℕ) (row : Row Noted)
+    → mapped_row (follow marks) (cond here (cond renews
+    (record row
+    { number = number; slot = record { life = nothing_kept now (asked_of (noted_life row)); looked = None } }) row) row)
+    ≡ cond here (cond renews
+    (record (mapped_row (follow marks) row)
+    { number = number; slot = record { life = nothing_kept now (asked_of (noted_life row)); look = None } })
+    (mapped_row (follow marks) row)) (mapped_row (follow marks) row)
+renewed_case marks true true now number row = refl
+renewed_case marks true false now number row = refl
+renewed_case marks false renews now number row = refl
+
+renewed_each : (marks : Marked) (now number base : ℕ) (subscriber identifier : Name) (rows : List (Row Noted))
+    → with_mapped_slots (follow marks) (noted_renewed now number base subscriber identifier rows)
+    ≡ followed.rows_renewed now number base subscriber identifier (with_mapped_slots (follow marks) rows)
+renewed_each marks now number base subscriber identifier [] = refl
+renewed_each marks now number base subscriber identifier (row ∷ rows) = λ i.
+    renewed_case marks (is_of subscriber identifier row) (is_renumbered_by number base row) now number row i
+    ∷ renewed_each marks now number base subscriber identifier rows i
+
 module _ (marks : Marked) (start now : ℕ) (rows after : List (Row Course)) where
+  pub renewed_followed : (r : DataSupplyRequest) → r.all_data ≡ true
+      → noted_rows after ≡ noted_renewed now r.extensions.number r.extensions.round r.consumer_ref
+      r.extensions.subscription (noted_rows rows)
+      → followed_rows marks after
+      ≡ followed.rows_taken start now (message.DataSupplyRequest r) (followed_rows marks rows)
+  unfolding followed.rows_taken
+  renewed_followed r all is =
+      let m = r.extensions in
+      followed_noted marks after
+      ∙ ap (with_mapped_slots (follow marks)) is
+      ∙ renewed_each marks now m.number m.round r.consumer_ref m.subscription (noted_rows rows)
+      ∙ ap (followed.rows_renewed now m.number m.round r.consumer_ref m.subscription) (sym (followed_noted marks rows))
+      ∙ ap (λ all. followed.rows_supplied start now all r.consumer_ref m (followed_rows marks rows)) (sym all)
+
   pub asked_followed : (r : SubscriptionRequest)
       → noted_rows after ≡ noted_asked now r.message_identifier (asked_in r) (noted_rows rows)
       → followed_rows marks after
@@ -123,6 +161,29 @@ module _ (number : ℕ) (rows after : List (Row Course)) (numbered : AreNumbered
   ended_numbered own subscriber identifiers is =
       numbered_by (noted_ended own subscriber identifiers (noted_rows rows)) is
       (ended_all (IsNotedUpTo number) own subscriber identifiers (noted_rows rows) all_noted)
+
+  renewed_up_to : (here renews : Bool) (now own : ℕ) (row : Row Noted) → IsNotedUpTo number row
+      → IsNotedUpTo number (cond here (cond renews
+      (record row
+      { number = own; slot = record { life = nothing_kept now (asked_of (noted_life row)); looked = None } }) row) row)
+  renewed_up_to true true now own row is = λ looked none. absurd (cc)
+  renewed_up_to true false now own row is = is
+  renewed_up_to false renews now own row is = is
+
+  pub renewed_numbered : (now own base : ℕ) (subscriber identifier : Name)
+      → noted_rows after ≡ noted_renewed now own base subscriber identifier (noted_rows rows) → AreNumbered number after
+  renewed_numbered now own base subscriber identifier is =
+      numbered_by (noted_renewed now own base subscriber identifier (noted_rows rows)) is
+      (All-map (IsNotedUpTo number) renewed (noted_rows rows)
+      (All-weaker (IsNotedUpTo number) (λ row. IsNotedUpTo number (renewed row))
+      (λ row up. renewed_up_to (is_of subscriber identifier row) (is_renumbered_by own base row) now own row up)
+      (noted_rows rows) all_noted))
+    where
+      renewed : Row Noted → Row Noted
+      renewed row = cond (is_of subscriber identifier row) (cond (is_renumbered_by own base row)
+          (record row
+          { number = own; slot = record { life = nothing_kept now (asked_of (noted_life row)); looked = None } }) row)
+          row
 
   -- where the looks stay
   pub looked_numbered : looked_in after ≡ looked_in rows → AreNumbered number after
@@ -183,16 +244,20 @@ module _ (marks : Marked) (start now : ℕ) (rows after : List (Row Course))
       ∙ sym (taken_lives start now m before))
       (looks_stay ∙ sym (acknowledged_looks start now a.status a.consumer_ref a.extensions before))
 
-  pub supplied_followed : (r : DataSupplyRequest)
+  pub supplied_followed : (r : DataSupplyRequest) → r.all_data ≡ false
       → kept_rows after ≡ rows_supplied start now r.consumer_ref r.extensions (kept_rows rows)
       → followed_rows marks after
       ≡ followed.rows_taken start now (message.DataSupplyRequest r) (followed_rows marks rows)
   unfolding followed.rows_taken rows_taken
-  supplied_followed r is =
+  supplied_followed r part is =
       let m = message.DataSupplyRequest r in
       let before = followed_rows marks rows in
       rows_same (followed_rows marks after) (followed.rows_taken start now m before)
-      (lives_in marks after ∙ is ∙ ap (rows_taken start now m) (sym (lives_in marks rows))
+      (lives_in marks after
+      ∙ (is ∙ ap (λ all. taken.rows_supplied start now all r.consumer_ref r.extensions (kept_rows rows)) (sym part))
+      ∙ ap (rows_taken start now m) (sym (lives_in marks rows))
       ∙ sym (taken_lives start now m before))
       (looks_stay ∙ sym (one_looks r.consumer_ref r.extensions.subscription
-      (supplied_row start now (mark_of r.extensions)) before))
+      (supplied_row start now (mark_of r.extensions)) before)
+      ∙ ap (λ all. map (λ row. row.slot.look) (followed.rows_supplied start now all r.consumer_ref r.extensions before))
+      (sym part))

@@ -22,8 +22,9 @@ use Rattle.siri_model.specs.Followed as followed
 use Rattle.siri_model.specs.Followed.{Followed, followed_after}
 use Rattle.siri_model.specs.Last.{entry_key}
 use Rattle.siri_model.specs.History.{Entry, Feed, Take, History, State, after_step, entries_fed, entries_of, state_of, start_of, now_of, current}
-use Rattle.siri_model.specs.Lives.{is_settle}
-use Rattle.siri_model.specs.Rows.{KeptLife, rows_after, rows_acknowledged, rows_asked, rows_ended, rows_taken}
+use Rattle.siri_model.specs.Lives.{is_settle, table_of}
+use Rattle.siri_model.specs.Rows as taken
+use Rattle.siri_model.specs.Rows.{KeptLife, rows_of, rows_after, rows_acknowledged, rows_asked, rows_ended, rows_taken}
 use Rattle.siri_model_laws.proofs.Current.{last_appended}
 use Rattle.siri_model_laws.proofs.FollowedRows.{go_on}
 use Rattle.siri_model_laws.proofs.Histories.{rows_go_on}
@@ -35,19 +36,23 @@ use Rattle.siri_responder.specs.Known as responder
 use Rattle.siri_subscriptions.specs.declared.course.Course.{Course}
 use Rattle.siri_subscriptions.specs.Courses.{kept_rows}
 use Rattle.siri_subscriptions.specs.Looked.{followed_rows}
-use Rattle.siri_subscriptions.specs.Noted.{looked_in, noted_asked, noted_ended, noted_rows}
+use Rattle.siri_subscriptions.specs.Noted.{looked_in, noted_asked, noted_ended, noted_renewed, noted_rows}
 use Rattle.siri_subscriptions.specs.declared.supplies.SupplyAnswer.{SupplyAnswer}
 use Rattle.siri_subscriptions.specs.Supplies.{rows_supplied, supply_answer}
+use Rattle.siri_subscriptions.specs.declared.renewals.RenewAnswer.{RenewAnswer}
+use Rattle.siri_subscriptions.specs.Renewals.{renew_answer, rows_renewed}
 use Rattle.siri_subscriptions.specs.Acknowledgements.{counts}
 use Rattle.siri_subscriptions.specs.Requests.{subscription_answer}
 use Rattle.siri_subscriptions.specs.Terminations.{termination_answer}
 use Rattle.siri_producer.specs.declared.answers.Answer.{Answer}
 use Rattle.siri_producer.specs.declared.answers.Note.TheVariants as note
-use Rattle.siri_producer.specs.Answers.{acknowledged_note, answer_to, fed_reply, is_ignored, noted, replied, supply_reply}
+use Rattle.siri_producer.specs.Answers.{acknowledged_note, answer_to, fed_reply, is_ignored, noted, renew_reply}
+use Rattle.siri_producer.specs.Answers.{replied, supply_answer_to, supply_reply}
 use Rattle.siri_producer.specs.Known.{Known, StandsFor, Follows, GoesOn, TookSome, CountsFor, AnswerFor, RefusedAt, RefusedIf, Takes, looks_of}
 use Rattle.siri_producer.specs.Standing.{AreNumbered, IsProducer, known_of}
 use Rattle.siri_producer.proofs.Follows.{goes, untouched}
-use Rattle.siri_producer.proofs.Noted.{acknowledged_followed, asked_followed, ended_followed, supplied_followed}
+use Rattle.siri_producer.proofs.Noted.{acknowledged_followed, asked_followed, ended_followed, renewed_followed}
+use Rattle.siri_producer.proofs.Noted.{supplied_followed}
 use Rattle.siri_producer.proofs.Stands.{fed_all, goes_fed, goes_on, is_producer, knows_fed, knows_taken, stands_counted, went}
 use Rattle.siri_responder.proofs.Stands.{stands_alike}
 
@@ -163,28 +168,62 @@ module _ (known : responder.Known) (rows : List (Row Course)) (settled : Bool) w
       (is ∙ (λ i. termination_answer ((n ∙ s.responder.moment) i) r (s.table i)))
 
   -- ---- DataSupplyRequest
-  pub goes_supplied : (after : List (Row Course)) (start now : ℕ) (r : DataSupplyRequest) → start ≡ known.start
-      → now ≡ known.moment → kept_rows after ≡ rows_supplied start now r.consumer_ref r.extensions (kept_rows rows)
+  pub goes_supplied : (after : List (Row Course)) (start now : ℕ) (r : DataSupplyRequest) → r.all_data ≡ false
+      → start ≡ known.start → now ≡ known.moment
+      → kept_rows after ≡ rows_supplied start now r.consumer_ref r.extensions (kept_rows rows)
       → looked_in after ≡ looked_in rows
       → GoesOn (known_of known rows settled) (known_of known after false) (Take (message.DataSupplyRequest r))
   unfolding rows_after rows_taken
-  goes_supplied after start now r k n is same =
+  goes_supplied after start now r part k n is same =
       let m = message.DataSupplyRequest r in
-      let looks = supplied_followed known.marks known.start known.moment rows after same r
+      let looks = supplied_followed known.marks known.start known.moment rows after same r part
       (is ∙ (λ i. rows_supplied (k i) (n i) r.consumer_ref r.extensions (kept_rows rows))) in
       goes_taken m after refl looks (λ h s.
       goes_on (known_of known rows settled) (known_of known after false) h (Take m) s
       (knows_taken known h m refl s.responder)
       (is ∙ (λ i. rows_supplied ((k ∙ s.responder.start) i) ((n ∙ s.responder.moment) i) r.consumer_ref r.extensions
-      (kept_rows rows))) refl)
+      (kept_rows rows))
+      ∙ ap (λ all. taken.rows_supplied (start_of h) (now_of h) all r.consumer_ref r.extensions (kept_rows rows))
+      (sym part))
+      refl)
 
-  pub answer_supplied : (name : List ℕ) (start now : ℕ) (r : DataSupplyRequest) (a : SupplyAnswer) → name ≡ known.name
+  pub answer_supplied : (name : List ℕ) (start now : ℕ) (r : DataSupplyRequest) (a : SupplyAnswer)
+      → r.all_data ≡ false → name ≡ known.name
       → start ≡ known.start → now ≡ known.moment → a ≡ supply_answer name start now r (kept_rows rows)
       → AnswerFor (known_of known rows settled) (message.DataSupplyRequest r) (supply_reply a)
   unfolding answer_to
-  answer_supplied name start now r a p k n is = λ h s.
+  answer_supplied name start now r a part p k n is = λ h s.
       ap supply_reply (is
       ∙ (λ i. supply_answer (p i) ((k ∙ s.responder.start) i) ((n ∙ s.responder.moment) i) r (s.table i)))
+      ∙ ap (λ all. supply_answer_to known.name (start_of h) (now_of h) all r (rows_of (table_of h))) (sym part)
+
+  -- ---- DataSupplyRequest with AllData
+  pub goes_renewed : (after : List (Row Course)) (now : ℕ) (r : DataSupplyRequest) → r.all_data ≡ true
+      → now ≡ known.moment → kept_rows after ≡ rows_renewed now r.consumer_ref r.extensions (kept_rows rows)
+      → noted_rows after ≡ noted_renewed now r.extensions.number r.extensions.round r.consumer_ref
+      r.extensions.subscription (noted_rows rows)
+      → GoesOn (known_of known rows settled) (known_of known after false) (Take (message.DataSupplyRequest r))
+  unfolding rows_after rows_taken
+  goes_renewed after now r all n is noted =
+      let m = message.DataSupplyRequest r in
+      let looks = renewed_followed known.marks known.start known.moment rows after r all
+      (noted ∙ ap (λ n. noted_renewed n r.extensions.number r.extensions.round r.consumer_ref r.extensions.subscription
+      (noted_rows rows)) n) in
+      goes_taken m after refl looks (λ h s.
+      goes_on (known_of known rows settled) (known_of known after false) h (Take m) s
+      (knows_taken known h m refl s.responder)
+      (is ∙ ap (λ n. rows_renewed n r.consumer_ref r.extensions (kept_rows rows)) (n ∙ s.responder.moment)
+      ∙ ap (λ all. taken.rows_supplied (start_of h) (now_of h) all r.consumer_ref r.extensions (kept_rows rows))
+      (sym all))
+      refl)
+
+  pub answer_renewed : (name : List ℕ) (now : ℕ) (r : DataSupplyRequest) (a : RenewAnswer) → r.all_data ≡ true
+      → name ≡ known.name → now ≡ known.moment → a ≡ renew_answer name now r (kept_rows rows)
+      → AnswerFor (known_of known rows settled) (message.DataSupplyRequest r) (renew_reply a)
+  unfolding answer_to
+  answer_renewed name now r a all p n is = λ h s.
+      ap renew_reply (is ∙ (λ i. renew_answer (p i) ((n ∙ s.responder.moment) i) r (s.table i)))
+      ∙ ap (λ all. supply_answer_to known.name (start_of h) (now_of h) all r (rows_of (table_of h))) (sym all)
 
   -- ---- CheckStatusRequest
   pub goes_checked : (r : CheckStatusRequest)

@@ -84,10 +84,12 @@ without_items d = record d {
 
 -- ---- a part
 
--- what is told of a request for a part, by what is noted of it
+-- what is told of a DataSupplyRequest, by what is noted of it
 abbrev pub supplied_by : Note → Supplied
 supplied_by note.Supplied = supplied.Part
 supplied_by (note.WrongPart wanted) = supplied.WrongPart wanted
+supplied_by note.Renewed = supplied.AllData
+supplied_by note.NotRenewed = supplied.AllData
 supplied_by other = supplied.NothingReady
 
 -- the wanted part of a subscription that is held under a number

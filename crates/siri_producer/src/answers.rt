@@ -17,14 +17,19 @@ pub enum Note {
     Ended,
     /// A DataSupplyRequest of the wanted part of a round that is to be fetched: the reply is the part.
     Supplied,
-    /// A DataSupplyRequest of a subscription that isn't held, whose delivery isn't fetched, or of which no round is
-    /// outstanding. Nothing changed, and the reply has Status false.
+    /// A DataSupplyRequest of a part of a subscription that isn't held, whose delivery isn't fetched, or of which no
+    /// round is outstanding. Nothing changed, and the reply has Status false.
     NothingReady,
-    /// Any other DataSupplyRequest. Nothing changed, and the reply has Status false.
+    /// Any other DataSupplyRequest of a part. Nothing changed, and the reply has Status false.
     WrongPart {
         /// The part that is wanted.
         wanted: Place,
     },
+    /// A DataSupplyRequest with AllData that renewed a subscription, or did so before: the reply is a delivery without
+    /// items, and the parts are sent by themselves.
+    Renewed,
+    /// Any other DataSupplyRequest with AllData. Nothing changed, and the reply has Status false.
+    NotRenewed,
     /// A DataReceivedAcknowledgement of the wanted part. There is no reply.
     Acknowledged,
     /// Any other DataReceivedAcknowledgement. Nothing changed, and there is no reply.

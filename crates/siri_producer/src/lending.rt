@@ -4,13 +4,13 @@
 //!     a ServiceRequest       -> reply_head ---> its answer, without items
 //!     each of its topics     -> lend       ---> the items of that functional delivery
 //!
-//!     a DataSupplyRequest    -> supply     ---> what `take` notes of it
+//!     a DataSupplyRequest    -> supply     ---> what `take` notes of it, where it is of a part
 //!     a subscription         -> part       ---> the part that is wanted of it
 //! ```
 //!
 //! No item is copied. Together they are the reply of `take`; a message that is lent is taken and settled all the same.
 
-ghost use Rattle.std.specs.Prelude.{◌≡◌, ◌≤◌, map, find, length, is_some, option_map, IfOk};
+ghost use Rattle.std.specs.Prelude.{◌≡◌, ◌↔◌, ◌≤◌, true, false, map, find, length, is_some, option_map, IfOk};
 ghost use Rattle.std.specs.Borrow.{sem, follows};
 ghost use Rattle.std.specs.List.{list_all};
 ghost use Rattle.siri_messages.specs.declared.message.Message.TheVariants as message;
@@ -42,6 +42,8 @@ use std::alloc::Global;
 /// What a request for a part is told, whose reply is lent.
 #[derive(Clone, Copy, Debug, PartialEq, Eq)]
 pub enum Supplied {
+    /// It is of no part: it has AllData. It wasn't taken, and nothing changed.
+    AllData,
     /// It is of the wanted part of a round that is to be fetched. That is the reply, and a message of it was sent now.
     Part,
     /// The subscription isn't held, its delivery isn't fetched, or no round of it is outstanding. Nothing changed.
@@ -113,13 +115,19 @@ impl Producer {
     }
 
     /// Takes a request for a part, as `take` does, and tells what became of it. The reply isn't made: where the part is
-    /// supplied, `part` lends it. It takes no memory, and the counter of steps stays.
+    /// supplied, `part` lends it. A request with AllData is left to `take`. It takes no memory, and the counter of
+    /// steps stays.
     pub fn supply(&mut self, request: &DataSupplyRequest) -> Supplied
-        ensures stands { GoesOn self.old self.new (Take (message.DataSupplyRequest request.now)) }
+        ensures stands { request.now.all_data ≡ false → GoesOn self.old self.new (Take (message.DataSupplyRequest request.now)) }
+        ensures left { request.now.all_data ≡ true → self.new ≡ self.old }
+        ensures all_data { (result ≡ Supplied.AllData) ↔ (request.now.all_data ≡ true) }
         ensures supplied { (h : History) → StandsFor self.old h → result ≡ supplied_by (answer_to self.old.responder.name h (message.DataSupplyRequest request.now)).note }
         ensures name { self.new.responder.name ≡ self.old.responder.name }
         ensures reads { self.new.responder.reads ≡ self.old.responder.reads }
     {
+        if request.all_data {
+            return Supplied::AllData;
+        }
         let start = self.responder.start();
         let now = self.responder.now();
         self.is_settled = false;

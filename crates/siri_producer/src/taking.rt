@@ -5,7 +5,7 @@ ghost use Rattle.siri_responder.specs.Topics.{topics_in};
 ghost use Rattle.siri_messages.specs.declared.message.Message.{Message};
 ghost use Rattle.siri_messages.specs.declared.message.Message.TheVariants as message;
 ghost use Rattle.siri_messages.specs.Rounds.{has_round};
-ghost use Rattle.siri_producer.specs.Answers.{fed_reply, is_ignored, supply_note};
+ghost use Rattle.siri_producer.specs.Answers.{fed_reply, is_ignored, renew_note, supply_note};
 ghost use Rattle.siri_model.specs.History.{Take};
 ghost use Rattle.siri_producer.specs.Known.{AnswerFor, GoesOn, Takes};
 
@@ -17,7 +17,8 @@ use siri_messages::{
 };
 use siri_replies::{feed_acknowledgement, status_response};
 use siri_rounds::{SupplyError, Taken};
-use siri_subscriptions::{acknowledge, subscribe, supply, terminate};
+use siri_subs::{Accepted, RenumberError};
+use siri_subscriptions::{acknowledge, renew, subscribe, supply, terminate};
 
 impl Producer {
     /// A ServiceRequest, which is answered by the direct response of its topics.
@@ -63,11 +64,24 @@ impl Producer {
         ))
     }
 
-    /// A DataSupplyRequest, which is answered by the part it asks for, or by why that isn't supplied.
+    /// A DataSupplyRequest, of a part or with AllData.
     pub(crate) fn take_supply_request(
         &mut self,
         request: &DataSupplyRequest,
     ) -> Result<Answer, OutOfMemory>
+        ensures takes { Takes self.old self.new (message.DataSupplyRequest request.now) result }
+        ensures reads { self.new.responder.reads ≡ self.old.responder.reads }
+    {
+        if request.all_data {
+            self.take_all_data_request(request)
+        } else {
+            self.take_part_request(request)
+        }
+    }
+
+    /// A DataSupplyRequest of a part, which is answered by the part, or by why that isn't supplied.
+    fn take_part_request(&mut self, request: &DataSupplyRequest) -> Result<Answer, OutOfMemory>
+        requires { request.now.all_data ≡ false }
         ensures takes { Takes self.old self.new (message.DataSupplyRequest request.now) result }
         ensures reads { self.new.responder.reads ≡ self.old.responder.reads }
     {
@@ -78,6 +92,22 @@ impl Producer {
         self.is_settled = false;
         Ok(Answer::replied(
             supply_note(answer.outcome),
+            Message::ServiceDelivery(answer.delivery),
+        ))
+    }
+
+    /// A DataSupplyRequest with AllData, which renews the subscription that it names, or is told why it doesn't.
+    fn take_all_data_request(&mut self, request: &DataSupplyRequest) -> Result<Answer, OutOfMemory>
+        requires { request.now.all_data ≡ true }
+        ensures takes { Takes self.old self.new (message.DataSupplyRequest request.now) result }
+        ensures reads { self.new.responder.reads ≡ self.old.responder.reads }
+    {
+        let now = self.responder.now();
+        let name = self.responder.name();
+        let answer = renew(self.alloc, &mut self.table, name, now, request)?;
+        self.is_settled = false;
+        Ok(Answer::replied(
+            renew_note(answer.outcome),
             Message::ServiceDelivery(answer.delivery),
         ))
     }
@@ -200,5 +230,15 @@ fn supply_note(outcome: Result<(), SupplyError>) -> Note
         Ok(()) => Note::Supplied,
         Err(SupplyError::NothingReady) => Note::NothingReady,
         Err(SupplyError::WrongPart { wanted }) => Note::WrongPart { wanted },
+    }
+}
+
+/// What a request for all of a subscription is told.
+fn renew_note(outcome: Result<Accepted, RenumberError>) -> Note
+    ensures { result ≡ renew_note outcome }
+{
+    match outcome {
+        Ok(_) => Note::Renewed,
+        Err(_) => Note::NotRenewed,
     }
 }

@@ -7,7 +7,7 @@ use Rattle.siri_producer.specs.Known.{Known, GoesOn, AnswerFor}
 use Rattle.siri_producer.specs.Standing.{known_of}
 use Rattle.siri_producer.proofs.Noted.{looked_numbered}
 use Rattle.siri_producer.proofs.Takes.{answer_supplied, goes_supplied, is_taken}
-use Rattle.siri_producer.proofs.producer.Producer.take_supply_request.Goals as goal
+use Rattle.siri_producer.proofs.producer.Producer.take_part_request.Goals as goal
 
 pub invariant_of-self-2 : goal.invariant_of-self-2
 invariant_of-self-2 c =
@@ -19,7 +19,7 @@ invariant_of-self-2 c =
     is_taken inside.responder inside.table inside.is_settled
     (message.DataSupplyRequest request) after c.self.invariant.follows
     (goes_supplied inside.responder inside.table inside.is_settled after c.start-start.result c.now-now.result request
-    c.start-start.ensures c.now-now.ensures c.in_ok-answer.ensures.rows same) numbered
+    c.requires c.start-start.ensures c.now-now.ensures c.in_ok-answer.ensures.rows same) numbered
 
 pub returns-clause-takes : goal.returns-clause-takes
 returns-clause-takes c =
@@ -32,13 +32,14 @@ returns-clause-takes c =
     record {
       ok = subst (λ (k : Known). GoesOn k (known_of inside.responder after false)
           (Take (message.DataSupplyRequest request))) c.self.view_is
-          (goes_supplied inside.responder inside.table inside.is_settled after c.start-start.result c.now-now.result request
-          c.start-start.ensures c.now-now.ensures c.in_ok-answer.ensures.rows same);
+          (goes_supplied inside.responder inside.table inside.is_settled after c.start-start.result c.now-now.result
+          request
+          c.requires c.start-start.ensures c.now-now.ensures c.in_ok-answer.ensures.rows same);
       answer = λ h s. c.replied.ensures
           ∙ ap told c.supply_note.ensures
           ∙ subst (λ (k : Known). AnswerFor k (message.DataSupplyRequest request) (supply_reply answer)) c.self.view_is
           (answer_supplied inside.responder inside.table inside.is_settled c.name-name.result.now c.start-start.result
-          c.now-now.result request answer c.name-name.ensures c.start-start.ensures c.now-now.ensures
+          c.now-now.result request answer c.requires c.name-name.ensures c.start-start.ensures c.now-now.ensures
           c.in_ok-answer.ensures.answer) h s;
       err = tt;
       name = ap (λ (k : Known). k.responder.name) c.self.view_is;
