@@ -1,9 +1,7 @@
 -- The tables of the messages by which rounds are announced, fetched and acknowledged (EN 15531-2). Their Extensions hold a
 -- mark, which is this profile's own.
-use Rattle.std.specs.Prelude.{[], ◌∷◌, Bool, true, ◌&&◌, if◌then◌else◌, Option, Some, None, Result, Ok, Err}
+use Rattle.std.specs.Prelude.{[], ◌∷◌, Bool, true, ◌&&◌, if◌then◌else◌, Option, Some, None, Result, Ok}
 use Rattle.serde_json.specs.Data.{Data}
-use Rattle.siri_base.specs.declared.reason.Reason.TheVariants.{NotCarried}
-use Rattle.siri_json.specs.declared.path.Step.TheVariants.{Member}
 use Rattle.siri_json.specs.Values.{object_in}
 use Rattle.siri_messages.specs.declared.supplies.Mark.{Mark}
 use Rattle.siri_messages.specs.declared.supplies.DataReadyNotification.{DataReadyNotification}
@@ -93,7 +91,7 @@ data_ready_acknowledgement d = read_all ready_acknowledgement_table make_ready_a
 unfoldable pub written_ready_acknowledgement : DataReadyAcknowledgement → Data
 written_ready_acknowledgement a = row_object (all_written ready_acknowledgement_table a)
 
--- DataSupplyRequest: a part of a round is fetched
+-- DataSupplyRequest: a part of a round is fetched, or all of a subscription
 abbrev pub supply_table : Table DataSupplyRequest
 supply_table =
     optional a_moment REQUEST_TIMESTAMP.now (λ s. s.request_timestamp) ∷
@@ -110,15 +108,8 @@ make_supply = λ request_timestamp consumer_ref all_data extensions.
       extensions = extensions;
     }
 
-unfoldable pub read_supply_rows : Data → Result DataSupplyRequest Refusal
-read_supply_rows d = read_all supply_table make_supply d
-
--- a request for everything and not the changes alone isn't carried
-abbrev pub unless_all : DataSupplyRequest → Result DataSupplyRequest Refusal
-unless_all m = if m.all_data then Err (record { path = Member ALL_DATA.now ∷ []; reason = NotCarried }) else Ok m
-
 unfoldable pub data_supply_request : Data → Result DataSupplyRequest Refusal
-data_supply_request d = read_supply_rows d >>= unless_all
+data_supply_request d = read_all supply_table make_supply d
 
 unfoldable pub written_supply : DataSupplyRequest → Data
 written_supply s = row_object (all_written supply_table s)

@@ -3,7 +3,7 @@
 ghost use Rattle.std.specs.Prelude.{◌≡◌, Result, Option};
 ghost use Rattle.siri_json.specs.Shown.{shown};
 ghost use Rattle.siri_tables.specs.Refusals.{Gives};
-ghost use Rattle.siri_wire.specs.Supplies.{mark, lacks_mark, mark_if_any, optional_mark, data_ready_notification, data_ready_acknowledgement, read_supply_rows, data_supply_request, data_received_acknowledgement};
+ghost use Rattle.siri_wire.specs.Supplies.{mark, lacks_mark, mark_if_any, optional_mark, data_ready_notification, data_ready_acknowledgement, data_supply_request, data_received_acknowledgement};
 
 use siri_base::Reason;
 use siri_deliveries::{error_condition, lacks, names};
@@ -13,7 +13,7 @@ use siri_messages::{
     DataSupplyRequest, Mark,
 };
 use siri_tables::TableError;
-use siri_tables::refusal::{refuse, refuse_at};
+use siri_tables::refusal::refuse;
 use siri_tables::rows::{required_row, row};
 use siri_tables::rules::{FlagRule, MomentRule, NameRule, NumberRule, Rule, Table};
 use std::alloc::Global;
@@ -116,21 +116,8 @@ impl Table for DataReadyAcknowledgementTable {
     }
 }
 
-/// The rows of a DataSupplyRequest: ConsumerRef and the mark are required, AllData is false where it is absent.
-#[tactic(auto, unfolding(crate::specs::Supplies::read_supply_rows))]
-fn read_supply_rows(alloc: Global, tree: &Tree<'_>) -> Result<DataSupplyRequest, TableError>
-    ensures { Gives result (read_supply_rows (shown tree.now)) }
-{
-    Ok(DataSupplyRequest {
-        request_timestamp: row::<MomentRule>(alloc, tree, names::REQUEST_TIMESTAMP)?,
-        consumer_ref: required_row::<NameRule>(alloc, tree, names::CONSUMER_REF)?,
-        all_data: row::<FlagRule>(alloc, tree, names::ALL_DATA)?.unwrap_or(false),
-        extensions: required_row::<MarkTable>(alloc, tree, names::EXTENSIONS)?,
-    })
-}
-
-/// A part of a round is fetched (EN 15531-2, DataSupplyRequest). AllData is false where it is absent, and `NotCarried`
-/// where it is true, after the other rows; ConsumerRef and the mark have to be there.
+/// A part of a round is fetched, or all of a subscription (EN 15531-2, DataSupplyRequest). AllData is false where it is
+/// absent; ConsumerRef and the mark have to be there.
 pub(crate) struct DataSupplyRequestTable;
 
 impl Table for DataSupplyRequestTable {
@@ -140,11 +127,12 @@ impl Table for DataSupplyRequestTable {
 
     #[tactic(auto, unfolding(crate::specs::Supplies::data_supply_request))]
     fn read_rows(alloc: Global, tree: &Tree<'_>) -> Result<DataSupplyRequest, TableError> {
-        let request = read_supply_rows(alloc, tree)?;
-        if request.all_data {
-            return refuse_at(alloc, names::ALL_DATA, Reason::NotCarried);
-        }
-        Ok(request)
+        Ok(DataSupplyRequest {
+            request_timestamp: row::<MomentRule>(alloc, tree, names::REQUEST_TIMESTAMP)?,
+            consumer_ref: required_row::<NameRule>(alloc, tree, names::CONSUMER_REF)?,
+            all_data: row::<FlagRule>(alloc, tree, names::ALL_DATA)?.unwrap_or(false),
+            extensions: required_row::<MarkTable>(alloc, tree, names::EXTENSIONS)?,
+        })
     }
 }
 

@@ -41,7 +41,8 @@ use Rattle.siri_wire.specs.Supplies.{written_received}
 use Rattle.siri_wire.specs.Terminations.{termination_request, termination_response, written_termination, written_termination_response}
 use Rattle.siri_tables.proofs.TableLaws.{written_read, table_within}
 use Rattle.siri_wire_laws.proofs.DeliveryTables.{service_delivery_laws}
-use Rattle.siri_wire_laws.proofs.SupplyTables.{ready_laws, ready_acknowledgement_laws, supply_laws, supply_back, received_laws, check_laws}
+use Rattle.siri_wire_laws.proofs.SupplyTables.{ready_laws, ready_acknowledgement_laws, supply_laws, received_laws}
+use Rattle.siri_wire_laws.proofs.SupplyTables.{check_laws}
 use Rattle.siri_wire_laws.proofs.SupplyTables.{check_response_laws, heartbeat_laws}
 use Rattle.siri_wire_laws.proofs.RequestTables.{service_request_back, service_request_within, subscription_response_laws, termination_response_laws}
 use Rattle.siri_wire_laws.proofs.SubscriptionTables.{subscription_request_back, subscription_request_within, termination_laws}
@@ -100,8 +101,9 @@ object_read rows d ms x is read = subst (λ (e : Data). rows (as_texts e) ≡ Ok
 body_back : (m : Message) (ms : Members) → IsProper m → written_body m ≡ object ms → message_at (kind_in m) (found_named (kind_of m) ms) ≡ Ok m
 unfolding written_body subscription_response termination_request termination_response written_subscription_response
     written_termination written_termination_response service_delivery written_service_delivery data_ready_notification
-    written_data_ready data_ready_acknowledgement written_ready_acknowledgement data_received_acknowledgement
-    written_received check_status_request written_check_status check_status_response written_status_response
+    written_data_ready data_ready_acknowledgement written_ready_acknowledgement data_supply_request written_supply
+    data_received_acknowledgement written_received check_status_request written_check_status check_status_response
+    written_status_response
     heartbeat_notification written_heartbeat
 body_back (message.ServiceRequest m) ms p is =
     rw (required_named service_request SERVICE_REQUEST.now ms m
@@ -132,7 +134,7 @@ body_back (message.DataReadyAcknowledgement m) ms p is =
     (written_read ready_acknowledgement_laws m p))) refl
 body_back (message.DataSupplyRequest m) ms p is =
     rw (required_named data_supply_request DATA_SUPPLY_REQUEST.now ms m
-    (object_read data_supply_request (written_supply m) ms m is (supply_back m p))) refl
+    (object_read data_supply_request (written_supply m) ms m is (written_read supply_laws m p))) refl
 body_back (message.DataReceivedAcknowledgement m) ms p is =
     rw (required_named data_received_acknowledgement DATA_RECEIVED_ACKNOWLEDGEMENT.now ms m
     (object_read data_received_acknowledgement (written_received m) ms m is (written_read received_laws m p))) refl
@@ -193,7 +195,7 @@ body_within (message.DataReadyNotification m) p = let is = table_within ready_la
     record { canonical = is.canonical; shallow = omega (arith, is.shallow) }
 body_within (message.DataReadyAcknowledgement m) p = let is = table_within ready_acknowledgement_laws m p in
     record { canonical = is.canonical; shallow = omega (arith, is.shallow) }
-body_within (message.DataSupplyRequest m) p = let is = table_within supply_laws m p.0 in
+body_within (message.DataSupplyRequest m) p = let is = table_within supply_laws m p in
     record { canonical = is.canonical; shallow = omega (arith, is.shallow) }
 body_within (message.DataReceivedAcknowledgement m) p = let is = table_within received_laws m p in
     record { canonical = is.canonical; shallow = omega (arith, is.shallow) }

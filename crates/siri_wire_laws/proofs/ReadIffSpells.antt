@@ -25,18 +25,18 @@ use Rattle.siri_deliveries.specs.declared.names.TheConstants.{TERMINATE_SUBSCRIP
 use Rattle.siri_deliveries.specs.Deliveries.{service_delivery_table, service_delivery}
 use Rattle.siri_wire.specs.Documents.{message_at, message_or, only_held, siri, root, message_in, message_of}
 use Rattle.siri_wire.specs.Requests.{service_request}
-use Rattle.siri_wire_laws.specs.SpellingDeliveries.{SpellsSupply}
 use Rattle.siri_wire_laws.specs.SpellingRequests.{SpellsServiceRequest, SpellsSubscriptionRequest, SpellsSubscriptionResponse}
 use Rattle.siri_wire_laws.specs.SpellingRequests.{SpellsTerminationRequest, SpellsTerminationResponse}
 use Rattle.siri_wire_laws.specs.SpellingDocuments.{HasObject, kind_in, SpellsBody, SpellsSiri, SpellsRoot, SpellsDocument}
 use Rattle.siri_wire.specs.Statuses.{check_table, check_response_table, heartbeat_table, check_status_request, check_status_response, heartbeat_notification}
 use Rattle.siri_wire.specs.Subscriptions.{subscription_request, subscription_response}
-use Rattle.siri_wire.specs.Supplies.{ready_table, ready_acknowledgement_table, received_table, data_ready_notification}
+use Rattle.siri_wire.specs.Supplies.{ready_table, ready_acknowledgement_table, supply_table, received_table}
+use Rattle.siri_wire.specs.Supplies.{data_ready_notification}
 use Rattle.siri_wire.specs.Supplies.{data_ready_acknowledgement, data_supply_request, data_received_acknowledgement}
 use Rattle.siri_wire.specs.Terminations.{termination_request, termination_response}
 use Rattle.siri_tables.proofs.TableLaws.{read_spelled, spelled_read}
 use Rattle.siri_wire_laws.proofs.DeliveryTables.{service_delivery_laws}
-use Rattle.siri_wire_laws.proofs.SupplyTables.{ready_laws, ready_acknowledgement_laws, supply_spelled, supply_reads, received_laws}
+use Rattle.siri_wire_laws.proofs.SupplyTables.{ready_laws, ready_acknowledgement_laws, supply_laws, received_laws}
 use Rattle.siri_wire_laws.proofs.SupplyTables.{check_laws, check_response_laws, heartbeat_laws}
 use Rattle.siri_wire_laws.proofs.RequestTables.{service_request_spelled, service_request_read, subscription_response_laws, termination_response_laws}
 use Rattle.siri_wire_laws.proofs.SubscriptionTables.{subscription_request_spelled, subscription_request_read, termination_laws}
@@ -108,7 +108,8 @@ kind_spelled rows made k key d m of_kind of_name h e =
 
 at_spelled : (k : Kind) (d : Data) (m : Message) → message_at k d ≡ Ok m → SpellsAt k d m
 unfolding subscription_response termination_request termination_response service_delivery data_ready_notification
-    data_ready_acknowledgement data_received_acknowledgement check_status_request check_status_response
+    data_ready_acknowledgement data_supply_request data_received_acknowledgement check_status_request
+    check_status_response
     heartbeat_notification
 at_spelled kind.ServiceRequest d m e = kind_spelled service_request (λ x. message.ServiceRequest x) _ _ d m (λ x. refl)
     (λ x. refl) (λ o x is. service_request_spelled o x is) e
@@ -132,7 +133,7 @@ at_spelled kind.DataReadyAcknowledgement d m e = kind_spelled data_ready_acknowl
     (λ x. message.DataReadyAcknowledgement x) _ _ d m (λ x. refl) (λ x. refl)
     (λ o x is. read_spelled ready_acknowledgement_laws o x is) e
 at_spelled kind.DataSupplyRequest d m e = kind_spelled data_supply_request (λ x. message.DataSupplyRequest x) _ _ d m
-    (λ x. refl) (λ x. refl) (λ o x is. supply_spelled o x is) e
+    (λ x. refl) (λ x. refl) (λ o x is. read_spelled supply_laws o x is) e
 at_spelled kind.DataReceivedAcknowledgement d m e = kind_spelled data_received_acknowledgement
     (λ x. message.DataReceivedAcknowledgement x) _ _ d m (λ x. refl) (λ x. refl)
     (λ o x is. read_spelled received_laws o x is) e
@@ -147,7 +148,8 @@ at_spelled kind.HeartbeatNotification d m e = kind_spelled heartbeat_notificatio
 
 at_read : (d : Data) (m : Message) → HasObject (kind_of m) d (λ o. SpellsBody o m) → message_at (kind_in m) d ≡ Ok m
 unfolding subscription_response termination_request termination_response service_delivery data_ready_notification
-    data_ready_acknowledgement data_received_acknowledgement check_status_request check_status_response
+    data_ready_acknowledgement data_supply_request data_received_acknowledgement check_status_request
+    check_status_response
     heartbeat_notification
 at_read d (message.ServiceRequest m) is =
     rw (is_required service_request (λ o x. SpellsServiceRequest o x) SERVICE_REQUEST.now d m
@@ -174,8 +176,8 @@ at_read d (message.DataReadyAcknowledgement m) is =
     rw (is_required data_ready_acknowledgement (λ o x. AllSpelled ready_acknowledgement_table o x)
     DATA_READY_ACKNOWLEDGEMENT.now d m (λ o s_. spelled_read ready_acknowledgement_laws o m s_) is) refl
 at_read d (message.DataSupplyRequest m) is =
-    rw (is_required data_supply_request (λ o x. SpellsSupply o x) DATA_SUPPLY_REQUEST.now d m
-    (λ o s_. supply_reads o m s_) is) refl
+    rw (is_required data_supply_request (λ o x. AllSpelled supply_table o x) DATA_SUPPLY_REQUEST.now d m
+    (λ o s_. spelled_read supply_laws o m s_) is) refl
 at_read d (message.DataReceivedAcknowledgement m) is =
     rw (is_required data_received_acknowledgement (λ o x. AllSpelled received_table o x)
     DATA_RECEIVED_ACKNOWLEDGEMENT.now d m (λ o s_. spelled_read received_laws o m s_) is) refl

@@ -1,29 +1,24 @@
 -- The laws of the tables of the messages by which rounds are announced, fetched and acknowledged, and by which the producer tells
 -- that it is there.
-use Rattle.std.proofs.Common.{◌≡◌, Bool, true, false, [], ◌∷◌, Some, Ok, Err, refl, subst, if◌then◌else◌}
+use Rattle.std.proofs.Common.{◌≡◌, false, Some, Ok, refl}
 use Rattle.serde_json.specs.Data.{Data, object, Members, no_members}
-use Rattle.siri_base.specs.declared.reason.Reason.TheVariants.{NotCarried}
 use Rattle.siri_json.specs.Canonical.{as_texts}
 use Rattle.siri_json.specs.Values.{member_of, object_in}
-use Rattle.siri_json.specs.declared.path.Step.TheVariants.{Member}
-use Rattle.siri_messages.specs.declared.supplies.DataSupplyRequest.{DataSupplyRequest}
 use Rattle.siri_messages.specs.declared.supplies.Mark.{Mark}
 use Rattle.siri_tables.specs.Tables.{AllProper, all_written}
 use Rattle.siri_tables.specs.Writing.{with_rows}
 use Rattle.siri_tables.proofs.Back.{GivesBack}
 use Rattle.siri_tables.proofs.ProperParts.{Yields, reads_to, inside_on}
-use Rattle.siri_tables.proofs.RowSpells.{bind_ok, done, ok_is}
-use Rattle.siri_tables.proofs.TableLaws.{KindLaws, optional_laws, mandatory_laws, TableLaws, read_spelled, spelled_read, written_read, read_proper, table_kind}
+use Rattle.siri_tables.proofs.TableLaws.{KindLaws, optional_laws, mandatory_laws, TableLaws, read_spelled, written_read}
+use Rattle.siri_tables.proofs.TableLaws.{read_proper, table_kind}
 use Rattle.siri_tables.proofs.ValueLaws.{name_laws, moment_laws, number_laws, flag_laws}
-use Rattle.siri_deliveries.specs.declared.names.TheConstants.{ALL_DATA, SUBSCRIPTION_REF}
+use Rattle.siri_deliveries.specs.declared.names.TheConstants.{SUBSCRIPTION_REF}
 use Rattle.siri_wire.specs.Statuses.{check_table, make_check, check_response_table, make_check_response, heartbeat_table, make_heartbeat}
 use Rattle.siri_wire.specs.Supplies.{mark_table, make_mark, mark, written_mark, a_mark, lacks_mark, mark_if_any, optional_mark}
 use Rattle.siri_wire.specs.Supplies.{an_optional_mark, ready_table, make_ready, ready_acknowledgement_table, make_ready_acknowledgement}
-use Rattle.siri_wire.specs.Supplies.{supply_table, make_supply, read_supply_rows, unless_all, data_supply_request, written_supply}
+use Rattle.siri_wire.specs.Supplies.{supply_table, make_supply}
 use Rattle.siri_wire.specs.Supplies.{received_table, make_received}
 use Rattle.siri_deliveries.specs.Absence.{is_text_absent, lacks}
-use Rattle.siri_wire_laws.specs.ProperDeliveries.{IsProperSupply}
-use Rattle.siri_wire_laws.specs.SpellingDeliveries.{SpellsSupply}
 use Rattle.siri_wire_laws.proofs.ProperReadValues.{unless_absent}
 use Rattle.siri_wire_laws.proofs.RowLaws.{error_laws, with_default_laws, flag_where_true_laws}
 use Rattle.siri_wire_laws.proofs.ReadIffSpellsParts.{something_spelled}
@@ -117,30 +112,6 @@ supply_laws = record {
   holds = λ a b c d. search;
   distinct = λ s. refl;
 }
-
-not_all_is : (x s : DataSupplyRequest) (b : Bool) → b ≡ x.all_data
-    → (if b then Err (record { path = Member ALL_DATA.now ∷ []; reason = NotCarried }) else done x) ≡ Ok s
-    → (b ≡ false) × (x ≡ s)
-not_all_is x s true at e = absurd cc
-not_all_is x s false at e = (refl, ok_is x s e)
-
-pub supply_spelled : (d : Data) (s : DataSupplyRequest) → data_supply_request d ≡ Ok s → SpellsSupply d s
-unfolding data_supply_request read_supply_rows
-supply_spelled d s e =
-    let r = bind_ok (read_supply_rows d) unless_all s e in
-    let t = not_all_is r.0 s r.0.all_data refl r.2 in
-    subst (λ (x : DataSupplyRequest). SpellsSupply d x) t.1 (read_spelled supply_laws d r.0 r.1, t.0)
-
-not_all_ok : (m : DataSupplyRequest) → m.all_data ≡ false → unless_all m ≡ Ok m
-not_all_ok m h = rw h refl
-
-pub supply_reads : (d : Data) (s : DataSupplyRequest) → SpellsSupply d s → data_supply_request d ≡ Ok s
-unfolding data_supply_request read_supply_rows
-supply_reads d s s_ = rw (spelled_read supply_laws d s s_.0) (not_all_ok s s_.1)
-
-pub supply_back : (s : DataSupplyRequest) → IsProperSupply s → data_supply_request (as_texts (written_supply s)) ≡ Ok s
-unfolding data_supply_request read_supply_rows written_supply
-supply_back s p = rw (written_read supply_laws s p.0) (not_all_ok s p.1)
 
 pub received_laws : TableLaws 2 received_table make_received
 received_laws = record {

@@ -1,16 +1,9 @@
 -- Proper messages by which rounds are fetched and delivered: each field has a value that its row can give, what has to be there is
 -- there, items and removals are of their list's service, and nothing stands in them that isn't carried.
-use Rattle.std.specs.Prelude.{◌≡◌, false}
 use Rattle.siri_messages.specs.declared.deliveries.ServiceDelivery.{ServiceDelivery}
-use Rattle.siri_messages.specs.declared.supplies.DataSupplyRequest.{DataSupplyRequest}
 use Rattle.siri_tables.specs.Tables.{AllProper}
 pub use Rattle.siri_deliveries.specs.Deliveries.{IsProperOf, IsProperDelivery}
 use Rattle.siri_deliveries.specs.Deliveries.{service_delivery_table}
-use Rattle.siri_wire.specs.Supplies.{supply_table}
-
--- DataSupplyRequest, which doesn't ask for everything
-abbrev pub IsProperSupply : DataSupplyRequest → Type 0
-IsProperSupply s = AllProper supply_table s × (s.all_data ≡ false)
 
 -- ServiceDelivery
 abbrev pub IsProperServiceDelivery : ServiceDelivery → Type 0

@@ -2,9 +2,9 @@
 use Rattle.siri_messages.specs.declared.message.Message.{Message}
 use Rattle.siri_messages.specs.declared.message.Message.TheVariants as message
 use Rattle.siri_tables.specs.Tables.{AllProper}
-use Rattle.siri_wire.specs.Supplies.{ready_table, ready_acknowledgement_table, received_table}
+use Rattle.siri_wire.specs.Supplies.{ready_table, ready_acknowledgement_table, supply_table, received_table}
 use Rattle.siri_wire.specs.Statuses.{check_table, check_response_table, heartbeat_table}
-use Rattle.siri_wire_laws.specs.ProperDeliveries.{IsProperSupply, IsProperServiceDelivery}
+use Rattle.siri_wire_laws.specs.ProperDeliveries.{IsProperServiceDelivery}
 use Rattle.siri_wire_laws.specs.ProperRequests.{IsProperServiceRequest, IsProperSubscriptionRequest, IsProperSubscriptionResponse}
 use Rattle.siri_wire_laws.specs.ProperRequests.{IsProperTerminationRequest, IsProperTerminationResponse}
 
@@ -17,7 +17,7 @@ IsProper (message.TerminateSubscriptionRequest m) = IsProperTerminationRequest m
 IsProper (message.TerminateSubscriptionResponse m) = IsProperTerminationResponse m
 IsProper (message.DataReadyNotification m) = AllProper ready_table m
 IsProper (message.DataReadyAcknowledgement m) = AllProper ready_acknowledgement_table m
-IsProper (message.DataSupplyRequest m) = IsProperSupply m
+IsProper (message.DataSupplyRequest m) = AllProper supply_table m
 IsProper (message.DataReceivedAcknowledgement m) = AllProper received_table m
 IsProper (message.CheckStatusRequest m) = AllProper check_table m
 IsProper (message.CheckStatusResponse m) = AllProper check_response_table m

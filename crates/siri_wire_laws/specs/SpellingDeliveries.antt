@@ -1,6 +1,6 @@
 -- The relation of trees and of the messages by which rounds are fetched and delivered: the member of each row spells the field's
 -- value under the row's rule, or is absent where there is none. Members that no row names are free.
-use Rattle.std.specs.Prelude.{◌≡◌, ℕ, ◌≤◌, List, length, map, false, Option, Some, None, IsSome, Result, Ok}
+use Rattle.std.specs.Prelude.{◌≡◌, ℕ, ◌≤◌, List, length, map, Option, Some, None, IsSome, Result, Ok}
 use Rattle.serde_json.specs.Data.{Data}
 use Rattle.siri_records.specs.declared.item.Item.{Item}
 use Rattle.siri_records.specs.declared.item.Service.{Service}
@@ -9,7 +9,6 @@ use Rattle.siri_records.specs.declared.journey.Journey.{Journey}
 use Rattle.siri_records.specs.declared.key.Key.{Key}
 use Rattle.siri_records.specs.declared.key.Key.TheVariants as key
 use Rattle.siri_messages.specs.declared.deliveries.FunctionalDelivery.{FunctionalDelivery}
-use Rattle.siri_messages.specs.declared.supplies.DataSupplyRequest.{DataSupplyRequest}
 use Rattle.siri_messages.specs.declared.supplies.Mark.{Mark}
 use Rattle.siri_items.specs.declared.names.TheConstants.{DATA_FRAME_REF, DATED_VEHICLE_JOURNEY_REF, DIRECTION_REF, LINE_REF, MONITORING_REF}
 use Rattle.siri_items.specs.declared.names.TheConstants.{PARTICIPANT_REF, RECORDED_AT_TIME, SITUATION_NUMBER}
@@ -24,17 +23,13 @@ use Rattle.siri_deliveries.specs.declared.read_parts.RoundPosition.{RoundPositio
 use Rattle.siri_deliveries.specs.Deliveries.{stop_delivery_table, timetable_delivery_table, vehicle_delivery_table, situation_delivery_table}
 use Rattle.siri_deliveries.specs.Frames.{journey_of_frame, journeys, frame, concat_frames}
 use Rattle.siri_wire_laws.specs.SpellingValues.{SpellsEntries}
-use Rattle.siri_wire.specs.Supplies.{mark_table, supply_table}
+use Rattle.siri_wire.specs.Supplies.{mark_table}
 use Rattle.siri_tables.specs.Tables.{AllSpelled}
 use Rattle.siri_deliveries.specs.Limits.{most_entries}
 
 -- which part of which round of a subscription is meant
 abbrev pub SpellsMark : Data → Mark → Type 0
 SpellsMark d m = AllSpelled mark_table d m
-
--- a part of a round is fetched, and not everything
-abbrev pub SpellsSupply : Data → DataSupplyRequest → Type 0
-SpellsSupply d s = AllSpelled supply_table d s × (s.all_data ≡ false)
 
 -- ---- where in a round a delivery stands
 

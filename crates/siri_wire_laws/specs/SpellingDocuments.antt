@@ -14,9 +14,8 @@ use Rattle.siri_wire.specs.declared.kinds.Kind.TheVariants as kind
 use Rattle.siri_deliveries.specs.declared.names.TheConstants.{SIRI}
 use Rattle.siri_wire.specs.Documents.{only_held}
 use Rattle.siri_deliveries.specs.Deliveries.{service_delivery_table}
-use Rattle.siri_wire.specs.Supplies.{ready_table, ready_acknowledgement_table, received_table}
+use Rattle.siri_wire.specs.Supplies.{ready_table, ready_acknowledgement_table, supply_table, received_table}
 use Rattle.siri_wire.specs.Statuses.{check_table, check_response_table, heartbeat_table}
-use Rattle.siri_wire_laws.specs.SpellingDeliveries.{SpellsSupply}
 use Rattle.siri_wire_laws.specs.SpellingRequests.{SpellsServiceRequest, SpellsSubscriptionRequest, SpellsSubscriptionResponse}
 use Rattle.siri_wire_laws.specs.SpellingRequests.{SpellsTerminationRequest, SpellsTerminationResponse}
 
@@ -50,7 +49,7 @@ SpellsBody d (message.TerminateSubscriptionRequest m) = SpellsTerminationRequest
 SpellsBody d (message.TerminateSubscriptionResponse m) = SpellsTerminationResponse d m
 SpellsBody d (message.DataReadyNotification m) = AllSpelled ready_table d m
 SpellsBody d (message.DataReadyAcknowledgement m) = AllSpelled ready_acknowledgement_table d m
-SpellsBody d (message.DataSupplyRequest m) = SpellsSupply d m
+SpellsBody d (message.DataSupplyRequest m) = AllSpelled supply_table d m
 SpellsBody d (message.DataReceivedAcknowledgement m) = AllSpelled received_table d m
 SpellsBody d (message.CheckStatusRequest m) = AllSpelled check_table d m
 SpellsBody d (message.CheckStatusResponse m) = AllSpelled check_response_table d m
