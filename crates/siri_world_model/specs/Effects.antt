@@ -1,5 +1,6 @@
 -- What an event does: what is told of it, what is sent, and the world after it.
-use Rattle.std.specs.Prelude.{ℕ, ℤ, suc, max, nat_lt, List, [], ◌∷◌, ◌++◌, length, map, if◌then◌else◌, Option, Some, None}
+use Rattle.std.specs.Prelude.{ℕ, ℤ, suc, ◌+◌, max, nat_lt, Bool, true, false, List, [], ◌∷◌, ◌++◌, length, map}
+use Rattle.std.specs.Prelude.{if◌then◌else◌, Option, Some, None}
 use Rattle.siri_records.specs.Keyed.{Items}
 use Rattle.siri_topic.specs.declared.subscription.Subscription.{Subscription}
 use Rattle.siri_messages.specs.declared.deliveries.ServiceDelivery.{ServiceDelivery}
@@ -16,7 +17,7 @@ use Rattle.siri_producer.specs.Sends.{sends}
 use Rattle.siri_producer.specs.declared.answers.Answer.{Answer}
 use Rattle.siri_base.specs.Numbers.{greatest_number}
 use Rattle.siri_view.specs.Consuming.{Consuming, most_held, held_by, seen_of, after_message, count_after, request_for, after_subscribe}
-use Rattle.siri_view.specs.Consuming.{termination_of, after_terminate}
+use Rattle.siri_view.specs.Consuming.{termination_of, after_terminate, after_restart, restart_requests}
 use Rattle.siri_view.specs.Kept.{KeptSubscription, kept_of}
 use Rattle.siri_view.specs.Sending.{check_request}
 use Rattle.siri_view.specs.declared.outcome.AskError.{AskError}
@@ -116,6 +117,19 @@ abbrev pub terminated : World → Name → Name → Option Consuming → Effect
 terminated world name identifier None = tells world (line.Unknown name (Some identifier) ∷ [])
 terminated world name identifier (Some consumer) = terminated_if world consumer identifier (kept_of identifier consumer.held)
 
+-- a consumer's numbers are used up before the last that it needs for a restart, one for each subscription that it holds
+abbrev pub lacks_numbers : Consuming → Bool
+lacks_numbers consumer = nat_lt (greatest_number + 1) (consumer.next_number + length consumer.held)
+
+-- a consumer restarts, and asks for all of each subscription that it holds (EN 15531-2, DataSupplyRequest with AllData)
+abbrev pub restarted_if : (lacks : Bool) → World → Consuming → Effect
+restarted_if true world consumer = tells world (line.Refused consumer.name ask_error.Spent ∷ [])
+restarted_if false world consumer = sent_by world (after_restart consumer) [] (restart_requests consumer)
+
+abbrev pub restarted : World → Name → Option Consuming → Effect
+restarted world name None = tells world (line.Unknown name None ∷ [])
+restarted world name (Some consumer) = restarted_if (lacks_numbers consumer) world consumer
+
 -- a consumer asks whether the producer is there (EN 15531-2, CheckStatusRequest)
 abbrev pub checked : World → Name → Option Consuming → Effect
 checked world name None = tells world (line.Unknown name None ∷ [])
@@ -172,6 +186,7 @@ effect world (event.Feed delivery) = fed world delivery
 effect world (event.Ask request) = asked world request
 effect world (event.Subscribe name wanted beat) = subscribed world (consumer_or_new world.moment name (consumer_of name world.consumers)) wanted beat
 effect world (event.Terminate name identifier) = terminated world name identifier (consumer_of name world.consumers)
+effect world (event.Restart name) = restarted world name (consumer_of name world.consumers)
 effect world (event.Status name) = checked world name (consumer_of name world.consumers)
 effect world (event.Deliver number) = delivered world number (packet_at number world.packets)
 effect world (event.View name identifier) = viewed world name identifier (consumer_of name world.consumers)

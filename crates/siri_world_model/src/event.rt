@@ -29,6 +29,13 @@ pub enum Event {
         consumer: Name,
         identifier: Name,
     },
+    /// A consumer restarts. It keeps its name, its moment and its next number, and of each subscription that it holds
+    /// what it asked for and the base, the number of that request; views, starts, rounds and buffered parts are lost.
+    /// It asks for all of each (EN 15531-2, DataSupplyRequest with AllData), in order of the bytes of the identifiers,
+    /// each under its next number.
+    Restart {
+        consumer: Name,
+    },
     /// A consumer asks whether the producer is there (EN 15531-2, CheckStatusRequest).
     Status {
         consumer: Name,

@@ -8,7 +8,8 @@
 //!                                        +----------------+--------------- as they are sent
 //!                                        |                |                    ^
 //!                                        |                v                    |
-//!     Subscribe, Terminate, Status, View -----> the consumers --- requests, replies
+//!     Subscribe, Terminate, Restart, ---------> the consumers --- requests, replies
+//!     Status, View
 //! ```
 //!
 //! An event happens at a time, and tells lines. The packets that it sends are told after what else it tells. A packet
