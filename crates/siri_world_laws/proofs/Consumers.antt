@@ -1,6 +1,7 @@
 -- What the consumers of a world do is what those of its network do: after each event of theirs the world's network is the one
 -- after what happens in it.
-use Rattle.std.proofs.Common.{◌≡◌, ℕ, zero, suc, ◌≤◌, List, [], ◌∷◌, ◌++◌, Bool, true, false, cond, ◌&&◌, Option, None, Some, refl, sym, ap}
+use Rattle.std.proofs.Common.{◌≡◌, ℕ, zero, suc, ◌+◌, ◌≤◌, List, [], ◌∷◌, ◌++◌, length, Bool, true, false, cond, ◌&&◌}
+use Rattle.std.proofs.Common.{Option, None, Some, refl, sym, ap}
 use Rattle.std.proofs.Common.{◌∙◌, subst, append_assoc, append-nil}
 use Rattle.std.specs.Prelude.{ℤ, nat_lt, option_map, slice_get, if◌then◌else◌}
 use Rattle.std.specs.List.{All}
@@ -20,12 +21,17 @@ use Rattle.siri_life.specs.Link.{asked, taken, replies, asks_for}
 use Rattle.siri_life.specs.Named.{Name, same_name, with_under, with_number, next_of}
 use Rattle.siri_life.specs.Serving.{About, Carries, letters_for}
 use Rattle.siri_life.specs.Network as network
-use Rattle.siri_life.specs.Network.{Asks, Stops, Requests, network_after, step}
+use Rattle.siri_life.specs.Network.{Asks, Stops, Requests, kept_at, network_after, restarted_from, restarts_of_all}
+use Rattle.siri_life.specs.Network.{step}
+use Rattle.siri_life_laws.specs.Restarts.{HasRestarted, or_kept}
 use Rattle.siri_life_laws.proofs.Names.{name_is, name_same}
+use Rattle.siri_life_laws.proofs.Restarting.{all_restart}
 use Rattle.siri_model.specs.Meaning.{meaning}
 use Rattle.siri_base.specs.Numbers.{greatest_number}
 use Rattle.siri_view.specs.Consuming.{Consuming, most_held, count_after, kept_for, seen_by, seen_of, after_heard, seen_in_delivery}
-use Rattle.siri_view.specs.Consuming.{seen_in_notification, after_delivery, after_subscribe, after_terminate, request_for, termination_of}
+use Rattle.siri_view.specs.Consuming.{seen_in_notification, after_delivery, after_restart, after_subscribe}
+use Rattle.siri_view.specs.Consuming.{after_terminate, request_for}
+use Rattle.siri_view.specs.Consuming.{restart_requests, termination_of}
 use Rattle.siri_view.specs.Hearing.{Heard, Delivered, Notified, Noted, Foreign, heard}
 use Rattle.siri_view.specs.Kept as view
 use Rattle.siri_view.specs.Kept.{KeptSubscription, Holdings, kept_of, with_kept}
@@ -38,18 +44,20 @@ use Rattle.siri_world_model.specs.declared.event.Event.TheVariants as event
 use Rattle.siri_world_model.specs.declared.word.Word.TheVariants as word
 use Rattle.siri_world_model.specs.Consumers.{consumer_of, consumer_or_new, new_consumer}
 use Rattle.siri_world_model.specs.Effects.{ask_refusal, checked, delivered, effect, sent_by, subscribed_if, taken_if, tells, terminated}
-use Rattle.siri_world_model.specs.Effects.{terminated_if, with_packets}
+use Rattle.siri_world_model.specs.Effects.{lacks_numbers, restarted, restarted_if, terminated_if, with_packets}
 use Rattle.siri_world_model.specs.Lines as told
 use Rattle.siri_world_model.specs.Lines.{ToldLine}
 use Rattle.siri_world_model.specs.Packets as packet
 use Rattle.siri_world_model.specs.Packets.{SentPacket, packet_at, packets_from}
 use Rattle.siri_world_model.specs.World.{World}
-use Rattle.siri_world_laws.specs.Happenings.{asked_by, asks_if, happening, questions, stops}
+use Rattle.siri_world_laws.specs.Happenings.{asked_by, asks_if, happening, questions, restarts, restarts_if, stops}
 use Rattle.siri_world_laws.specs.Letters.{Letter, letter_heard, letter_of, letter_to_consumer, letters_of, moment_in}
 use Rattle.siri_world_laws.specs.Networks.{WorldNetwork, next_number_of, kept_by, Fits}
 use Rattle.siri_world_laws.proofs.Well.{IsOfConsumer, IsFor, IsMade, IsOrdered, IsWell}
 use Rattle.siri_world_laws.proofs.Asking.{request_is, request_made, termination_is, termination_made, check_is, check_made}
 use Rattle.siri_world_laws.proofs.Held.{kept_put, kept_gone, ordered_put, ordered_gone}
+use Rattle.siri_world_laws.proofs.Restarted.{all_data_is, all_data_made, apart_ordered, holds_all, kept_restarted}
+use Rattle.siri_world_laws.proofs.Restarted.{keys_restarted}
 use Rattle.siri_world_laws.proofs.Known.{found_named, found_ordered, next_with, kept_with, ordered_with}
 use Rattle.siri_world_laws.proofs.Taking.{asked_same, replied, replies_made, ready_letters, notified_sent, notified_made}
 
@@ -299,6 +307,52 @@ module _ (world : World) (n : WorldNetwork) (stands : Stands world n) (c : Consu
     ended_stands None e = none_stands_if (nat_lt greatest_number c.next_number) e
     ended_stands (Some h) e = ended_stands_if (nat_lt greatest_number c.next_number) h e
 
+  -- ---- a restart
+
+  abbrev after_all : WorldNetwork
+  after_all = network_after meaning (restarts_of_all meaning c.name c.held) n
+
+  restart_has : HasRestarted meaning c.name c.next_number c.held n after_all
+  restart_has =
+      let apart = apart_ordered c.held own.ordered in
+      all_restart meaning c.name c.held c.next_number n apart (holds_all n c.name c.held own_kept apart) own_number
+
+  restarted_ordered : IsOrdered (after_restart c)
+  restarted_ordered = subst (IsStrictlySortedBy view.name_cmp) (sym (keys_restarted c.next_number c.held)) own.ordered
+
+  restarted_sent : Sent (after_restart c) (restart_requests c) after_all n
+  restarted_sent = record {
+    serving = restart_has.serving;
+    numbers = λ name. numbers name (same_name name c.name) refl;
+    holdings = λ name identifier. holdings name identifier (same_name name c.name) refl;
+    letters = restart_has.letters ∙ ap (λ letters. n.letters ++ letters) (sym (all_data_is c c.next_number c.held));
+  }
+    where
+      numbers : (name : Name) (b : Bool) → same_name name c.name ≡ b
+          → next_of (after_all.numbers name) ≡ cond b (c.next_number + length c.held) (next_of (n.numbers name))
+      numbers name true same = ap (λ d. next_of (after_all.numbers d)) (name_is name c.name same)
+          ∙ restart_has.number_is
+      numbers name false apart = ap next_of (restart_has.numbers name apart)
+
+      holdings : (name identifier : Name) (b : Bool) → same_name name c.name ≡ b
+          → after_all.holdings name identifier
+          ≡ cond b (kept_of identifier (after_restart c).held) (n.holdings name identifier)
+      holdings name identifier true same =
+          ap (λ d. after_all.holdings d identifier) (name_is name c.name same)
+          ∙ (restart_has.mine identifier
+          ∙ (ap (or_kept meaning (kept_at meaning identifier (restarted_from meaning c.next_number c.held)))
+          (own_kept identifier)
+          ∙ kept_restarted identifier c.next_number c.held))
+      holdings name identifier false apart = restart_has.others name identifier apart
+
+  restarted_stands : (lacks : Bool) → lacks_numbers c ≡ lacks
+      → Stands (with_packets (restarted_if lacks world c)) (network_after meaning (restarts_if lacks c) n)
+  restarted_stands true is = told_stands world n (told.Refused c.name ask_error.Spent ∷ []) stands
+  restarted_stands false is =
+      sent_stands world (after_restart c) [] (restart_requests c) after_all n stands restarted_ordered
+      (all_data_made c c.next_number c.held (ltb-false (greatest_number + 1) (c.next_number + length c.held) is))
+      restarted_sent
+
   -- ---- a question
 
   check_stands : Stands (with_packets (sent_by world c [] (check_request c.name c.moment ∷ []))) (step meaning n (Requests c.name))
@@ -475,6 +529,18 @@ terminate_stands world name identifier n stands = by (consumer_of name world.con
     by (Some c) e =
         let own = found_own name world.consumers c stands.0.ordered e in
         ended_stands world n stands c own identifier (kept_of identifier c.held) (own_kept world n stands c own identifier)
+
+-- a consumer restarts
+pub restart_stands : (world : World) (name : Name) (n : WorldNetwork) → Stands world n
+    → StandsAfter world (event.Restart name) n
+unfolding effect happening
+restart_stands world name n stands = by (consumer_of name world.consumers) refl
+  where
+    by : (found : Option Consuming) → consumer_of name world.consumers ≡ found
+        → Stands (with_packets (restarted world name found)) (network_after meaning (restarts found) n)
+    by None e = told_stands world n (told.Unknown name None ∷ []) stands
+    by (Some c) e = restarted_stands world n stands c (found_own name world.consumers c stands.0.ordered e)
+        (lacks_numbers c) refl
 
 -- a consumer asks whether the producer is there
 pub status_stands : (world : World) (name : Name) (n : WorldNetwork) → Stands world n → StandsAfter world (event.Status name) n

@@ -6,7 +6,8 @@ use Rattle.siri_messages.specs.declared.message.Message.{Message}
 use Rattle.siri_life.specs.Named.{Name, same_name}
 use Rattle.siri_life_laws.proofs.Lists.{get_front}
 use Rattle.siri_base.specs.Numbers.{greatest_number}
-use Rattle.siri_view.specs.Consuming.{Consuming, after_message, after_subscribe, after_terminate, clocked, termination_of}
+use Rattle.siri_view.specs.Consuming.{Consuming, after_message, after_restart, after_subscribe, after_terminate}
+use Rattle.siri_view.specs.Consuming.{clocked, termination_of}
 use Rattle.siri_view.specs.Kept.{KeptSubscription, kept_of}
 use Rattle.siri_view.specs.declared.outcome.AskError.{AskError}
 use Rattle.siri_view.specs.declared.outcome.AskError.TheVariants as ask_error
@@ -111,6 +112,14 @@ module _ (world : World) where
       kept None = same_keeps _ refl
       kept (Some k) = spent (nat_lt greatest_number c.next_number)
 
+  restart_keeps : (name : Name) (found : Option Consuming) → KeepsProducer (effects.restarted world name found) world
+  restart_keeps name None = same_keeps _ refl
+  restart_keeps name (Some c) = by (effects.lacks_numbers c)
+    where
+      by : (lacks : Bool) → KeepsProducer (effects.restarted_if lacks world c) world
+      by true = same_keeps _ refl
+      by false = sent_keeps (after_restart c) _ refl
+
   check_keeps : (name : Name) (found : Option Consuming) → KeepsProducer (effects.checked world name found) world
   check_keeps name None = same_keeps _ refl
   check_keeps name (Some c) = sent_keeps c _ refl
@@ -142,6 +151,7 @@ module _ (world : World) where
       subscribe_keeps (effects.ask_refusal c wanted) c wanted beat
   event_keeps_producer (event.Terminate name identifier) is =
       terminate_keeps name identifier (consumer_of name world.consumers)
+  event_keeps_producer (event.Restart name) is = restart_keeps name (consumer_of name world.consumers)
   event_keeps_producer (event.Status name) is = check_keeps name (consumer_of name world.consumers)
   event_keeps_producer (event.View name identifier) is = view_keeps name identifier (consumer_of name world.consumers)
   event_keeps_producer other is = absurd (cc)

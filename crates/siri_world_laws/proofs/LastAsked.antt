@@ -3,12 +3,12 @@ use Rattle.std.proofs.Common.{◌≡◌, ℕ, Bool, true, false, cond, List, [],
 use Rattle.std.specs.Prelude.{option_map, slice_get}
 use Rattle.siri_messages.specs.Asked.{Asked}
 use Rattle.siri_change.specs.Parts.{Carried}
-use Rattle.siri_life.specs.Life.{Mark, Subscribe, Terminate, Supply, Acknowledge, Notify, Delivery}
+use Rattle.siri_life.specs.Life.{Mark, Subscribe, Terminate, AllData, Supply, Acknowledge, Notify, Delivery}
 use Rattle.siri_life.specs.Link as life
-use Rattle.siri_life.specs.Link.{asked, outcome, taken, taken_as, with_part, with_start}
-use Rattle.siri_life.specs.Named.{Name, same_subscription, with_under}
+use Rattle.siri_life.specs.Link.{asked, outcome, restarted, taken, taken_as, with_part, with_start}
+use Rattle.siri_life.specs.Named.{Name, same_subscription, next_of, with_under}
 use Rattle.siri_life.specs.Network as network
-use Rattle.siri_life.specs.Network.{Asks, Stops, Delivers, step, takes, takes_letter}
+use Rattle.siri_life.specs.Network.{Asks, Stops, Restarts, Delivers, step, takes, takes_letter}
 use Rattle.siri_life.specs.Serving.{About, Carries, ToProducer, ToConsumer}
 use Rattle.siri_life_laws.proofs.Names.{same_parts}
 use Rattle.siri_model.specs.Meaning.{meaning}
@@ -102,6 +102,7 @@ module _ (c i : Name) where
   takes_wants n d t ToConsumer = refl
   takes_wants n d t (Carries (Subscribe number x)) = refl
   takes_wants n d t (Carries (Terminate number)) = refl
+  takes_wants n d t (Carries (AllData number base)) = refl
   takes_wants n d t (Carries (Supply m)) = refl
   takes_wants n d t (Carries (Acknowledge m)) = refl
   takes_wants n d t (Carries (Notify m moment)) = notified_wants n d t m (n.holdings d t) refl
@@ -116,11 +117,18 @@ module _ (c i : Name) where
   stopped_wants n d t None is = sym (same_under d t None n is)
   stopped_wants n d t (Some h) is = under d t None n
 
+  restarted_wants : (n : WorldNetwork) (d t : Name) (held : Option KeptSubscription) → n.holdings d t ≡ held
+      → wanted_in (network.restarted_one meaning n d t held) ≡ wanted_in n
+  restarted_wants n d t None is = refl
+  restarted_wants n d t (Some h) is = under d t (Some (restarted meaning (next_of (n.numbers d)) h)) n
+      ∙ same_under d t (Some h) n is
+
   step_wants : (n : WorldNetwork) (e : Happens) → wanted_in (step meaning n e) ≡ asked_after c i (wanted_in n) e
   step_wants n (Asks d t x) =
       under d t (Some (asked meaning _ x (n.holdings d t))) n
       ∙ ap (λ wanted. cond (same_subscription c i d t) (Some wanted) (wanted_in n)) (asked_wants _ x (n.holdings d t))
   step_wants n (Stops d t) = stopped_wants n d t (n.holdings d t) refl
+  step_wants n (Restarts d t) = restarted_wants n d t (n.holdings d t) refl
   step_wants n (Delivers k) = letter_wants n (slice_get n.letters k)
   step_wants n other = refl
 

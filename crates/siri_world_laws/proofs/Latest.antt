@@ -6,10 +6,11 @@ use Rattle.std.proofs.lemmas.List.{append_assoc}
 use Rattle.std.proofs.lemmas.List.Sums.{fold-append}
 use Rattle.siri_messages.specs.Asked.{Asked}
 use Rattle.siri_change.specs.Parts.{Carried}
-use Rattle.siri_life.specs.Life.{Packet, Subscribe, Terminate, Supply, Acknowledge, Notify, Delivery, is_before}
+use Rattle.siri_life.specs.Life.{Packet, Subscribe, Terminate, AllData, Supply, Acknowledge, Notify, Delivery}
+use Rattle.siri_life.specs.Life.{can_renew, is_before}
 use Rattle.siri_life.specs.Named.{Name, Of, find}
 use Rattle.siri_life.specs.Serving.{About, Carries, ToProducer, ToConsumer, accepted_if, accepts, acknowledged, ended_if, heard}
-use Rattle.siri_life.specs.Serving.{settled_serving, supplied, with_rows, replies_to}
+use Rattle.siri_life.specs.Serving.{renewed, renewed_if, settled_serving, supplied, with_rows, replies_to}
 use Rattle.siri_model.specs.History.{Step, Start, Settle, History}
 use Rattle.siri_model.specs.Lives.{Living, Served, none_served, served_after, serving_of}
 use Rattle.siri_model.specs.Meaning.{meaning}
@@ -43,6 +44,17 @@ heard_first b v c s (Terminate n) = by (is_before meaning (find c s v.table) n)
     by : (y : Bool) → ended_if meaning y (with_ended b v) c s ≡ with_ended b (ended_if meaning y v c s)
     by true = rows_first b v _ _
     by false = refl
+heard_first b v c s (AllData n base) = by (find c s v.table)
+  where
+    test : (y : Bool) (x : Asked)
+        → renewed_if meaning y (with_ended b v) c s n base x ≡ with_ended b (renewed_if meaning y v c s n base x)
+    test true x = rows_first b v _ _
+    test false x = refl
+
+    by : (l : Option Living)
+        → renewed meaning (with_ended b v) c s n base l ≡ with_ended b (renewed meaning v c s n base l)
+    by None = refl
+    by (Some l) = test (can_renew meaning l n base) l.wanted
 heard_first b v c s (Supply m) = by (find c s v.table)
   where
     by : (l : Option Living) → supplied meaning (with_ended b v) c s m l ≡ with_ended b (supplied meaning v c s m l)
@@ -66,6 +78,7 @@ replies_first : (b : List (Of Living)) (v : Served) (c s : Name) (p : Packet Car
     → replies_to meaning (with_ended b v) c s p ≡ replies_to meaning v c s p
 replies_first b v c s (Subscribe n x) = refl
 replies_first b v c s (Terminate n) = refl
+replies_first b v c s (AllData n base) = refl
 replies_first b v c s (Supply m) = refl
 replies_first b v c s (Acknowledge m) = refl
 replies_first b v c s (Notify m t) = refl

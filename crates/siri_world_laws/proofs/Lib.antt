@@ -11,6 +11,7 @@ pub mod Starts
 pub mod Goals
 pub mod Known
 pub mod Held
+pub mod Restarted
 pub mod Asking
 pub mod Taking
 pub mod Consumers

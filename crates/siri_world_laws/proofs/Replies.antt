@@ -1,5 +1,6 @@
 -- What a producer does with a message of a consumer, and what it replies, as letters.
-use Rattle.std.proofs.Common.{◌≡◌, ℕ, ◌<◌, List, [], ◌∷◌, length, map, Bool, true, false, cond, ◌&&◌, Option, None, Some, refl, sym, ap, ◌∙◌, subst}
+use Rattle.std.proofs.Common.{◌≡◌, ℕ, ◌<◌, List, [], ◌∷◌, length, map, Bool, true, false, cond, ◌&&◌, Option, None}
+use Rattle.std.proofs.Common.{Some, Result, Ok, Err, refl, sym, ap, ◌∙◌, subst}
 use Rattle.std.specs.Prelude.{slice_get, option_map, find as find_first}
 use Rattle.std.specs.List.{AllByRecursion}
 use Rattle.std.specs.Cmp.Lexicographic.{bytes_decides}
@@ -19,21 +20,29 @@ use Rattle.siri_life.specs.Serving.{About, Carries, ToProducer, ToConsumer, Hear
 use Rattle.siri_life.specs.Slot.{slot_of, wants_of}
 use Rattle.siri_model.specs.History.{History, now_of, start_of}
 use Rattle.siri_model.specs.Lives.{Living, Served, acknowledgement_of, acts_in, life_of, mark_of, serving_of, table_of}
+use Rattle.siri_model.specs.Lives.{supply_of as packet_of}
 use Rattle.siri_model.specs.Meaning.{meaning}
-use Rattle.siri_model.specs.Rows.{is_numbered, row_of, rows_of}
+use Rattle.siri_model.specs.Rows.{KeptLife, is_numbered, row_of, rows_of}
 use Rattle.siri_model_laws.proofs.Histories.{row_of_life}
 use Rattle.siri_model_laws.proofs.Serves.{goes_with}
 use Rattle.siri_rounds.specs.declared.answers.SupplyError.{SupplyError}
 use Rattle.siri_rounds.specs.declared.answers.SupplyError.TheVariants as refused_as
 use Rattle.siri_rounds.specs.Wanted.{WantedPart, wanted_in, wanted_part, wanted_part_of}
-use Rattle.siri_replies.specs.Parts.{refused_supply}
+use Rattle.siri_base.specs.Numbers.{number_of}
+use Rattle.siri_replies.specs.Parts.{all_data_response, refused_supply}
+use Rattle.siri_replies.specs.Responses.{number_text}
+use Rattle.siri_subs.specs.declared.entry.Row.{Row}
+use Rattle.siri_subs.specs.declared.errors.Accepted.{Accepted}
+use Rattle.siri_subs.specs.declared.errors.RenumberError.{RenumberError}
+use Rattle.siri_subscriptions.specs.Renewals.{renew_answer, renew_by}
 use Rattle.siri_subscriptions.specs.Supplies.{supply_answer, supply_by, supply_of, supply_in}
-use Rattle.siri_view.specs.Hearing.{heard as heard_by}
+use Rattle.siri_view.specs.Hearing.{Noted, placed, heard as heard_by}
 use Rattle.siri_world_model.specs.Packets.{producer}
 use Rattle.siri_world_laws.proofs.Well.{IsShort, IsFor, IsOfConsumer}
 use Rattle.siri_world_laws.proofs.Standing.{IsOf, stands_after}
 use Rattle.siri_world_laws.proofs.Tables.{found_all}
-use Rattle.siri_world_laws.specs.Letters.{Letter, acknowledging, asking, ending, letter_to_consumer, letter_to_producer, of_one}
+use Rattle.siri_world_laws.specs.Letters.{Letter, acknowledging, asking, ending, letter_heard, letter_to_consumer}
+use Rattle.siri_world_laws.specs.Letters.{letter_to_producer, moment_in, of_one}
 use Rattle.siri_world_laws.proofs.Messages.{delivery_letter, delivery_made, mark_at, refused_letter, refused_made}
 
 -- ---- what a message does
@@ -60,7 +69,8 @@ message_heard v c (message.TerminateSubscriptionRequest r) made =
     ap (λ (all : List Name). serving_after meaning (map (λ identifier. Heard r.subscriber_ref identifier (Terminate r.message_identifier)) all) v) made.1.1
     ∙ ap (λ name. heard meaning v name made.1.0 (Terminate r.message_identifier)) made.0
     ∙ sym (ap (λ all. serving_heard v (ending c r.message_identifier all)) made.1.1)
-message_heard v c (message.DataSupplyRequest r) made = ap (λ name. heard meaning v name r.extensions.subscription (Supply (mark_of r.extensions))) made
+message_heard v c (message.DataSupplyRequest r) made = ap
+    (λ name. heard meaning v name r.extensions.subscription (packet_of r.all_data r.extensions)) made.0
 message_heard v c (message.DataReceivedAcknowledgement a) made =
     (λ i. serving_after meaning (acknowledgement_of (made.0 i) (made.1 i) (made.2.1 i)) v)
     ∙ sym (λ i. serving_heard v (acknowledging c (made.0 i) (made.2.1 i)))
@@ -81,6 +91,29 @@ refused_alone : (producer receiver : List ℕ) (now : ℕ) (why : SupplyError)
     → letter_to_consumer receiver (message.ServiceDelivery (refused_supply producer now why)) ∷ [] ≡ told meaning
     receiver
 refused_alone producer receiver now why = ap (λ letter. letter ∷ []) (refused_letter producer receiver now why)
+
+-- nor is the reply to a request for all of a subscription of one: it says nothing of a part
+placed_none : (number : Option ℕ) (more : Bool) → placed number None more ≡ Noted
+placed_none None more = refl
+placed_none (Some number) more = refl
+
+renewal_heard : (producer : List ℕ) (now number : ℕ) (outcome : Result Accepted RenumberError)
+    → heard_by (message.ServiceDelivery (renew_by producer now number outcome).delivery) ≡ Noted
+unfolding all_data_response
+renewal_heard producer now number (Ok how) = placed_none (number_of (number_text number)) true
+renewal_heard producer now number (Err why) = placed_none (number_of (number_text number)) false
+
+pub renewal_noted : (producer : List ℕ) (now : ℕ) (r : DataSupplyRequest) (rows : List (Row KeptLife))
+    → heard_by (message.ServiceDelivery (renew_answer producer now r rows).delivery) ≡ Noted
+unfolding renew_answer
+renewal_noted producer now r rows = renewal_heard producer now r.extensions.number _
+
+pub renewal_letter : (producer receiver : List ℕ) (now : ℕ) (r : DataSupplyRequest) (rows : List (Row KeptLife))
+    → letter_to_consumer receiver (message.ServiceDelivery (renew_answer producer now r rows).delivery) ∷ []
+    ≡ told meaning receiver
+renewal_letter producer receiver now r rows =
+    let reply = message.ServiceDelivery (renew_answer producer now r rows).delivery in
+    ap (λ it. letter_heard receiver (moment_in reply) it ∷ []) (renewal_noted producer now r rows)
 
 -- by the life of the subscription that its mark names
 module _ (producer : List ℕ) (k now : ℕ) (mark : Mark) (l : Living) where

@@ -2,7 +2,9 @@
 use Rattle.std.proofs.Common.{◌≡◌, ℕ, ◌≤◌, Bool, true, false, cond, List, [], ◌∷◌, length, Option, Some, None, refl, ap, subst, arith}
 use Rattle.std.proofs.lemmas.Bool.{lt-leb}
 use Rattle.siri_life.specs.Meaning.{Meaning}
-use Rattle.siri_life.specs.Life.{Life, Packet, Subscribe, Terminate, Supply, Acknowledge, Notify, Delivery, can_accept, is_before}
+use Rattle.siri_life.specs.Life.{Life, Packet, Subscribe, Terminate, AllData, Supply, Acknowledge, Notify, Delivery}
+use Rattle.siri_life.specs.Life.{can_accept, can_renew}
+use Rattle.siri_life.specs.Life.{is_before}
 use Rattle.siri_life.specs.Named.{Name, Of, same_subscription, find, put, without, keep}
 use Rattle.siri_life.specs.Serving
 use Rattle.siri_life.specs.Serving.{Act, Clocked, Fed, Heard, Settled, settled_rows, most_subscriptions}
@@ -77,6 +79,15 @@ module _ {V P W H E : Type 0} (f : Meaning V P W H E) (c s : Name) where
       by : (b : Bool) → IsSole (Serving.ended_if f b n.serving d t).table
       by true = sole_without d t n.serving.table sole
       by false = sole
+  heard_sole n d t (AllData number base) same sole = by (find d t n.serving.table)
+    where
+      test : (b : Bool) (x : W) → IsSole (Serving.renewed_if f b n.serving d t number base x).table
+      test true x = sole_put d t _ n.serving.table same sole
+      test false x = sole
+
+      by : (e : Option (Life V P W)) → IsSole (Serving.renewed f n.serving d t number base e).table
+      by None = sole
+      by (Some l) = test (can_renew f l number base) l.wanted
   heard_sole n d t (Supply m) same sole = by (find d t n.serving.table)
     where
       by : (e : Option (Life V P W)) → IsSole (Serving.supplied f n.serving d t m e).table
@@ -103,6 +114,7 @@ module _ {V P W H E : Type 0} (f : Meaning V P W H E) (c s : Name) where
       λ same. ap (λ full. can_accept f full n.serving.now number x (find c s n.serving.table))
       (lt-leb most_subscriptions (length n.serving.table) (omega (arith, one)))
   heard_room n d t (Terminate number) sole = tt
+  heard_room n d t (AllData number base) sole = tt
   heard_room n d t (Supply m) sole = tt
   heard_room n d t (Acknowledge m) sole = tt
   heard_room n d t (Notify m moment) sole = tt

@@ -20,12 +20,13 @@ use Rattle.siri_messages.specs.declared.message.Message.TheVariants as message
 use Rattle.siri_messages.specs.declared.supplies.Mark.{Mark as SentMark}
 use Rattle.siri_change.specs.Parts.{Carried, changes_in}
 use Rattle.siri_life.specs.Meaning.{apply_parts}
-use Rattle.siri_life.specs.Life.{Mark, Subscribe, Terminate, Supply, Acknowledge, Notify, Delivery}
+use Rattle.siri_life.specs.Life.{Mark, Subscribe, Terminate, AllData, Supply, Acknowledge, Notify, Delivery}
 use Rattle.siri_life.specs.Link.{Origin, Outcome, UnknownSubscription, OldStart, Gap, Repeat, Overlong, Wanted, asked, base_of, outcome}
-use Rattle.siri_life.specs.Link.{taken, taken_as, with_part, with_start, with_start_if}
-use Rattle.siri_life.specs.Named.{Name, same_subscription}
+use Rattle.siri_life.specs.Link.{restarted, taken, taken_as, with_part, with_start, with_start_if}
+use Rattle.siri_life.specs.Named.{Name, same_subscription, next_of}
 use Rattle.siri_life.specs.Network
-use Rattle.siri_life.specs.Network.{Asks, Stops, Delivers, step, takes, takes_letter}
+use Rattle.siri_life.specs.Network.{Asks, Stops, Restarts, Delivers, step, takes, takes_letter}
+use Rattle.siri_model.specs.Lives.{supply_of}
 use Rattle.siri_life.specs.Serving.{About, Carries, ToProducer, ToConsumer}
 use Rattle.siri_life_laws.proofs.Longer.{step_longer}
 use Rattle.siri_life_laws.proofs.Names.{same_parts}
@@ -304,6 +305,7 @@ module _ (c i : Name) where
     letter_kept k d j ToConsumer there = old
     letter_kept k d j (Carries (Subscribe number wanted)) there = old
     letter_kept k d j (Carries (Terminate number)) there = old
+    letter_kept k d j (Carries (AllData number base)) there = old
     letter_kept k d j (Carries (Supply m)) there = old
     letter_kept k d j (Carries (Acknowledge m)) there = old
     letter_kept k d j (Carries (Notify m moment)) there = notified_kept d j m (n.holdings d j) refl
@@ -313,9 +315,18 @@ module _ (c i : Name) where
     stopped_kept d j None = old
     stopped_kept d j (Some h) = under d j None (λ same. tt) (same_subscription c i d j) refl
 
+    restarted_kept : (d j : Name) (held : Option KeptSubscription)
+        → KeptIf letters ((Network.restarted_one meaning n d j held).holdings c i)
+    restarted_kept d j None = old
+    restarted_kept d j (Some h) =
+        under d j (Some (restarted meaning (next_of (n.numbers d)) h))
+        (λ same. record { view = All-nil (IsCarried letters _); parts = tt; belongs = λ some. absurd (omega arith) })
+        (same_subscription c i d j) refl
+
     happening_kept : (e : Happens) → KeptIf letters ((step meaning n e).holdings c i)
     happening_kept (Asks d j wanted) = under d j _ (λ same. asked_kept letters _ wanted (n.holdings d j) (own d j same)) (same_subscription c i d j) refl
     happening_kept (Stops d j) = stopped_kept d j (n.holdings d j)
+    happening_kept (Restarts d j) = restarted_kept d j (n.holdings d j)
     happening_kept (Delivers k) = by (slice_get n.letters k) refl
       where
         by : (found : Option Letter) → slice_get n.letters k ≡ found → KeptIf letters ((takes_letter meaning n found).holdings c i)
@@ -355,11 +366,16 @@ no_acknowledgement sender true (Some mark) is = is
 no_acknowledgement sender true None is = is
 no_acknowledgement sender false mark is = is
 
+no_supply : (all_data : Bool) (mark : SentMark) → IsPart (Carries (supply_of all_data mark)) → ⊥
+no_supply true mark is = is
+no_supply false mark is = is
+
 no_part : (sender : Name) (sent : Message) → IsPart (letter_to_producer sender sent).it → ⊥
 unfolding letter_to_producer
 no_part sender (message.SubscriptionRequest r) is = no_request sender r.message_identifier (asked_in r) is
 no_part sender (message.TerminateSubscriptionRequest r) is = no_termination sender r.message_identifier r.subscription_ref is
 no_part sender (message.DataReceivedAcknowledgement a) is = no_acknowledgement sender a.status a.extensions is
+no_part sender (message.DataSupplyRequest r) is = no_supply r.all_data r.extensions is
 no_part sender other is = is
 
 a_part : (letter : Letter) (about : About Carried Asked) (c i : Name) → letter ≡ of_one c i about → IsPart about → IsPart letter.it

@@ -2,7 +2,7 @@
 use Rattle.std.proofs.Common.{◌≡◌, List, [], ◌∷◌, ℕ, fold, refl, sym, subst, ◌∙◌}
 use Rattle.siri_messages.specs.Asked.{Asked}
 use Rattle.siri_change.specs.Parts.{Carried}
-use Rattle.siri_life.specs.Life.{Packet, Subscribe, Terminate, Supply, Acknowledge, Notify, Delivery}
+use Rattle.siri_life.specs.Life.{Packet, Subscribe, Terminate, AllData, Supply, Acknowledge, Notify, Delivery}
 use Rattle.siri_life.specs.Serving.{Act, Clocked, Fed, Heard, Settled, heard, lives_on, served, serving_after, clocked_serving}
 use Rattle.siri_model.specs.History.{Entry, Step, Start, Clock, Feed, Take, Settle, History}
 use Rattle.siri_model.specs.Lives.{Living, Served, acts_in, none_served, served_after, serving_of}
@@ -22,6 +22,7 @@ stays k new old goes is = record { start = goes.start ∙ is.start; part = goes.
 begins : (v : Served) (p : Packet Carried Asked) → Begins (IsOf v.start) (stays v.start) v p
 begins v (Subscribe number wanted) = record { start = refl; part = tt }
 begins v (Terminate number) = tt
+begins v (AllData number base) = λ wanted. record { start = refl; part = tt }
 begins v (Supply m) = tt
 begins v (Acknowledge m) = tt
 begins v (Notify m moment) = tt

@@ -3,13 +3,16 @@ use Rattle.std.proofs.Common.{◌≡◌, ℕ, suc, ◌≤◌, max, Bool, true, f
 use Rattle.std.proofs.Common.{sym, ap, ◌∙◌, subst, arith}
 use Rattle.std.specs.Prelude.{nat_lt}
 use Rattle.siri_life.specs.Meaning.{Meaning}
-use Rattle.siri_life.specs.Life.{Outstanding, Life, Mark, is_mark, is_due, Subscribe, Terminate, Supply, Acknowledge, Notify, Delivery}
-use Rattle.siri_life.specs.Life.{new_life, is_before, opened, opened_at, opened_if, wants_round, after_send, sent_if, after_heartbeat}
+use Rattle.siri_life.specs.Life.{Outstanding, Life, Mark, is_mark, is_due, Subscribe, Terminate, AllData, Supply}
+use Rattle.siri_life.specs.Life.{Acknowledge, Notify, Delivery}
+use Rattle.siri_life.specs.Life.{new_life, can_renew, is_before, opened, opened_at, opened_if, wants_round, after_send}
+use Rattle.siri_life.specs.Life.{sent_if, after_heartbeat}
 use Rattle.siri_life.specs.Life.{heartbeat_if, sends_heartbeat, settled, after_acknowledgement, acknowledged_at, acknowledged_if, next_part}
 use Rattle.siri_life.specs.Life.{after_supply, supplied_at}
 use Rattle.siri_life.specs.Named.{Name, Of, same_subscription, those, first, find, put, without, keep}
 use Rattle.siri_life.specs.Serving.{Serving, Act, Clocked, Fed, Heard, Settled, row_of, settled_rows, accepted_if, accepts, ended_if}
-use Rattle.siri_life.specs.Serving.{supplied, acknowledged, lives_on, expired, served, serving_after, opening_serving}
+use Rattle.siri_life.specs.Serving.{renewed, renewed_if, supplied, acknowledged, lives_on, expired, served}
+use Rattle.siri_life.specs.Serving.{serving_after, opening_serving}
 use Rattle.siri_life_laws.proofs.Names.{those_put, those_without, those_keep, those_settled, rest}
 use Rattle.siri_life_laws.proofs.Sees.{length_rest, length_only, length_settled}
 
@@ -163,11 +166,25 @@ module _ {V P W H E : Type 0} (f : Meaning V P W H E) where
 
   own_accepted : (b : Bool) (v : Serving V P W H) (c s : Name) (n : ℕ) (x : W) → IsOwn v → IsOwn (accepted_if f b v c s n x)
   own_accepted true v c s n x own = record {
-    table = of_put v.start c s (new_life f v.start v.now n x) v.table refl own.table;
+    table = of_put v.start c s (new_life f v.start v.now n n x) v.table refl own.table;
     ended = of_append v.start v.ended (row_of f c s (find c s v.table)) own.ended (of_row v.start c s (find c s v.table) v.table own.table refl);
-    once = once_put c s (new_life f v.start v.now n x) v.table own.once;
+    once = once_put c s (new_life f v.start v.now n n x) v.table own.once;
   }
   own_accepted false v c s n x own = own
+
+  own_renewed_if : (b : Bool) (v : Serving V P W H) (c s : Name) (n base : ℕ) (x : W) → IsOwn v
+      → IsOwn (renewed_if f b v c s n base x)
+  own_renewed_if true v c s n base x own = record {
+    table = of_put v.start c s (new_life f v.start v.now n base x) v.table refl own.table;
+    ended = of_append v.start v.ended (row_of f c s (find c s v.table)) own.ended (of_row v.start c s (find c s v.table) v.table own.table refl);
+    once = once_put c s (new_life f v.start v.now n base x) v.table own.once;
+  }
+  own_renewed_if false v c s n base x own = own
+
+  own_renewed : (v : Serving V P W H) (c s : Name) (n base : ℕ) (e : Option (Life V P W)) → IsOwn v
+      → IsOwn (renewed f v c s n base e)
+  own_renewed v c s n base None own = own
+  own_renewed v c s n base (Some l) own = own_renewed_if (can_renew f l n base) v c s n base l.wanted own
 
   own_ended : (b : Bool) (v : Serving V P W H) (c s : Name) → IsOwn v → IsOwn (ended_if f b v c s)
   own_ended true v c s own = record {
@@ -206,6 +223,7 @@ module _ {V P W H E : Type 0} (f : Meaning V P W H E) where
   own_served v (Fed es) own = record { table = own.table; ended = own.ended; once = own.once }
   own_served v (Heard c s (Subscribe n x)) own = own_accepted (accepts f v c s n x) v c s n x own
   own_served v (Heard c s (Terminate n)) own = own_ended (is_before f (find c s v.table) n) v c s own
+  own_served v (Heard c s (AllData n base)) own = own_renewed v c s n base (find c s v.table) own
   own_served v (Heard c s (Supply m)) own = own_supplied v c s m (find c s v.table) refl own
   own_served v (Heard c s (Acknowledge m)) own = own_acknowledged v c s m (find c s v.table) refl own
   own_served v (Heard c s (Notify m moment)) own = own

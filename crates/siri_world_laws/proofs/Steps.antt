@@ -14,13 +14,13 @@ use Rattle.siri_messages.specs.declared.message.Message.{Message}
 use Rattle.siri_messages.specs.declared.message.Message.TheVariants as message
 use Rattle.siri_messages.specs.declared.supplies.Mark.{Mark}
 use Rattle.siri_change.specs.Parts.{Carried}
-use Rattle.siri_life.specs.Life.{Subscribe, Terminate, Supply, Acknowledge, Notify, Delivery}
+use Rattle.siri_life.specs.Life.{Subscribe, Terminate, AllData, Supply, Acknowledge, Notify, Delivery}
 use Rattle.siri_life.specs.Named.{Name, Of, next_of}
 use Rattle.siri_life.specs.Network.{network_after, step, takes, takes_letter, Clocks, Feeds}
 use Rattle.siri_life.specs.Serving.{About, Carries, ToProducer, ToConsumer, clocked_serving, expired_serving, fed_serving, heard}
 use Rattle.siri_life.specs.Serving.{row_letters, settled_serving, started_serving, told}
 use Rattle.siri_model.specs.History.{Entry, Step, Start, Clock, Feed, Take, Settle, History, entries_of}
-use Rattle.siri_model.specs.Lives.{Living, Served, served_after, serving_of}
+use Rattle.siri_model.specs.Lives.{Living, Served, served_after, serving_of, supply_of}
 use Rattle.siri_model.specs.Meaning.{meaning}
 use Rattle.siri_model_laws.proofs.Current.{last_appended}
 use Rattle.siri_model_laws.proofs.Serves.{more_served}
@@ -44,7 +44,8 @@ use Rattle.siri_world_laws.specs.Happenings.{happening, happening_if, happenings
 use Rattle.siri_world_laws.specs.Letters.{Letter, letter_of, letter_to_producer, letters_of, asking, ending, acknowledging}
 use Rattle.siri_world_laws.specs.Networks.{WorldNetwork, next_number_of, kept_by, serving_from, with_ended, all_lives, Fits}
 use Rattle.siri_world_laws.proofs.Well.{IsOfConsumer, IsMade, AreNumbered, IsShort, IsOrdered, IsWell}
-use Rattle.siri_world_laws.proofs.Consumers.{Stands, StandsAfter, told_stands, subscribe_stands, terminate_stands, status_stands}
+use Rattle.siri_world_laws.proofs.Consumers.{Stands, StandsAfter, told_stands, subscribe_stands, terminate_stands}
+use Rattle.siri_world_laws.proofs.Consumers.{restart_stands, status_stands}
 use Rattle.siri_world_laws.proofs.Consumers.{to_consumer_stands, to_nobody_stands}
 use Rattle.siri_world_laws.proofs.Known.{next_clocked, kept_clocked, ordered_clocked}
 use Rattle.siri_world_laws.proofs.Latest.{rows_first, Ends, ends_of, ends_some, two_steps, about_first, about_replies, about_start, numbered_anew}
@@ -79,6 +80,7 @@ pub record Keep (new old : List Consuming) : Type 0 where
 abbrev IsToProducer : About Carried Asked → Type 0
 IsToProducer (Carries (Subscribe number x)) = Unit {0}
 IsToProducer (Carries (Terminate number)) = Unit {0}
+IsToProducer (Carries (AllData number base)) = Unit {0}
 IsToProducer (Carries (Supply m)) = Unit {0}
 IsToProducer (Carries (Acknowledge m)) = Unit {0}
 IsToProducer (Carries (Notify m moment)) = ⊥
@@ -103,6 +105,15 @@ about_settles n c s (Carries (Terminate number)) to = record {
   holdings = λ name identifier. refl;
   sent = ap (λ xs. (xs ++ told meaning c) ++ row_letters meaning (heard meaning n.serving c s (Terminate number)).known
       (heard meaning n.serving c s (Terminate number)).now (heard meaning n.serving c s (Terminate number)).table)
+      (append-nil n.letters);
+}
+about_settles n c s (Carries (AllData number base)) to = record {
+  serving = refl;
+  numbers = λ name. refl;
+  holdings = λ name identifier. refl;
+  sent = ap (λ xs. (xs ++ told meaning c)
+      ++ row_letters meaning (heard meaning n.serving c s (AllData number base)).known
+      (heard meaning n.serving c s (AllData number base)).now (heard meaning n.serving c s (AllData number base)).table)
       (append-nil n.letters);
 }
 about_settles n c s (Carries (Supply m)) to = record { serving = refl; numbers = λ name. refl; holdings = λ name identifier. refl; sent = refl }
@@ -133,11 +144,15 @@ acknowledging_to sender true (Some mark) = tt
 acknowledging_to sender true None = tt
 acknowledging_to sender false mark = tt
 
+supplying_to : (all : Bool) (mark : Mark) → IsToProducer (Carries (supply_of all mark))
+supplying_to true mark = tt
+supplying_to false mark = tt
+
 is_to_producer : (sender : Name) (m : Message) → IsToProducer (letter_to_producer sender m).it
 unfolding letter_to_producer
 is_to_producer sender (message.SubscriptionRequest r) = asking_to sender r.message_identifier (asked_in r)
 is_to_producer sender (message.TerminateSubscriptionRequest r) = ending_to sender r.message_identifier r.subscription_ref
-is_to_producer sender (message.DataSupplyRequest r) = tt
+is_to_producer sender (message.DataSupplyRequest r) = supplying_to r.all_data r.extensions
 is_to_producer sender (message.DataReceivedAcknowledgement a) = acknowledging_to sender a.status a.extensions
 is_to_producer sender other = tt
 
@@ -412,6 +427,7 @@ event_stands world (event.Feed delivery) n late stands = feed_stands world n sta
 event_stands world (event.Ask request) n late stands = ask_stands world request n stands
 event_stands world (event.Subscribe name wanted beat) n late stands = subscribe_stands world name wanted beat n stands
 event_stands world (event.Terminate name identifier) n late stands = terminate_stands world name identifier n stands
+event_stands world (event.Restart name) n late stands = restart_stands world name n stands
 event_stands world (event.Status name) n late stands = status_stands world name n stands
 event_stands world (event.Deliver number) n late stands = deliver_stands world number n late stands
 event_stands world (event.View name identifier) n late stands = view_stands world name identifier n stands

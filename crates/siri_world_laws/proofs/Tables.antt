@@ -3,9 +3,12 @@ use Rattle.std.proofs.Common.{◌≡◌, ℕ, List, [], ◌∷◌, Bool, true, f
 use Rattle.std.specs.List.{AllByRecursion}
 use Rattle.siri_messages.specs.Asked.{Asked}
 use Rattle.siri_change.specs.Parts.{Carried}
-use Rattle.siri_life.specs.Life.{Packet, Subscribe, Terminate, Supply, Acknowledge, Notify, Delivery, after_acknowledgement, after_supply, is_before, new_life}
+use Rattle.siri_life.specs.Life.{Packet, Subscribe, Terminate, AllData, Supply, Acknowledge, Notify, Delivery}
+use Rattle.siri_life.specs.Life.{after_acknowledgement, after_supply}
+use Rattle.siri_life.specs.Life.{can_renew, is_before, new_life}
 use Rattle.siri_life.specs.Named.{Name, Of, same_subscription, those, first, find, put, without, keep}
-use Rattle.siri_life.specs.Serving.{accepted_if, accepts, acknowledged, ended_if, heard, settled_rows, supplied}
+use Rattle.siri_life.specs.Serving.{accepted_if, accepts, acknowledged, ended_if, heard, renewed, renewed_if}
+use Rattle.siri_life.specs.Serving.{settled_rows, supplied}
 use Rattle.siri_model.specs.History.{History}
 use Rattle.siri_model.specs.Lives.{Living, Served}
 use Rattle.siri_model.specs.Meaning.{meaning}
@@ -55,8 +58,9 @@ module _ (P : Living → Type 0) where
 
     -- it holds of the life that a message begins, if it begins one
     abbrev pub Begins : Served → Packet Carried Asked → Type 0
-    Begins v (Subscribe number wanted) = P (new_life meaning v.start v.now number wanted)
+    Begins v (Subscribe number wanted) = P (new_life meaning v.start v.now number number wanted)
     Begins v (Terminate number) = Unit {0}
+    Begins v (AllData number base) = (wanted : Asked) → P (new_life meaning v.start v.now number base wanted)
     Begins v (Supply m) = Unit {0}
     Begins v (Acknowledge m) = Unit {0}
     Begins v (Notify m moment) = Unit {0}
@@ -66,13 +70,22 @@ module _ (P : Living → Type 0) where
     heard_all v c s (Subscribe number wanted) begins all = by (accepts meaning v c s number wanted)
       where
         by : (b : Bool) → AllLive (accepted_if meaning b v c s number wanted).table
-        by true = put_all c s (new_life meaning v.start v.now number wanted) v.table begins all
+        by true = put_all c s (new_life meaning v.start v.now number number wanted) v.table begins all
         by false = all
     heard_all v c s (Terminate number) begins all = by (is_before meaning (find c s v.table) number)
       where
         by : (b : Bool) → AllLive (ended_if meaning b v c s).table
         by true = without_all c s v.table all
         by false = all
+    heard_all v c s (AllData number base) begins all = by (find c s v.table)
+      where
+        test : (b : Bool) (wanted : Asked) → AllLive (renewed_if meaning b v c s number base wanted).table
+        test true wanted = put_all c s (new_life meaning v.start v.now number base wanted) v.table (begins wanted) all
+        test false wanted = all
+
+        by : (l : Option Living) → AllLive (renewed meaning v c s number base l).table
+        by None = all
+        by (Some l) = test (can_renew meaning l number base) l.wanted
     heard_all v c s (Supply m) begins all = by (find c s v.table) refl
       where
         by : (l : Option Living) → find c s v.table ≡ l → AllLive (supplied meaning v c s m l).table

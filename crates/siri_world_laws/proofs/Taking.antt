@@ -84,7 +84,7 @@ module _ (c : Consuming) (identifier : Name) where
 
   supply_made : (m : Mark) → IsOfConsumer c.name (supply_request c.name c.moment identifier m)
   unfolding IsOfConsumer
-  supply_made m = refl
+  supply_made m = (refl, λ all. absurd (cc))
 
   one_made : (message : Message) → IsOfConsumer c.name message → All (IsOfConsumer c.name) (message ∷ [])
   one_made message made = All-cons (IsOfConsumer c.name) message [] made (All-nil (IsOfConsumer c.name))

@@ -17,12 +17,13 @@ use Rattle.siri_world_model.specs.World.{World, latest}
 -- ---- what the ends of a world make
 
 -- a message that a consumer makes: a request for one subscription whose subscriber it is, or to end one; a request for a
--- part, an acknowledgement, a question; all under its name, and with numbers of at most 18 digits
+-- part or for all of one, an acknowledgement, a question; all under its name, and with numbers of at most 18 digits
 unfoldable pub IsOfConsumer : (sender : Name) → Message → Type 0
 IsOfConsumer sender (message.SubscriptionRequest r) =
     (asked : Asked) × (asked_in r ≡ asked ∷ []) × (asked.subscription.subscriber ≡ sender) × (r.message_identifier < 1000000000000000000)
 IsOfConsumer sender (message.TerminateSubscriptionRequest r) = (r.subscriber_ref ≡ sender) × ((identifier : Name) × (r.subscription_ref ≡ identifier ∷ []))
-IsOfConsumer sender (message.DataSupplyRequest r) = r.consumer_ref ≡ sender
+IsOfConsumer sender (message.DataSupplyRequest r) =
+    (r.consumer_ref ≡ sender) × (r.all_data ≡ true → r.extensions.number < 1000000000000000000)
 IsOfConsumer sender (message.DataReceivedAcknowledgement a) =
     (a.status ≡ true) × (a.consumer_ref ≡ Some sender) × ((mark : Mark) × (a.extensions ≡ Some mark))
 IsOfConsumer sender (message.DataReadyAcknowledgement a) = Unit {0}

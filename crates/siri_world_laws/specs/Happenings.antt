@@ -1,10 +1,12 @@
 -- What happens in the network that a world is when an event happens in the world.
-use Rattle.std.specs.Prelude.{ℕ, ℤ, zero, suc, nat_lt, List, [], ◌∷◌, ◌++◌, if◌then◌else◌, Option, Some, None}
+use Rattle.std.specs.Prelude.{ℕ, ℤ, zero, suc, nat_lt, Bool, true, false, List, [], ◌∷◌, ◌++◌, if◌then◌else◌, Option}
+use Rattle.std.specs.Prelude.{Some, None}
 use Rattle.siri_topic.specs.declared.subscription.Subscription.{Subscription}
 use Rattle.siri_messages.specs.Asked.{Asked}
 use Rattle.siri_life.specs.Named.{Name}
-use Rattle.siri_life.specs.Network.{Happening, Starts, Clocks, Feeds, Asks, Stops, Requests, Delivers}
+use Rattle.siri_life.specs.Network.{Happening, Starts, Clocks, Feeds, Asks, Stops, Requests, Delivers, restarts_of_all}
 use Rattle.siri_model.specs.History.{Entry, entries_of}
+use Rattle.siri_model.specs.Meaning.{meaning}
 use Rattle.siri_base.specs.Numbers.{greatest_number}
 use Rattle.siri_view.specs.Consuming.{Consuming}
 use Rattle.siri_view.specs.Sending.{own}
@@ -13,7 +15,7 @@ use Rattle.siri_world_model.specs.declared.event.Event.{Event}
 use Rattle.siri_world_model.specs.declared.event.Event.TheVariants as event
 use Rattle.siri_world_model.specs.declared.step_error.StepError.{StepError}
 use Rattle.siri_world_model.specs.Consumers.{consumer_of, consumer_or_new}
-use Rattle.siri_world_model.specs.Effects.{ask_refusal}
+use Rattle.siri_world_model.specs.Effects.{ask_refusal, lacks_numbers}
 use Rattle.siri_world_model.specs.Told.{refusal, after}
 use Rattle.siri_world_model.specs.World.{World, nothing}
 
@@ -37,6 +39,16 @@ abbrev pub stops : Option Consuming → (identifier : Name) → List Happens
 stops None identifier = []
 stops (Some consumer) identifier = if nat_lt greatest_number consumer.next_number then [] else Stops consumer.name identifier ∷ []
 
+-- one that restarts asks for all of each subscription that it holds, one after the other, unless its numbers are used
+-- up before
+abbrev pub restarts_if : (lacks : Bool) → Consuming → List Happens
+restarts_if true consumer = []
+restarts_if false consumer = restarts_of_all meaning consumer.name consumer.held
+
+abbrev pub restarts : Option Consuming → List Happens
+restarts None = []
+restarts (Some consumer) = restarts_if (lacks_numbers consumer) consumer
+
 abbrev pub questions : Option Consuming → List Happens
 questions None = []
 questions (Some consumer) = Requests consumer.name ∷ []
@@ -54,6 +66,7 @@ happening world (event.Feed delivery) = Feeds (entries_of delivery) ∷ []
 happening world (event.Ask request) = []
 happening world (event.Subscribe name wanted beat) = asks (consumer_or_new world.moment name (consumer_of name world.consumers)) wanted beat
 happening world (event.Terminate name identifier) = stops (consumer_of name world.consumers) identifier
+happening world (event.Restart name) = restarts (consumer_of name world.consumers)
 happening world (event.Status name) = questions (consumer_of name world.consumers)
 happening world (event.Deliver number) = deliveries number
 happening world (event.View name identifier) = []

@@ -5,10 +5,10 @@ use Rattle.siri_messages.specs.declared.message.Message.{Message}
 use Rattle.siri_messages.specs.declared.message.Message.TheVariants as message
 use Rattle.siri_messages.specs.declared.supplies.Mark.{Mark}
 use Rattle.siri_change.specs.Parts.{Carried}
-use Rattle.siri_life.specs.Life.{Subscribe, Terminate, Supply, Acknowledge, Notify, Delivery}
+use Rattle.siri_life.specs.Life.{Subscribe, Terminate, Acknowledge, Notify, Delivery}
 use Rattle.siri_life.specs.Named.{Name, Of}
 use Rattle.siri_life.specs.Serving.{About, Carries, ToProducer, ToConsumer}
-use Rattle.siri_model.specs.Lives.{mark_of}
+use Rattle.siri_model.specs.Lives.{mark_of, supply_of}
 use Rattle.siri_view.specs.Hearing.{Heard, Delivered, Notified, Noted, Foreign, heard}
 use Rattle.siri_world_model.specs.Packets.{SentPacket}
 use Rattle.siri_world_model.specs.Packets as packet
@@ -46,7 +46,8 @@ acknowledging sender status mark = of_none sender (ToProducer false)
 unfoldable pub letter_to_producer : (sender : Name) → Message → Letter
 letter_to_producer sender (message.SubscriptionRequest r) = asking sender r.message_identifier (asked_in r)
 letter_to_producer sender (message.TerminateSubscriptionRequest r) = ending sender r.message_identifier r.subscription_ref
-letter_to_producer sender (message.DataSupplyRequest r) = of_one sender r.extensions.subscription (Carries (Supply (mark_of r.extensions)))
+letter_to_producer sender (message.DataSupplyRequest r) = of_one sender r.extensions.subscription
+    (Carries (supply_of r.all_data r.extensions))
 letter_to_producer sender (message.DataReceivedAcknowledgement a) = acknowledging sender a.status a.extensions
 letter_to_producer sender (message.CheckStatusRequest r) = of_none sender (ToProducer true)
 letter_to_producer sender other = of_none sender (ToProducer false)

@@ -7,9 +7,10 @@ use Rattle.siri_topic.specs.Agreement.{has_visit}
 use Rattle.siri_model.specs.Direct.{answering, answer, response}
 use Rattle.siri_model.specs.History.{after_step}
 use Rattle.siri_model.specs.Lives.{acts_in, served_after}
-use Rattle.siri_replies.specs.Parts.{part_functional, part_delivery}
+use Rattle.siri_replies.specs.Parts.{part_functional, part_delivery, all_data_response}
 use Rattle.siri_replies.specs.Responses.{accepted_status, refused_status, subscription_response, ended_status, unknown_status, termination_response}
 use Rattle.siri_replies.specs.Statuses.{feed_acknowledgement}
+use Rattle.siri_subscriptions.specs.Renewals.{renew_answer}
 use Rattle.siri_subscriptions.specs.Requests.{subscription_answer}
 use Rattle.siri_subscriptions.specs.Terminations.{termination_answer}
 use Rattle.siri_producer.specs.Answers.{answer_to}
@@ -20,7 +21,8 @@ use Rattle.siri_world_model.specs.Told.{refusal}
 
 unfoldable pub opened : ⊤
 unfolding digits call_moment is_near_call is_near_visit_journey is_near_visit has_visit answering answer response
-    after_step acts_in served_after part_functional part_delivery accepted_status refused_status subscription_response
+    after_step acts_in served_after part_functional part_delivery all_data_response renew_answer accepted_status
+    refused_status subscription_response
     ended_status unknown_status termination_response feed_acknowledgement subscription_answer termination_answer
     answer_to sends number_of effect refusal
 opened = tt

@@ -52,6 +52,8 @@ note_text note.Ended = codes "Ended"
 note_text note.Supplied = codes "Supplied"
 note_text note.NothingReady = codes "NothingReady"
 note_text (note.WrongPart wanted) = spaced (codes "WrongPart" ∷ place_text wanted ∷ [])
+note_text note.Renewed = codes "Renewed"
+note_text note.NotRenewed = codes "NotRenewed"
 note_text note.Acknowledged = codes "Acknowledged"
 note_text note.NotThis = codes "NotThis"
 note_text note.Checked = codes "Checked"
@@ -178,6 +180,18 @@ first_request moment consumer = message.SubscriptionRequest (record (blank_subsc
   requestor_ref = Some consumer;
   stop_monitoring_subscription_request = record (subscription 86400 0 true) { subscriber = consumer } ∷ [];
 })
+
+-- the consumer restarts, and asks for all: packet 5 is its request, 6 the answer, 7 the first round under the new
+-- number, and 8 its acknowledgement
+abbrev pub renewed : List Event
+renewed = acknowledged ++ event.Restart c1 ∷ event.Deliver 5 ∷ event.Deliver 7 ∷ event.Deliver 8 ∷ []
+
+-- two requests for one subscription, of which the second, for half an hour, is accepted; the consumer restarts and asks
+-- for all of it, packet 5. It ends, and then the first request is accepted
+abbrev pub base_is_gone : List Event
+base_is_gone =
+    event.Start 0 ∷ subscribe c1 0 ∷ event.Subscribe c1 (subscription 1800 0 true) (pos 0) ∷ event.Deliver 2 ∷
+    event.Restart c1 ∷ event.Clock 1800000 ∷ event.Deliver 1 ∷ []
 
 -- ---- quiet views
 

@@ -45,8 +45,8 @@ pub use producer_laws::{
     other_subscriptions_change_nothing,
 };
 pub use scripts::{
-    changes_wait_for_the_round, ended_lives, quiet_views, repeats, requests, restarts,
-    sixteen_consumers_subscribe, small_changes_wait, starts_are_numbered, terminations,
+    changes_wait_for_the_round, consumer_restarts, ended_lives, quiet_views, repeats, requests,
+    restarts, sixteen_consumers_subscribe, small_changes_wait, starts_are_numbered, terminations,
     two_consumers,
 };
 pub use told_laws::{quiet_views_are_direct, requests_are_answered_directly};

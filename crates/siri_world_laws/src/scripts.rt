@@ -12,11 +12,11 @@
 
 ghost use Rattle.std.specs.Prelude.{◌≡◌, true, [], ◌∷◌, ◌++◌, codes, Ok};
 ghost use Rattle.siri_model_laws.specs.Histories.{c1, at, visit};
-ghost use Rattle.siri_world_model.specs.declared.event.Event.TheVariants.{Start, Clock, Deliver, View, Terminate, Status};
+ghost use Rattle.siri_world_model.specs.declared.event.Event.TheVariants.{Start, Clock, Deliver, View, Terminate, Restart, Status};
 ghost use Rattle.siri_world_model.specs.Lines as line;
 ghost use Rattle.siri_world_model.specs.Told.{told, world_after};
 ghost use Rattle.siri_world_laws.specs.Views.{AllHappen};
-ghost use Rattle.siri_world_laws.specs.Scripts.{report, last_lines, feed, subscribe, sixteen, view, subscribed, acknowledged, numbered, two, first_request, drifted, restarted, departures};
+ghost use Rattle.siri_world_laws.specs.Scripts.{report, last_lines, feed, subscribe, sixteen, view, subscribed, acknowledged, numbered, two, first_request, drifted, restarted, renewed, base_is_gone, departures};
 
 /// Starts are told with their numbers; before the first no other event happens. What wasn't sent or isn't held is told
 /// so.
@@ -62,6 +62,19 @@ pub fn restarts()
     ensures quiet { last_lines (acknowledged ++ Start 300000 ∷ Deliver 1 ∷ Deliver 6 ∷ Deliver 7 ∷ []) view ≡ codes "view c1 S number 1 start 2 round 1 items 0 quiet" ∷ [] }
     ensures old { last_lines (acknowledged ++ Start 300000 ∷ Deliver 1 ∷ Deliver 6 ∷ []) (Deliver 3) ≡ codes "took c1 OldStart" ∷ [] }
     ensures other { last_lines (acknowledged ++ subscribe c1 0 ∷ []) (Deliver 3) ≡ codes "took c1 UnknownSubscription" ∷ [] }
+{}
+
+/// Over a restart of a consumer: its view is lost, and comes again under a new number. What is of the old number is
+/// nothing to it. An acceptance that is gone isn't renewed.
+pub fn consumer_restarts()
+    ensures asks { last_lines acknowledged (Restart c1) ≡ codes "packet 5 to producer DataSupplyRequest" ∷ [] }
+    ensures lost { last_lines (acknowledged ++ Restart c1 ∷ []) view ≡ codes "view c1 S number 0 start 0 round 0 items 0 moving" ∷ [] }
+    ensures anew { last_lines (acknowledged ++ Restart c1 ∷ []) (Deliver 5) ≡ codes "took producer Renewed" ∷ codes "packet 6 to c1 ServiceDelivery" ∷ codes "packet 7 to c1 ServiceDelivery" ∷ [] }
+    ensures quiet { last_lines renewed view ≡ codes "view c1 S number 2 start 1 round 1 items 1 quiet" ∷ codes "item 600000" ∷ [] }
+    ensures old { last_lines renewed (Deliver 3) ≡ codes "took c1 UnknownSubscription" ∷ [] }
+    ensures superseded { last_lines renewed (Deliver 1) ≡ codes "took producer Subscribed" ∷ codes "packet 9 to c1 SubscriptionResponse" ∷ [] }
+    ensures gone { last_lines base_is_gone (Deliver 5) ≡ codes "took producer NotRenewed" ∷ codes "packet 8 to c1 ServiceDelivery" ∷ [] }
+    ensures none { last_lines subscribed (Restart (numbered 0 2)) ≡ codes "unknown c02" ∷ [] }
 {}
 
 /// A termination ends the subscription at the consumer at once, and at the producer as it comes.
