@@ -1,18 +1,22 @@
 -- What becomes of a request, by what the consumer promises of it.
-use Rattle.std.proofs.Common.{◌≡◌, ◌≢◌, ◌↔◌, ℕ, ℤ, ◌<◌, ◌≤◌, List, [], ◌∷◌, Bool, true, false, Option, None, Some, Result, Ok, Err, refl, ap, ◌∙◌, sym, subst}
+use Rattle.std.proofs.Common.{◌≡◌, ◌≢◌, ◌↔◌, ℕ, ℤ, ◌+◌, ◌<◌, ◌≤◌, List, [], ◌∷◌, length, Bool, true, false, Option}
+use Rattle.std.proofs.Common.{None, Some}
+use Rattle.std.proofs.Common.{Result, Ok, Err, refl, ap, ◌∙◌, sym, subst}
 use Rattle.std.specs.Prelude.{nat_lt, IfOk, OnOk, OnErr, IsErrOf}
 use Rattle.std.proofs.lemmas.Bool.{ltb-true, ltb-false, lt-ltb, le-ltb}
 use Rattle.siri_topic.specs.declared.subscription.Subscription.{Subscription}
 use Rattle.siri_messages.specs.declared.message.Message.{Message}
 use Rattle.siri_life.specs.Named.{Name}
 use Rattle.siri_base.specs.Numbers.{greatest_number}
-use Rattle.siri_view.specs.Consuming.{Consuming, most_held, count_after, after_subscribe, after_terminate, request_for, termination_of}
+use Rattle.siri_view.specs.Consuming.{Consuming, most_held, count_after, after_restart, after_subscribe}
+use Rattle.siri_view.specs.Consuming.{after_terminate, request_for}
+use Rattle.siri_view.specs.Consuming.{restart_requests, termination_of}
 use Rattle.siri_view.specs.Kept.{KeptSubscription, kept_of}
 use Rattle.siri_view.specs.declared.outcome.AskError.{AskError}
 use Rattle.siri_view.specs.declared.outcome.AskError.TheVariants as ask_error
 use Rattle.siri_world_model.specs.Consumers.{with_consumer}
-use Rattle.siri_world_model.specs.Effects.{ask_refusal}
-use Rattle.siri_world.specs.Asking.{Asks, ending_refusal, termination_refusal}
+use Rattle.siri_world_model.specs.Effects.{ask_refusal, lacks_numbers}
+use Rattle.siri_world.specs.Asking.{Asks, Restarts, ending_refusal, termination_refusal}
 
 -- ---- why it isn't made
 
@@ -121,6 +125,49 @@ module _ (c : Consuming) (identifier : Name) (old : List Consuming) where
       (subst (λ (e : Consuming). IsErrOf r ask_error.NotHeld ↔ (kept_of identifier e.held ≡ None)) there not_held)
       (subst (λ (e : Consuming). IsErrOf r ask_error.Spent ↔ ((kept_of identifier e.held ≢ None) × (greatest_number < e.next_number))) there spent)
       too_many
+      (subst (λ (e : Consuming). OnErr r (x ≡ e)) there refused)
+      put
+      (λ is. same (is ∙ sym there))
+
+-- ---- a restart
+
+module _ (c : Consuming) (old : List Consuming) where
+  few_for_all : (greatest_number + 1 < c.next_number + length c.held → ⊥) → lacks_numbers c ≡ false
+  few_for_all not_many = by (lacks_numbers c) refl
+    where
+      by : (b : Bool) → lacks_numbers c ≡ b → b ≡ false
+      by true is = absurd (not_many (ltb-true (greatest_number + 1) (c.next_number + length c.held) is))
+      by false is = refl
+
+  restart_asks : (r : Result (List Message) AskError) (new : List Consuming) (x : Consuming)
+      → IfOk r (λ all. all ≡ restart_requests c) → OnOk r (x ≡ after_restart c)
+      → (IsErrOf r ask_error.Spent ↔ (greatest_number + 1 < c.next_number + length c.held))
+      → ((IsErrOf r ask_error.TooMany → ⊥) × (IsErrOf r ask_error.NotHeld → ⊥)) → OnErr r (x ≡ c)
+      → (x ≡ after_restart c → new ≡ with_consumer (after_restart c) old) → (x ≡ c → new ≡ old)
+      → Restarts c old r new
+  restart_asks (Ok all) new x requests ok spent others refused put same =
+      (few_for_all (λ many. let e = spent.1 many in absurd (cc)), requests, put ok)
+  restart_asks (Err ask_error.Spent) new x requests ok spent others refused put same =
+      (lt-ltb (greatest_number + 1) (c.next_number + length c.held) (spent.0 refl), same refused)
+  restart_asks (Err ask_error.TooMany) new x requests ok spent others refused put same = absurd (others.0 refl)
+  restart_asks (Err ask_error.NotHeld) new x requests ok spent others refused put same = absurd (others.1 refl)
+  restart_asks (Err ask_error.OutOfMemory) new x requests ok spent others refused put same = same refused
+
+  -- by the consumer that was there
+  pub asks_restarted : (d : Consuming) (r : Result (List Message) AskError) (new : List Consuming) (x : Consuming)
+      → d ≡ c
+      → IfOk r (λ all. all ≡ restart_requests d) → OnOk r (x ≡ after_restart d)
+      → (IsErrOf r ask_error.Spent ↔ (greatest_number + 1 < d.next_number + length d.held))
+      → ((IsErrOf r ask_error.TooMany → ⊥) × (IsErrOf r ask_error.NotHeld → ⊥)) → OnErr r (x ≡ d)
+      → (x ≡ after_restart c → new ≡ with_consumer (after_restart c) old) → (x ≡ d → new ≡ old)
+      → Restarts c old r new
+  asks_restarted d r new x there requests ok spent others refused put same =
+      restart_asks r new x
+      (subst (λ (e : Consuming). IfOk r (λ all. all ≡ restart_requests e)) there requests)
+      (subst (λ (e : Consuming). OnOk r (x ≡ after_restart e)) there ok)
+      (subst (λ (e : Consuming). IsErrOf r ask_error.Spent ↔ (greatest_number + 1 < e.next_number + length e.held))
+      there spent)
+      others
       (subst (λ (e : Consuming). OnErr r (x ≡ e)) there refused)
       put
       (λ is. same (is ∙ sym there))

@@ -7,8 +7,9 @@ use Rattle.siri_change.specs.Parts.{Carried}
 use Rattle.siri_life.specs.Life.{Mark}
 use Rattle.siri_life.specs.Named.{Name}
 use Rattle.siri_base.specs.Numbers.{greatest_number}
-use Rattle.siri_view.specs.Consuming.{Consuming, kept_for, after_delivery, after_heard, after_message, after_subscribe, after_terminate}
-use Rattle.siri_view.specs.Consuming.{request_for, seen_of, termination_of}
+use Rattle.siri_view.specs.Consuming.{Consuming, kept_for, after_delivery, after_heard, after_message, after_restart}
+use Rattle.siri_view.specs.Consuming.{after_subscribe, after_terminate}
+use Rattle.siri_view.specs.Consuming.{request_for, restart_requests, seen_of, termination_of}
 use Rattle.siri_view.specs.Hearing.{Heard, Delivered, Notified, Noted, Foreign, heard}
 use Rattle.siri_view.specs.Kept.{KeptSubscription, kept_of}
 use Rattle.siri_view.specs.Sending.{check_request}
@@ -21,9 +22,11 @@ use Rattle.siri_world_model.specs.Lines as line
 use Rattle.siri_world_model.specs.Lines.{ToldLine, told_lines}
 use Rattle.siri_world_model.specs.Packets.{SentPacket, ToConsumer, packet_at, packets_from}
 use Rattle.siri_world_model.specs.World.{World}
+use Rattle.siri_world_model.specs.Effects.{lacks_numbers, restarted, restarted_if}
 use Rattle.siri_world_model.specs.Effects.{tells, sent_by, ask_refusal, subscribed_if, subscribed, terminated_if, terminated, checked, delivered, taken_if}
 use Rattle.siri_world.specs.declared.happened.Happened.{Happened}
-use Rattle.siri_world.specs.Asking.{Asks, IsEnded, IsTold, Takes, ending_refusal, termination_refusal}
+use Rattle.siri_world.specs.Asking.{AreTold, Asks, IsEnded, IsTold, Restarts, Takes, ending_refusal}
+use Rattle.siri_world.specs.Asking.{termination_refusal}
 use Rattle.siri_world.specs.Doing.{Does}
 use Rattle.siri_world.specs.Kept.{sent_packets}
 use Rattle.siri_world.specs.Known.{Known, Knows}
@@ -219,6 +222,47 @@ pub unknown_does : (old : Known) (w : World) (name identifier : Name) (happened 
 unknown_does old w name identifier happened k none lines packets =
     subst (λ (found : Option Consuming). Does (terminated w name identifier found) happened old) (sym none ∙ ap (consumer_of name) k.consumers)
     (tells_does old w (line.Unknown name (Some identifier) ∷ []) happened k lines packets)
+
+-- ---- a restart
+
+module _ (old new : Known) (w : World) (name : Name) (place : ℕ) (c : Consuming) (cs : List Consuming) (k : Knows old w)
+    (is : new ≡ record old { consumers = cs }) (here : IsAt name old.consumers place c) where
+  restarts_as : (result : Result (List Message) AskError) (happened : Happened) → Restarts c w.consumers result cs
+      → AreTold c.name result happened → Does (restarted_if (lacks_numbers c) w c) happened new
+  restarts_as (Ok made) happened asks told =
+      subst (λ lacks. Does (restarted_if lacks w c) happened new) (sym asks.0)
+      (sent_does old new w (after_restart c) [] (restart_requests c) cs happened k is asks.2 (ap told_lines told.0)
+      (told.1 ∙ ap (packets_from c.name) asks.1))
+  restarts_as (Err ask_error.Spent) happened asks told =
+      subst (λ lacks. Does (restarted_if lacks w c) happened new) (sym asks.0)
+      (record {
+        lines = told.0;
+        packets = ap sent_packets told.1;
+        world = knows_with old new w cs k is w.consumers
+            asks.1;
+      })
+  restarts_as (Err ask_error.TooMany) happened asks told = absurd asks
+  restarts_as (Err ask_error.NotHeld) happened asks told = absurd asks
+  restarts_as (Err ask_error.OutOfMemory) happened asks told = absurd told
+
+  pub restarts_does : (result : Result (List Message) AskError)
+      → ((n : Name) (d : Consuming) → IsAt n old.consumers place d → Restarts d old.consumers result cs)
+      → (happened : Happened) → AreTold name result happened
+      → Does (restarted w name (consumer_of name w.consumers)) happened new
+  restarts_does result asks happened told =
+      subst (λ (it : Option Consuming). Does (restarted w name it) happened new)
+      (sym (at_consumer name old.consumers place c here) ∙ ap (consumer_of name) k.consumers)
+      (restarts_as result happened (subst (λ m. Restarts c m result cs) k.consumers (asks name c here))
+      (subst (λ n. AreTold n result happened) (sym (at_name name old.consumers place c here)) told))
+
+-- there is no such consumer
+pub unknown_restarts : (old : Known) (w : World) (name : Name) (happened : Happened) → Knows old w
+    → consumer_of name old.consumers ≡ None → told_lines happened.lines ≡ line.Unknown name None ∷ []
+    → happened.packets ≡ [] → Does (restarted w name (consumer_of name w.consumers)) happened old
+unknown_restarts old w name happened k none lines packets =
+    subst (λ (found : Option Consuming). Does (restarted w name found) happened old)
+    (sym none ∙ ap (consumer_of name) k.consumers)
+    (tells_does old w (line.Unknown name None ∷ []) happened k lines packets)
 
 -- ---- whether the producer is there
 

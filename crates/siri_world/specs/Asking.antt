@@ -1,15 +1,17 @@
 -- Inner words: cited by private functions alone. What becomes of a request that a consumer is to make, and of a message that
 -- it takes.
-use Rattle.std.specs.Prelude.{◌≡◌, List, [], ◌∷◌, nat_lt, if◌then◌else◌, Option, Some, None, Result, Ok, Err}
+use Rattle.std.specs.Prelude.{◌≡◌, List, [], ◌∷◌, nat_lt, true, false, if◌then◌else◌, Option, Some, None, Result, Ok}
+use Rattle.std.specs.Prelude.{Err}
 use Rattle.siri_life.specs.Named.{Name}
 use Rattle.siri_messages.specs.declared.message.Message.{Message}
 use Rattle.siri_base.specs.Numbers.{greatest_number}
-use Rattle.siri_view.specs.Consuming.{Consuming, seen_of, after_message}
+use Rattle.siri_view.specs.Consuming.{Consuming, seen_of, after_message, after_restart, restart_requests}
 use Rattle.siri_view.specs.Kept.{KeptSubscription, kept_of}
 use Rattle.siri_view.specs.declared.outcome.AskError.{AskError}
 use Rattle.siri_view.specs.declared.outcome.AskError.TheVariants as ask_error
 use Rattle.siri_world_model.specs.declared.word.Word.TheVariants as word
 use Rattle.siri_world_model.specs.Consumers.{with_consumer}
+use Rattle.siri_world_model.specs.Effects.{lacks_numbers}
 use Rattle.siri_world_model.specs.Lines as line
 use Rattle.siri_world_model.specs.Lines.{told_lines}
 use Rattle.siri_world_model.specs.Packets.{packets_from}
@@ -51,6 +53,28 @@ IsEnded name identifier (Err ask_error.Spent) happened = IsTold name (Err ask_er
 IsEnded name identifier (Err ask_error.TooMany) happened = IsTold name (Err ask_error.TooMany) happened
 IsEnded name identifier (Err ask_error.NotHeld) happened = (told_lines happened.lines ≡ line.Unknown name (Some identifier) ∷ []) × (happened.packets ≡ [])
 IsEnded name identifier (Err ask_error.OutOfMemory) happened = ⊥
+
+-- the requests of a restart are made, and the consumer is as after it; or they aren't, and all is as before
+abbrev pub Restarts : Consuming → List Consuming → Result (List Message) AskError → List Consuming → Type 0
+Restarts consumer old (Ok made) new =
+    (lacks_numbers consumer ≡ false) × (made ≡ restart_requests consumer)
+    × (new ≡ with_consumer (after_restart consumer) old)
+Restarts consumer old (Err ask_error.Spent) new = (lacks_numbers consumer ≡ true) × (new ≡ old)
+Restarts consumer old (Err ask_error.TooMany) new = ⊥
+Restarts consumer old (Err ask_error.NotHeld) new = ⊥
+Restarts consumer old (Err ask_error.OutOfMemory) new = new ≡ old
+
+-- requests that were made are sent, and a refusal is told of
+abbrev pub AreTold : Name → Result (List Message) AskError → Happened → Type 0
+AreTold name (Ok requests) happened = (happened.lines ≡ [])
+    × (sent_packets happened.packets ≡ packets_from name requests)
+AreTold name (Err ask_error.Spent) happened = (told_lines happened.lines ≡ line.Refused name ask_error.Spent ∷ [])
+    × (happened.packets ≡ [])
+AreTold name (Err ask_error.TooMany) happened = (told_lines happened.lines ≡ line.Refused name ask_error.TooMany ∷ [])
+    × (happened.packets ≡ [])
+AreTold name (Err ask_error.NotHeld) happened = (told_lines happened.lines ≡ line.Refused name ask_error.NotHeld ∷ [])
+    × (happened.packets ≡ [])
+AreTold name (Err ask_error.OutOfMemory) happened = ⊥
 
 -- a message reaches the consumer of a name, if there is one
 abbrev pub Takes : Name → Option Consuming → Message → (old new : List Consuming) → Happened → Type 0

@@ -5,7 +5,7 @@ ghost use Rattle.siri_life.specs.Named as named;
 ghost use Rattle.siri_view.specs.Consuming.{Consuming, after_message, after_subscribe, after_terminate, request_for, seen_of, termination_of};
 ghost use Rattle.siri_world_model.specs.Consumers.{all_clocked, consumer_of, consumer_or_new, is_named, new_consumer, with_consumer};
 ghost use Rattle.siri_world_model.specs.Effects.{ask_refusal};
-ghost use Rattle.siri_world.specs.Asking.{Asks, termination_refusal};
+ghost use Rattle.siri_world.specs.Asking.{Asks, Restarts, termination_refusal};
 ghost use Rattle.siri_world.specs.Places.{IsAt, IsPlaceOf};
 
 use indexmap::IndexMap;
@@ -134,6 +134,15 @@ impl Consumers {
     {
         let consumer = &mut self.map[place];
         consumer.terminate(identifier)
+    }
+
+    /// The consumer at a place restarts. After want of memory all is as before.
+    pub(crate) fn restart(&mut self, place: usize) -> Result<List<Message>, AskError>
+        requires { place < length self.old }
+        ensures { (name : named.Name) (c : Consuming) → IsAt name self.old place c → Restarts c self.old result self.new }
+    {
+        let consumer = &mut self.map[place];
+        consumer.restart()
     }
 
     /// The consumer at a place takes a message.

@@ -79,6 +79,21 @@ pub(crate) fn sent(alloc: Global, sender: &Name, message: Message) -> Result<Hap
     })
 }
 
+/// Messages are sent to the producer, in order, and nothing is told.
+pub(crate) fn all_sent(
+    alloc: Global,
+    sender: &Name,
+    messages: List<Message>,
+) -> Result<Happened, OutOfMemory>
+    ensures { IfOk result (λ happened. (happened.lines ≡ []) × (sent_packets happened.packets ≡ packets_from sender.now messages)) }
+{
+    let packets = packets_from(alloc, sender, messages)?;
+    Ok(Happened {
+        lines: List::new(alloc),
+        packets,
+    })
+}
+
 /// The packets of what a consumer sends.
 pub(crate) fn packets_from(
     alloc: Global,

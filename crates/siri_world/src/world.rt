@@ -12,14 +12,14 @@ ghost use Rattle.siri_world_model.specs.Lines.{told_lines};
 ghost use Rattle.siri_world_model.specs.Packets.{packet_at, packet_lines, packets_from};
 ghost use Rattle.siri_world_model.specs.Told.{told, world_after, most_consumers, most_packets, most_starts};
 ghost use Rattle.siri_world_model.specs.World.{World as ToldWorld};
-ghost use Rattle.siri_world.specs.Asking.{IsEnded, IsTold, Takes};
+ghost use Rattle.siri_world.specs.Asking.{AreTold, IsEnded, IsTold, Takes};
 ghost use Rattle.siri_world.specs.Doing.{CanHappen, Does, Happens, IsFull, first_refusal};
 ghost use Rattle.siri_world.specs.Kept.{sent_packets};
 ghost use Rattle.siri_world.specs.Known.{Knows, StandsFor};
 ghost use Rattle.siri_world.specs.Refused.{Refuses, Stays};
 
 use crate::consumers::{Consumers, MOST_CONSUMERS};
-use crate::happened::{Happened, one, packets_from, sent, told, unknown};
+use crate::happened::{Happened, all_sent, one, packets_from, sent, told, unknown};
 use crate::packets::{Packet, Packets, producer_name};
 use crate::producing::{answer, ask, clock, feed};
 use crate::viewing::view_of;
@@ -158,6 +158,7 @@ impl World {
                 consumer,
                 identifier,
             } => self.terminate(&consumer, &identifier),
+            Event::Restart { consumer } => self.restart(&consumer),
             Event::Status { consumer } => self.check(&consumer),
             Event::Deliver(number) => self.deliver(number),
             Event::View {
@@ -273,6 +274,17 @@ impl World {
         )
     }
 
+    /// A consumer restarts, and asks for all of each subscription that it holds, or it is told why it doesn't; it is
+    /// told where there is no such consumer.
+    fn restart(&mut self, name: &Name) -> Result<Happened, OutOfMemory>
+        ensures { IfOk result (Happens self.old self.new (λ w. effects.restarted w name.now (consumer_of name.now w.consumers))) }
+    {
+        let Some(place) = self.consumers.place_of(name) else {
+            return unknown(self.alloc, name, None);
+        };
+        restarted(self.alloc, name, self.consumers.restart(place))
+    }
+
     /// A consumer sends a CheckStatusRequest; it is told where there is no such consumer.
     fn check(&self, name: &Name) -> Result<Happened, OutOfMemory>
         ensures { IfOk result (Happens self.now self.now (λ w. effects.checked w name.now (consumer_of name.now w.consumers))) }
@@ -352,6 +364,27 @@ fn ended(
     match request {
         Err(AskError::NotHeld) => unknown(alloc, name, Some(identifier)),
         other => asked(alloc, name, other),
+    }
+}
+
+/// The requests of a restart are sent, or it is told why there are none.
+fn restarted(
+    alloc: Global,
+    name: &Name,
+    requests: Result<List<Message>, AskError>,
+) -> Result<Happened, OutOfMemory>
+    ensures { IfOk result (AreTold name.now requests) }
+{
+    match requests {
+        Ok(requests) => all_sent(alloc, name, requests),
+        Err(AskError::OutOfMemory) => Err(OutOfMemory),
+        Err(error) => told(
+            alloc,
+            Line::Refused {
+                consumer: name.copy()?,
+                error,
+            },
+        ),
     }
 }
 

@@ -3,7 +3,8 @@ use Rattle.std.proofs.lemmas.Result.{IfOk-weaker}
 use Rattle.siri_world_model.specs.declared.event.Event.TheVariants as event
 use Rattle.siri_world_model.specs.Consumers.{consumer_of, consumer_or_new}
 use Rattle.siri_world_model.specs.Packets.{packet_at}
-use Rattle.siri_world_model.specs.Effects.{effect, started, clocked, fed, asked, subscribed, terminated, checked, delivered}
+use Rattle.siri_world_model.specs.Effects.{effect, started, clocked, fed, asked, subscribed, terminated, restarted}
+use Rattle.siri_world_model.specs.Effects.{checked, delivered}
 use Rattle.siri_world.specs.Doing.{Does}
 use Rattle.siri_world.proofs.Deeds.{happen_as}
 use Rattle.siri_world.proofs.world.World.happen.Goals as goal
@@ -42,6 +43,12 @@ returns-in-Terminate c = happen_as c.terminate.result c.args.self.now c.terminat
     (event.Terminate c.in-Terminate.consumer c.in-Terminate.identifier)
     (λ w. terminated w c.in-Terminate.consumer c.in-Terminate.identifier
     (consumer_of c.in-Terminate.consumer w.consumers)) c.in-Terminate.is (λ w. refl) c.terminate.ensures
+
+pub returns-in-Restart : goal.returns-in-Restart
+unfolding effect
+returns-in-Restart c = happen_as c.restart.result c.args.self.now c.restart.new.self c.args.event
+    (event.Restart c.in-Restart.consumer) (λ w. restarted w c.in-Restart.consumer
+    (consumer_of c.in-Restart.consumer w.consumers)) c.in-Restart.is (λ w. refl) c.restart.ensures
 
 pub returns-in-Status : goal.returns-in-Status
 unfolding effect
