@@ -46,6 +46,7 @@ word_says word.Feed arguments = with_argument (delivery_in arguments) event.Feed
 word_says word.Ask arguments = with_argument (request_in arguments) event.Ask
 word_says word.Subscribe arguments = subscription_said arguments
 word_says word.Terminate arguments = termination_said arguments
+word_says word.Restart arguments = with_argument (consumer_in arguments) event.Restart
 word_says word.Status arguments = with_argument (consumer_in arguments) event.Status
 word_says word.Deliver arguments = with_argument (number_in arguments) event.Deliver
 word_says word.View arguments = view_said arguments

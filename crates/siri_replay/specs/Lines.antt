@@ -20,7 +20,7 @@ first_word line = take (word_end line) line
 abbrev pub argument_of : List ℕ → Option (List ℕ)
 argument_of line = if nat_lt (word_end line) (length line) then Some (drop (word_end line + 1) line) else None
 
--- the nine words of a script
+-- the ten words of a script
 abbrev pub words : List (List ℕ × ScriptWord)
 words =
     (codes "start", word.Start)
@@ -29,6 +29,7 @@ words =
     ∷ (codes "ask", word.Ask)
     ∷ (codes "subscribe", word.Subscribe)
     ∷ (codes "terminate", word.Terminate)
+    ∷ (codes "restart", word.Restart)
     ∷ (codes "status", word.Status)
     ∷ (codes "deliver", word.Deliver)
     ∷ (codes "view", word.View)
@@ -42,6 +43,6 @@ abbrev pub known_word : Option ScriptWord → Result ScriptWord ScriptReason
 known_word None = Err reason.BadWord
 known_word (Some word) = Ok word
 
--- the first word of a line of text, which is one of the nine
+-- the first word of a line of text, which is one of the ten
 abbrev pub word_of : List ℕ → Result ScriptWord ScriptReason
 word_of line = if is_utf8 line then known_word (word_named (first_word line)) else Err reason.NotText

@@ -34,6 +34,8 @@ abbrev pub note_text : Note → List ℕ
 note_text note.Asked = codes "Asked"
 note_text note.Subscribed = codes "Subscribed"
 note_text note.Ended = codes "Ended"
+note_text note.Renewed = codes "Renewed"
+note_text note.NotRenewed = codes "NotRenewed"
 note_text note.Supplied = codes "Supplied"
 note_text note.NothingReady = codes "NothingReady"
 note_text (note.WrongPart wanted) = spaced (codes "WrongPart") (place_text wanted)

@@ -5,9 +5,9 @@
 //!           (siri_lines)  (script_words.rt, arguments.rt, saying.rt)  (script.rt)  (report_line.rt)
 //! ```
 //!
-//! A line is empty, a comment, or a word of nine with its arguments: `start` and `clock`, `feed` and `ask` for the
-//! producer; `subscribe`, `terminate`, `status` and `view` for a consumer; `deliver` for a packet. A script is refused
-//! at its first line that isn't of this grammar; the report of the lines before it was written.
+//! A line is empty, a comment, or a word of ten with its arguments: `start` and `clock`, `feed` and `ask` for the
+//! producer; `subscribe`, `terminate`, `restart`, `status` and `view` for a consumer; `deliver` for a packet. A script
+//! is refused at its first line that isn't of this grammar; the report of the lines before it was written.
 //!
 //! Contracts see a script as the events that happened: the report of a script is a function of its bytes, by what is
 //! told of each event in the world after those before it.

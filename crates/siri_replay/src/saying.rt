@@ -59,6 +59,9 @@ fn word_says(alloc: Global, word: ScriptWord, arguments: Option<&[u8]>) -> Resul
         ScriptWord::Ask => Ok(Event::Ask(request_in(alloc, arguments)?)),
         ScriptWord::Subscribe => subscription_said(alloc, arguments),
         ScriptWord::Terminate => termination_said(alloc, arguments),
+        ScriptWord::Restart => Ok(Event::Restart {
+            consumer: consumer_in(alloc, arguments)?,
+        }),
         ScriptWord::Status => Ok(Event::Status {
             consumer: consumer_in(alloc, arguments)?,
         }),

@@ -17,19 +17,21 @@ pub(crate) enum ScriptWord {
     Ask,
     Subscribe,
     Terminate,
+    Restart,
     Status,
     Deliver,
     View,
 }
 
 /// The words by their texts.
-const WORDS: [(&[u8], ScriptWord); 9] = [
+const WORDS: [(&[u8], ScriptWord); 10] = [
     (b"start", ScriptWord::Start),
     (b"clock", ScriptWord::Clock),
     (b"feed", ScriptWord::Feed),
     (b"ask", ScriptWord::Ask),
     (b"subscribe", ScriptWord::Subscribe),
     (b"terminate", ScriptWord::Terminate),
+    (b"restart", ScriptWord::Restart),
     (b"status", ScriptWord::Status),
     (b"deliver", ScriptWord::Deliver),
     (b"view", ScriptWord::View),
@@ -58,7 +60,7 @@ fn lookup(mut table: &[(&[u8], ScriptWord)], name: &[u8]) -> Option<ScriptWord>
     None
 }
 
-/// The word that a line begins with. It is refused where it isn't UTF-8, or its first word is none of the nine.
+/// The word that a line begins with. It is refused where it isn't UTF-8, or its first word is none of the ten.
 pub(crate) fn word_of(line: &[u8]) -> Result<ScriptWord, ScriptReason>
     ensures { result ≡ word_of line.now }
 {

@@ -45,6 +45,8 @@ fn append_note(alloc: Global, into: &mut Vec<u8>, note: Note) -> Result<(), OutO
         Note::Asked => append(into, b"Asked"),
         Note::Subscribed => append(into, b"Subscribed"),
         Note::Ended => append(into, b"Ended"),
+        Note::Renewed => append(into, b"Renewed"),
+        Note::NotRenewed => append(into, b"NotRenewed"),
         Note::Supplied => append(into, b"Supplied"),
         Note::NothingReady => append(into, b"NothingReady"),
         Note::WrongPart { wanted } => {
