@@ -1,6 +1,6 @@
 //! What a connection is to be answered. What a producer can lend isn't made: it is written after the settle.
 
-ghost use Rattle.std.specs.Prelude.{◌≡◌, IfOk, OnOk, Some, true};
+ghost use Rattle.std.specs.Prelude.{◌≡◌, IfOk, OnOk, Some, true, false};
 ghost use Rattle.siri_http.specs.Texts.{is_written};
 ghost use Rattle.siri_messages.specs.declared.message.Message.TheVariants as message;
 ghost use Rattle.siri_model.specs.History.{History};
@@ -89,6 +89,7 @@ fn reply_to_supply(
     producer: &mut Producer,
     request: &DataSupplyRequest,
 ) -> Result<Reply, OutOfMemory>
+    requires { request.now.all_data ≡ false }
     ensures prepares { IfOk result (λ reply. Prepares producer.old producer.new (Some (message.DataSupplyRequest request.now)) (message_response (message.DataSupplyRequest request.now)) reply) }
     ensures written { IfOk result CanBeWritten }
     ensures name { producer.new.responder.name ≡ producer.old.responder.name }
@@ -103,6 +104,7 @@ fn reply_to_supply(
                 subscription,
             });
         }
+        Supplied::AllData => unreachable!(),
         Supplied::NothingReady => SupplyError::NothingReady,
         Supplied::WrongPart { wanted } => SupplyError::WrongPart { wanted },
     };
@@ -134,9 +136,11 @@ fn reply_to(alloc: Global, producer: &mut Producer, message: Message) -> Result<
         return Ok(Reply::Direct(request));
     }
     if let Message::DataSupplyRequest(request) = &message {
-        let reply = reply_to_supply(alloc, producer, request);
-        drop(message);
-        return reply;
+        if !request.all_data {
+            let reply = reply_to_supply(alloc, producer, request);
+            drop(message);
+            return reply;
+        }
     }
     make_reply(alloc, producer, message)
 }
