@@ -2,13 +2,14 @@
 //!
 //! Stands on `siri_cli`, whose `run` is the whole of the work, on `siri_system` for the network, the clock and the
 //! start number, and on `siri_base` and `siri_lines` for the line that tells how a run ended. A line of the system's
-//! own words follows where the wire or the keeper failed.
+//! own words follows where the wire or the keeper failed. Where the variable `SIRI_LOG` of the environment is `1`, each
+//! connection that ends has a line on standard error.
 #![tactic(auto)]
 
 use siri_base::{Input, Output, Status};
 use siri_cli::run;
 use siri_lines::write_status;
-use siri_system::{FileKeeper, SystemClock, TcpWire};
+use siri_system::{FileKeeper, LoggedWire, SystemClock};
 use std::io::{ErrorKind, Write};
 use std::process::ExitCode;
 use std::{env, io};
@@ -23,7 +24,7 @@ siri consume NAME HOST:PORT PRODUCER COUNT < SUBSCRIPTIONS
 ";
 
 fn main(rt: HostRuntime) -> ExitCode {
-    let mut wire = TcpWire::new(rt);
+    let mut wire = LoggedWire::new(rt, is_logged(&rt));
     let mut keeper = FileKeeper::new(rt);
     let status = run_command(&rt, &mut wire, &mut keeper);
     let _ = write_status(rt.alloc(), &mut Output::new(rt.stderr()), &status);
@@ -36,8 +37,16 @@ fn main(rt: HostRuntime) -> ExitCode {
     ExitCode::from(status.number())
 }
 
+/// Whether connections are to be told of: the variable SIRI_LOG is 1.
+fn is_logged(rt: &HostRuntime) -> bool {
+    match env::var(rt, "SIRI_LOG") {
+        Ok(value) => value.as_str() == "1",
+        Err(_) => false,
+    }
+}
+
 /// Runs the command over the words after the program's name. Words that aren't UTF-8 are no plain spelling.
-fn run_command(rt: &HostRuntime, wire: &mut TcpWire, keeper: &mut FileKeeper) -> Status {
+fn run_command(rt: &HostRuntime, wire: &mut LoggedWire, keeper: &mut FileKeeper) -> Status {
     let alloc = rt.alloc();
     let given = match env::args(rt) {
         Ok(given) => given,

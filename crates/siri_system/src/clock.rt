@@ -22,7 +22,7 @@ impl SystemClock {
 }
 
 /// The system's moment, cut to milliseconds.
-fn system_moment(rt: &HostRuntime) -> Option<Moment> {
+pub(crate) fn system_moment(rt: &HostRuntime) -> Option<Moment> {
     let now = SystemTime::now(rt).ok()?;
     let since = now.duration_since(SystemTime::UNIX_EPOCH).ok()?;
     Moment::new(i64::try_from(since.as_millis()).ok()?)

@@ -5,7 +5,7 @@ ghost use Rattle.std.specs.Io.{ReadsAtMost, WritesAtMost};
 
 use std::io;
 use std::io::{ErrorKind, Read, Write};
-use std::net::{Shutdown, TcpStream};
+use std::net::{Shutdown, SocketAddr, TcpStream};
 use std::time::{Duration, Instant};
 
 /// How long a connection may last as a whole, from the moment at which it was accepted or made, in seconds. There is
@@ -48,6 +48,11 @@ impl Connection {
             stream,
             end: moment_in(rt, CONNECTION_SECONDS)?,
         })
+    }
+
+    /// The peer, where the system tells it.
+    pub(crate) fn peer(&self) -> Option<SocketAddr> {
+        self.stream.peer_addr().ok()
     }
 
     /// How long the next call may wait: `TimedOut` where no time is left.

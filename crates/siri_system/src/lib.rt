@@ -1,7 +1,7 @@
 //! The system as the outside of a run: connections over TCP, the system's clock, and the start number in a file.
 //!
 //! ```text
-//!   a run  -->  Wire    [`TcpWire`]      std::net
+//!   a run  -->  Wire    [`TcpWire`]      std::net, and [`LoggedWire`] over it
 //!          -->  Clock   [`SystemClock`]  std::time
 //!          -->  Keeper  [`FileKeeper`]   std::fs, the files `siri-start` and `siri-start.lock`
 //! ```
@@ -10,14 +10,19 @@
 //! nothing of what a socket, a clock or a file holds; a wire and a keeper keep the last error, for whoever tells it in
 //! the system's words. Standard input, output and error have their adapters in `siri_base`.
 //!
-//! Stands on `siri_base` alone. It knows no message and no HTTP.
+//! A `LoggedWire` tells what becomes of each connection, where that is asked for.
+//!
+//! Stands on `siri_base`, and on `siri_time` for the texts of moments. It knows no message and no HTTP.
 #![tactic(auto)]
 
 mod clock;
 mod connection;
 mod keeper;
+mod logged;
+mod traffic;
 mod wire;
 
 pub use clock::SystemClock;
 pub use keeper::FileKeeper;
+pub use logged::LoggedWire;
 pub use wire::TcpWire;

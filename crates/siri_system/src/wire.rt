@@ -6,7 +6,7 @@ ghost use Rattle.siri_base.specs.Causes.{Rose};
 use crate::connection::Connection;
 use siri_base::{Failed, Name, OutsideError, Wire};
 use std::io::ErrorKind;
-use std::net::{TcpListener, TcpStream, ToSocketAddrs};
+use std::net::{SocketAddr, TcpListener, TcpStream, ToSocketAddrs};
 use std::time::Duration;
 use std::{io, thread};
 
@@ -58,6 +58,14 @@ impl TcpWire {
         ensures { result ≡ self.now.fault }
     {
         self.fault
+    }
+
+    /// The peer of the connection that is there, where the system tells it.
+    pub(crate) fn peer(&self) -> Option<SocketAddr> {
+        match &self.connection {
+            Some(connection) => connection.peer(),
+            None => None,
+        }
     }
 
     /// Counts a failure, and keeps what the system told.
