@@ -14,10 +14,10 @@
 //!                                      (siri_load)
 //!
 //!              wire, clock, keeper <-> serve          -> sink
-//!                                      (siri_serve)
+//!                                      (siri_runs)
 //!
 //!   source ->  wire, clock, keeper <-> consume        -> sink
-//!                                      (siri_consume)
+//!                                      (siri_runs)
 //! ```
 //!
 //! The words are `replay`, `check`, `convert`, `load SEED COUNT`, `serve NAME LISTEN COUNT` and `consume NAME LISTEN
@@ -25,7 +25,7 @@
 //! `-`. Whether words are one of them is decided here (`is_load`, `is_serve`, `is_consume`), which takes no memory;
 //! only then `clap` is handed them, behind `--`, and gives the value of each argument, of which the command is made.
 //!
-//! Stands on a crate for each command (`siri_replay`, `siri_document`, `siri_load`, `siri_serve`, `siri_consume`), on
+//! Stands on a crate for each command (`siri_replay`, `siri_document`, `siri_load`; `siri_runs` for two), on
 //! `siri_base` for names, on `siri_http` for hosts, ports and addresses, and on `clap`. It looks into no line and no
 //! document, and knows no socket.
 #![tactic(auto)]

@@ -13,30 +13,29 @@ ghost use Rattle.siri_lines.specs.Stops.{EndsReading};
 ghost use Rattle.siri_cli.specs.Run.{EndsEarly, IsLoad, IsOnNetwork, ReadsInput, ReadsNothing, TakesDocument, UsesNone};
 ghost use Rattle.siri_load.specs.Load.{load_text};
 ghost use Rattle.siri_load.specs.Runs.{EndsLoad, Writes};
-ghost use Rattle.siri_network.specs.Calls.{outside_told};
-ghost use Rattle.siri_network.specs.Enough.{EndsWhole, HasEnough};
+ghost use Rattle.siri_runs.specs.Calls.{outside_told};
+ghost use Rattle.siri_runs.specs.Enough.{EndsWhole, HasEnough};
 ghost use Rattle.siri_replay.specs.Report.{report};
 ghost use Rattle.siri_replay.specs.Views.{ReportsViews, brings};
-ghost use Rattle.siri_serve.specs.Runs.{ServeRun};
-ghost use Rattle.siri_consume.specs.Reading.{TellsWanted};
-ghost use Rattle.siri_consume.specs.Wanting.{event as wanted, nothing_wanted, most_wanted};
-ghost use Rattle.siri_consume.specs.Runs.{ConsumeRun};
+ghost use Rattle.siri_runs.specs.producers.Runs.{ServeRun};
+ghost use Rattle.siri_runs.specs.consumers.Reading.{TellsWanted};
+ghost use Rattle.siri_runs.specs.consumers.Wanting.{event as wanted, nothing_wanted, most_wanted};
+ghost use Rattle.siri_runs.specs.consumers.Runs.{ConsumeRun};
 ghost use Rattle.siri_cli.specs.Commands.{command_of};
 
 use crate::command::Command;
 use siri_base::{Clock, Keeper, OutOfMemory, Sink, Source, Status, Wire};
-use siri_consume::consume;
 use siri_document::{Check, Convert, answer_document};
 use siri_load::load;
 use siri_replay::replay;
-use siri_serve::serve;
+use siri_runs::{consume, serve};
 use std::alloc::Global;
 
 /// Does what the words after the program's name say: `replay` reads a script and writes its report, `check` and
 /// `convert` read one document and write what is told of it, `load` plays a large script that is made from a number,
 /// `serve` is a producer over the network, and `consume` a consumer. A view that a report tells as `quiet` lists the
 /// items of a direct response at that moment over all observations that were taken since the producer's latest start,
-/// whatever packets were lost.
+/// whatever packets were lost, repeated or late, and however often either end restarted.
 ///
 /// `Usage` exactly where the words are no plain spelling of a command. `Refused` where the document of `check` or
 /// `convert` is refused. `Script` and `Limit` where a line of a script, or of what a consumer wants, is refused or

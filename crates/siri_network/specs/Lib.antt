@@ -1,7 +1,0 @@
--- In order of reading: why a run ends early; the calls that it ends at; its turns; what it has to have of the outside to do its work
--- whole; the line that it ends with.
-pub mod Errors
-pub mod Calls
-pub mod Turns
-pub mod Enough
-pub mod Summaries

@@ -1,0 +1,9 @@
+mod Examples
+pub mod Causes
+pub mod TurnByTurn
+pub mod Ends
+pub mod Enough
+pub mod Exchanges
+pub mod Statuses
+pub mod producers
+pub mod consumers

@@ -1,0 +1,9 @@
+pub mod Wanted
+pub mod Pieces
+pub mod Held
+pub mod Shown
+pub mod Asked
+pub mod Causes
+pub mod Enough
+pub mod Made
+pub mod Whole

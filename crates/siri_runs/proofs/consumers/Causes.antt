@@ -1,0 +1,124 @@
+-- A run that ends with a fault has raised a count.
+use Rattle.std.proofs.Common.{◌≡◌, ◌≤◌, ℕ, zero, suc, List, [], ◌∷◌, ◌++◌, Option, None, Some, refl, sym, ap, ◌∙◌, subst, arith, inl, inr}
+use Rattle.siri_base.specs.Causes.{Rose}
+use Rattle.siri_base.specs.declared.status.Status.TheVariants as status
+use Rattle.siri_messages.specs.declared.message.Message.{Message}
+use Rattle.siri_ends.specs.declared.response.Response.{Response}
+use Rattle.siri_ends.specs.Answering.{AnswersWith}
+use Rattle.siri_ends.specs.At.{ConsumerAt, Surroundings, around_consumer}
+use Rattle.siri_ends.specs.Consuming.{consumer_response, further_replies}
+use Rattle.siri_ends.specs.InTurn.{InTurn}
+use Rattle.siri_ends.specs.SendingUp.{LeavesUnsentUp, SendsOneUp, replies_after}
+use Rattle.siri_lines.specs.Ends.{Bytes}
+use Rattle.siri_runs.specs.Calls.{Outside}
+use Rattle.siri_runs.specs.Errors.{status_of}
+use Rattle.siri_runs.specs.declared.network_error.NetworkError.{NetworkError}
+use Rattle.siri_runs.specs.declared.network_error.NetworkError.TheVariants as error
+use Rattle.siri_runs.proofs.Causes.{AnswersLater, clock_failed, keeper_failed, no_clock_of_keeper, no_clock_of_wire, no_keeper_of_clock}
+use Rattle.siri_runs.proofs.Causes.{no_keeper_of_wire, no_wire_of_clock, no_wire_of_keeper, rose_since, turns_clock_rose}
+use Rattle.siri_runs.proofs.Causes.{turns_keeper_not, turns_wire_rose, wire_failed}
+use Rattle.siri_runs.specs.consumers.Consumption.{Consumes, EndsInTurns, StopsConsuming, Target, asking, end_at, given, requests}
+use Rattle.siri_runs.specs.consumers.Opening.{opened}
+use Rattle.siri_runs.specs.consumers.Runs.{ConsumesNot}
+use Rattle.siri_ends.specs.Sending.{most_sends}
+
+-- ---- the wire's count while a connection is answered
+
+up_later : (host path : List ℕ) (limit : ℕ) (list : List Message) (at end : ConsumerAt)
+    → InTurn (SendsOneUp host path) (λ outcome at. replies_after outcome at.consumer) LeavesUnsentUp limit list at end
+    → at.faults ≤ end.faults
+unfolding InTurn
+up_later host path zero list at end is = omega (arith, ap (λ (a : ConsumerAt). a.faults) is)
+up_later host path (suc limit) [] at end is = omega (arith, ap (λ (a : ConsumerAt). a.faults) is)
+up_later host path (suc limit) (message ∷ rest) at end some =
+    omega (arith, some.2.cause.later, up_later host path limit (rest ++ replies_after some.0 at.consumer) some.1 end some.3)
+
+answer_later : (response : Option Response) (at mid : Surroundings) → AnswersWith response at mid → at.faults ≤ mid.faults
+answer_later None at mid answers = answers.later
+answer_later (Some response) at mid answers = answers.cause.later
+
+consumed_later : (target : Target) → AnswersLater (Consumes target)
+consumed_later target from before to after consumes =
+    omega (
+      arith,
+      consumes.answers.reads.cause.later,
+      answer_later (consumer_response from.consumer consumes.asked) consumes.answers.read (around_consumer consumes.mid) consumes.answers.answers,
+      up_later target.0 target.1 most_sends (further_replies from.consumer consumes.asked) consumes.mid (end_at to after) consumes.sends,
+    )
+
+-- ---- which error a status is of
+
+wire_is : (e : NetworkError) → status.WireFault ≡ status_of e → e ≡ error.WireFault
+wire_is error.WireFault is = refl
+wire_is error.ClockFault is = absurd (cc is)
+wire_is error.KeeperFault is = absurd (cc is)
+wire_is error.OutOfMemory is = absurd (cc is)
+
+clock_is : (e : NetworkError) → status.ClockFault ≡ status_of e → e ≡ error.ClockFault
+clock_is error.WireFault is = absurd (cc is)
+clock_is error.ClockFault is = refl
+clock_is error.KeeperFault is = absurd (cc is)
+clock_is error.OutOfMemory is = absurd (cc is)
+
+keeper_is : (e : NetworkError) → status.KeeperFault ≡ status_of e → e ≡ error.KeeperFault
+keeper_is error.WireFault is = absurd (cc is)
+keeper_is error.ClockFault is = absurd (cc is)
+keeper_is error.KeeperFault is = refl
+keeper_is error.OutOfMemory is = absurd (cc is)
+
+-- ---- what ended a run
+
+pub wire_rose : (name listen : List ℕ) (target : Target) (count : ℕ) (input left : Bytes) (from to : Outside)
+    → ConsumesNot name listen target count input left status.WireFault from to → Rose from.wire.faults to.wire.faults
+wire_rose name listen target count input left from to (inl (inl raise)) =
+    absurd (no_wire_of_keeper raise.raises.failure (sym (wire_is raise.error raise.end_is) ∙ raise.raises.error_is))
+wire_rose name listen target count input left from to (inl (inr (inl read))) = absurd read.ends
+wire_rose name listen target count input left from to (inl (inr (inr (inl tell)))) =
+    absurd (no_wire_of_clock tell.tells.failure (sym (wire_is tell.error tell.end_is) ∙ tell.tells.error_is))
+wire_rose name listen target count input left from to (inl (inr (inr (inr (inl fails))))) =
+    wire_failed fails.listens.failure from.wire.faults to.wire.faults (sym (wire_is fails.error fails.end_is) ∙ fails.listens.error_is) fails.listens.call.cause
+wire_rose name listen target count input left from to (inl (inr (inr (inr (inr none))))) = absurd (cc none.end_is)
+wire_rose name listen target count input left from to (inr (inl ask)) = absurd (cc ask.end_is)
+wire_rose name listen target count input left from to (inr (inr turn)) =
+    let first = turn.opens.listens.cause.later in
+    let next = up_later target.0 target.1 most_sends (requests (opened name listen turn.start turn.moment) turn.list)
+    (asking (opened name listen turn.start turn.moment) turn.list turn.open_.wire)
+    (end_at turn.asked.state turn.asked.outside.wire) turn.asks.sends in
+    rose_since from.wire.faults turn.asked.outside.wire.faults to.wire.faults (omega (arith, first, next))
+    (turns_wire_rose given (Consumes target) (StopsConsuming target) (consumed_later target) count turn.asked to
+    (subst (λ e. EndsInTurns target count e turn.asked to) (wire_is turn.error turn.end_is) turn.fails))
+
+pub clock_rose : (name listen : List ℕ) (target : Target) (count : ℕ) (input left : Bytes) (from to : Outside)
+    → ConsumesNot name listen target count input left status.ClockFault from to → Rose from.clock.faults to.clock.faults
+clock_rose name listen target count input left from to (inl (inl raise)) =
+    absurd (no_clock_of_keeper raise.raises.failure (sym (clock_is raise.error raise.end_is) ∙ raise.raises.error_is))
+clock_rose name listen target count input left from to (inl (inr (inl read))) = absurd read.ends
+clock_rose name listen target count input left from to (inl (inr (inr (inl tell)))) =
+    clock_failed tell.tells.failure from.clock.faults to.clock.faults (sym (clock_is tell.error tell.end_is) ∙ tell.tells.error_is) tell.tells.call.cause
+clock_rose name listen target count input left from to (inl (inr (inr (inr (inl fails))))) =
+    absurd (no_clock_of_wire fails.listens.failure (sym (clock_is fails.error fails.end_is) ∙ fails.listens.error_is))
+clock_rose name listen target count input left from to (inl (inr (inr (inr (inr none))))) = absurd (cc none.end_is)
+clock_rose name listen target count input left from to (inr (inl ask)) = absurd (cc ask.end_is)
+clock_rose name listen target count input left from to (inr (inr turn)) =
+    let first = turn.opens.tells.cause.later in
+    let same = ap (λ (o : Outside). o.clock.faults) turn.asks.rest in
+    rose_since from.clock.faults turn.asked.outside.clock.faults to.clock.faults (omega (arith, first, same))
+    (turns_clock_rose given (Consumes target) (StopsConsuming target) (consumed_later target) count turn.asked to
+    (subst (λ e. EndsInTurns target count e turn.asked to) (clock_is turn.error turn.end_is) turn.fails))
+
+pub keeper_rose : (name listen : List ℕ) (target : Target) (count : ℕ) (input left : Bytes) (from to : Outside)
+    → ConsumesNot name listen target count input left status.KeeperFault from to
+    → Rose from.keeper.faults to.keeper.faults
+keeper_rose name listen target count input left from to (inl (inl raise)) =
+    keeper_failed raise.raises.failure from.keeper.faults to.keeper.faults
+    (sym (keeper_is raise.error raise.end_is) ∙ raise.raises.error_is) raise.raises.call.cause
+keeper_rose name listen target count input left from to (inl (inr (inl read))) = absurd read.ends
+keeper_rose name listen target count input left from to (inl (inr (inr (inl tell)))) =
+    absurd (no_keeper_of_clock tell.tells.failure (sym (keeper_is tell.error tell.end_is) ∙ tell.tells.error_is))
+keeper_rose name listen target count input left from to (inl (inr (inr (inr (inl fails))))) =
+    absurd (no_keeper_of_wire fails.listens.failure (sym (keeper_is fails.error fails.end_is) ∙ fails.listens.error_is))
+keeper_rose name listen target count input left from to (inl (inr (inr (inr (inr none))))) = absurd (cc none.end_is)
+keeper_rose name listen target count input left from to (inr (inl ask)) = absurd (cc ask.end_is)
+keeper_rose name listen target count input left from to (inr (inr turn)) =
+    absurd (turns_keeper_not given (Consumes target) (StopsConsuming target) count turn.asked to
+    (subst (λ e. EndsInTurns target count e turn.asked to) (keeper_is turn.error turn.end_is) turn.fails))

@@ -1,0 +1,84 @@
+-- A run that ends with a fault has raised a count.
+use Rattle.std.proofs.Common.{◌≤◌, ℕ, zero, suc, List, [], ◌∷◌, ◌++◌, Option, None, Some, ap, arith, inl, inr}
+use Rattle.siri_base.specs.Causes.{Rose}
+use Rattle.siri_subscriptions.specs.declared.outs.Out.{Out}
+use Rattle.siri_ends.specs.declared.response.Response.{Response}
+use Rattle.siri_ends.specs.Answering.{AnswersWith}
+use Rattle.siri_ends.specs.At.{At, Surroundings, around}
+use Rattle.siri_ends.specs.InTurn.{InTurn}
+use Rattle.siri_ends.specs.Responses.{response_to}
+use Rattle.siri_ends.specs.Sending.{SendsOut, settled_by, most_sends}
+use Rattle.siri_runs.specs.Calls.{Outside}
+use Rattle.siri_runs.specs.declared.network_error.NetworkError.TheVariants as error
+use Rattle.siri_runs.proofs.Causes.{AnswersLater, clock_failed, keeper_failed, no_clock_of_keeper, no_clock_of_wire, no_keeper_of_clock}
+use Rattle.siri_runs.proofs.Causes.{no_keeper_of_wire, no_wire_of_clock, no_wire_of_keeper, rose_since, turns_clock_rose}
+use Rattle.siri_runs.proofs.Causes.{turns_keeper_not, turns_wire_rose, wire_failed}
+use Rattle.siri_runs.specs.producers.Opening.{FailsToOpen, opened}
+use Rattle.siri_runs.specs.producers.Runs.{ServesNot}
+use Rattle.siri_runs.specs.producers.Serving.{Serves, StopsServing, end_at, given}
+
+-- ---- the wire's count while a connection is served
+
+-- the sends of a turn, whatever name the producer has
+sends_later : (name : List ℕ) (limit : ℕ) (outs : List Out) (at end : At) → SendsOut name limit outs at end → at.faults ≤ end.faults
+unfolding InTurn
+sends_later name zero outs at end is = omega (arith, ap (λ (a : At). a.faults) is)
+sends_later name (suc limit) [] at end is = omega (arith, ap (λ (a : At). a.faults) is)
+sends_later name (suc limit) (out ∷ rest) at end some =
+    omega (arith, some.2.cause.later, sends_later name limit (rest ++ settled_by name some.0 at.history) some.1 end some.3)
+
+answer_later : (response : Option Response) (at mid : Surroundings) → AnswersWith response at mid → at.faults ≤ mid.faults
+answer_later None at mid answers = answers.later
+answer_later (Some response) at mid answers = answers.cause.later
+
+served_later : (name : List ℕ) → AnswersLater (Serves name)
+served_later name from before to after serves =
+    omega (
+      arith,
+      serves.answers.reads.cause.later,
+      answer_later (response_to name from.history serves.answers.asked) serves.answers.read (around serves.mid) serves.answers.answers,
+      sends_later name most_sends serves.outs serves.mid (end_at to after) serves.sends,
+    )
+
+-- ---- what ended a run
+
+opening_wire_rose : (listen : List ℕ) (from to : Outside) → FailsToOpen listen error.WireFault from to → Rose from.wire.faults to.wire.faults
+opening_wire_rose listen from to (inl raise) = absurd (no_wire_of_keeper raise.raises.failure raise.raises.error_is)
+opening_wire_rose listen from to (inr (inl fails)) = wire_failed fails.listens.failure from.wire.faults to.wire.faults
+    fails.listens.error_is fails.listens.call.cause
+opening_wire_rose listen from to (inr (inr (inl tell))) = absurd (no_wire_of_clock tell.tells.failure tell.tells.error_is)
+opening_wire_rose listen from to (inr (inr (inr stop))) = absurd (cc stop.error_is)
+
+pub wire_rose : (name listen : List ℕ) (count : ℕ) (from to : Outside)
+    → ServesNot name listen count error.WireFault from to → Rose from.wire.faults to.wire.faults
+wire_rose name listen count from to (inl opening) = opening_wire_rose listen from to opening
+wire_rose name listen count from to (inr turn) =
+    rose_since from.wire.faults turn.open_.wire.faults to.wire.faults turn.opens.listens.cause.later
+    (turns_wire_rose given (Serves name) (StopsServing name) (served_later name) count
+    (opened turn.start turn.moment turn.open_) to turn.fails)
+
+opening_clock_rose : (listen : List ℕ) (from to : Outside) → FailsToOpen listen error.ClockFault from to → Rose from.clock.faults to.clock.faults
+opening_clock_rose listen from to (inl raise) = absurd (no_clock_of_keeper raise.raises.failure raise.raises.error_is)
+opening_clock_rose listen from to (inr (inl fails)) = absurd (no_clock_of_wire fails.listens.failure fails.listens.error_is)
+opening_clock_rose listen from to (inr (inr (inl tell))) =
+    clock_failed tell.tells.failure from.clock.faults to.clock.faults tell.tells.error_is tell.tells.call.cause
+opening_clock_rose listen from to (inr (inr (inr stop))) = absurd (cc stop.error_is)
+
+pub clock_rose : (name listen : List ℕ) (count : ℕ) (from to : Outside)
+    → ServesNot name listen count error.ClockFault from to → Rose from.clock.faults to.clock.faults
+clock_rose name listen count from to (inl opening) = opening_clock_rose listen from to opening
+clock_rose name listen count from to (inr turn) =
+    rose_since from.clock.faults turn.open_.clock.faults to.clock.faults turn.opens.tells.cause.later
+    (turns_clock_rose given (Serves name) (StopsServing name) (served_later name) count
+    (opened turn.start turn.moment turn.open_) to turn.fails)
+
+pub keeper_rose : (name listen : List ℕ) (count : ℕ) (from to : Outside)
+    → ServesNot name listen count error.KeeperFault from to → Rose from.keeper.faults to.keeper.faults
+keeper_rose name listen count from to (inl (inl raise)) =
+    keeper_failed raise.raises.failure from.keeper.faults to.keeper.faults raise.raises.error_is raise.raises.call.cause
+keeper_rose name listen count from to (inl (inr (inl fails))) = absurd (no_keeper_of_wire fails.listens.failure fails.listens.error_is)
+keeper_rose name listen count from to (inl (inr (inr (inl tell)))) = absurd (no_keeper_of_clock tell.tells.failure tell.tells.error_is)
+keeper_rose name listen count from to (inl (inr (inr (inr stop)))) = absurd (cc stop.error_is)
+keeper_rose name listen count from to (inr turn) = absurd
+    (turns_keeper_not given (Serves name) (StopsServing name) count
+    (opened turn.start turn.moment turn.open_) to turn.fails)

@@ -1,0 +1,139 @@
+-- A run, whole.
+use Rattle.std.proofs.Common.{◌≡◌, ℕ, List, refl, sym, ap, ◌∙◌, subst, inr}
+use Rattle.siri_base.specs.Causes.{Rose}
+use Rattle.siri_base.specs.declared.status.Status.{Status}
+use Rattle.siri_base.specs.declared.status.Status.TheVariants as status
+use Rattle.siri_http.specs.declared.tally.Tally.{Tally}
+use Rattle.siri_http.specs.Tallies.{nothing_yet}
+use Rattle.siri_lines.specs.Ends.{Bytes}
+use Rattle.siri_base.specs.Wires.{WireState}
+use Rattle.siri_ends.specs.At as ends
+use Rattle.siri_ends.specs.At.{end_of}
+use Rattle.siri_ends.specs.Serving.{ServesOne}
+use Rattle.siri_producer.specs.Known.{Known, StandsFor}
+use Rattle.siri_runs.specs.Calls.{Outside, Told}
+use Rattle.siri_runs.specs.Errors.{status_of}
+use Rattle.siri_runs.specs.declared.network_error.NetworkError.{NetworkError}
+use Rattle.siri_runs.specs.declared.network_error.NetworkError.TheVariants as error
+use Rattle.siri_runs.specs.producers.Opening.{opened}
+use Rattle.siri_runs.specs.producers.Runs.{ServeRun, ServesAll, ServesNot}
+use Rattle.siri_runs.specs.Ends.{Ends, Goes}
+use Rattle.siri_runs.specs.Turns.{running}
+use Rattle.siri_runs.specs.declared.serving.server.Server.{Server}
+use Rattle.siri_runs.specs.producers.Serving.{EndsInTurns, Serves, Serving, ServesTurns}
+use Rattle.siri_runs.specs.producers.Steps.{OpensProducer, Stands}
+use Rattle.siri_runs.proofs.producers.Causes.{clock_rose, keeper_rose, wire_rose}
+
+-- what a server keeps, and what it stands for
+abbrev name_of : Server → List ℕ
+name_of server = server.producer.responder.name
+
+abbrev stands : Server → Serving → Type 0
+stands server state = Stands server.producer server.tally state
+
+-- a server of a producer that has counted nothing yet
+begins : (producer : Known) (first : Server) (state : Serving) → first.producer ≡ producer → first.tally ≡ state.tally
+    → StandsFor producer state.history → stands first state
+begins producer first state own is begun =
+    record { history = subst (λ k. StandsFor k state.history) (sym own) begun; tally_is = is }
+
+-- a connection was served, by whatever history the producer stood for
+pub serves_on : (old new : Known) (was is : Tally) (before after : Told WireState)
+    → ends.Goes ServesOne (end_of old was before.tells before.faults) (end_of new is after.tells after.faults)
+    → (state : Serving) → Stands old was state
+    → (next : Serving) × Stands new is next × Serves old.responder.name state before next after
+serves_on old new was is before after goes state stands =
+    let one = goes.goes state.history stands.history in
+    let next : Serving = record { history = one.0; tally = is } in
+    let served : Serves old.responder.name state before next after =
+    subst (λ tally. Serves old.responder.name (record { history = state.history; tally = tally }) before next after)
+    stands.tally_is one.2 in
+    (next, record { history = one.1; tally_is = refl }, served)
+
+-- it opened, and every connection was served
+pub all_served : (name listen : List ℕ) (count : ℕ) (producer : Known) (first last : Server) (from open_ to : Outside)
+    → first.producer ≡ producer → first.tally ≡ nothing_yet → OpensProducer name listen producer from open_
+    → Goes name_of stands (λ name. ServesTurns name count) first last open_ to
+    → ServesAll name listen count last.tally from to
+all_served name listen count producer first last from open_ to own is opens goes =
+    let state = (opened opens.start opens.moment open_).state in
+    let one = goes.goes state (begins producer first state own is opens.stands) in
+    record {
+      start = opens.start;
+      moment = opens.moment;
+      open_ = open_;
+      opens = opens.opens;
+      end = running one.0 to;
+      turns = subst (λ name. ServesTurns name count (running state open_) (running one.0 to)) (ap (λ (k : Known). k.responder.name) own ∙ opens.name_is) one.2;
+      tally_is = one.1.tally_is;
+      outside_is = refl;
+    }
+
+-- it opened, and a turn ended it
+pub turn_ended : (name listen : List ℕ) (count : ℕ) (e : NetworkError) (producer : Known) (first : Server)
+    (from open_ to : Outside) → first.producer ≡ producer → first.tally ≡ nothing_yet
+    → OpensProducer name listen producer from open_
+    → Ends name_of stands (λ name. EndsInTurns name count e) first open_ to
+    → ServesNot name listen count e from to
+turn_ended name listen count e producer first from open_ to own is opens ends =
+    let state = (opened opens.start opens.moment open_).state in
+    inr (record {
+      start = opens.start;
+      moment = opens.moment;
+      open_ = open_;
+      opens = opens.opens;
+      fails = subst (λ name. EndsInTurns name count e (running state open_) to)
+          (ap (λ (k : Known). k.responder.name) own ∙ opens.name_is) (ends state (begins producer first state own is opens.stands));
+    })
+
+-- ---- by the status
+
+ended_by : (name listen : List ℕ) (count : ℕ) (from to : Outside) (held : Bytes) (e : NetworkError)
+    → ServesNot name listen count e from to → ServeRun name listen count from to held held (status_of e)
+ended_by name listen count from to held error.WireFault ends = (ends, refl)
+ended_by name listen count from to held error.ClockFault ends = (ends, refl)
+ended_by name listen count from to held error.KeeperFault ends = (ends, refl)
+ended_by name listen count from to held error.OutOfMemory ends = inr (ends, refl)
+
+-- it ended before every connection was served
+pub run_ended : (name listen : List ℕ) (count : ℕ) (from to : Outside) (held : Bytes) (e : NetworkError) (end : Status)
+    → end ≡ status_of e → ServesNot name listen count e from to → ServeRun name listen count from to held held end
+run_ended name listen count from to held e end is ends =
+    subst (ServeRun name listen count from to held held) (sym is) (ended_by name listen count from to held e ends)
+
+wire_by : (name listen : List ℕ) (count : ℕ) (from to : Outside) (e : NetworkError)
+    → ServesNot name listen count e from to → status_of e ≡ status.WireFault → Rose from.wire.faults to.wire.faults
+wire_by name listen count from to error.WireFault ends is = wire_rose name listen count from to ends
+wire_by name listen count from to error.ClockFault ends is = absurd (cc is)
+wire_by name listen count from to error.KeeperFault ends is = absurd (cc is)
+wire_by name listen count from to error.OutOfMemory ends is = absurd (cc is)
+
+pub wire_fault : (name listen : List ℕ) (count : ℕ) (from to : Outside) (e : NetworkError) (end : Status)
+    → end ≡ status_of e → ServesNot name listen count e from to → end ≡ status.WireFault
+    → Rose from.wire.faults to.wire.faults
+wire_fault name listen count from to e end is ends at = wire_by name listen count from to e ends (sym is ∙ at)
+
+clock_by : (name listen : List ℕ) (count : ℕ) (from to : Outside) (e : NetworkError)
+    → ServesNot name listen count e from to → status_of e ≡ status.ClockFault → Rose from.clock.faults to.clock.faults
+clock_by name listen count from to error.WireFault ends is = absurd (cc is)
+clock_by name listen count from to error.ClockFault ends is = clock_rose name listen count from to ends
+clock_by name listen count from to error.KeeperFault ends is = absurd (cc is)
+clock_by name listen count from to error.OutOfMemory ends is = absurd (cc is)
+
+pub clock_fault : (name listen : List ℕ) (count : ℕ) (from to : Outside) (e : NetworkError) (end : Status)
+    → end ≡ status_of e → ServesNot name listen count e from to → end ≡ status.ClockFault
+    → Rose from.clock.faults to.clock.faults
+clock_fault name listen count from to e end is ends at = clock_by name listen count from to e ends (sym is ∙ at)
+
+keeper_by : (name listen : List ℕ) (count : ℕ) (from to : Outside) (e : NetworkError)
+    → ServesNot name listen count e from to → status_of e ≡ status.KeeperFault
+    → Rose from.keeper.faults to.keeper.faults
+keeper_by name listen count from to error.WireFault ends is = absurd (cc is)
+keeper_by name listen count from to error.ClockFault ends is = absurd (cc is)
+keeper_by name listen count from to error.KeeperFault ends is = keeper_rose name listen count from to ends
+keeper_by name listen count from to error.OutOfMemory ends is = absurd (cc is)
+
+pub keeper_fault : (name listen : List ℕ) (count : ℕ) (from to : Outside) (e : NetworkError) (end : Status)
+    → end ≡ status_of e → ServesNot name listen count e from to → end ≡ status.KeeperFault
+    → Rose from.keeper.faults to.keeper.faults
+keeper_fault name listen count from to e end is ends at = keeper_by name listen count from to e ends (sym is ∙ at)

@@ -1,0 +1,85 @@
+-- A consumer that answers connections (EN 15531-2 for what is said, RFC 9112 for how).
+use Rattle.std.specs.Prelude.{◌≡◌, ◌⊎◌, ℕ, List, [], ◌∷◌, map}
+use Rattle.siri_base.specs.Wires.{WireState}
+use Rattle.siri_http.specs.Tallies.{nothing_yet}
+use Rattle.siri_http.specs.declared.tally.Tally.{Tally}
+use Rattle.siri_messages.specs.declared.message.Message.{Message}
+use Rattle.siri_topic.specs.declared.subscription.Subscription.{Subscription}
+use Rattle.siri_view.specs.Consuming.{Consuming, after_subscribe, clocked, request_for}
+use Rattle.siri_wire.specs.declared.wanted.Wanted.{Wanted}
+use Rattle.siri_ends.specs.At.{ConsumerAt, consumer_at}
+use Rattle.siri_ends.specs.Consuming.{ConsumesOne, ConsumesSome}
+use Rattle.siri_ends.specs.SendingUp.{FirstSendsUp, SendsUp}
+use Rattle.siri_runs.specs.Calls.{Outside, Told}
+use Rattle.siri_runs.specs.Turns.{Running, Turn, TurnFails, Turns, TurnsFail}
+use Rattle.siri_runs.specs.declared.network_error.NetworkError.{NetworkError}
+
+-- the consumer, and what was counted
+pub record Consumption : Type 0 where
+  pub consumer : Consuming
+  pub tally : Tally
+
+-- the consumer is given a moment
+abbrev pub given : ℕ → Consumption → Consumption
+given moment state = record state { consumer = clocked state.consumer moment }
+
+-- the same over a wire, as an end of an exchange
+abbrev pub end_at : Consumption → Told WireState → ConsumerAt
+end_at state wire = consumer_at state.consumer state.tally wire.tells wire.faults
+
+-- the producer's address: a host with its port, and a path
+abbrev pub Target : Type 0
+Target = List ℕ × List ℕ
+
+-- ---- what is asked for at first
+
+-- the subscriptions that are wanted
+abbrev pub subscriptions : List Wanted → List Subscription
+subscriptions list = map (λ wanted. wanted.subscription) list
+
+-- one request for all that is wanted, with the interval of heartbeats of the first; nothing where nothing is wanted
+abbrev pub requests : Consuming → List Wanted → List Message
+requests consumer [] = []
+requests consumer (first ∷ rest) = request_for consumer (subscriptions (first ∷ rest)) first.beat ∷ []
+
+-- the consumer after it
+abbrev pub after_asking : Consuming → List Wanted → Consuming
+after_asking consumer [] = consumer
+after_asking consumer (first ∷ rest) = after_subscribe consumer (subscriptions (first ∷ rest)) first.beat
+
+-- a consumer that has asked, before anything was sent
+abbrev pub asking : Consuming → List Wanted → Told WireState → ConsumerAt
+asking consumer list wire = consumer_at (after_asking consumer list) nothing_yet wire.tells wire.faults
+
+-- the request goes to the producer, whose response is taken; its replies are sent as well
+pub record Asks (target : Target) (list : List Wanted) (consumer : Consuming) (from : Outside) (to : Running Consumption) : Type 0 where
+  pub sends : SendsUp target.0 target.1 (requests consumer list) (asking consumer list from.wire) (end_at to.state to.outside.wire)
+  pub rest : to.outside ≡ record from { wire = to.outside.wire }
+
+-- there was no memory to ask: nothing was sent, or the first of that
+pub record AsksSome (target : Target) (list : List Wanted) (consumer : Consuming) (from to : Outside) : Type 0 where
+  pub sends : (to.wire ≡ from.wire) ⊎ FirstSendsUp target.0 target.1 (requests consumer list) (after_asking consumer list) from.wire.tells to.wire.tells
+  pub rest : to ≡ record from { wire = to.wire }
+
+-- ---- its turns
+
+-- the connection that is there is answered, whole, and further replies are sent
+abbrev pub Consumes : Target → Consumption → Told WireState → Consumption → Told WireState → Type 0
+Consumes target from before to after = ConsumesOne target.0 target.1 (end_at from before) (end_at to after)
+
+-- the first steps of that were made
+abbrev pub StopsConsuming : Target → Consumption → Told WireState → Told WireState → Type 0
+StopsConsuming target from before after = ConsumesSome target.0 target.1 (end_at from before) after.tells
+
+abbrev pub ConsumesTurn : Target → Running Consumption → Running Consumption → Type 0
+ConsumesTurn target from to = Turn given (Consumes target) from to
+
+abbrev pub ConsumesTurns : Target → ℕ → Running Consumption → Running Consumption → Type 0
+ConsumesTurns target count from to = Turns (ConsumesTurn target) count from to
+
+-- a turn that ended the run
+abbrev pub EndsAtTurn : Target → NetworkError → Running Consumption → Outside → Type 0
+EndsAtTurn target error from to = TurnFails given (StopsConsuming target) error from to
+
+abbrev pub EndsInTurns : Target → ℕ → NetworkError → Running Consumption → Outside → Type 0
+EndsInTurns target count error from to = TurnsFail (ConsumesTurn target) (EndsAtTurn target) count error from to

@@ -1,0 +1,35 @@
+//! The commands over the network: a producer or a consumer for so many connections.
+//!
+//! ```text
+//!   keeper -> raise  -- the number of its start --+
+//!   wire   -> listen                              +--> a producer       (serving), or a consumer that has asked for
+//!   clock  -> now    -- its first moment ---------+         |            what the lines of its source want  (consuming)
+//!                                                           v
+//!   wire -> accept, clock -> now   --------------->  serve_one or consume_one of siri_ends, COUNT times
+//!                                                           |
+//!                                                           v
+//!                     the views of a consumer, and the counts (write_summary) --> sink
+//! ```
+//!
+//! The contracts of `serve` and `consume` say which calls of the outside are made, what each connection is answered,
+//! what is sent where, what is counted and written, and which status ends the run: by the producer's history or the
+//! consumer's state, turn after turn. A call of the outside that fails ends a run with a `NetworkError`, which is a
+//! status.
+//!
+//! Stands on `siri_ends` for a turn of a `siri_producer` or of a consumer (`siri_view`), on `siri_lines` and
+//! `siri_script` for lines and for the texts of views and items, on `siri_wire` and `siri_messages` for what is wanted,
+//! and on `siri_base`, `siri_http`, `siri_topic` and `siri_change` for what these speak of. It knows no socket and no
+//! file.
+#![tactic(auto)]
+
+mod calls;
+mod consuming;
+mod end;
+mod network_error;
+mod serving;
+mod summary;
+mod turns;
+
+pub use consuming::{consume, read_wanted, write_views};
+pub use network_error::NetworkError;
+pub use serving::serve;

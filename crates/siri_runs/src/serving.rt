@@ -1,0 +1,85 @@
+//! The command `serve`.
+
+ghost use Rattle.std.specs.Prelude.{◌≡◌, IfErr, IfOk, Some, []};
+ghost use Rattle.siri_base.specs.Causes.{Rose};
+ghost use Rattle.siri_base.specs.MetFailures.{SinkMeets, is_write_fault};
+ghost use Rattle.siri_runs.specs.Calls.{outside_told};
+ghost use Rattle.siri_runs.specs.Enough.{EndsWhole, HasEnough};
+ghost use Rattle.siri_runs.specs.producers.Runs.{EndsServing, ServeRun, ServesAll, ServesNot};
+
+mod opening;
+mod server;
+
+use crate::NetworkError;
+use crate::summary::write_summary;
+use crate::turns::run_turns;
+use opening::open;
+use server::Server;
+use siri_base::{Clock, Keeper, Name, OutsideError, Sink, Status, Wire};
+use siri_http::Tally;
+use std::alloc::Global;
+
+/// A producer of this name for so many connections at `HOST:PORT`: it raises the number of its start, listens, reads
+/// the clock for its first moment, and serves each connection at the clock's moment. Then it writes `served N refused R
+/// dropped D unsent U`.
+///
+/// `KeeperFault`, `WireFault` and `ClockFault` only where the keeper, the wire or the clock failed, the wire to listen
+/// or to accept; nothing is written then. `WriteFault` only where the sink failed, `OutOfMemory` wherever memory is
+/// asked for, otherwise `Done`.
+pub fn serve<K: Sink, W: Wire, C: Clock, E: Keeper>(
+    alloc: Global,
+    name: Name,
+    address: &Name,
+    count: u64,
+    sink: &mut K,
+    wire: &mut W,
+    clock: &mut C,
+    keeper: &mut E,
+) -> Status
+    ensures run { ServeRun name address.now count
+        (outside_told W.Wire C.Clock E.Keeper wire.old clock.old keeper.old)
+        (outside_told W.Wire C.Clock E.Keeper wire.new clock.new keeper.new)
+        (K.held sink.old) (K.held sink.new) result }
+    ensures unwritten { EndsServing result → sink.new ≡ sink.old }
+    ensures meets { SinkMeets (is_write_fault result) (K.held sink.old) (K.held sink.new) (K.fails sink.old) (K.fails sink.new) }
+    // Where there is enough for so many connections, and no failure is named for the sink.
+    ensures complete { HasEnough count (outside_told W.Wire C.Clock E.Keeper wire.old clock.old keeper.old)
+        → K.fails sink.old ≡ Some [] → EndsWhole result }
+    // When each fault comes.
+    ensures write_fault { result ≡ Status.WriteFault → Rose (K.faults sink.old) (K.faults sink.new) }
+    ensures wire_fault { result ≡ Status.WireFault → Rose (W.faults wire.old) (W.faults wire.new) }
+    ensures clock_fault { result ≡ Status.ClockFault → Rose (C.faults clock.old) (C.faults clock.new) }
+    ensures keeper_fault { result ≡ Status.KeeperFault → Rose (E.faults keeper.old) (E.faults keeper.new) }
+{
+    match serve_all(alloc, name, address, count, wire, clock, keeper) {
+        Ok(tally) => match write_summary(alloc, &tally, sink) {
+            Ok(()) => Status::Done,
+            Err(OutsideError::Failed) => Status::WriteFault,
+            Err(OutsideError::OutOfMemory) => Status::OutOfMemory,
+        },
+        Err(error) => Status::from(error),
+    }
+}
+
+/// Opens and serves all connections, and gives what was counted.
+fn serve_all<W: Wire, C: Clock, E: Keeper>(
+    alloc: Global,
+    name: Name,
+    address: &Name,
+    count: u64,
+    wire: &mut W,
+    clock: &mut C,
+    keeper: &mut E,
+) -> Result<Tally, NetworkError>
+    ensures ok { IfOk result (λ tally. ServesAll name address.now count tally
+        (outside_told W.Wire C.Clock E.Keeper wire.old clock.old keeper.old)
+        (outside_told W.Wire C.Clock E.Keeper wire.new clock.new keeper.new)) }
+    ensures err { IfErr result (λ error. ServesNot name address.now count error
+        (outside_told W.Wire C.Clock E.Keeper wire.old clock.old keeper.old)
+        (outside_told W.Wire C.Clock E.Keeper wire.new clock.new keeper.new)) }
+{
+    let producer = open(alloc, name, address, wire, clock, keeper)?;
+    let mut server = Server::new(alloc, producer);
+    run_turns(count, wire, clock, &mut server)?;
+    Ok(server.tally())
+}

@@ -1,0 +1,66 @@
+//! A producer that serves connections.
+
+ghost use Rattle.std.specs.Prelude.{◌≡◌, ℕ, List};
+ghost use Rattle.siri_http.specs.Tallies.{nothing_yet};
+ghost use Rattle.siri_runs.specs.producers.Serving as serving;
+ghost use Rattle.siri_runs.specs.producers.Steps.{Stands};
+
+use crate::end::End;
+use siri_base::{Moment, OutOfMemory, Wire};
+use siri_ends::serve_one;
+use siri_http::Tally;
+use siri_producer::Producer;
+use std::alloc::Global;
+
+/// A producer, and what was counted.
+#[derive(Drop)]
+pub(crate) struct Server {
+    alloc: Global,
+    producer: Producer,
+    tally: Tally,
+}
+
+impl Server {
+    /// A producer that has served nothing yet.
+    pub(crate) fn new(alloc: Global, producer: Producer) -> Server
+        ensures producer { result.producer ≡ producer }
+        ensures tally { result.tally ≡ nothing_yet }
+    {
+        Server {
+            alloc,
+            producer,
+            tally: Tally::new(),
+        }
+    }
+
+    /// What was counted.
+    pub(crate) fn tally(&self) -> Tally
+        ensures { result ≡ self.now.tally }
+    {
+        self.tally
+    }
+}
+
+impl End for Server {
+    ghost Kept = { List ℕ };
+
+    ghost kept = { λ server. server.producer.responder.name };
+
+    ghost State = { serving.Serving };
+
+    ghost stands = { λ server state. Stands server.producer server.tally state };
+
+    ghost given = { serving.given };
+
+    ghost Answers = { serving.Serves };
+
+    ghost Stops = { serving.StopsServing };
+
+    fn clock(&mut self, now: Moment) {
+        self.producer.clock(now);
+    }
+
+    fn answer<W: Wire>(&mut self, wire: &mut W) -> Result<(), OutOfMemory> {
+        serve_one(self.alloc, wire, &mut self.producer, &mut self.tally)
+    }
+}

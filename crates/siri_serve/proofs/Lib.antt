@@ -1,4 +1,0 @@
-mod Causes
-mod Enough
-mod Made
-mod Runs
