@@ -1,0 +1,4 @@
+pub mod Bounds
+pub mod Forms
+pub mod InOrder
+pub mod Topics

@@ -1,0 +1,4 @@
+pub mod Paths
+pub mod Pairs
+pub mod Documents
+pub mod Targets
