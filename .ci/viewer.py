@@ -1,4 +1,4 @@
-"""Opens examples/viewer in a browser: `viewer.py CHROMIUM EXAMPLES [PICTURE]`. What it draws of three examples has to be what their
+"""Opens examples/viewer in a browser: `viewer.py CHROMIUM EXAMPLES [PICTURE]`. What it draws of four examples has to be what their
 lines say, counted here; it is opened by hand and by keys, and has to bear bad lines, hostile texts, small screens and long scripts.
 With PICTURE, the chart of examples/lost.script is written there."""
 import collections
@@ -169,6 +169,14 @@ class Viewer:
             at = self.browser.run("document.querySelector('.row[data-step=\"%s\"] .number').textContent" % step)
             self.check(int(at) == line, "packet %d of %s is sent by line %d, and not %d" % (packet, name, int(at), line))
 
+    def restarts(self):
+        """Where a consumer restarts its own line is broken; that it asks for all data is no packet of a round, and its rounds begin anew."""
+        self.example("display_restarts")
+        self.check(self.count(".break.slash") == 2 and self.count(".break") == 2, "a consumer that restarts is no break of its line alone")
+        looks = [self.browser.run("document.querySelector('.packet[data-packet=\"%d\"]').getAttribute('class')" % number) for number in (3, 5, 7)]
+        self.check(" round-0 " in looks[0] and "round-" not in looks[1] and " round-1 " in looks[2], "packets 3, 5 and 7 look like %s" % looks)
+        self.check("5 request for all data" in self.text('.label[data-packet="5"]'), "packet 5 isn't told as a request for all data")
+
     def keeps(self):
         """Whatever is wrong with its lines, no event and no line of the report is lost."""
         self.open()
@@ -310,11 +318,13 @@ def main(chromium, examples, *pictures):
         with tempfile.TemporaryDirectory() as folder:
             viewer = Viewer(browser, "http://127.0.0.1:%d/" % server.server_port, folder, faults)
             browser.size(1280, 900)
-            for name in ("lost", "fetched_in_parts", "heartbeat"):
+            for name in ("lost", "fetched_in_parts", "heartbeat", "display_restarts"):
                 with open(os.path.join(examples, name + ".script")) as script, open(os.path.join(examples, name + ".report")) as report:
                     script, report = script.read(), report.read()
                 viewer.counts(name, script, report)
-                viewer.colours(report)
+                if name != "display_restarts":
+                    viewer.colours(report)
+            viewer.restarts()
             viewer.clocks(examples)
             viewer.keeps()
             viewer.opens()

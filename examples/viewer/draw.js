@@ -56,7 +56,8 @@ function heads({ day, ends, width }) {
 /** All that is no text: the lines of the ends, the clock, the arrows. */
 function drawing(picture) {
   const svg = sheetOf(0, picture.width, picture.height);
-  svg.append(...picture.clocks.flatMap((clock) => clockLines(clock, picture)));
+  const { gutter, past, clocks, breaks } = picture;
+  svg.append(...clocks.map((y) => across('clock', gutter, past, y)), ...breaks.flatMap((one) => breakLines(one, past)));
   for (const { x, pieces } of picture.ends) {
     svg.append(...pieces.map(({ from, to }) => shape('line', { class: 'end', x1: x, x2: x, y1: from, y2: to })));
   }
@@ -76,12 +77,10 @@ function across(name, from, to, y) {
   return shape('line', { class: name, x1: from, x2: to, y1: y, y2: y });
 }
 
-/** A line across where the clock moves; at a start after the first, with two strokes through the producer's line. */
-function clockLines({ y, isBreak }, { gutter, past, ends }) {
-  if (!isBreak) return [across('clock', gutter, past, y)];
-  const { x } = ends[0];
+/** Two strokes through the line of an end that begins anew; at a start of the producer with a line across. */
+function breakLines({ x, y, isAcross }, past) {
   const slash = (top) => shape('line', { class: 'break slash', x1: x - 7, x2: x + 7, y1: top + 3, y2: top - 3 });
-  return [across('break', 0, past, y), slash(y - 3), slash(y + 3)];
+  return [...(isAcross ? [across('break', 0, past, y)] : []), slash(y - 3), slash(y + 3)];
 }
 
 /** A group for each packet, with an arrow for each time that it is delivered. */

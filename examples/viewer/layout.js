@@ -31,7 +31,9 @@
  * @property {{name: string, x: number, pieces: {from: number, to: number}[]}[]} ends
  * @property {{step: number, y: number, height: number, text: string, isMissing: boolean}[]} rows
  * @property {{x: number, y: number, width: number, height: number, text: string, isFault: boolean}[]} remarks
- * @property {{y: number, isBreak: boolean}[]} clocks  lines across
+ * @property {number[]} clocks   where lines go across
+ * @property {{x: number, y: number, isAcross: boolean}[]} breaks  where an end's line is broken: that of the producer
+ *   with a line across
  * @property {Arrow[]} arrows
  * @property {{step: number, x: number, y: number, anchor: string, text: string}[]} notes  what is told at an end's line
  * @property {{step: number, x: number, y: number}[]} dots
@@ -75,13 +77,11 @@ export function layOut(run, measures, first = 0) {
     digits: String(steps.at(-1)?.event.line ?? 0).length,
     bands: stack.bands,
     slot,
-    ends: run.ends.map((name, index) => {
-      const pieces = index === 0 ? producerPieces(steps, within) : [{ from: 0, to: stack.height }];
-      return { name, x: columns.xs[index], pieces };
-    }),
+    ends: run.ends.map((name, index) => ({ name, x: columns.xs[index], pieces: piecesOf(name, steps, within) })),
     rows: stack.rows,
     remarks: stack.remarks,
-    clocks: steps.flatMap((step, index) => clockOf(step, index, within)),
+    clocks: steps.flatMap(({ event }, index) => (event.word === 'clock' ? [middle(stack.rows, index, slot)] : [])),
+    breaks: steps.flatMap((step, index) => breakOf(step, index, within)),
     arrows: run.packets.flatMap((packet) => arrowsOf(packet, run, within)),
     notes: steps.flatMap((step, index) => noteOf(step, index, texts, within)),
     dots: steps.flatMap((step, index) => dotOf(step, index, within)),
@@ -208,7 +208,7 @@ function sendsBelow({ event }) {
 }
 
 function isMissing({ event, told }) {
-  return told === null && event.word !== 'clock';
+  return told === null && !['clock', 'restart'].includes(event.word);
 }
 
 /** The middle of a slot of a step's row. */
@@ -216,20 +216,27 @@ function middle(rows, index, slot, which = 0) {
   return rows[index].y + slot * (which + 0.5);
 }
 
-/** The producer's line, which every start after the first breaks. */
-function producerPieces(steps, { rows, slot, height, first }) {
-  const starts = steps.flatMap((step, index) => (step.told?.word === 'started' ? [middle(rows, index, slot)] : []));
-  const begins = first === 0 ? starts : [0, ...starts];
+/** The end that begins anew at a step: the producer at a start, a consumer that restarts. */
+function endThatBegins({ event, told }) {
+  if (told?.word === 'started') return 'producer';
+  return event.word === 'restart' && (told === null || told.word === 'packet') ? event.consumer ?? null : null;
+}
+
+/** An end's line, which is broken where the end begins anew. */
+function piecesOf(name, steps, { rows, slot, height, first }) {
+  const anew = steps.flatMap((step, index) => (endThatBegins(step) === name ? [middle(rows, index, slot)] : []));
+  const begins = name === 'producer' && first === 0 ? anew : [0, ...anew];
   return begins.map((from, index) => {
     const next = begins[index + 1];
     return { from, to: next === undefined ? height : next - slot * 0.7 };
   });
 }
 
-function clockOf({ event, told }, index, { rows, slot, first }) {
-  if (event.word === 'clock') return [{ y: middle(rows, index, slot), isBreak: false }];
-  const isBreak = event.word === 'start' && told !== null && first + index > 0 && told.says !== '1';
-  return isBreak ? [{ y: middle(rows, index, slot) - slot * 0.35, isBreak: true }] : [];
+function breakOf(step, index, { rows, slot, first, xs, places }) {
+  const end = endThatBegins(step);
+  const isFirst = end === 'producer' && (first + index === 0 || step.told.says === '1');
+  if (end === null || isFirst) return [];
+  return [{ x: xs[places.get(end)], y: middle(rows, index, slot) - slot * 0.35, isAcross: end === 'producer' }];
 }
 
 function noteOf(step, index, texts, { rows, slot, places, xs, size, first }) {

@@ -16,7 +16,7 @@
  * @property {string} word          the first word of the line
  * @property {string} text          the line as it stands
  * @property {Remark[]} remarks     those right before it
- * @property {string} [consumer]    of subscribe, terminate, status and view
+ * @property {string} [consumer]    of subscribe, terminate, restart, status and view
  * @property {string} [subscription]  of subscribe, terminate and view
  * @property {string} [packet]      the number of deliver
  * @property {number} [moment]      of start and clock, in milliseconds since 1970 in UTC
@@ -48,6 +48,7 @@
  * @property {Place | null} place
  * @property {string[]} subscriptions  those that it names
  * @property {boolean} more         whether another part follows
+ * @property {boolean} all          whether it asks for all of a subscription again
  * @property {number} items         how many items and removals it carries
  * @property {number | null} moment
  */
@@ -60,6 +61,7 @@ const SCRIPT_LINES = {
   ask: /^(?<document>.+)$/,
   subscribe: /^(?<consumer>[\w-]{1,64}) (?<document>.+)$/,
   terminate: /^(?<consumer>[\w-]{1,64}) (?<subscription>.+)$/,
+  restart: /^(?<consumer>[\w-]{1,64})$/,
   status: /^(?<consumer>[\w-]{1,64})$/,
   deliver: /^(?<packet>\d{1,18})$/,
   view: /^(?<consumer>[\w-]{1,64}) (?<subscription>.+)$/,
@@ -72,6 +74,7 @@ const SCRIPT_FORMS = {
   ask: 'ask DOC',
   subscribe: 'subscribe CONSUMER WANTED',
   terminate: 'terminate CONSUMER ID',
+  restart: 'restart CONSUMER',
   status: 'status CONSUMER',
   deliver: 'deliver N',
   view: 'view CONSUMER ID',
@@ -198,13 +201,15 @@ export function readMessage(document) {
   const kind = isObject(siri) ? (Object.keys(siri)[0] ?? '') : '';
   const message = kind === '' ? {} : (firstOf(siri[kind]) ?? {});
   const deliveries = everyEntry(message, 'Delivery');
-  const place = placeOfPart(message, deliveries) ?? placeOfMark(message.Extensions);
+  const all = textOf(message.AllData) === 'true';
+  const place = placeOfPart(message, deliveries) ?? (all ? null : placeOfMark(message.Extensions));
   return {
     kind,
     sender: textOf(message.RequestorRef ?? message.ConsumerRef),
     place,
     subscriptions: place === null ? namedSubscriptions(message) : [place.subscription],
     more: textOf(message.MoreData) === 'true',
+    all,
     items: deliveries.reduce((sum, delivery) => sum + itemsIn(delivery), 0),
     moment: momentOf(textOf(message.ResponseTimestamp ?? message.RequestTimestamp)),
   };
@@ -233,11 +238,15 @@ function placeOf(...values) {
   return { subscription, number, start, round, part };
 }
 
-/** The subscriptions that a message without a place is about: it asks for them, ends them, or tells their status. */
+/**
+ * The subscriptions that a message without a place is about: it asks for them, or for all of one again, ends them, or
+ * tells their status.
+ */
 function namedSubscriptions(message) {
   const asked = everyEntry(message, 'SubscriptionRequest').map((one) => one.SubscriptionIdentifier);
   const told = everyEntry(message, 'ResponseStatus').map((one) => one.SubscriptionRef);
-  return [...asked, ...told, ...listOf(message.SubscriptionRef)].map(textOf).filter((name) => name !== null);
+  const again = listOf(firstOf(message.Extensions)?.SubscriptionRef);
+  return [...asked, ...told, ...again, ...listOf(message.SubscriptionRef)].map(textOf).filter((name) => name !== null);
 }
 
 const ITEMS = [

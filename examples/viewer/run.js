@@ -49,11 +49,12 @@ const AGAIN_MILLISECONDS = 30000;
 /** How far a line is looked for where script and report don't fit together. */
 const LOOK_AHEAD = 200;
 /** What the producer says of a packet that it answers by another one. */
-const ANSWERED = /^(Subscribed|Ended|Supplied|NothingReady|WrongPart|Checked|Asked|Fed)\b/;
+const ANSWERED = /^(Subscribed|Ended|Renewed|NotRenewed|Supplied|NothingReady|WrongPart|Checked|Asked|Fed)\b/;
 /** What a consumer sends by itself, and not as a reply. */
 const ASKED_BY = {
   subscribe: 'SubscriptionRequest',
   terminate: 'TerminateSubscriptionRequest',
+  restart: 'DataSupplyRequest',
   status: 'CheckStatusRequest',
 };
 
@@ -104,6 +105,11 @@ function pair(steps, lines, faults) {
   let at = 0;
   let last = steps[0];
   while (index < groups.length) {
+    if (asksNothing(groups[index].steps[0], lines[at], known)) {
+      last = groups[index].steps.at(-1);
+      index += 1;
+      continue;
+    }
     const meeting = meet(groups, index, lines, at, known);
     setApart(last, lines.slice(at, meeting.line), faults);
     tellMissing(groups.slice(index, meeting.group), lines[meeting.line], faults);
@@ -121,7 +127,7 @@ function pair(steps, lines, faults) {
   return [...known.values()];
 }
 
-const BRINGS_A_LINE = ['start', 'feed', 'ask', 'subscribe', 'terminate', 'status', 'deliver', 'view'];
+const BRINGS_A_LINE = ['start', 'feed', 'ask', 'subscribe', 'terminate', 'restart', 'status', 'deliver', 'view'];
 
 /** Each step that brings a line of its own, with those right after it that don't: clock lines. */
 function groupsOf(steps) {
@@ -146,6 +152,11 @@ function meet(groups, group, lines, at, known) {
   return { group: Math.min(group + 1, groups.length), line: at + 1 };
 }
 
+/** Whether a consumer restarts that holds nothing: it asks for nothing, so the report goes on with the next step. */
+function asksNothing(step, line, known) {
+  return step.event.word === 'restart' && !isTold(step, line, known);
+}
+
 /** Whether a line of the report is what a step brings. */
 function isTold(step, line, known) {
   if (step === undefined || line === undefined) return false;
@@ -158,9 +169,15 @@ function isTold(step, line, known) {
     case 'deliver': return line.word === 'no' ? plain(line.packet) === plain(packet)
       : line.word === 'took' && known.get(plain(packet))?.receiver === line.who;
     case 'view': return ['view', 'unknown'].includes(line.word) && isOfConsumer && line.subscription === subscription;
-    default: return line.word === 'packet' ? line.who === 'producer' && line.message.kind === ASKED_BY[word]
+    default: return line.word === 'packet' ? isAskedBy(word, consumer, line)
       : ['refused', 'unknown'].includes(line.word) && isOfConsumer;
   }
+}
+
+/** Whether a packet is what a consumer sends by itself at a line of that word. */
+function isAskedBy(word, consumer, { who, message: { kind, all, sender } }) {
+  const isAsked = who === 'producer' && kind === ASKED_BY[word];
+  return isAsked && (word !== 'restart' || (all && sender === consumer));
 }
 
 /** The end of the lines that may follow a step's own, and aren't the next group's: items of a view, and packets. */

@@ -88,8 +88,8 @@ function fedWords([observed, withdrawn, full]) {
 
 /** What a packet is, as `delivery, round 1 part 2`. */
 export function packetWords(packet, run, isShort = false) {
-  const { kind, place, subscriptions } = packet.message;
-  const word = KINDS[kind] ?? (kind === '' ? 'no message' : clipped(kind, 30));
+  const { kind, all, place, subscriptions } = packet.message;
+  const word = all ? 'request for all data' : KINDS[kind] ?? (kind === '' ? 'no message' : clipped(kind, 30));
   const names = run.isShared && subscriptions.length > 0 ? ` ${subscriptions.slice(0, 3).map(named).join(' ')}` : '';
   return `${word}${names}${place === null ? '' : placeWords(place, run, isShort)}`;
 }
@@ -130,9 +130,12 @@ export function stepSentences(step, run) {
   return [...(told === '' ? [] : [told]), ...step.sent.map((packet) => packetSentence(packet, run)), ...apart];
 }
 
+/** What is said of an event of which the report has no line of its own. */
+const SAID_OF_NOTHING = { clock: '', restart: 'it holds no subscription, and asks for nothing' };
+
 function toldSentence(step, run) {
   const { event, told, packet } = step;
-  if (told === null) return event.word === 'clock' ? '' : 'the report has nothing of it';
+  if (told === null) return SAID_OF_NOTHING[event.word] ?? 'the report has nothing of it';
   if (told.word === 'view') return viewSentence(told);
   if (told.word === 'no') return `there is no packet ${told.packet}`;
   if (told.word !== 'took') return toldWords(step);

@@ -139,7 +139,7 @@ static CASES: [Case; 20] = [
 ];
 
 /// A document of each kind of message in its canonical text, and its kind.
-static KINDS: [(&str, &str); 13] = [
+static KINDS: [(&str, &str); 14] = [
     (
         "ok ServiceRequest\n",
         "{\"Siri\":{\"ServiceRequest\":{\"EstimatedTimetableRequest\":[{\"Lines\":{\"LineDirection\":[{\"DirectionRef\":\"out\",\"LineRef\":\"L1\"},{\"LineRef\":\"L2\"}]},\"OperatorRef\":\"O\",\"PreviewInterval\":\"PT1H\"}],\"MessageIdentifier\":\"007\",\"RequestTimestamp\":\"2024-05-01T08:00:00Z\",\"RequestorRef\":\"c1\",\"SituationExchangeRequest\":[{\"LineRef\":\"L1\",\"OperatorRef\":\"O\",\"PreviewInterval\":\"P1D\",\"StartTime\":\"2024-05-01T08:00:00Z\",\"StopPointRef\":\"S1\"}],\"StopMonitoringRequest\":[{\"DestinationRef\":\"D\",\"DirectionRef\":\"out\",\"LineRef\":\"L1\",\"MaximumStopVisits\":2,\"MonitoringRef\":\"S1\",\"OperatorRef\":\"O\",\"PreviewInterval\":\"PT1H\",\"StartTime\":\"2024-05-01T08:00:00Z\"}],\"VehicleMonitoringRequest\":[{\"DirectionRef\":\"out\",\"LineRef\":\"L1\",\"VehicleRef\":\"7\"}]}}}\n",
@@ -175,6 +175,10 @@ static KINDS: [(&str, &str); 13] = [
     (
         "ok DataSupplyRequest\n",
         "{\"Siri\":{\"DataSupplyRequest\":{\"ConsumerRef\":\"c1\",\"Extensions\":{\"Number\":3,\"Part\":1,\"Round\":2,\"Start\":1,\"SubscriptionRef\":\"S\"},\"RequestTimestamp\":\"2024-05-01T08:00:00Z\"}}}\n",
+    ),
+    (
+        "ok DataSupplyRequest\n",
+        "{\"Siri\":{\"DataSupplyRequest\":{\"AllData\":true,\"ConsumerRef\":\"c1\",\"Extensions\":{\"Number\":4,\"Part\":0,\"Round\":3,\"Start\":0,\"SubscriptionRef\":\"S\"},\"RequestTimestamp\":\"2024-05-01T08:00:00Z\"}}}\n",
     ),
     (
         "ok DataReceivedAcknowledgement\n",

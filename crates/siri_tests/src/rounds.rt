@@ -373,6 +373,80 @@ const RESTART_TOLD: &str = concat!(
     "view c1 S number 1 start 2 round 1 items 0 moving\n",
 );
 
+/// A consumer that restarts loses its view, and asks for all of it under a new number.
+const CONSUMER_RESTART: &str = concat!(
+    "start 2024-05-01T08:00:00Z\n",
+    "feed {\"Siri\":{\"ServiceDelivery\":{\"StopMonitoringDelivery\":[{\"MonitoredStopVisit\":[{\"ItemIdentifier\":\"a\",\"MonitoredVehicleJourney\":{\"LineRef\":\"L1\",\"MonitoredCall\":{\"ExpectedDepartureTime\":\"2024-05-01T08:10:00Z\"}},\"MonitoringRef\":\"S1\"}]}]}}}\n",
+    "subscribe c1 {\"StopMonitoringSubscriptionRequest\":{\"ChangeBeforeUpdates\":\"PT60S\",\"InitialTerminationTime\":\"2024-05-01T20:00:00Z\",\"StopMonitoringRequest\":{\"MonitoringRef\":\"S1\",\"PreviewInterval\":\"PT1H\"},\"SubscriptionIdentifier\":\"S\"}}\n",
+    "deliver 1\n",
+    "deliver 3\n",
+    "deliver 4\n",
+    "restart c1\n",
+    "view c1 S\n",
+    "deliver 5\n",
+    "deliver 7\n",
+    "deliver 8\n",
+    "view c1 S\n",
+    "deliver 3\n",
+    "deliver 1\n",
+    "restart c2\n",
+);
+
+/// What is told of it.
+const CONSUMER_RESTART_TOLD: &str = concat!(
+    "started 1\n",
+    "fed 1 0 0\n",
+    "packet 1 to producer {\"Siri\":{\"SubscriptionRequest\":{\"MessageIdentifier\":\"1\",\"RequestTimestamp\":\"2024-05-01T08:00:00Z\",\"RequestorRef\":\"c1\",\"StopMonitoringSubscriptionRequest\":[{\"ChangeBeforeUpdates\":\"PT1M\",\"IncrementalUpdates\":true,\"InitialTerminationTime\":\"2024-05-01T20:00:00Z\",\"StopMonitoringRequest\":{\"MonitoringRef\":\"S1\",\"PreviewInterval\":\"PT1H\"},\"SubscriberRef\":\"c1\",\"SubscriptionIdentifier\":\"S\"}]}}}\n",
+    "took producer Subscribed\n",
+    "packet 2 to c1 {\"Siri\":{\"SubscriptionResponse\":{\"RequestMessageRef\":\"1\",\"ResponseStatus\":[{\"Status\":true,\"SubscriberRef\":\"c1\",\"SubscriptionRef\":\"S\",\"ValidUntil\":\"2024-05-01T20:00:00Z\"}],\"ResponseTimestamp\":\"2024-05-01T08:00:00Z\"}}}\n",
+    "packet 3 to c1 {\"Siri\":{\"ServiceDelivery\":{\"ProducerRef\":\"producer\",\"RequestMessageRef\":\"1\",\"ResponseTimestamp\":\"2024-05-01T08:00:00Z\",\"Status\":true,\"StopMonitoringDelivery\":[{\"Extensions\":{\"Part\":1,\"Round\":1,\"Start\":1},\"MonitoredStopVisit\":[{\"ItemIdentifier\":\"a\",\"MonitoredVehicleJourney\":{\"LineRef\":\"L1\",\"MonitoredCall\":{\"ExpectedDepartureTime\":\"2024-05-01T08:10:00Z\"}},\"MonitoringRef\":\"S1\"}],\"ResponseTimestamp\":\"2024-05-01T08:00:00Z\",\"Status\":true,\"SubscriberRef\":\"c1\",\"SubscriptionRef\":\"S\"}]}}}\n",
+    "took c1 Applied 1\n",
+    "packet 4 to producer {\"Siri\":{\"DataReceivedAcknowledgement\":{\"ConsumerRef\":\"c1\",\"Extensions\":{\"Number\":1,\"Part\":1,\"Round\":1,\"Start\":1,\"SubscriptionRef\":\"S\"},\"ResponseTimestamp\":\"2024-05-01T08:00:00Z\",\"Status\":true}}}\n",
+    "took producer Acknowledged\n",
+    "packet 5 to producer {\"Siri\":{\"DataSupplyRequest\":{\"AllData\":true,\"ConsumerRef\":\"c1\",\"Extensions\":{\"Number\":2,\"Part\":0,\"Round\":1,\"Start\":0,\"SubscriptionRef\":\"S\"},\"RequestTimestamp\":\"2024-05-01T08:00:00Z\"}}}\n",
+    "view c1 S number 0 start 0 round 0 items 0 moving\n",
+    "took producer Renewed\n",
+    "packet 6 to c1 {\"Siri\":{\"ServiceDelivery\":{\"MoreData\":true,\"ProducerRef\":\"producer\",\"RequestMessageRef\":\"2\",\"ResponseTimestamp\":\"2024-05-01T08:00:00Z\",\"Status\":true}}}\n",
+    "packet 7 to c1 {\"Siri\":{\"ServiceDelivery\":{\"ProducerRef\":\"producer\",\"RequestMessageRef\":\"2\",\"ResponseTimestamp\":\"2024-05-01T08:00:00Z\",\"Status\":true,\"StopMonitoringDelivery\":[{\"Extensions\":{\"Part\":1,\"Round\":1,\"Start\":1},\"MonitoredStopVisit\":[{\"ItemIdentifier\":\"a\",\"MonitoredVehicleJourney\":{\"LineRef\":\"L1\",\"MonitoredCall\":{\"ExpectedDepartureTime\":\"2024-05-01T08:10:00Z\"}},\"MonitoringRef\":\"S1\"}],\"ResponseTimestamp\":\"2024-05-01T08:00:00Z\",\"Status\":true,\"SubscriberRef\":\"c1\",\"SubscriptionRef\":\"S\"}]}}}\n",
+    "took c1 Applied 1\n",
+    "packet 8 to producer {\"Siri\":{\"DataReceivedAcknowledgement\":{\"ConsumerRef\":\"c1\",\"Extensions\":{\"Number\":2,\"Part\":1,\"Round\":1,\"Start\":1,\"SubscriptionRef\":\"S\"},\"ResponseTimestamp\":\"2024-05-01T08:00:00Z\",\"Status\":true}}}\n",
+    "took producer Acknowledged\n",
+    "view c1 S number 2 start 1 round 1 items 1 quiet\n",
+    "item {\"MonitoredStopVisit\":{\"ItemIdentifier\":\"a\",\"MonitoredVehicleJourney\":{\"LineRef\":\"L1\",\"MonitoredCall\":{\"ExpectedDepartureTime\":\"2024-05-01T08:10:00Z\"}},\"MonitoringRef\":\"S1\"}}\n",
+    "took c1 UnknownSubscription\n",
+    "took producer Subscribed\n",
+    "packet 9 to c1 {\"Siri\":{\"SubscriptionResponse\":{\"RequestMessageRef\":\"1\",\"ResponseStatus\":[{\"ErrorCondition\":{\"OtherError\":{\"ErrorText\":\"Superseded 2\"}},\"Status\":false,\"SubscriberRef\":\"c1\",\"SubscriptionRef\":\"S\"}],\"ResponseTimestamp\":\"2024-05-01T08:00:00Z\"}}}\n",
+    "unknown c2\n",
+);
+
+/// A consumer restarts, and its request comes when the acceptance that it names is gone and an older one stands.
+const LOST_RESTART: &str = concat!(
+    "start 2024-05-01T08:00:00Z\n",
+    "subscribe c1 {\"StopMonitoringSubscriptionRequest\":{\"ChangeBeforeUpdates\":\"PT0S\",\"InitialTerminationTime\":\"2024-05-01T20:00:00Z\",\"StopMonitoringRequest\":{\"MonitoringRef\":\"S1\",\"PreviewInterval\":\"PT1H\"},\"SubscriptionIdentifier\":\"S\"}}\n",
+    "subscribe c1 {\"StopMonitoringSubscriptionRequest\":{\"ChangeBeforeUpdates\":\"PT0S\",\"InitialTerminationTime\":\"2024-05-01T08:30:00Z\",\"StopMonitoringRequest\":{\"MonitoringRef\":\"S1\",\"PreviewInterval\":\"PT1H\"},\"SubscriptionIdentifier\":\"S\"}}\n",
+    "deliver 2\n",
+    "restart c1\n",
+    "clock 2024-05-01T08:30:00Z\n",
+    "deliver 1\n",
+    "deliver 5\n",
+);
+
+/// What is told of it.
+const LOST_RESTART_TOLD: &str = concat!(
+    "started 1\n",
+    "packet 1 to producer {\"Siri\":{\"SubscriptionRequest\":{\"MessageIdentifier\":\"1\",\"RequestTimestamp\":\"2024-05-01T08:00:00Z\",\"RequestorRef\":\"c1\",\"StopMonitoringSubscriptionRequest\":[{\"ChangeBeforeUpdates\":\"PT0S\",\"IncrementalUpdates\":true,\"InitialTerminationTime\":\"2024-05-01T20:00:00Z\",\"StopMonitoringRequest\":{\"MonitoringRef\":\"S1\",\"PreviewInterval\":\"PT1H\"},\"SubscriberRef\":\"c1\",\"SubscriptionIdentifier\":\"S\"}]}}}\n",
+    "packet 2 to producer {\"Siri\":{\"SubscriptionRequest\":{\"MessageIdentifier\":\"2\",\"RequestTimestamp\":\"2024-05-01T08:00:00Z\",\"RequestorRef\":\"c1\",\"StopMonitoringSubscriptionRequest\":[{\"ChangeBeforeUpdates\":\"PT0S\",\"IncrementalUpdates\":true,\"InitialTerminationTime\":\"2024-05-01T08:30:00Z\",\"StopMonitoringRequest\":{\"MonitoringRef\":\"S1\",\"PreviewInterval\":\"PT1H\"},\"SubscriberRef\":\"c1\",\"SubscriptionIdentifier\":\"S\"}]}}}\n",
+    "took producer Subscribed\n",
+    "packet 3 to c1 {\"Siri\":{\"SubscriptionResponse\":{\"RequestMessageRef\":\"2\",\"ResponseStatus\":[{\"Status\":true,\"SubscriberRef\":\"c1\",\"SubscriptionRef\":\"S\",\"ValidUntil\":\"2024-05-01T08:30:00Z\"}],\"ResponseTimestamp\":\"2024-05-01T08:00:00Z\"}}}\n",
+    "packet 4 to c1 {\"Siri\":{\"ServiceDelivery\":{\"ProducerRef\":\"producer\",\"RequestMessageRef\":\"2\",\"ResponseTimestamp\":\"2024-05-01T08:00:00Z\",\"Status\":true,\"StopMonitoringDelivery\":[{\"Extensions\":{\"Part\":1,\"Round\":1,\"Start\":1},\"ResponseTimestamp\":\"2024-05-01T08:00:00Z\",\"Status\":true,\"SubscriberRef\":\"c1\",\"SubscriptionRef\":\"S\"}]}}}\n",
+    "packet 5 to producer {\"Siri\":{\"DataSupplyRequest\":{\"AllData\":true,\"ConsumerRef\":\"c1\",\"Extensions\":{\"Number\":3,\"Part\":0,\"Round\":2,\"Start\":0,\"SubscriptionRef\":\"S\"},\"RequestTimestamp\":\"2024-05-01T08:00:00Z\"}}}\n",
+    "took producer Subscribed\n",
+    "packet 6 to c1 {\"Siri\":{\"SubscriptionResponse\":{\"RequestMessageRef\":\"1\",\"ResponseStatus\":[{\"Status\":true,\"SubscriberRef\":\"c1\",\"SubscriptionRef\":\"S\",\"ValidUntil\":\"2024-05-01T20:00:00Z\"}],\"ResponseTimestamp\":\"2024-05-01T08:30:00Z\"}}}\n",
+    "packet 7 to c1 {\"Siri\":{\"ServiceDelivery\":{\"ProducerRef\":\"producer\",\"RequestMessageRef\":\"1\",\"ResponseTimestamp\":\"2024-05-01T08:30:00Z\",\"Status\":true,\"StopMonitoringDelivery\":[{\"Extensions\":{\"Part\":1,\"Round\":1,\"Start\":1},\"ResponseTimestamp\":\"2024-05-01T08:30:00Z\",\"Status\":true,\"SubscriberRef\":\"c1\",\"SubscriptionRef\":\"S\"}]}}}\n",
+    "took producer NotRenewed\n",
+    "packet 8 to c1 {\"Siri\":{\"ServiceDelivery\":{\"ErrorCondition\":{\"OtherError\":{\"ErrorText\":\"UnknownSubscription\"}},\"ProducerRef\":\"producer\",\"RequestMessageRef\":\"3\",\"ResponseTimestamp\":\"2024-05-01T08:30:00Z\",\"Status\":false}}}\n",
+);
+
 /// Consumers that ask whether the producer is there.
 const STATUS: &str = concat!(
     "start 2024-05-01T08:00:00Z\n",
@@ -457,6 +531,23 @@ const WHOLE: [(&str, &str); 13] = [
 #[test]
 fn scripts_of_subscriptions_bring_their_reports(rt: HostRuntime) -> Result<(), Fail> {
     for (place, (script, report)) in WHOLE.iter().enumerate() {
+        assert!(rt;
+            brings(rt.alloc(), &["replay"], script.as_bytes(), report, 0, "")?,
+            "script {place}"
+        );
+    }
+    Ok(())
+}
+
+/// Each script in which a consumer restarts, with its report.
+const CONSUMERS_RESTART: [(&str, &str); 2] = [
+    (CONSUMER_RESTART, CONSUMER_RESTART_TOLD),
+    (LOST_RESTART, LOST_RESTART_TOLD),
+];
+
+#[test]
+fn scripts_of_consumers_that_restart_bring_their_reports(rt: HostRuntime) -> Result<(), Fail> {
+    for (place, (script, report)) in CONSUMERS_RESTART.iter().enumerate() {
         assert!(rt;
             brings(rt.alloc(), &["replay"], script.as_bytes(), report, 0, "")?,
             "script {place}"
