@@ -8,7 +8,7 @@ use Rattle.siri_life.specs.Link.{Holding, restarted}
 use Rattle.siri_life.specs.Named.{Name, same_name, same_subscription, with_under, next_of}
 use Rattle.siri_life.specs.Serving.{letters_for}
 use Rattle.siri_life.specs.Network
-use Rattle.siri_life.specs.Network.{Network, Restarts, restarted_from, all_data_letters, restarts_of_all, kept_at, step}
+use Rattle.siri_life.specs.Network.{Network, restarted_from, all_data_letters, restarts_of_all, kept_at}
 use Rattle.siri_life.specs.Network.{network_after}
 use Rattle.siri_life_laws.proofs.Names.{name_is, name_same}
 use Rattle.siri_life_laws.specs.Restarts.{or_kept, IsApart, AreApart, Holds, HasRestarted}

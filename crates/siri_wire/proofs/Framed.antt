@@ -1,12 +1,10 @@
 -- The frame of a reply, filled, is the whole document.
-use Rattle.std.proofs.Common.{◌≡◌, true, List, [], ◌∷◌, ◌++◌, refl, sym, ap, ◌∙◌, append_assoc, append-nil}
-use Rattle.std.specs.List.{list_all}
+use Rattle.std.proofs.Common.{◌≡◌, List, [], ◌∷◌, ◌++◌, refl, sym, ap, ◌∙◌, append_assoc}
 use Rattle.json.specs.Token.{Token, key, begin_object, end_object}
 use Rattle.json.specs.Print.{print}
 use Rattle.siri_json.specs.Tokens.{tokens_of}
 use Rattle.siri_messages.specs.declared.deliveries.ServiceDelivery.{ServiceDelivery}
 use Rattle.siri_messages.specs.declared.message.Message.TheVariants as message
-use Rattle.siri_messages.specs.Kinds.{kind_of}
 use Rattle.siri_deliveries.specs.declared.frame.FramePiece.{FramePiece}
 use Rattle.siri_deliveries.specs.declared.frame.FramePiece.TheVariants as piece
 use Rattle.siri_deliveries.specs.declared.names.TheConstants.{SIRI, SERVICE_DELIVERY}

@@ -1,4 +1,4 @@
-use Rattle.std.proofs.Common.{ap, arith, ◌∙◌, ◌≡◌, ◌+◌, ◌-◌, length}
+use Rattle.std.proofs.Common.{ap, arith, ◌∙◌, ◌-◌, length}
 use Rattle.siri_records.specs.Order.{key_cmp, key_cmp_total}
 use Rattle.siri_records.proofs.Found.{above_last}
 use Rattle.siri_records.proofs.entries.is_above_all.Goals as goal

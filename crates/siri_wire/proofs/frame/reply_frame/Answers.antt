@@ -1,4 +1,4 @@
-use Rattle.std.proofs.Common.{◌≡◌, ◌++◌, ◌∷◌, [], List, refl, sym, ap, ◌∙◌, subst}
+use Rattle.std.proofs.Common.{◌≡◌, ◌++◌, ◌∷◌, [], List, sym, ap, ◌∙◌, subst}
 use Rattle.json.specs.Token.{Token, key, begin_object, end_object}
 use Rattle.json.specs.Print.{print}
 use Rattle.siri_deliveries.specs.declared.frame.FramePiece.{FramePiece}

@@ -1,4 +1,4 @@
-use Rattle.std.proofs.Common.{◌≡◌, ◌≤◌, max, length, arith, ap, sym, ◌∙◌, subst, List, ℕ}
+use Rattle.std.proofs.Common.{length, arith, ap, sym, ◌∙◌, subst, List, ℕ}
 use Rattle.siri_records.specs.declared.key.Key.{Key}
 use Rattle.siri_marks.specs.Marked.{Marked, Rises, keys_since}
 use Rattle.siri_marks.proofs.Few.{few_last, no_more_last}
