@@ -1,4 +1,4 @@
--- The direct response to a request (EN 15531-2, request and response).
+-- The direct response to a topic, and to a request (EN 15531-2, request and response).
 use Rattle.std.specs.Prelude.{ℕ, List, [], map, filter, count_by, nat_lt, true, false, Option, Some, None}
 use Rattle.std.specs.Ordering.{nat_cmp, on, then_cmp, is_lt}
 use Rattle.std.specs.Option.{option_cmp}
@@ -15,7 +15,7 @@ use Rattle.siri_messages.specs.declared.deliveries.ServiceDelivery.{ServiceDeliv
 use Rattle.siri_messages.specs.declared.deliveries.FunctionalDelivery.{FunctionalDelivery}
 use Rattle.siri_messages.specs.declared.requests.ServiceRequest.{ServiceRequest}
 
--- the direct response to a topic: all items that are shown to it at a moment, in order of key
+-- all items that are shown to a topic at a moment, in order of key
 abbrev pub shown : ℕ → Items → Topic → Items
 shown now items topic = filter (λ entry. is_shown topic entry.1 now) items
 
@@ -37,16 +37,23 @@ abbrev pub at_most : Option ℕ → Items → Items
 at_most None items = items
 at_most (Some most) items = soonest most items
 
--- the most items that the answer to a topic has, where it names a number
+-- the most items that the direct response to a topic has, where it names a number
 abbrev pub most_of : Topic → Option ℕ
 most_of (topic.Stop t) = t.maximum_stop_visits
 most_of other = None
+
+-- ---- the direct response
+
+-- the direct response to a topic: the items that are shown to it at a moment, in order of key; where it has MaximumStopVisits,
+-- only the first so many of them by call moment and then key
+abbrev pub direct_to : ℕ → Items → Topic → Items
+direct_to now items topic = at_most (most_of topic) (shown now items topic)
 
 -- ---- the answer to a request
 
 -- the items that answer a topic
 unfoldable pub answering : ℕ → Items → Topic → List Item
-answering now items topic = map (λ entry. entry.1) (at_most (most_of topic) (shown now items topic))
+answering now items topic = map (λ entry. entry.1) (direct_to now items topic)
 
 -- the functional delivery that answers a topic: the producer's moment, Status and the items
 unfoldable pub answer : ℕ → Items → Topic → FunctionalDelivery

@@ -1,5 +1,5 @@
 -- The two facts that hold of a subscription after its first look, by what is held.
-use Rattle.std.specs.Prelude.{◌≡◌, ℕ, ℤ, ◌≤◌, true, false, List, map, fold, None}
+use Rattle.std.specs.Prelude.{◌≡◌, ℕ, ℤ, ◌≤◌, true, false, List, [], map, fold, None}
 use Rattle.std.specs.Map.{keys_of}
 use Rattle.siri_records.specs.declared.key.Key.{Key}
 use Rattle.siri_records.specs.Near.{is_near}
@@ -14,7 +14,7 @@ use Rattle.siri_model.specs.Last.{entry_key}
 use Rattle.siri_model.specs.Rows.{KeptLife, settled_row}
 use Rattle.siri_records.specs.KeyLists.{is_among, KeysInOrder}
 use Rattle.siri_change.specs.Looks.{IsLook}
-use Rattle.siri_model.specs.Direct.{shown}
+use Rattle.siri_model.specs.Direct.{direct_to, most_of}
 use Rattle.siri_model.specs.Looks.{IsUncrossed}
 use Rattle.siri_model.specs.Followed.{Look, touched_look, goal_of, look_at}
 
@@ -25,8 +25,8 @@ pub record Follows (slack : ℤ) (topic : Topic) (now : ℕ) (held goal : Items)
   pub ordered : InOrder then
   pub earlier : look.moment ≤ now
   pub untouched : (key : Key) → is_among key look.touched ≡ false → item_of held key ≡ item_of then key
-  pub agrees : (key : Key) → is_among key look.apart ≡ false → agree_on (is_near slack) goal (shown look.moment then topic) key ≡ true
-  pub differs : (key : Key) → is_among key look.apart ≡ true → agree_on (is_near slack) goal (shown look.moment then topic) key ≡ false
+  pub agrees : (key : Key) → is_among key look.apart ≡ false → agree_on (is_near slack) goal (direct_to look.moment then topic) key ≡ true
+  pub differs : (key : Key) → is_among key look.apart ≡ true → agree_on (is_near slack) goal (direct_to look.moment then topic) key ≡ false
 
 -- ---- steps keep them
 
@@ -58,7 +58,7 @@ abbrev pub LookFollows : Type 0
 LookFollows = (now : ℕ) (held : Items) (row : Row KeptLife) → InOrder held → row.slot.rounds.outstanding ≡ None
     → Follows row.wanted.slack row.wanted.topic now held (goal_of (settled_row now held row).slot.rounds) (look_at now held row)
 
--- ---- so a look needs those keys alone
+-- ---- so a look needs those keys alone, unless the topic has MaximumStopVisits
 
 -- a key that isn't one of these was neither touched nor kept apart, and no live item of it was crossed
 pub record IsOut (topic : Topic) (now : ℕ) (held : Items) (look : Look) (key : Key) : Type 0 where
@@ -66,7 +66,16 @@ pub record IsOut (topic : Topic) (now : ℕ) (held : Items) (look : Look) (key :
   pub together : is_among key look.apart ≡ false
   pub uncrossed : IsUncrossed topic look.moment now (item_of held key)
 
+-- of a topic without MaximumStopVisits
 abbrev pub FactsSuffice : Type 0
-FactsSuffice = (slack : ℤ) (topic : Topic) (now : ℕ) (held goal : Items) (look : Look) (keys : List Key) → InOrder held → InOrder goal → KeysInOrder keys
+FactsSuffice = (slack : ℤ) (topic : Topic) (now : ℕ) (held goal : Items) (look : Look) (keys : List Key) → most_of topic ≡ None
+    → InOrder held → InOrder goal → KeysInOrder keys
     → Follows slack topic now held goal look → ((key : Key) → is_among key keys ≡ false → IsOut topic now held look key)
-    → IsLook slack goal (shown now held topic) keys
+    → IsLook slack goal (direct_to now held topic) keys
+
+-- where no key was touched, and no live item was crossed, the direct response is as it was at the look, whatever the topic
+abbrev pub DirectStays : Type 0
+DirectStays = (slack : ℤ) (topic : Topic) (now : ℕ) (held goal : Items) (look : Look) → InOrder held
+    → (follows : Follows slack topic now held goal look) → look.touched ≡ []
+    → ((key : Key) → IsUncrossed topic look.moment now (item_of held key))
+    → direct_to now held topic ≡ direct_to look.moment follows.then topic

@@ -1,7 +1,8 @@
 -- What is known of the last look at each subscription of a history, and how many stored items a look may read.
-use Rattle.std.specs.Prelude.{ℕ, ℤ, ◌+◌, max, List, [], ◌∷◌, length, map, filter, fold, count_by, Bool, true, false, not, ◌&&◌, Option, Some, None, is_some, option_map, if◌then◌else◌}
-use Rattle.std.specs.List.{sum_by}
+use Rattle.std.specs.Prelude.{ℕ, ℤ, ◌+◌, ◌==◌, nat_lt, max, List, [], ◌∷◌, length, map, filter, fold, count_by, Bool, true, false, not, ◌&&◌, Option, Some, None, is_some, option_map, if◌then◌else◌}
+use Rattle.std.specs.List.{list_any, sum_by}
 use Rattle.std.specs.Map.{keys_of}
+use Rattle.std.specs.Ordering.{is_lt}
 use Rattle.siri_records.specs.declared.item.Item.{Item}
 use Rattle.siri_records.specs.declared.item.Item.TheVariants as item
 use Rattle.siri_records.specs.declared.key.Key.{Key}
@@ -10,7 +11,8 @@ use Rattle.siri_records.specs.KeyLists.{with_keys}
 use Rattle.siri_records.specs.Keyed.{Items, dead_of, living}
 use Rattle.siri_topic.specs.declared.topics.Topic.{Topic}
 use Rattle.siri_topic.specs.declared.topics.Topic.TheVariants as topic
-use Rattle.siri_topic.specs.Shown.{window_of}
+use Rattle.siri_topic.specs.declared.windows.Window.{Window}
+use Rattle.siri_topic.specs.Shown.{window_of, is_from, is_before}
 use Rattle.siri_messages.specs.Asked.{Asked, asked_in}
 use Rattle.siri_messages.specs.declared.message.Message.{Message}
 use Rattle.siri_messages.specs.declared.message.Message.TheVariants as message
@@ -29,7 +31,8 @@ use Rattle.siri_model.specs.Lives.{mark_of}
 use Rattle.siri_model.specs.Meaning.{meaning}
 use Rattle.siri_model.specs.Rows.{KeptLife, asked_of, nothing_kept, settled_row, acknowledged_row, supplied_row}
 use Rattle.siri_records.specs.Edges.{has_edge}
-use Rattle.siri_model.specs.Direct.{shown}
+use Rattle.siri_records.specs.Ends.{entry_of}
+use Rattle.siri_model.specs.Direct.{direct_to, most_of, soonest_cmp}
 
 -- ---- the last look
 
@@ -113,7 +116,7 @@ rows_taken start now other rows = rows
 
 -- ---- a look
 
--- the keys on which a view and what is shown don't agree
+-- the keys on which a view and a direct response don't agree
 abbrev pub keys_apart : ℤ → Items → Items → List Key
 keys_apart slack view direct = filter (λ key. not (agree_on (is_near slack) view direct key)) (keys_of_both view direct)
 
@@ -121,10 +124,10 @@ keys_apart slack view direct = filter (λ key. not (agree_on (is_near slack) vie
 abbrev pub opens : Items → Row KeptLife → Bool
 opens direct row = opens_round meaning row.slot.rounds.outstanding row.slot.rounds (asked_of row) direct
 
--- a look by the current items at a moment: after a round opened, the view that the consumer is led to meets what is shown
+-- a look by the current items at a moment: after a round opened, the view that the consumer is led to meets the direct response
 abbrev pub look_at : ℕ → Items → Row KeptLife → Look
 look_at now items row =
-    let direct = shown now items row.wanted.topic in
+    let direct = direct_to now items row.wanted.topic in
     record {
       moment = now;
       touched = [];
@@ -192,10 +195,39 @@ items_passed topic items before now =
 abbrev pub complete_set : Row KeptLife → Items → ℕ
 complete_set row direct = if not row.wanted.incremental && opens direct row then length direct else 0
 
+-- a visit of these has its entry in a window, as far as the near end says; and as far as both do
+abbrev pub enters_from : Topic → Window → Item → Bool
+enters_from topic window i = is_served topic i && is_from window.from (entry_of i)
+
+abbrev pub enters_in : Topic → Window → Item → Bool
+enters_in topic window i = enters_from topic window i && is_before window.to (entry_of i)
+
+-- an entry comes, by call moment and then key, no later than the last of some others
+abbrev pub comes_up_to : Items → Key × Item → Bool
+comes_up_to others entry = list_any (λ other. not (is_lt (soonest_cmp other entry))) others
+
+-- of a topic with MaximumStopVisits the live visits from the near end of its window on, up to the last of the direct response;
+-- where this has fewer items than that, all whose entry is in the window
+abbrev pub visits_to : Topic → ℕ → Window → Items → Items → ℕ
+visits_to topic most window direct live =
+    if nat_lt (length direct) most then count_by (λ entry. enters_in topic window entry.1) live
+    else count_by (λ entry. enters_from topic window entry.1 && comes_up_to direct entry) live
+
+-- these, where a topic has MaximumStopVisits: none where that is 0
+abbrev pub first_visits : ℕ → Items → Topic → Option ℕ → ℕ
+first_visits now live topic None = 0
+first_visits now live topic (Some most) = visits_to topic most (window_of topic now) (direct_to now live topic) live
+
+-- how many keys and items may have changed since a look
+abbrev pub changed_since : ℕ → Items → Topic → Look → ℕ
+changed_since now live topic look = length look.touched + items_passed topic live look.moment now
+
 abbrev pub bound_since : ℕ → Items → Row KeptLife → Option Look → ℕ
 bound_since now live row None = length live
 bound_since now live row (Some look) =
-    length look.touched + items_passed row.wanted.topic live look.moment now + complete_set row (shown now live row.wanted.topic)
+    let topic = row.wanted.topic in
+    let changed = changed_since now live topic look in
+    changed + complete_set row (direct_to now live topic) + (if changed == 0 then 0 else first_visits now live topic (most_of topic))
 
 -- where a round is outstanding a settle is no look
 abbrev pub look_bound : ℕ → Items → Row Followed → ℕ

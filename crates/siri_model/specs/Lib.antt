@@ -5,6 +5,7 @@ pub mod Direct
 pub mod Meaning
 pub mod Lives
 pub mod Rows
+pub mod Held
 pub mod Looks
 pub mod Followed
 pub mod Facts

@@ -8,12 +8,12 @@ use Rattle.siri_change.specs.Parts.{Carried, carried, changes_in, parts_of}
 use Rattle.siri_change.specs.Views.{is_view}
 use Rattle.siri_status.specs.Beats.{is_due}
 use Rattle.siri_life.specs.Meaning.{Meaning}
-use Rattle.siri_model.specs.Direct.{shown}
+use Rattle.siri_model.specs.Direct.{direct_to}
 use Rattle.siri_model.specs.History.{Entry, Start, Clock, Feed, History, now_of, current}
 
--- the direct response to a subscription after a history: what is shown to its topic
+-- the direct response to a subscription after a history: that to its topic
 abbrev pub direct_of : History → Asked → Items
-direct_of history wanted = shown (now_of history) (current history) wanted.subscription.topic
+direct_of history wanted = direct_to (now_of history) (current history) wanted.subscription.topic
 
 -- views are current items, a part is what a functional delivery carries, and what a producer knows is its history, in
 -- which the messages that it takes and its settles play no part

@@ -11,7 +11,7 @@ use Rattle.siri_life.specs.Named.{Name, Of}
 use Rattle.siri_life.specs.Slot.{Slot, slot_of, opens_round, begun, is_message_due, sent, with_acknowledgement, with_supply}
 use Rattle.siri_subs.specs.declared.entry.Row.{Row}
 use Rattle.siri_subs.specs.Table.{is_of, accepted, ended, expired, is_renumbered_by}
-use Rattle.siri_model.specs.Direct.{shown}
+use Rattle.siri_model.specs.Direct.{direct_to}
 use Rattle.siri_model.specs.History.{State, Step, Start, Clock, Feed, Take, Settle}
 use Rattle.siri_model.specs.Lives.{Living, mark_of}
 use Rattle.siri_model.specs.Meaning.{meaning}
@@ -112,7 +112,7 @@ abbrev pub settled_row : ℕ → Items → Row KeptLife → Row KeptLife
 settled_row now items row =
     record row {
       slot = record {
-        rounds = sent_if_due now (looked (asked_of row) (shown now items row.wanted.topic) now row.slot.rounds);
+        rounds = sent_if_due now (looked (asked_of row) (direct_to now items row.wanted.topic) now row.slot.rounds);
         last_heartbeat = if is_heartbeat_due now row then now else row.slot.last_heartbeat;
       };
     }

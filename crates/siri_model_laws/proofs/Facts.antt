@@ -10,17 +10,17 @@ use Rattle.siri_records.proofs.KeyLists.{among_passing}
 use Rattle.siri_change.specs.Changes.{agree_on, keys_of_both, target}
 use Rattle.siri_change.specs.Parts.{Carried}
 use Rattle.siri_change.proofs.InParts.{target_meets}
-use Rattle.siri_change.proofs.Leads.{none_of_both, agree_none, agree_case}
+use Rattle.siri_change.proofs.Leads.{none_of_both, agree_none, agree_case, same_views}
 use Rattle.siri_change.proofs.Levels.{looks_by_keys}
 use Rattle.siri_life.specs.Life.{Outstanding}
 use Rattle.siri_life.specs.Slot.{Slot, sent_of, next_if, acknowledgement_if, acknowledgement_of, supply_if, supply_of}
 use Rattle.siri_life.specs.Slot.{is_message_due}
 use Rattle.siri_subs.specs.declared.entry.Row.{Row}
 use Rattle.siri_model.specs.Rows.{KeptLife, asked_of, looked, sent_if_due}
-use Rattle.siri_model.specs.Direct.{shown}
+use Rattle.siri_model.specs.Direct.{at_most, direct_to, most_of, shown}
 use Rattle.siri_model.specs.Followed.{goal_by, goal_of, keys_apart, opens, look_at}
-use Rattle.siri_model.specs.Facts.{GoalStays, StepFollows, LookFollows, FactsSuffice}
-use Rattle.siri_model_laws.proofs.Lawful.{shown_in_order}
+use Rattle.siri_model.specs.Facts.{GoalStays, StepFollows, LookFollows, FactsSuffice, DirectStays}
+use Rattle.siri_model_laws.proofs.Lawful.{direct_in_order, shown_in_order, unlimited}
 use Rattle.siri_model_laws.proofs.Outside.{same_shown}
 
 abbrev Rounds : Type 0
@@ -113,26 +113,26 @@ target_agrees slack incremental view direct q =
     agree_case (is_near slack) (target slack incremental view direct) direct q (is_among q (keys_of_both (target slack incremental view direct) direct)) refl (target_meets slack incremental view direct)
 
 -- the view that the consumer is led to once a round has opened, where one opens
-looked_case : (b : Bool) (now : ℕ) (held : Items) (row : Row KeptLife) → opens (shown now held row.wanted.topic) row ≡ b
+looked_case : (b : Bool) (now : ℕ) (held : Items) (row : Row KeptLife) → opens (direct_to now held row.wanted.topic) row ≡ b
     → row.slot.rounds.outstanding ≡ None
     → (q : Key) → is_among q (look_at now held row).apart ≡ false
-    → agree_on (is_near row.wanted.slack) (goal_of (looked (asked_of row) (shown now held row.wanted.topic) now row.slot.rounds)) (shown now held row.wanted.topic) q ≡ true
-looked_case true now held row h level q out = rw h (target_agrees row.wanted.slack row.wanted.incremental row.slot.rounds.acknowledged (shown now held row.wanted.topic) q)
+    → agree_on (is_near row.wanted.slack) (goal_of (looked (asked_of row) (direct_to now held row.wanted.topic) now row.slot.rounds)) (direct_to now held row.wanted.topic) q ≡ true
+looked_case true now held row h level q out = rw h (target_agrees row.wanted.slack row.wanted.incremental row.slot.rounds.acknowledged (direct_to now held row.wanted.topic) q)
 looked_case false now held row h level q out =
-    let direct = shown now held row.wanted.topic in
+    let direct = direct_to now held row.wanted.topic in
     let apart : is_among q (keys_apart row.wanted.slack row.slot.rounds.acknowledged direct) ≡ false = sym (ap (λ b. is_among q (cond b [] (keys_apart row.wanted.slack row.slot.rounds.acknowledged direct))) h) ∙ out in
     let goal : goal_of (looked (asked_of row) direct now row.slot.rounds) ≡ row.slot.rounds.acknowledged = rw h (ap (goal_by row.slot.rounds.acknowledged) level) in
     ap (λ (view : Items). agree_on (is_near row.wanted.slack) view direct q) goal ∙ together row.wanted.slack row.slot.rounds.acknowledged direct q apart
 
-differs_case : (b : Bool) (now : ℕ) (held : Items) (row : Row KeptLife) → opens (shown now held row.wanted.topic) row ≡ b
+differs_case : (b : Bool) (now : ℕ) (held : Items) (row : Row KeptLife) → opens (direct_to now held row.wanted.topic) row ≡ b
     → row.slot.rounds.outstanding ≡ None
     → (q : Key) → is_among q (look_at now held row).apart ≡ true
-    → agree_on (is_near row.wanted.slack) (goal_of (looked (asked_of row) (shown now held row.wanted.topic) now row.slot.rounds)) (shown now held row.wanted.topic) q ≡ false
+    → agree_on (is_near row.wanted.slack) (goal_of (looked (asked_of row) (direct_to now held row.wanted.topic) now row.slot.rounds)) (direct_to now held row.wanted.topic) q ≡ false
 differs_case true now held row h level q on =
-    let direct = shown now held row.wanted.topic in
+    let direct = direct_to now held row.wanted.topic in
     absurd (cc (sym (ap (λ b. is_among q (cond b [] (keys_apart row.wanted.slack row.slot.rounds.acknowledged direct))) h) ∙ on))
 differs_case false now held row h level q on =
-    let direct = shown now held row.wanted.topic in
+    let direct = direct_to now held row.wanted.topic in
     let apart : is_among q (keys_apart row.wanted.slack row.slot.rounds.acknowledged direct) ≡ true = sym (ap (λ b. is_among q (cond b [] (keys_apart row.wanted.slack row.slot.rounds.acknowledged direct))) h) ∙ on in
     let goal : goal_of (looked (asked_of row) direct now row.slot.rounds) ≡ row.slot.rounds.acknowledged = rw h (ap (goal_by row.slot.rounds.acknowledged) level) in
     ap (λ (view : Items). agree_on (is_near row.wanted.slack) view direct q) goal ∙ apart_differs row.wanted.slack row.slot.rounds.acknowledged direct q apart
@@ -144,18 +144,29 @@ look_follows now held row s level = record {
   earlier = omega arith;
   untouched = λ key out. refl;
   agrees = λ key out.
-      ap (λ (view : Items). agree_on (is_near row.wanted.slack) view (shown now held row.wanted.topic) key) (due_goal (looked (asked_of row) (shown now held row.wanted.topic) now row.slot.rounds) now)
-      ∙ looked_case (opens (shown now held row.wanted.topic) row) now held row refl level key out;
+      ap (λ (view : Items). agree_on (is_near row.wanted.slack) view (direct_to now held row.wanted.topic) key) (due_goal (looked (asked_of row) (direct_to now held row.wanted.topic) now row.slot.rounds) now)
+      ∙ looked_case (opens (direct_to now held row.wanted.topic) row) now held row refl level key out;
   differs = λ key on.
-      ap (λ (view : Items). agree_on (is_near row.wanted.slack) view (shown now held row.wanted.topic) key) (due_goal (looked (asked_of row) (shown now held row.wanted.topic) now row.slot.rounds) now)
-      ∙ differs_case (opens (shown now held row.wanted.topic) row) now held row refl level key on;
+      ap (λ (view : Items). agree_on (is_near row.wanted.slack) view (direct_to now held row.wanted.topic) key) (due_goal (looked (asked_of row) (direct_to now held row.wanted.topic) now row.slot.rounds) now)
+      ∙ differs_case (opens (direct_to now held row.wanted.topic) row) now held row refl level key on;
 }
 
 -- ---- the keys that a look needs
 
 pub facts_suffice : FactsSuffice
-facts_suffice slack topic now held goal look keys s r t f outs =
-    looks_by_keys slack goal (shown now held topic) keys r (shown_in_order now held topic s) t
+facts_suffice slack topic now held goal look keys none s r t f outs =
+    looks_by_keys slack goal (direct_to now held topic) keys r (direct_in_order now held topic s) t
     (λ key out. let o = outs key out in
-    ap (option_eq (is_near slack) (item_of goal key)) (same_shown topic look.moment now f.then held key f.ordered s f.earlier (f.untouched key o.untouched) o.uncrossed)
+    ap (option_eq (is_near slack) (item_of goal key))
+    (ap (λ items. item_of items key) (unlimited now held topic none)
+    ∙ (same_shown topic look.moment now f.then held key f.ordered s f.earlier (f.untouched key o.untouched) o.uncrossed
+    ∙ ap (λ items. item_of items key) (sym (unlimited look.moment f.then topic none))))
     ∙ f.agrees key o.together)
+
+pub direct_stays : DirectStays
+direct_stays slack topic now held goal look s f none uncrossed =
+    ap (at_most (most_of topic))
+    (same_views (shown now held topic) (shown look.moment f.then topic)
+    (shown_in_order now held topic s) (shown_in_order look.moment f.then topic f.ordered)
+    (λ key. same_shown topic look.moment now f.then held key f.ordered s f.earlier
+    (f.untouched key (ap (is_among key) none)) (uncrossed key)))

@@ -1,5 +1,5 @@
 -- The two facts hold of each subscription of a history that was looked at.
-use Rattle.std.proofs.Common.{◌≡◌, ◌⊎◌, ℕ, ℤ, suc, ◌≤◌, ◌==◌, nat_lt, max, List, [], ◌∷◌, length, map, filter, fold, Bool, true, false, cond, not, ◌&&◌, ◌||◌, Option, Some, None, inl, inr, refl, sym, ap, ◌∙◌, subst, arith}
+use Rattle.std.proofs.Common.{◌≡◌, ◌⊎◌, ℕ, ℤ, zero, suc, ◌≤◌, ◌==◌, nat_lt, max, List, [], ◌∷◌, length, map, filter, fold, Bool, true, false, cond, not, ◌&&◌, ◌||◌, Option, Some, None, inl, inr, refl, sym, ap, ◌∙◌, subst, arith}
 use Rattle.std.specs.Prelude.{option_map}
 use Rattle.std.specs.List.{list_all}
 use Rattle.std.proofs.lemmas.Bool.{ltb-false}
@@ -30,14 +30,14 @@ use Rattle.siri_model.specs.History.{Entry, State, Step, Start, Clock, Feed, Tak
 use Rattle.siri_model.specs.Last.{entry_key}
 use Rattle.siri_model.specs.Lives.{mark_of}
 use Rattle.siri_model.specs.Rows.{KeptLife, acknowledged_row, asked_of, is_numbered, looked, next_round, nothing_kept, sent_if_due, settled_row, supplied_row}
-use Rattle.siri_model.specs.Direct.{shown}
+use Rattle.siri_model.specs.Direct.{direct_to}
 use Rattle.siri_model.specs.Meaning.{meaning}
 use Rattle.siri_model_laws.specs.Followed.{HoldsBy, RowHolds, AllHold, FactsHold}
 use Rattle.siri_model_laws.proofs.AllRows.{accepted_all, ended_all, expired_all}
 use Rattle.siri_model_laws.proofs.Entries.{sorted_passing}
 use Rattle.siri_model_laws.proofs.Facts.{goal_stays, look_follows}
 use Rattle.siri_model_laws.proofs.InOrder.{in_order_step, none_in_order}
-use Rattle.siri_model_laws.proofs.Lawful.{shown_live}
+use Rattle.siri_model_laws.proofs.Lawful.{direct_live}
 use Rattle.siri_model_laws.proofs.Touched.{clock_follows, feed_follows}
 
 -- ---- keys are touched
@@ -57,6 +57,7 @@ module _ (now later : ℕ) (held after : Items) (keys : List Key) where
       by (Some look) holds = record {
         facts = moves row.wanted.slack row.wanted.topic (goal_of row.slot.life.rounds) look holds.facts;
         used_up = holds.used_up;
+        some_opened = holds.some_opened;
       }
 
   touched_rows : Moves → (rows : List (Row Followed)) → AllHold now held rows
@@ -133,6 +134,7 @@ module _ (now : ℕ) (held : Items) where
   alike_row wanted rounds new (Some look) alike holds = record {
     facts = subst (λ (goal : Items). Follows wanted.slack wanted.topic now held goal look) (sym alike.goal) holds.facts;
     used_up = subst (λ n. (look.apart ≡ []) ⊎ (greatest_round ≤ n)) (sym alike.opened) holds.used_up;
+    some_opened = subst (λ n. 1 ≤ n) (sym alike.opened) holds.some_opened;
   }
 
   lifted_row : (change : Row KeptLife → Row KeptLife) → KeepsRounds change → (b : Bool) (row : Row Followed)
@@ -235,10 +237,10 @@ outstanding_alike : (now : ℕ) (items : Items) (row : Row KeptLife) (o : Outsta
     → IsAlike (settled_row now items row).slot.rounds row.slot.rounds
 outstanding_alike now items row o is =
     let rounds = row.slot.rounds in
-    let stays = looked_stays (asked_of row) (shown now items row.wanted.topic) now rounds o is in
+    let stays = looked_stays (asked_of row) (direct_to now items row.wanted.topic) now rounds o is in
     subst (λ (s : Slot Items Carried). IsAlike (sent_if_due now s) rounds) (sym stays) (due_alike rounds now)
 
--- where a view meets what is shown no key is apart
+-- where a view meets a direct response no key is apart
 none_apart : (p : Key → Bool) (keys : List Key) → list_all p keys ≡ true → filter (λ key. not (p key)) keys ≡ []
 none_apart p [] all = refl
 none_apart p (key ∷ keys) all = by (p key) refl all (none_apart p keys)
@@ -249,16 +251,21 @@ none_apart p (key ∷ keys) all = by (p key) refl all (none_apart p keys)
     by true is all rest = rw is (rest all)
     by false is all rest = absurd (cc)
 
--- where no round opens, the numbers of rounds are used up, or the view meets what is shown
+-- where no round opens, the numbers of rounds are used up, or the view meets the direct response
 not_opened : (less none meets : Bool) → (less && (none || not meets)) ≡ false → (less ≡ false) ⊎ (meets ≡ true)
 not_opened false none meets closed = inl refl
 not_opened true none true closed = inr refl
 not_opened true true false closed = absurd (cc)
 not_opened true false false closed = absurd (cc)
 
+-- where no round opens, it isn't the first
+not_first : (n : ℕ) (meets : Bool) → (nat_lt n greatest_round && (n == 0 || not meets)) ≡ false → 1 ≤ n
+not_first zero meets closed = absurd (cc closed)
+not_first (suc n) meets closed = omega arith
+
 module _ (now : ℕ) (items : Items) (row : Row KeptLife) (level : row.slot.rounds.outstanding ≡ None) where
   abbrev direct : Items
-  direct = shown now items row.wanted.topic
+  direct = direct_to now items row.wanted.topic
 
   abbrev rounds : Slot Items Carried
   rounds = row.slot.rounds
@@ -293,13 +300,28 @@ module _ (now : ℕ) (items : Items) (row : Row KeptLife) (level : row.slot.roun
       by (inl none) = inl (rw e none)
       by (inr over) = inr (subst (λ n. greatest_round ≤ n) (sym same) over)
 
+  -- a round was opened, at this look or at an earlier one
+  some_opened : (b : Bool) → opens direct row ≡ b → 1 ≤ (settled_row now items row).slot.rounds.rounds_opened
+  some_opened b e = subst (λ n. 1 ≤ n) (sym same) (by b e)
+    where
+      same : (settled_row now items row).slot.rounds.rounds_opened
+          ≡ (cond b (begun rounds (next_round (asked_of row) direct now rounds)) rounds).rounds_opened
+      same = (due_alike (looked (asked_of row) direct now rounds) now).opened
+          ∙ ap (λ b. (cond b (begun rounds (next_round (asked_of row) direct now rounds)) rounds).rounds_opened) e
+
+      by : (b : Bool) → opens direct row ≡ b
+          → 1 ≤ (cond b (begun rounds (next_round (asked_of row) direct now rounds)) rounds).rounds_opened
+      by true e = omega arith
+      by false e = not_first rounds.rounds_opened (meets row.wanted.slack rounds.acknowledged direct)
+          (sym (ap (λ u. opens_round meaning u rounds (asked_of row) direct) level) ∙ e)
+
 module _ (now : ℕ) (items : Items) where
   -- a look by the current items is one by the live ones
   looks_live : (row : Row KeptLife) → InOrder items → row.slot.rounds.outstanding ≡ None
       → Follows row.wanted.slack row.wanted.topic now (living now items)
       (goal_of (settled_row now items row).slot.rounds) (look_at now items row)
   looks_live row s none =
-      rw (← shown_live now items row.wanted.topic)
+      rw (← direct_live now items row.wanted.topic)
       (look_follows now (living now items) row (living_in_order now items s) none)
 
   settled_one : InOrder items → (row : Row Followed) → RowHolds now (living now items) row
@@ -311,7 +333,8 @@ module _ (now : ℕ) (items : Items) where
           (look_by o row.slot.look (look_at now items (life_row row)))
       by None e = record {
         facts = looks_live (life_row row) s e;
-        used_up = used_up now items (life_row row) e (opens (shown now items row.wanted.topic) (life_row row)) refl;
+        used_up = used_up now items (life_row row) e (opens (direct_to now items row.wanted.topic) (life_row row)) refl;
+        some_opened = some_opened now items (life_row row) e (opens (direct_to now items row.wanted.topic) (life_row row)) refl;
       }
       by (Some o) e = alike_row now (living now items) row.wanted row.slot.life.rounds
           (settled_row now items (life_row row)).slot.rounds row.slot.look

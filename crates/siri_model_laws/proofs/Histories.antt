@@ -17,7 +17,7 @@ use Rattle.siri_subs.specs.declared.entry.Row.{Row}
 use Rattle.siri_subs.specs.Table as table
 use Rattle.siri_subs.specs.Table.{EachOnce, is_held, is_of}
 use Rattle.siri_subs.proofs.Once.{once_put, once_kept}
-use Rattle.siri_model.specs.Direct.{shown}
+use Rattle.siri_model.specs.Direct.{direct_to}
 use Rattle.siri_model.specs.History.{Entry, Step, Start, Clock, Feed, Take, Settle, History, State, entries_of, now_of, current, state_of}
 use Rattle.siri_model.specs.Lives.{Living, Served, acknowledgement_of, acts_in, mark_of, supply_of, none_served, served_after, serving_of, table_of, life_of}
 use Rattle.siri_messages.specs.Asked.{Asked, asked_in}
@@ -369,8 +369,8 @@ rows_after_settle h =
     let v = serving_of h in
     let goes = goes_with h in
     rows_settled v.known v.now (current h) v.table
-    (λ wanted. ap (λ (s : State). shown s.now s.current wanted.subscription.topic) goes.known
-    ∙ ap (λ n. shown n (current h) wanted.subscription.topic) (sym goes.now))
+    (λ wanted. ap (λ (s : State). direct_to s.now s.current wanted.subscription.topic) goes.known
+    ∙ ap (λ n. direct_to n (current h) wanted.subscription.topic) (sym goes.now))
     ∙ ap (λ n. map (settled_row n (current h)) (rows_of v.table)) goes.now
 
 rows_step : (h : History) (step : Step) → rows_of (served_after (serving_of h) step).table ≡ rows_after (state_of h) step (rows_of (table_of h))

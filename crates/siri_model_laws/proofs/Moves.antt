@@ -11,7 +11,7 @@ use Rattle.siri_life.specs.Named.{Of}
 use Rattle.siri_life.specs.Serving.{settled_rows}
 use Rattle.siri_life.specs.Slot.{Slot, slot_of, begun, opens_round, with_acknowledgement, with_supply}
 use Rattle.siri_life.proofs.Slots.{slot_begins, slot_sends, slot_acknowledges, slot_supplies, slot_keeps}
-use Rattle.siri_model.specs.Direct.{shown}
+use Rattle.siri_model.specs.Direct.{direct_to}
 use Rattle.siri_model.specs.History.{History}
 use Rattle.siri_model.specs.Lives.{Living}
 use Rattle.siri_messages.specs.Asked.{Asked}
@@ -176,9 +176,9 @@ module _ (l : Living) (now : ℕ) where
       by false = refl
 
 pub settle_moves : (l : Living) (items : Items) (now : ℕ)
-    → settled_row now items (row_of l) ≡ row_of (settled meaning l (shown now items l.wanted.subscription.topic) now)
+    → settled_row now items (row_of l) ≡ row_of (settled meaning l (direct_to now items l.wanted.subscription.topic) now)
 settle_moves l items now =
-    let direct = shown now items l.wanted.subscription.topic in
+    let direct = direct_to now items l.wanted.subscription.topic in
     let look = opened meaning l direct now in
     let sent = after_send meaning look look.outstanding now in
     let alike = like_then l look sent (opened_like l direct now) (send_like look now) in
@@ -211,7 +211,7 @@ settled_like l direct now =
 
 -- all rows
 pub rows_settled : (known : History) (now : ℕ) (items : Items) (t : List (Of Living))
-    → ((wanted : Asked) → meaning.direct known wanted ≡ shown now items wanted.subscription.topic)
+    → ((wanted : Asked) → meaning.direct known wanted ≡ direct_to now items wanted.subscription.topic)
     → rows_of (settled_rows meaning known now t) ≡ map (settled_row now items) (rows_of t)
 rows_settled known now items [] knows = refl
 rows_settled known now items (x ∷ xs) knows = λ i.

@@ -11,12 +11,13 @@ use Rattle.siri_model.specs.Facts.{Follows}
 use Rattle.siri_model.specs.Followed.{Followed, Look, goal_of, followed_of}
 use Rattle.siri_model.specs.History.{History, now_of, current}
 
--- after a look at a subscription, by what is held at a moment: the two facts hold, and no key is kept apart unless the
--- numbers of rounds are used up
+-- after a look at a subscription, by what is held at a moment: the two facts hold, no key is kept apart unless the numbers of
+-- rounds are used up, and a round was opened
 pub record LookHolds (now : ℕ) (held : Items) (wanted : Subscription) (rounds : Slot Items Carried)
     (look : Look) : Type 0 where
   pub facts : Follows wanted.slack wanted.topic now held (goal_of rounds) look
   pub used_up : (look.apart ≡ []) ⊎ (greatest_round ≤ rounds.rounds_opened)
+  pub some_opened : 1 ≤ rounds.rounds_opened
 
 -- before the first look no round was opened
 abbrev pub HoldsBy : ℕ → Items → Subscription → Slot Items Carried → Option Look → Type 0

@@ -1,7 +1,7 @@
 //! What follows of looks: of a subscription it is enough to look at the keys that were touched since its last look, and
 //! at the items of which an end of its window passed an edge.
 
-ghost use Rattle.siri_model.specs.Facts.{GoalStays, StepFollows, FeedFollows, ClockFollows, LookFollows, FactsSuffice};
+ghost use Rattle.siri_model.specs.Facts.{GoalStays, StepFollows, FeedFollows, ClockFollows, LookFollows, FactsSuffice, DirectStays};
 ghost use Rattle.siri_model.specs.Looks.{SameShown, FoundTell};
 ghost use Rattle.siri_model_laws.specs.Apart.{LooksTellApart, BoundsAdd, BoundsAreWithin};
 ghost use Rattle.siri_model_laws.specs.Looks.{AreTheRows, GoOn};
@@ -28,9 +28,11 @@ pub fn steps_keep_the_facts()
 {}
 
 /// A law: by the two facts a look needs the keys alone that were touched, that are kept apart, or of whose item an end
-/// of the window passed an edge.
+/// of the window passed an edge, unless the topic has MaximumStopVisits; and where none was touched and no item was
+/// crossed, the direct response is as it was, whatever the topic.
 pub fn facts_tell_a_look()
-    ensures { FactsSuffice }
+    ensures keys { FactsSuffice }
+    ensures stays { DirectStays }
 {}
 
 /// A law: what is known of the looks at a history's subscriptions stands beside the rows of its table, and goes on step
