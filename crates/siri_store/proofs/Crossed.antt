@@ -26,7 +26,7 @@ use Rattle.siri_records.specs.Keyed.{Items, InOrder, item_of}
 use Rattle.siri_records.specs.Order.{key_cmp, key_cmp_total}
 use Rattle.siri_records.proofs.Order.{key_cmp_exact}
 use Rattle.siri_store.specs.Between.{is_between, between}
-use Rattle.siri_store.specs.Crossing.{is_of, least_edge, edge_cmp, under_edge, in_order_of_edges, crossed_entries}
+use Rattle.siri_store.specs.Crossing.{is_of, least_edge, edge_cmp, in_order_of_edges, crossed_entries}
 use Rattle.siri_store.specs.Held.{counted}
 use Rattle.siri_store.specs.CrossWalk.{led_at, entry_list, led}
 use Rattle.siri_store.specs.Stamped.{Stamp, stamp_cmp, has_stamp, has, by_edge, moments_of, moments_held, Tied}
@@ -34,15 +34,15 @@ use Rattle.siri_store.proofs.LeastEdge.{least_in_range}
 use Rattle.siri_store.proofs.LookUps.{by_bool, lookup-insert_entry, later_apart}
 use Rattle.siri_store.proofs.Inserted.{sorted_inserted, same_entries}
 
-abbrev Edged : Type 0
+abbrev pub Edged : Type 0
 Edged = List ((ℕ × Key) × Item)
 
-edge_total : IsTotalOrder edge_cmp
+pub edge_total : IsTotalOrder edge_cmp
 edge_total =
     then_total (on_total (λ (place : ℕ × Key). place.0) nat_cmp_total)
     (on_total (λ (place : ℕ × Key). place.1) key_cmp_total)
 
-edge_exact : CmpEqualImpliesEq edge_cmp
+pub edge_exact : CmpEqualImpliesEq edge_cmp
 edge_exact = exact_pairs nat_cmp key_cmp exact_unsigned key_cmp_exact
 
 stamp_edge : (order m n : ℕ) (k l : Key) → stamp_cmp (order, m, Some k) (order, n, Some l) ≡ edge_cmp (m, k) (n, l)
@@ -54,7 +54,7 @@ never Less = refl
 never Equal = refl
 never Greater = refl
 
-eq_then : (o p : Ordering) → is_eq (ordering_then o p) ≡ (is_eq o && is_eq p)
+pub eq_then : (o p : Ordering) → is_eq (ordering_then o p) ≡ (is_eq o && is_eq p)
 eq_then Less p = refl
 eq_then Equal p = refl
 eq_then Greater p = refl
@@ -62,40 +62,40 @@ eq_then Greater p = refl
 eq_nat : (a b : ℕ) → is_eq (nat_cmp a b) ≡ nat_eq a b
 eq_nat a b = grind (arith, nat_tests)
 
-equal_numbers : (a b : ℕ) → nat_eq a b ≡ true → a ≡ b
+pub equal_numbers : (a b : ℕ) → nat_eq a b ≡ true → a ≡ b
 equal_numbers a b h = grind (arith, nat_tests)
 
 itself : (m : ℕ) → nat_eq m m ≡ true
 itself m = grind (arith, nat_tests)
 
-left_true : (a b : Bool) → (a && b) ≡ true → a ≡ true
+pub left_true : (a b : Bool) → (a && b) ≡ true → a ≡ true
 left_true true b h = refl
 left_true false b h = absurd (cc h)
 
-right_true : (a b : Bool) → (a && b) ≡ true → b ≡ true
+pub right_true : (a b : Bool) → (a && b) ≡ true → b ≡ true
 right_true true b h = h
 right_true false b h = absurd (cc h)
 
-none_both : (b : Bool) → ◌≡◌ {A = Option Item} (cond b None None) None
+pub none_both : (b : Bool) → ◌≡◌ {A = Option Item} (cond b None None) None
 none_both true = refl
 none_both false = refl
 
 -- ---- what the stamps lead to, under the edge and the key
 
-abbrev keyed_at : ℤ → ℕ → Key → Option Item → Edged
+abbrev pub keyed_at : ℤ → ℕ → Key → Option Item → Edged
 keyed_at from m k None = []
 keyed_at from m k (Some i) = cond (has_edge from (pos m) i) [] (((m, k), i) ∷ [])
 
-abbrev value : ℤ → ℕ → Option Item → Option Item
+abbrev pub value : ℤ → ℕ → Option Item → Option Item
 value from m None = None
 value from m (Some i) = cond (has_edge from (pos m) i) None (Some i)
 
 module _ (from : ℤ) (es : Items) where
-  abbrev keyed : Stamp → Edged
+  abbrev pub keyed : Stamp → Edged
   keyed (order, m, None) = []
   keyed (order, m, Some k) = keyed_at from m k (item_of es k)
 
-  abbrev edged : List Stamp → Edged
+  abbrev pub edged : List Stamp → Edged
   edged stamps = flat_map keyed stamps
 
   unkeyed_one : (m : ℕ) (k : Key) (h : Option Item) (rest : Edged) (rest' : Items)
@@ -105,7 +105,7 @@ module _ (from : ℤ) (es : Items) where
   unkeyed_one m k (Some i) rest rest' is =
       by_bool (has_edge from (pos m) i) (λ h. rw h is) (λ h. rw h (ap (λ l. (k, i) ∷ l) is))
 
-  unkeyed : (stamps : List Stamp) → map (λ f. (f.0.1, f.1)) (edged stamps) ≡ led from es stamps
+  pub unkeyed : (stamps : List Stamp) → map (λ f. (f.0.1, f.1)) (edged stamps) ≡ led from es stamps
   unkeyed [] = refl
   unkeyed ((order, m, None) ∷ stamps) = unkeyed stamps
   unkeyed ((order, m, Some k) ∷ stamps) =
@@ -135,7 +135,7 @@ module _ (from : ℤ) (es : Items) where
   sorted_one m k None rest a s = s
   sorted_one m k (Some i) rest a s = by_bool (has_edge from (pos m) i) (λ h. rw h s) (λ h. rw h (a, s))
 
-  sorted_edged : (order : ℕ) (stamps : List Stamp) → IsStrictlySortedBy stamp_cmp stamps
+  pub sorted_edged : (order : ℕ) (stamps : List Stamp) → IsStrictlySortedBy stamp_cmp stamps
       → AllByRecursion (λ s. s.0 ≡ order) stamps
       → IsStrictlySortedBy edge_cmp (keys_of (edged stamps))
   unfolding IsStrictlySortedBy
@@ -163,7 +163,7 @@ module _ (from : ℤ) (es : Items) where
       (λ h. rw h refl)
       (λ h. rw h (ap (λ c. cond c (Some i) (lookup (is_at (edge_cmp (q, k))) rest)) apart))
 
-  found_edged : (order q : ℕ) (k : Key) (stamps : List Stamp) → AllByRecursion (λ s. s.0 ≡ order) stamps
+  pub found_edged : (order q : ℕ) (k : Key) (stamps : List Stamp) → AllByRecursion (λ s. s.0 ≡ order) stamps
       → lookup (is_at (edge_cmp (q, k))) (edged stamps)
       ≡ cond (has_stamp stamps (order, q, Some k)) (value from q (item_of es k)) None
   found_edged order q k [] p = refl
@@ -190,37 +190,35 @@ module _ (from : ℤ) (es : Items) where
 
 -- ---- what the definition gathers
 
-abbrev or_else : Option Item → Option Item → Option Item
+abbrev pub or_else : Option Item → Option Item → Option Item
 or_else None y = y
 or_else (Some i) y = Some i
 
-module _ (s : Service) (from to : ℤ) where
-  abbrev crosses : Item → Bool
-  crosses i = is_of s i && has_edge from to i
+-- the items that pass a test, each under a moment of it and its key
+module _ (crosses : Item → Bool) (edge_of : Item → ℕ) where
+  abbrev under : Key × Item → ℕ × Key
+  under e = (edge_of e.1, e.0)
 
-  abbrev edge_of : Item → ℕ
-  edge_of i = option_map_or (λ edge. edge) (least_edge from to i) 0
-
-  abbrev placed : Edged → Items → Edged
+  abbrev pub placed : Edged → Items → Edged
   placed found es =
-      fold (λ found e. insert_entry edge_cmp found (under_edge from to e) e.1) found (filter (λ e. crosses e.1) es)
+      fold (λ found e. insert_entry edge_cmp found (under e) e.1) found (filter (λ e. crosses e.1) es)
 
-  abbrev at : ℕ → Option Item → Option Item
+  abbrev pub at : ℕ → Option Item → Option Item
   at q None = None
   at q (Some i) = cond (crosses i && nat_eq q (edge_of i)) (Some i) None
 
   -- they are in order
-  sorted_fold : (found : Edged) (es : Items) → IsStrictlySortedBy edge_cmp (keys_of found)
+  pub sorted_fold : (found : Edged) (es : Items) → IsStrictlySortedBy edge_cmp (keys_of found)
       → IsStrictlySortedBy edge_cmp
-      (keys_of (fold (λ found e. insert_entry edge_cmp found (under_edge from to e) e.1) found es))
+      (keys_of (fold (λ found e. insert_entry edge_cmp found (under e) e.1) found es))
   sorted_fold found [] sorted = sorted
   sorted_fold found (e ∷ es) sorted =
-      sorted_fold (insert_entry edge_cmp found (under_edge from to e) e.1) es
-      (sorted_inserted edge_total (under_edge from to e) e.1 found sorted)
+      sorted_fold (insert_entry edge_cmp found (under e) e.1) es
+      (sorted_inserted edge_total (under e) e.1 found sorted)
 
   -- what is found of an edge and a key
   tie : (q : ℕ) (k : Key) (e : Key × Item)
-      → is_eq (edge_cmp (q, k) (under_edge from to e)) ≡ (nat_eq q (edge_of e.1) && is_eq (key_cmp k e.0))
+      → is_eq (edge_cmp (q, k) (under e)) ≡ (nat_eq q (edge_of e.1) && is_eq (key_cmp k e.0))
   tie q k e =
       eq_then (nat_cmp q (edge_of e.1)) (key_cmp k e.0) ∙ ap (λ b. b && is_eq (key_cmp k e.0)) (eq_nat q (edge_of e.1))
 
@@ -241,7 +239,7 @@ module _ (s : Service) (from to : ℤ) where
   none_first : (before : Option Item) → before ≡ or_else None before
   none_first before = refl
 
-  found_placed : (q : ℕ) (k : Key) (es : Items) (found : Edged) → InOrder es
+  pub found_placed : (q : ℕ) (k : Key) (es : Items) (found : Edged) → InOrder es
       → lookup (is_at (edge_cmp (q, k))) (placed found es)
       ≡ or_else (at q (item_of es k)) (lookup (is_at (edge_cmp (q, k))) found)
   unfolding IsStrictlySortedBy
@@ -253,11 +251,11 @@ module _ (s : Service) (from to : ℤ) where
       (later_apart key_cmp_total k e es ((Equal-is (key_cmp k e.0)).0 h) sorted.0) in
       by_bool (crosses e.1)
       (λ c.
-      let rest = found_placed q k es (insert_entry edge_cmp found (under_edge from to e) e.1) sorted.1
-      ∙ ap (or_else (at q (item_of es k))) (lookup-insert_entry edge_total (under_edge from to e) e.1 (q, k) found
+      let rest = found_placed q k es (insert_entry edge_cmp found (under e) e.1) sorted.1
+      ∙ ap (or_else (at q (item_of es k))) (lookup-insert_entry edge_total (under e) e.1 (q, k) found
       ∙ ap (λ b. cond b (Some e.1) before) (tie q k e)) in
       ap (λ b. lookup (is_at (edge_cmp (q, k)))
-      (fold (λ found e. insert_entry edge_cmp found (under_edge from to e) e.1) found
+      (fold (λ found e. insert_entry edge_cmp found (under e) e.1) found
       (cond b (e ∷ filter (λ e. crosses e.1) es) (filter (λ e. crosses e.1) es)))) c
       ∙ (rest
       ∙ by_bool (is_eq (key_cmp k e.0))
@@ -270,7 +268,7 @@ module _ (s : Service) (from to : ℤ) where
       ∙ ap (λ b. or_else (at q (cond b (Some e.1) (item_of es k))) before) (sym h)))))
       (λ c.
       ap (λ b. lookup (is_at (edge_cmp (q, k)))
-      (fold (λ found e. insert_entry edge_cmp found (under_edge from to e) e.1) found
+      (fold (λ found e. insert_entry edge_cmp found (under e) e.1) found
       (cond b (e ∷ filter (λ e. crosses e.1) es) (filter (λ e. crosses e.1) es)))) c
       ∙ (found_placed q k es found sorted.1
       ∙ by_bool (is_eq (key_cmp k e.0))
@@ -280,9 +278,16 @@ module _ (s : Service) (from to : ℤ) where
       ∙ ap (λ b. or_else (at q (cond b (Some e.1) (item_of es k))) before) (sym h))))
       (λ h. ap (λ b. or_else (at q (cond b (Some e.1) (item_of es k))) before) (sym h))))
 
+-- those of a service that have an edge in a range
+abbrev crossing : Service → ℤ → ℤ → Item → Bool
+crossing s from to i = is_of s i && has_edge from to i
+
+abbrev first_edge : ℤ → ℤ → Item → ℕ
+first_edge from to i = option_map_or (λ edge. edge) (least_edge from to i) 0
+
 -- ---- both are the same
 
-service_moments : (s : Service) (i : Item) → moments_of (by_edge s) i ≡ cond (is_of s i) (edges_of i) []
+pub service_moments : (s : Service) (i : Item) → moments_of (by_edge s) i ≡ cond (is_of s i) (edges_of i) []
 service_moments service.Stop (item.Visit v) = refl
 service_moments service.Stop (item.Journey j) = refl
 service_moments service.Stop (item.Vehicle v) = refl
@@ -306,78 +311,81 @@ lead_bits true true c i h = rw (← h) refl
 lead_bits true false c i h = rw (← h) refl
 lead_bits false b c i h = rw (← h) refl
 
-none_bits : (w : Bool) (x : Option Item) → cond (w && false) x None ≡ None
+pub none_bits : (w : Bool) (x : Option Item) → cond (w && false) x None ≡ None
 none_bits true x = refl
 none_bits false x = refl
 
 module _ (s : Service) (from to : ℤ) (q : ℕ) where
   of_item : (i : Item) (b : Bool) → is_of s i ≡ b
       → cond (is_within from to q && has q (cond b (edges_of i) [])) (value from q (Some i)) None
-      ≡ or_else (cond ((b && has_edge from to i) && nat_eq q (edge_of s from to i)) (Some i) None) None
+      ≡ or_else (cond ((b && has_edge from to i) && nat_eq q (first_edge from to i)) (Some i) None) None
   of_item i true is =
       lead_bits (is_within from to q && has q (edges_of i)) (has_edge from (pos q) i)
-      (has_edge from to i && nat_eq q (edge_of s from to i)) i
+      (has_edge from to i && nat_eq q (first_edge from to i)) i
       (least_in_range from to q (edges_of i))
   of_item i false is = none_bits (is_within from to q) (cond (has_edge from (pos q) i) None (Some i))
 
   of_held : (h : Option Item)
       → cond (is_within from to q && has q (moments_held (by_edge s) h)) (value from q h) None
-      ≡ or_else (at s from to q h) None
+      ≡ or_else (at (crossing s from to) (first_edge from to) q h) None
   of_held None = none_bits (is_within from to q) None
   of_held (Some i) =
       ap (λ ms. cond (is_within from to q && has q ms) (value from q (Some i)) None) (service_moments s i)
       ∙ (of_item i (is_of s i) refl)
 
-module _ (s : Service) (from to : ℤ) (es : Items) (stamps : List Stamp) (tied : Tied es stamps) where
-  stamp_between : (q : ℕ) (k : Key)
-      → has_stamp (between (by_edge s) from to stamps) (by_edge s, q, Some k)
-      ≡ (is_within from to q && has q (moments_held (by_edge s) (item_of es k)))
-  stamp_between q k =
-      any-filter_same (is_at (stamp_cmp (by_edge s, q, Some k))) (is_between (by_edge s) from to)
-      (is_within from to q) same stamps
-      ∙ ap (λ b. is_within from to q && b) (tied (by_edge s, q, Some k))
+-- the stamps of an order whose moments pass a test
+module _ (order : ℕ) (test : ℕ → Bool) (stamps : List Stamp) where
+  abbrev pub passing : List Stamp
+  passing = filter (λ stamp. nat_eq stamp.0 order && test stamp.1) stamps
+
+  pub stamp_passing : (es : Items) → Tied es stamps → (q : ℕ) (k : Key)
+      → has_stamp passing (order, q, Some k) ≡ (test q && has q (moments_held order (item_of es k)))
+  stamp_passing es tied q k =
+      any-filter_same (is_at (stamp_cmp (order, q, Some k))) (λ stamp. nat_eq stamp.0 order && test stamp.1)
+      (test q) same stamps
+      ∙ ap (λ b. test q && b) (tied (order, q, Some k))
     where
-      same : (x : Stamp) → is_eq (stamp_cmp (by_edge s, q, Some k) x) ≡ true
-          → is_between (by_edge s) from to x ≡ is_within from to q
+      same : (x : Stamp) → is_eq (stamp_cmp (order, q, Some k) x) ≡ true
+          → (nat_eq x.0 order && test x.1) ≡ test q
       same x h =
           let parts =
-          eq_then (ordering_then (nat_cmp (by_edge s) x.0) (nat_cmp q x.1)) (option_cmp key_cmp (Some k) x.2) in
+          eq_then (ordering_then (nat_cmp order x.0) (nat_cmp q x.1)) (option_cmp key_cmp (Some k) x.2) in
           let both =
-          left_true (is_eq (ordering_then (nat_cmp (by_edge s) x.0) (nat_cmp q x.1)))
+          left_true (is_eq (ordering_then (nat_cmp order x.0) (nat_cmp q x.1)))
           (is_eq (option_cmp key_cmp (Some k) x.2)) (sym parts ∙ h) in
-          let each = sym (eq_then (nat_cmp (by_edge s) x.0) (nat_cmp q x.1)) ∙ both in
-          let order : by_edge s ≡ x.0 =
-          equal_numbers (by_edge s) x.0
-          (sym (eq_nat (by_edge s) x.0) ∙ left_true (is_eq (nat_cmp (by_edge s) x.0)) (is_eq (nat_cmp q x.1)) each) in
+          let each = sym (eq_then (nat_cmp order x.0) (nat_cmp q x.1)) ∙ both in
+          let here : order ≡ x.0 =
+          equal_numbers order x.0
+          (sym (eq_nat order x.0) ∙ left_true (is_eq (nat_cmp order x.0)) (is_eq (nat_cmp q x.1)) each) in
           let moment : q ≡ x.1 =
           equal_numbers q x.1
-          (sym (eq_nat q x.1) ∙ right_true (is_eq (nat_cmp (by_edge s) x.0)) (is_eq (nat_cmp q x.1)) each) in
-          ap (λ b. b && is_within from to x.1) (ap (λ o. nat_eq o (by_edge s)) (sym order) ∙ itself (by_edge s))
-          ∙ ap (is_within from to) (sym moment)
+          (sym (eq_nat q x.1) ∙ right_true (is_eq (nat_cmp order x.0)) (is_eq (nat_cmp q x.1)) each) in
+          ap (λ b. b && test x.1) (ap (λ o. nat_eq o order) (sym here) ∙ itself order)
+          ∙ ap test (sym moment)
 
+pub of_order : (order : ℕ) (test : ℕ → Bool) (xs : List Stamp) → AllByRecursion (λ x. x.0 ≡ order) (passing order test xs)
+of_order order test [] = tt
+of_order order test (x ∷ xs) = by_bool (nat_eq x.0 order && test x.1)
+    (λ h. rw h (equal_numbers x.0 order (left_true (nat_eq x.0 order) (test x.1) h), of_order order test xs))
+    (λ h. rw h (of_order order test xs))
+
+module _ (s : Service) (from to : ℤ) (es : Items) (stamps : List Stamp) (tied : Tied es stamps) where
   pub led_crossed : InOrder es → IsStrictlySortedBy stamp_cmp stamps
       → led from es (between (by_edge s) from to stamps) ≡ crossed_entries s from to es
   unfolding IsStrictlySortedBy
   led_crossed ordered sorted =
       let there = between (by_edge s) from to stamps in
-      let all : AllByRecursion (λ x. x.0 ≡ by_edge s) there = all_there stamps in
+      let all : AllByRecursion (λ x. x.0 ≡ by_edge s) there = of_order (by_edge s) (is_within from to) stamps in
       let l = edged from es there in
       let r = in_order_of_edges s from to es in
       let same : l ≡ r = same_entries edge_total edge_exact l r
       (sorted_edged from es (by_edge s) there
       (IsStrictlySortedBy-filter stamp_cmp (is_between (by_edge s) from to) stamps sorted) all)
-      (sorted_fold s from to [] (filter (λ e. crosses s from to e.1) es) tt)
+      (sorted_fold (crossing s from to) (first_edge from to) [] (filter (λ e. crossing s from to e.1) es) tt)
       (λ x. found_edged from es (by_edge s) x.0 x.1 there all
-      ∙ (ap (λ b. cond b (value from x.0 (item_of es x.1)) None) (stamp_between x.0 x.1)
-      ∙ (of_held s from to x.0 (item_of es x.1) ∙ sym (found_placed s from to x.0 x.1 es [] ordered)))) in
+      ∙ (ap (λ b. cond b (value from x.0 (item_of es x.1)) None) (stamp_passing (by_edge s) (is_within from to) stamps es tied x.0 x.1)
+      ∙ (of_held s from to x.0 (item_of es x.1) ∙ sym (found_placed (crossing s from to) (first_edge from to) x.0 x.1 es [] ordered)))) in
       sym (unkeyed from es there) ∙ ap (map (λ f. (f.0.1, f.1))) same
-    where
-      all_there : (xs : List Stamp) → AllByRecursion (λ x. x.0 ≡ by_edge s) (between (by_edge s) from to xs)
-      all_there [] = tt
-      all_there (x ∷ xs) = by_bool (is_between (by_edge s) from to x)
-          (λ h. rw h
-          (equal_numbers x.0 (by_edge s) (left_true (nat_eq x.0 (by_edge s)) (is_within from to x.1) h), all_there xs))
-          (λ h. rw h (all_there xs))
 
 -- ---- what a walk over them has found
 

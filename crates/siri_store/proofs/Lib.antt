@@ -12,3 +12,5 @@ pub mod LeastEdge
 pub mod Inserted
 pub mod Crossed
 pub mod Lent
+pub mod Firsts
+pub mod Leads

@@ -1,5 +1,5 @@
 -- Stamps that are put, that are taken out, and that come first.
-use Rattle.std.proofs.Common.{◌≡◌, ℕ, Bool, true, false, cond, ◌&&◌, ◌||◌, List, [], ◌∷◌, Option, Some, None, refl, ap}
+use Rattle.std.proofs.Common.{◌≡◌, ◌+◌, ℕ, Bool, true, false, cond, ◌&&◌, ◌||◌, List, [], ◌∷◌, Option, Some, None, refl, ap}
 use Rattle.std.proofs.Common.{◌∙◌, sym, arith}
 use Rattle.std.specs.Prelude.{not, nat_eq, nat_lt, nat_le, max, ℤ, pos, int_lt, option_map, IfSome, IfNone}
 use Rattle.std.specs.Borrow.{Bor}
@@ -19,7 +19,7 @@ use Rattle.siri_records.specs.Ends.{end_of}
 use Rattle.siri_records.specs.Order.{key_cmp}
 use Rattle.siri_store.specs.Stamped.{Stamp, stamp_cmp, has_stamp, has, moments_of, moments_held, is_one_at, is_one_of}
 use Rattle.siri_store.specs.Stamped.{by_end, by_edge, service_of, has_ended, IsFirstEnd, NoneEnded, AllKeyed}
-use Rattle.siri_store.specs.Between.{is_between}
+use Rattle.siri_store.specs.Between.{is_between, is_since}
 
 -- ---- one stamp
 
@@ -484,3 +484,23 @@ in_range order low high from to lower upper s =
     ∙ (λ i. turned_eq order s.0 i &&
     ((λ j. le_not low s.1 j && not_le (max high low) s.1 j)
     ∙ (capped low high s.1 ∙ (λ j. not (lower s.1 j) && upper s.1 j))) i))
+
+-- from one moment on, up to the next order
+
+since_bits : (lt eq low : Bool) → (lt ≡ true → eq ≡ false) → ((lt || (eq && low)) && not lt) ≡ (eq && low)
+since_bits true eq low unlike = ap (λ b. b && low) (sym (unlike refl))
+since_bits false true true unlike = refl
+since_bits false true false unlike = refl
+since_bits false false low unlike = refl
+
+next_order : (o n m : ℕ) → (nat_lt (o + 1) n || (nat_eq (o + 1) n && nat_le 0 m)) ≡ nat_lt o n
+next_order o n m = grind (arith, nat_tests)
+
+pub in_since : (order low : ℕ) (from : ℤ) → ((m : ℕ) → nat_lt m low ≡ int_lt (pos m) from)
+    → (s : Stamp)
+    → range_contains stamp_cmp (Included (order, low, None)) (Excluded (order + 1, 0, None)) s ≡ is_since order from s
+in_since order low from lower s =
+    (λ i. at_or_above order low s i && not (at_or_above (order + 1) 0 s i))
+    ∙ (ap (λ over. (nat_lt order s.0 || (nat_eq order s.0 && nat_le low s.1)) && not over) (next_order order s.0 s.1)
+    ∙ (since_bits (nat_lt order s.0) (nat_eq order s.0) (nat_le low s.1) (less_unlike order s.0)
+    ∙ (λ i. turned_eq order s.0 i && (le_not low s.1 ∙ ap not (lower s.1)) i)))

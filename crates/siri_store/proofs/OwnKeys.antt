@@ -26,7 +26,7 @@ use Rattle.siri_store.proofs.Sides.{below_none, above_none, between_all, not_bot
 
 -- ---- what the store's calls keep
 
-abbrev Own : Key × Item → Type 0
+abbrev pub Own : Key × Item → Type 0
 Own e = e.0 ≡ key_of e.1
 
 put_case : (es : Items) (e : Key × Item) (k : Key) (i : Item) (o : Ordering) → key_cmp k e.0 ≡ o → k ≡ key_of i → Own e
@@ -78,7 +78,7 @@ agreeing (topic.Vehicle t) (item.Vehicle v) is = refl
 agreeing (topic.Situation t) (item.Situation s) is = refl
 agreeing t i is = absurd (cc is)
 
-showing : (t : Topic) (now : ℕ) (e : Key × Item) → Own e → is_shown t e.1 now ≡ true → may_be_shown t e.0 ≡ true
+pub showing : (t : Topic) (now : ℕ) (e : Key × Item) → Own e → is_shown t e.1 now ≡ true → may_be_shown t e.0 ≡ true
 showing t now e own is = ap (may_be_shown t) own ∙ agreeing t e.1 (both_left _ _ (both_left _ _ is))
 
 all_showing : (t : Topic) (now : ℕ) (es : Items) → AllByRecursion Own es

@@ -94,7 +94,7 @@ below_before t least a b less below =
 
 -- ---- the middle side
 
-middle_is : (t : Topic) (k : Key) → may_be_shown t k ≡ is_eq (side t k)
+pub middle_is : (t : Topic) (k : Key) → may_be_shown t k ≡ is_eq (side t k)
 middle_is (topic.Stop s) (key.Visit m i) =
     sym (same_from_slice_cmp nat_cmp is_eq same_name refl (λ y ys. refl) (λ x xs. refl)
     (λ x y xs ys o is. grind (arith, nat_tests)) m s.monitoring_ref (slice_cmp nat_cmp m s.monitoring_ref) refl)

@@ -9,3 +9,6 @@ pub mod Stamped
 pub mod Between
 pub mod Ended
 pub mod CrossWalk
+pub mod First
+pub mod Visits
+pub mod FirstWalk

@@ -5,7 +5,7 @@ ghost use Rattle.std.specs.Prelude.{◌≡◌, ◌≤◌, take, drop, length, sl
 ghost use Rattle.std.specs.List.{All};
 ghost use Rattle.siri_records.specs.Keyed.{InOrder};
 ghost use Rattle.siri_records.specs.Order.{rank};
-ghost use Rattle.siri_store.specs.Candidates.{candidates};
+ghost use Rattle.siri_store.specs.Candidates.{candidates, may_be_shown};
 ghost use Rattle.siri_store.specs.Sides.{rank_asked, point_cmp, side, is_below};
 
 use siri_records::{Key, KeyedItems};
@@ -43,6 +43,13 @@ fn first_from(items: &KeyedItems, topic: &Topic, least: Ordering) -> usize
         }
     }
     low
+}
+
+/// Whether an item may be shown to a topic by its key.
+pub(crate) fn may_be_shown(topic: &Topic, key: &Key) -> bool
+    ensures { result ≡ may_be_shown topic.now key.now }
+{
+    side(topic, key).is_eq()
 }
 
 /// Whether a key stands before a topic's candidates, among them (`Equal`), or behind them.

@@ -1,6 +1,6 @@
 //! The held items with the counter of steps: no other module gets an item uncounted.
 
-ghost use Rattle.std.specs.Prelude.{◌≡◌, ◌+◌, ◌≤◌, [], length, slice_range, option_map, is_some, false, IfOk, IfSome, IfNone, OnOk, OnErr, ⊤};
+ghost use Rattle.std.specs.Prelude.{◌≡◌, ◌+◌, ◌≤◌, [], length, take, slice_range, option_map, is_some, false, IfOk, IfSome, IfNone, OnOk, OnErr, ⊤};
 ghost use mathlib.Core.Option.{none};
 ghost use Rattle.std.specs.Borrow.{sem, follows, follows_so};
 ghost use Rattle.siri_records.specs.Ends.{is_closed};
@@ -11,17 +11,20 @@ ghost use Rattle.siri_store.specs.Crossing.{crossed_entries, crossed_of};
 ghost use Rattle.siri_store.specs.CrossWalk.{to_cross};
 ghost use Rattle.siri_store.specs.Ended.{EndsFirst, NoneClosed, NoneHasEnded};
 ghost use Rattle.siri_store.specs.Held.{counted};
-ghost use Rattle.siri_store.specs.Walk.{shown_entries, shown_of, to_lend};
+ghost use Rattle.siri_store.specs.First.{first_entries, first_of, looked_until, visits_for};
+ghost use Rattle.siri_store.specs.FirstWalk.{to_lend_first, to_look_at};
+ghost use Rattle.siri_store.specs.Walk.{shown_at, shown_entries, shown_of, to_lend};
 ghost use Rattle.siri_store.specs.contracts.counted.CountedItems.{the_row};
 ghost use Rattle.siri_store.specs.contracts.counter.Counter.{the_row as counter_row};
 
 use crate::counter::Counter;
 use crate::crossing::crossed_entries;
+use crate::first::first_shown;
 use crate::indexed::IndexedItems;
-use crate::{Crossing, Selected, walk};
+use crate::{Crossing, First, Selected, walk};
 use siri_base::{Moment, OutOfMemory};
 use siri_records::{Item, Key, KeyedItems, Service, SharedKey};
-use siri_topic::Topic;
+use siri_topic::{Topic, window};
 use std::alloc::Global;
 use std::marker::Model;
 use std::rc::Rc;
@@ -216,5 +219,58 @@ impl CountedItems {
         let items = &self.items;
         let stamps = items.edges(service, from, to);
         crossed_entries(alloc, items.entries(), &mut self.counter, stamps, from)
+    }
+
+    /// Lends, by entry and then key, the visits that are shown to a topic at a moment.
+    pub(crate) fn first<'a>(&'a mut self, topic: &'a Topic, moment: Moment) -> First<'a>
+        ensures* keeps { sem 𝓛 (follows the_row counter_row self.entry.ghost_name result.counter.ghost_name (λ steps. record self.old { reads = steps })) }
+        ensures counter { result.counter.now ≡ self.old.reads }
+        ensures topic { result.topic.now ≡ topic.now }
+        ensures moment { result.moment ≡ moment }
+        ensures entries { result.entries.now ≡ self.old.entries }
+        ensures lends { to_lend_first result ≡ first_of topic.now moment self.old.entries }
+        ensures looks { to_look_at result ≡ visits_for topic.now moment self.old.entries }
+    {
+        let window = window(topic, moment);
+        let items = &self.items;
+        let stamps = items.visits(topic, moment, &window);
+        First::over(
+            items.entries(),
+            &mut self.counter,
+            topic,
+            moment,
+            stamps,
+            window.from,
+        )
+    }
+
+    /// The first so many of them with their keys, shared with those that are held. After want of memory nothing but the
+    /// counter has changed.
+    pub(crate) fn first_shown(
+        &mut self,
+        alloc: Global,
+        topic: &Topic,
+        moment: Moment,
+        most: u64,
+    ) -> Result<Vec<(SharedKey, Rc<Item>)>, OutOfMemory>
+        ensures ok { IfOk result (λ found. entries_view found.items ≡ take most (first_entries topic.now moment self.old.entries)) }
+        ensures steps { OnOk result (self.new.reads ≡ counted self.old.reads (looked_until (shown_at topic.now moment) most (visits_for topic.now moment self.old.entries))) }
+        ensures at_most { self.new.reads ≤ self.old.reads + looked_until (shown_at topic.now moment) most (visits_for topic.now moment self.old.entries) }
+        ensures risen { self.old.reads ≤ self.new.reads }
+        ensures rest { self.new ≡ record self.old { reads = self.new.reads } }
+    {
+        let window = window(topic, moment);
+        let items = &self.items;
+        let stamps = items.visits(topic, moment, &window);
+        first_shown(
+            alloc,
+            items.entries(),
+            &mut self.counter,
+            topic,
+            moment,
+            stamps,
+            window.from,
+            most,
+        )
     }
 }

@@ -65,7 +65,7 @@ impl<'a> Iterator for Crossing<'a> {
 
 /// The walk itself: the key and the item of the first stamp that leads, counted as a step, and behind it the stamps
 /// that are left.
-fn next_crossed<'a>(
+pub(crate) fn next_crossed<'a>(
     entries: &'a KeyedItems,
     counter: &mut Counter,
     stamps: &mut Range<'a, Stamp>,
@@ -109,7 +109,7 @@ pub(crate) fn crossed_entries<'a>(
 }
 
 /// The key and the item of a stamp, where the item has no edge in the range before that stamp.
-fn led<'a>(
+pub(crate) fn led<'a>(
     entries: &'a KeyedItems,
     from: i64,
     stamp: &'a Stamp,

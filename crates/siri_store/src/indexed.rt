@@ -1,6 +1,6 @@
 //! The current items in order of key, with the order of their ends and those of their edges.
 
-ghost use Rattle.std.specs.Prelude.{◌≡◌, [], length, is_some, option_map, IfOk, IfSome, IfNone, OnOk, OnErr};
+ghost use Rattle.std.specs.Prelude.{◌≡◌, [], length, is_some, option_map, true, IfOk, IfSome, IfNone, OnOk, OnErr};
 ghost use Rattle.std.specs.Map.{lookup, remove_entry};
 ghost use Rattle.std.specs.BTreeMap.{insert_entry, is_at};
 ghost use Rattle.siri_records.specs.Keyed.{InOrder, item_of};
@@ -8,10 +8,15 @@ ghost use Rattle.siri_records.specs.Order.{key_cmp};
 ghost use Rattle.siri_store.specs.Crossing.{crossed_entries};
 ghost use Rattle.siri_store.specs.CrossWalk.{led};
 ghost use Rattle.siri_store.specs.Ended.{EndsFirst, NoneHasEnded};
+ghost use Rattle.siri_store.specs.First.{enters, first_entries, visits_by_entry, visits_for};
+ghost use Rattle.siri_store.specs.Visits.{AreVisits, all_lead};
+ghost use Rattle.siri_store.specs.Walk.{shown_entries};
+ghost use Rattle.siri_topic.specs.Shown.{window_of};
 
 use crate::stamps::{Stamp, Stamps, by_edge};
 use siri_base::{Copies, Moment, OutOfMemory};
 use siri_records::{Item, Key, KeyedItems, Service, SharedKey};
+use siri_topic::{Topic, Window};
 use std::alloc::Global;
 use std::collections::btree_set::Range;
 use std::marker::Model;
@@ -68,6 +73,32 @@ impl IndexedItems {
         ensures crossed { led from self.now result ≡ crossed_entries service from to self.now }
     {
         self.stamps.between(by_edge(service), from, to)
+    }
+
+    /// The stamps of the visits whose entry is in the window of a topic of Stop Monitoring, by entry and then key; none
+    /// for a topic of another service. The window is that of the topic at a moment.
+    pub(crate) fn visits(&self, topic: &Topic, moment: Moment, window: &Window) -> Range<'_, Stamp>
+        requires { window.now ≡ window_of topic.now moment }
+        ensures visits { led window.now.from self.now result ≡ visits_for topic.now moment self.now }
+        ensures leads { all_lead window.now.from self.now result ≡ true }
+        ensures shown { shown_entries topic.now moment (led window.now.from self.now result) ≡ first_entries topic.now moment self.now }
+    {
+        match topic {
+            Topic::Stop(_) => self.visits_in(*window),
+            _ => self.stamps.between(by_edge(Service::Stop), 0, 0),
+        }
+    }
+
+    /// The stamps of the visits whose entry is in a window.
+    fn visits_in(&self, window: Window) -> Range<'_, Stamp>
+        ensures stamps { led window.from self.now result ≡ visits_by_entry (enters window) self.now }
+        ensures leads { all_lead window.from self.now result ≡ true }
+        ensures passing { AreVisits window self.now result }
+    {
+        match window.to {
+            Some(to) => self.stamps.between(by_edge(Service::Stop), window.from, to),
+            None => self.stamps.since(by_edge(Service::Stop), window.from),
+        }
     }
 
     /// An item becomes the one of a key. After want of memory all is as before.

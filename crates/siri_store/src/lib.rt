@@ -10,6 +10,9 @@
 //!     topic         -> shown     ---> all of them in one call      a step for each that may be shown by its key
 //!     service, range -> crossing ---> the items with an edge there a step for each of them
 //!     service, range -> crossed  ---> all of them in one call      a step for each of them
+//!     topic         -> first     ---> the visits that are shown, by entry and then key
+//!                                                                  a step for each visit that is looked at
+//!     topic, how many -> first_shown ---> so many of them in one call, with a step for each that is looked at
 //! ```
 //!
 //! An item leaves once it is dead at the store's moment: the store's owner moves the moment by `advance` and then lets
@@ -17,7 +20,8 @@
 //!
 //! Each held item that a caller gets or that is tested for a topic is counted as a step, by a counter that never falls.
 //! No other crate gets hold of the counter or of the items beside it. They lie in one inner type (`counted`), of which
-//! the only calls that lend an item count it, and which lends both to the walks that it makes (`selected`, `crossing`).
+//! the only calls that lend an item count it, and which lends both to the walks that it makes (`selected`, `crossing`,
+//! `first`).
 //!
 //! Stands on `siri_base`, `siri_records` and `siri_topic`. It knows no subscription, no message and no clock.
 #![tactic(auto)]
@@ -26,6 +30,7 @@ mod candidates;
 mod counted;
 mod counter;
 mod crossing;
+mod first;
 mod indexed;
 mod selected;
 mod stamps;
@@ -33,5 +38,6 @@ mod store;
 mod walk;
 
 pub use crossing::Crossing;
+pub use first::First;
 pub use selected::Selected;
 pub use store::{MOST_LIVE, ObserveError, Store};

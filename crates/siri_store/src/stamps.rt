@@ -1,10 +1,10 @@
 //! Keys in order of moments: by when their items end, and by the edges at which these may come into a window or leave
 //! it.
 
-ghost use Rattle.std.specs.Prelude.{◌≡◌, ℕ, pos, nat_lt, int_lt, [], ◌∷◌, ◌&&◌, ◌||◌, not, Some, IsSome, option_map, IfSome, IfNone, OnOk, OnErr};
+ghost use Rattle.std.specs.Prelude.{◌≡◌, ◌+◌, ◌<◌, ◌^◌, ℕ, pos, nat_lt, int_lt, [], ◌∷◌, ◌&&◌, ◌||◌, not, Some, IsSome, option_map, IfSome, IfNone, OnOk, OnErr};
 ghost use Rattle.std.specs.List.Sorted.{IsStrictlySortedBy};
 ghost use Rattle.siri_store.specs.Stamped.{Stamp, stamp_cmp, has_stamp, has, moments_of, moments_held, is_one_at, is_one_of, by_edge, service_of, has_ended, IsFirstEnd, NoneEnded, AllKeyed};
-ghost use Rattle.siri_store.specs.Between.{between};
+ghost use Rattle.siri_store.specs.Between.{between, since};
 
 use siri_base::{Copies, Moment, OutOfMemory};
 use siri_records::{Item, Moments, Service, SharedKey, edges_of, ends_of};
@@ -136,6 +136,16 @@ impl Stamps {
         let low = bound(from);
         let high = bound(to).max(low);
         self.set.range((order, low, None)..(order, high, None))
+    }
+
+    /// The stamps of an order, at or after a number of milliseconds since 1970.
+    pub(crate) fn since(&self, order: u8, from: i64) -> Range<'_, Stamp>
+        requires { order + 1 < 2 ^ 8 }
+        ensures stamps { result ≡ since order from self.now }
+        ensures ordered { IsStrictlySortedBy stamp_cmp self.now }
+    {
+        self.set
+            .range((order, bound(from), None)..(order + 1, 0, None))
     }
 
     /// The key of the first stamp, where that is of an end before a moment.

@@ -1,6 +1,6 @@
 //! The store of current items.
 
-ghost use Rattle.std.specs.Prelude.{◌≡◌, ◌↔◌, ◌+◌, ◌≤◌, max, [], length, slice_range, option_map, true, false, None, IfOk, OnOk, OnErr, IsErrOf, ⊤};
+ghost use Rattle.std.specs.Prelude.{◌≡◌, ◌↔◌, ◌+◌, ◌≤◌, max, [], length, take, slice_range, option_map, true, false, None, IfOk, OnOk, OnErr, IsErrOf, ⊤};
 ghost use mathlib.Core.Option.{none};
 ghost use Rattle.std.specs.Borrow.{sem, follows, follows_so};
 ghost use Rattle.siri_records.specs.Keys.{key_of};
@@ -10,12 +10,14 @@ ghost use Rattle.siri_store.specs.Candidates.{candidates};
 ghost use Rattle.siri_store.specs.Held.{counted};
 ghost use Rattle.siri_store.specs.Crossing.{crossed_entries, crossed_of};
 ghost use Rattle.siri_store.specs.CrossWalk.{to_cross};
-ghost use Rattle.siri_store.specs.Walk.{shown_entries, shown_of, to_lend};
+ghost use Rattle.siri_store.specs.First.{first_entries, first_of, looked_until, visits_for};
+ghost use Rattle.siri_store.specs.FirstWalk.{to_lend_first, to_look_at};
+ghost use Rattle.siri_store.specs.Walk.{shown_at, shown_entries, shown_of, to_lend};
 ghost use Rattle.siri_store.specs.contracts.counter.Counter.{the_row as counter_row};
 ghost use Rattle.siri_store.specs.contracts.store.Store.{the_row};
 
 use crate::counted::CountedItems;
-use crate::{Crossing, Selected};
+use crate::{Crossing, First, Selected};
 use siri_base::{Moment, OutOfMemory};
 use siri_records::{Item, Key, KeyedItems, Service, SharedKey, dead};
 use siri_topic::Topic;
@@ -156,8 +158,7 @@ impl Store {
         self.items.remove(key)
     }
 
-    /// The steps that were counted, 0 in a new store. A step is one held item that `look`, `select`,
-    /// `shown` or `shown_entries` looks at.
+    /// The steps that were counted, 0 in a new store. A step is one held item that a call or a walk looks at.
     pub fn reads(&self) -> u64
         ensures { result ≡ self.now.reads }
     {
@@ -247,6 +248,41 @@ impl Store {
         ensures rest { self.new ≡ record self.old { reads = self.new.reads } }
     {
         self.items.crossed(alloc, service, from, to)
+    }
+
+    /// Lends, by entry and then key, the held visits that are shown to a topic at the store's moment; none to a topic of
+    /// another service. The walk looks at the visits whose entry is in the topic's window, in that order, each once, and
+    /// at none after the one that it lends until it is asked for the next. Each that it looks at is a step. The store
+    /// holds still as long as the walk is alive.
+    pub fn first<'a>(&'a mut self, topic: &'a Topic) -> First<'a>
+        ensures* keeps { sem 𝓛 (follows the_row counter_row self.entry.ghost_name result.counter.ghost_name (λ steps. record self.old { reads = steps })) }
+        ensures counter { result.counter.now ≡ self.old.reads }
+        ensures topic { result.topic.now ≡ topic.now }
+        ensures moment { result.moment ≡ self.old.moment }
+        ensures entries { result.entries.now ≡ self.old.entries }
+        ensures lends { to_lend_first result ≡ first_of topic.now self.old.moment self.old.entries }
+        ensures looks { to_look_at result ≡ visits_for topic.now self.old.moment self.old.entries }
+    {
+        let moment = self.moment;
+        self.items.first(topic, moment)
+    }
+
+    /// The first so many of them in one call, with their keys, shared with the store. Each visit that is looked at until
+    /// so many were shown, or none is left, is a step. After want of memory nothing but the counter has changed.
+    pub fn first_shown(
+        &mut self,
+        alloc: Global,
+        topic: &Topic,
+        most: u64,
+    ) -> Result<Vec<(SharedKey, Rc<Item>)>, OutOfMemory>
+        ensures ok { IfOk result (λ found. entries_view found.items ≡ take most (first_entries topic.now self.old.moment self.old.entries)) }
+        ensures steps { OnOk result (self.new.reads ≡ counted self.old.reads (looked_until (shown_at topic.now self.old.moment) most (visits_for topic.now self.old.moment self.old.entries))) }
+        ensures at_most { self.new.reads ≤ self.old.reads + looked_until (shown_at topic.now self.old.moment) most (visits_for topic.now self.old.moment self.old.entries) }
+        ensures risen { self.old.reads ≤ self.new.reads }
+        ensures rest { self.new ≡ record self.old { reads = self.new.reads } }
+    {
+        let moment = self.moment;
+        self.items.first_shown(alloc, topic, moment, most)
     }
 
     /// How many keys are held. Items are held in order of key, each key once.
