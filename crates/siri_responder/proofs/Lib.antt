@@ -9,3 +9,5 @@ pub mod Stands
 pub mod Ranks
 pub mod Shown
 mod Uncrossed
+pub mod ByEntry
+pub mod FirstVisits

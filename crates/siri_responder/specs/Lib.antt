@@ -5,3 +5,4 @@ pub mod Feeding
 pub mod Answering
 pub mod Looking
 pub mod Topics
+pub mod Firsts

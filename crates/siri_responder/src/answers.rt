@@ -72,7 +72,7 @@ fn answering(alloc: Global, store: &mut Store, topic: &Topic) -> Result<List<Ite
 }
 
 /// MaximumStopVisits, where the topic has it.
-fn most_of(topic: &Topic) -> Option<u64>
+pub(crate) fn most_of(topic: &Topic) -> Option<u64>
     ensures { result ≡ direct.most_of topic.now }
 {
     match topic {

@@ -7,7 +7,7 @@ ghost use Rattle.siri_model.specs.History.{Observed, Withdrawn, entries_in, entr
 ghost use Rattle.siri_store.specs.Calls.{NoneDead};
 ghost use Rattle.siri_responder.specs.Feeding.{AreMarked, HasRoom, ReachesSome, Takes};
 
-use siri_base::{Copies, OutOfMemory, beside};
+use siri_base::{Copies, OutOfMemory};
 use siri_marks::Marks;
 use siri_messages::{FunctionalDelivery, ServiceDelivery};
 use siri_records::{Item, Key, SharedKey};
@@ -166,8 +166,8 @@ impl Feeding {
         ensures alive { NoneDead self.new.store }
         ensures room { HasRoom self.new }
     {
-        let (key, item) = beside(SharedKey::of(alloc, &item), item)?;
         let item = Rc::new(alloc, item)?;
+        let key = SharedKey::of(alloc, &item)?;
         let own = key.copy()?;
         self.marks.reserve(self.store.held() + 2)?;
         match self.store.observe_under(own, item) {

@@ -25,6 +25,7 @@
 #![tactic(auto)]
 
 mod answers;
+mod directs;
 mod feeding;
 mod looks;
 mod owned;

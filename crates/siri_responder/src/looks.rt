@@ -145,7 +145,7 @@ fn put_crossed(
 }
 
 /// Puts items under their keys.
-fn put_all(
+pub(crate) fn put_all(
     entries: Vec<(SharedKey, Rc<Item>)>,
     found: &mut BTreeMap<SharedKey, Rc<Item>>,
 ) -> Result<(), OutOfMemory>
@@ -158,7 +158,10 @@ fn put_all(
 }
 
 /// The items in order of their keys.
-fn in_order(alloc: Global, found: BTreeMap<SharedKey, Rc<Item>>) -> Result<KeyedItems, OutOfMemory>
+pub(crate) fn in_order(
+    alloc: Global,
+    found: BTreeMap<SharedKey, Rc<Item>>,
+) -> Result<KeyedItems, OutOfMemory>
     ensures { IfOk result (λ items. items ≡ entries_view found.entries) }
 {
     let mut items = KeyedItems::new(alloc);

@@ -1,22 +1,26 @@
 //! The responder.
 
-ghost use Rattle.std.specs.Prelude.{◌≡◌, ◌+◌, ◌*◌, ◌^◌, ◌<◌, ◌≤◌, [], ◌∷◌, length, map, option_map, IfOk, OnOk, OnErr};
+ghost use Rattle.std.specs.Prelude.{◌≡◌, ◌+◌, ◌*◌, ◌^◌, ◌<◌, ◌≤◌, [], ◌∷◌, length, map, option_map, IfOk, OnOk, OnErr, ⊤};
 ghost use Rattle.std.specs.Map.{keys_of};
 ghost use Rattle.siri_records.specs.Keyed.{InOrder, dead_of, item_of, most_live};
 ghost use Rattle.siri_marks.specs.Marked.{SameFrom, keys_since, unmarked};
 ghost use Rattle.siri_model.specs.Looks.{crossed_items, found_of};
 ghost use Rattle.siri_model.specs.Followed.{items_passed};
 ghost use Rattle.siri_responder.specs.Topics.{topics_in};
-ghost use Rattle.siri_model.specs.Direct.{response, shown};
+ghost use Rattle.siri_model.specs.Direct.{direct_to, response, shown};
+ghost use Rattle.siri_responder.specs.Firsts.{AreWithin};
 ghost use Rattle.siri_model.specs.History.{History, Start, Clock, Feed, IsKeyed, entries_of};
 ghost use Rattle.siri_model.specs.Last.{entry_key};
 ghost use Rattle.siri_responder.specs.Known.{StandsFor, GoesOn, Touches, TookSome, CountsFor, ResponseFor};
 ghost use Rattle.siri_base.specs.Numbers.{greatest_number};
-ghost use Rattle.std.specs.Borrow.{sem, follows};
+ghost use mathlib.Core.Option.{none};
+ghost use Rattle.std.specs.Borrow.{sem, follows, follows_so};
+ghost use Rattle.siri_store.specs.Held.{counted};
 ghost use Rattle.siri_store.specs.Walk.{to_lend};
 ghost use Rattle.siri_store.specs.contracts.counter.Counter.{the_row as counter_row};
 ghost use Rattle.siri_responder.specs.contracts.responder.Responder.{the_row};
 
+use crate::directs::direct_to;
 use crate::feeding::{Fed, Feeding};
 use crate::looks::{crossed, found, held_item};
 use crate::response::response_to;
@@ -162,6 +166,19 @@ impl Responder {
         self.feeding.store.shown_entries(self.alloc, topic)
     }
 
+    /// The direct response to a topic, in order of key. Nothing but the counter changes, and that rises by at most as many
+    /// steps as items are held; where the topic has MaximumStopVisits, by no more than the visits whose entry is in its
+    /// window and that come, by entry and then key, up to the last of the response.
+    pub fn direct_to(&mut self, topic: &Topic) -> Result<KeyedItems, OutOfMemory>
+        ensures ok { IfOk result (λ items. items ≡ direct_to self.old.moment self.old.held topic.now) }
+        ensures rest { self.new ≡ record self.old { reads = self.new.reads } }
+        ensures risen { self.old.reads ≤ self.new.reads }
+        ensures reads { self.new.reads ≤ self.old.reads + length self.old.held }
+        ensures first { AreWithin self.old.moment self.old.held topic.now self.old.reads self.new.reads }
+    {
+        direct_to(self.alloc, &mut self.feeding.store, topic)
+    }
+
     /// Of each key that was marked under a number or a later one, in order, the item that is held of it, or none.
     /// Nothing but the counter changes, and that rises by at most a step a key.
     pub fn marked(&mut self, number: u64) -> Result<List<Change>, OutOfMemory>
@@ -195,6 +212,15 @@ impl Responder {
         ensures reads { self.new.reads ≤ self.old.reads + 1 }
     {
         held_item(&mut self.feeding.store, key)
+    }
+
+    /// The item that is held of a key, lent, or none. It takes one step of the counter and no memory, and nothing else
+    /// changes.
+    pub fn look(&mut self, key: &Key) -> Option<&Rc<Item>>
+        ensures* step { sem 𝓛 (follows_so the_row the_row self.entry.ghost_name none (λ _ _. ⊤) (λ new. new ≡ record self.old { reads = counted self.old.reads 1 })) }
+        ensures item { option_map (λ item. item.now.value) result ≡ item_of self.old.held key.now }
+    {
+        self.feeding.store.look(key)
     }
 
     /// The number under which keys are marked now.
