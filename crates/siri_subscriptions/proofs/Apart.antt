@@ -2,7 +2,7 @@
 use Rattle.std.proofs.Common.{◌≡◌, ℕ, [], true, false, Some, None, refl, ◌∙◌}
 use Rattle.siri_records.specs.Keyed.{Items}
 use Rattle.siri_subs.specs.declared.entry.Row.{Row}
-use Rattle.siri_model.specs.Direct.{shown}
+use Rattle.siri_model.specs.Direct.{direct_to}
 use Rattle.siri_model.specs.Followed.{keys_apart, opens}
 use Rattle.siri_subscriptions.specs.declared.course.Course.{Course}
 use Rattle.siri_subscriptions.specs.Courses.{kept_row}
@@ -11,7 +11,7 @@ use Rattle.siri_subscriptions.proofs.Found.{due}
 
 module _ (now : ℕ) (items : Items) (row : Row Course) (level : row.slot.rounds.outstanding ≡ None) where
   abbrev direct : Items
-  direct = shown now items row.wanted.topic
+  direct = direct_to now items row.wanted.topic
 
   -- a round opens where one is due
   pub opens_due : opens direct (kept_row row) ≡ due row.wanted direct row.slot.rounds

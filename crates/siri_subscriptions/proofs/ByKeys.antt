@@ -17,7 +17,8 @@ use Rattle.siri_change.specs.Changes.{agree_on, meets}
 use Rattle.siri_change.specs.Looks.{AgreeOutside, changes_among}
 use Rattle.siri_marks.specs.Marked.{is_since, keys_since}
 use Rattle.siri_subs.specs.declared.entry.Row.{Row}
-use Rattle.siri_model.specs.Direct.{shown}
+use Rattle.siri_model.specs.Direct.{direct_to, most_of}
+use Rattle.siri_model_laws.proofs.Lawful.{unlimited}
 use Rattle.siri_model.specs.Followed.{goal_of, keys_apart}
 use Rattle.siri_model.specs.Looks.{IsUncrossed, crossed_items, found_of, changes_found}
 use Rattle.siri_responder.specs.Known.{Known}
@@ -43,7 +44,7 @@ keys_found items (k ∷ keys) = ap (λ ks. k ∷ ks) (keys_found items keys)
 -- ---- the keys that aren't looked at
 
 -- none that is held of a key outside those of crossed items is crossed
-uncrossed_by : (topic : Topic) (before now : ℕ) (held : Option Item)
+pub uncrossed_by : (topic : Topic) (before now : ℕ) (held : Option Item)
     → kept_if (λ i. is_crossed topic before now i) held ≡ None
     → (i : Item) → held ≡ Some i → is_crossed topic before now i ≡ false
 uncrossed_by topic before now None none i is = absurd (cc is)
@@ -58,18 +59,18 @@ uncrossed_by topic before now (Some j) none i is = by (is_crossed topic before n
 
 module _ (known : Known) (row : Row Course) (looked : Looked) (live : AreLive known)
     (follows : FollowsLook known row looked)
-    (level : row.slot.rounds.outstanding ≡ None) where
+    (level : row.slot.rounds.outstanding ≡ None) (limitless : most_of row.wanted.topic ≡ None) where
   abbrev view : Items
   view = row.slot.rounds.acknowledged
 
   abbrev direct : Items
-  direct = shown known.moment known.held row.wanted.topic
+  direct = direct_to known.moment known.held row.wanted.topic
 
   abbrev keys : List Key
   keys = keys_looked_at known row.wanted.topic looked
 
   abbrev earlier : Items
-  earlier = shown looked.moment follows.facts.then row.wanted.topic
+  earlier = direct_to looked.moment follows.facts.then row.wanted.topic
 
   -- nothing is outstanding: the view that the consumer is led to is the acknowledged one
   goal_is : goal_of (kept row.slot).rounds ≡ view
@@ -93,8 +94,11 @@ module _ (known : Known) (row : Row Course) (looked : Looked) (live : AreLive kn
 
     -- the same is shown of it as at the last look
     same_then : item_of direct key ≡ item_of earlier key
-    same_then = same_shown row.wanted.topic looked.moment known.moment follows.facts.then known.held key follows.facts.ordered live.ordered
+    same_then =
+        ap (λ items. item_of items key) (unlimited known.moment known.held row.wanted.topic limitless)
+        ∙ (same_shown row.wanted.topic looked.moment known.moment follows.facts.then known.held key follows.facts.ordered live.ordered
         follows.facts.earlier (follows.facts.untouched key parts.0) uncrossed
+        ∙ ap (λ items. item_of items key) (sym (unlimited looked.moment follows.facts.then row.wanted.topic limitless)))
 
     agree_then : agree_on (is_near row.wanted.slack) view direct key
         ≡ agree_on (is_near row.wanted.slack) (goal_of (kept row.slot).rounds) earlier key
@@ -121,7 +125,9 @@ module _ (known : Known) (row : Row Course) (looked : Looked) (live : AreLive kn
   left = filter (is_other (found_of known.held keys)) looked.apart
 
   pub changes_are : changes ≡ changes_among row.wanted.slack view direct keys
-  changes_are = found_tell row.wanted.slack view known.held row.wanted.topic known.moment keys live.ordered
+  changes_are =
+      found_tell row.wanted.slack view known.held row.wanted.topic known.moment keys live.ordered
+      ∙ ap (λ items. changes_among row.wanted.slack view items keys) (sym (unlimited known.moment known.held row.wanted.topic limitless))
 
   left_are : left ≡ still_apart keys looked.apart
   left_are = ap (λ ks. filter (λ key. not (is_among key ks)) looked.apart) (keys_found known.held keys)

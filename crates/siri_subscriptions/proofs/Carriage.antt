@@ -4,7 +4,7 @@ use Rattle.siri_records.specs.Keyed.{Items}
 use Rattle.siri_messages.specs.Asked.{Asked}
 use Rattle.siri_life.specs.Slot.{begun, sent, is_message_due, opens_round}
 use Rattle.siri_subs.specs.declared.entry.Row.{Row}
-use Rattle.siri_model.specs.Direct.{shown}
+use Rattle.siri_model.specs.Direct.{direct_to}
 use Rattle.siri_model.specs.Meaning.{meaning}
 use Rattle.siri_model.specs.Rows as model
 use Rattle.siri_rounds.specs.Wanted.{KeptRounds, RoundsOfChanges, rounds_carried}
@@ -30,9 +30,9 @@ looked_carried asked direct now rounds = by (opens_round meaning (rounds_carried
 -- the life once the round has opened that a look found
 pub found_carried : (now : ℕ) (items : Items) (row : Row Course) (finding : Finding) → IsFound now items row finding
     → rounds_carried (with_opening now finding.opening row.slot.rounds) ≡ model.looked (model.asked_of (kept_row row))
-    (shown now items row.wanted.topic) now (rounds_carried row.slot.rounds)
+    (direct_to now items row.wanted.topic) now (rounds_carried row.slot.rounds)
 found_carried now items row finding found =
-    ap rounds_carried found.opening ∙ looked_carried (model.asked_of (kept_row row)) (shown now items row.wanted.topic) now row.slot.rounds
+    ap rounds_carried found.opening ∙ looked_carried (model.asked_of (kept_row row)) (direct_to now items row.wanted.topic) now row.slot.rounds
 
 sent_if_due_carried : (now : ℕ) (rounds : RoundsOfChanges) → rounds_carried (sent_if_due now rounds) ≡ model.sent_if_due now (rounds_carried rounds)
 sent_if_due_carried now rounds =
@@ -45,7 +45,7 @@ sent_if_due_carried now rounds =
 pub settled_carried : (now : ℕ) (items : Items) (next : ℕ) (row : Row Course) → kept_row (settled_row now items next row) ≡ model.settled_row now items (kept_row row)
 settled_carried now items next row =
     let asked = model.asked_of (kept_row row) in
-    let direct = shown now items row.wanted.topic in
+    let direct = direct_to now items row.wanted.topic in
     let settled = model.settled_row now items (kept_row row) in
     ap (λ (rounds : KeptRounds). record settled { slot = record settled.slot { rounds = rounds } })
     (sent_if_due_carried now (looked asked direct now row.slot.rounds) ∙ ap (model.sent_if_due now) (looked_carried asked direct now row.slot.rounds))

@@ -24,3 +24,5 @@ pub mod Opened
 pub mod Told
 pub mod Others
 pub mod LookAt
+pub mod Still
+pub mod LookedWhole

@@ -7,7 +7,7 @@ use Rattle.siri_life.specs.Life.{Outstanding, is_due, first_part_wanted}
 use Rattle.siri_life.specs.Slot.{begun, sent, is_message_due, opens_round}
 use Rattle.siri_rounds.specs.Wanted.{RoundsOfChanges, rounds_carried}
 use Rattle.siri_subs.specs.declared.entry.Row.{Row}
-use Rattle.siri_model.specs.Direct.{shown}
+use Rattle.siri_model.specs.Direct.{direct_to}
 use Rattle.siri_model.specs.Meaning.{meaning}
 use Rattle.siri_model.specs.Rows.{asked_of}
 use Rattle.siri_subscriptions.specs.declared.course.Course.{Course}
@@ -37,7 +37,7 @@ knows_with : (now : ℕ) (items : Items) (next : ℕ) (o : Option (Outstanding I
 knows_with now items next None row none =
     let rounds = record row.slot.rounds { outstanding = None } in
     let asked = asked_of (kept_row row) in
-    let direct = shown now items row.wanted.topic in
+    let direct = direct_to now items row.wanted.topic in
     let round = next_round asked direct now rounds in
     ap (λ a. change.meets row.wanted.slack a direct)
     (sym (same_acknowledged (opens_round meaning None (rounds_carried rounds) asked direct) now

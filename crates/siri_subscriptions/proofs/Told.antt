@@ -12,7 +12,7 @@ use Rattle.siri_change.specs.Looks.{AgreeOutside}
 use Rattle.siri_change.specs.Parts as part
 use Rattle.siri_life.specs.Life.{greatest_round}
 use Rattle.siri_subs.specs.declared.entry.Row.{Row}
-use Rattle.siri_model.specs.Direct.{shown}
+use Rattle.siri_model.specs.Direct.{direct_to, most_of}
 use Rattle.siri_model.specs.Followed.{complete_set, opens}
 use Rattle.siri_model.specs.Looks.{changes_found, found_of}
 use Rattle.siri_model.specs.Rows.{asked_of}
@@ -36,7 +36,7 @@ bound_case false opened most reads new is le = rw is le
 
 module _ (known : Known) (row : Row Course) (looked : Looked) (live : AreLive known)
     (follows : FollowsLook known row looked)
-    (level : row.slot.rounds.outstanding ≡ None) (s : InOrder row.slot.rounds.acknowledged)
+    (level : row.slot.rounds.outstanding ≡ None) (limitless : most_of row.wanted.topic ≡ None) (s : InOrder row.slot.rounds.acknowledged)
     (found : List KeyChange) (is : found ≡ found_of known.held (keys_looked_at known row.wanted.topic looked))
     (view : Items) (view_is : view ≡ row.slot.rounds.acknowledged) (now : ℕ) (now_is : now ≡ known.moment)
     (changes : List KeyChange) (changes_is : changes ≡ changes_found row.wanted.slack view row.wanted.topic now found)
@@ -46,7 +46,7 @@ module _ (known : Known) (row : Row Course) (looked : Looked) (live : AreLive kn
     (is_due : Bool) (due_by : is_due ≡ (nat_lt last greatest_round && (last == 0 || not is_level)))
     (room : is_due ≡ true → last < greatest_round) where
   abbrev direct : Items
-  direct = shown known.moment known.held row.wanted.topic
+  direct = direct_to known.moment known.held row.wanted.topic
 
   abbrev acknowledged : Items
   acknowledged = row.slot.rounds.acknowledged
@@ -61,7 +61,7 @@ module _ (known : Known) (row : Row Course) (looked : Looked) (live : AreLive kn
   level_told : is_level ≡ change.meets row.wanted.slack acknowledged direct
   level_told =
       level_by ∙ ((λ i. nat_eq (length (same_changes i)) 0 && nat_eq (length (same_left i)) 0)
-      ∙ level_is known row looked live follows level s)
+      ∙ level_is known row looked live follows level limitless s)
 
   due_told : is_due ≡ due row.wanted direct row.slot.rounds
   due_told = due_by ∙ (λ i. nat_lt (last_is i) greatest_round && (last_is i == 0 || not (level_told i)))
@@ -80,7 +80,7 @@ module _ (known : Known) (row : Row Course) (looked : Looked) (live : AreLive kn
       → Some keys ≡ apart_at known.moment known.held row
   apart_told keys keys_is off =
       ap Some (keys_is ∙ ((λ i. in_order (keys_of (same_changes i) ++ same_left i))
-      ∙ apart_is known row looked live follows level s))
+      ∙ apart_is known row looked live follows level limitless s))
       ∙ apart_kept known.moment known.held row level (sym due_told ∙ off)
 
   -- ---- where one is
@@ -92,10 +92,10 @@ module _ (known : Known) (row : Row Course) (looked : Looked) (live : AreLive kn
 
     pub outside_told : AgreeOutside row.wanted.slack view direct (keys_of found)
     outside_told =
-        let here = outside known row looked live follows level (none_apart follows.used_up) in
+        let here = outside known row looked live follows level limitless (none_apart follows.used_up) in
         subst (λ (v : Items). AgreeOutside row.wanted.slack v direct (keys_of found)) (sym view_is)
         (subst (λ (ks : List Key). AgreeOutside row.wanted.slack acknowledged direct ks)
-        (sym (keys_are known row looked live follows level found is)) here)
+        (sym (keys_are known row looked live follows level limitless found is)) here)
 
     pub apart_none : Some [] ≡ apart_at known.moment known.held row
     apart_none = apart_opened known.moment known.held row level (sym due_told ∙ on)

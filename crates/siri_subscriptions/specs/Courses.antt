@@ -6,7 +6,7 @@ use Rattle.siri_change.specs.Changes as change
 use Rattle.siri_rounds.specs.Wanted.{rounds_carried}
 use Rattle.siri_subs.specs.declared.entry.Row.{Row}
 use Rattle.siri_subs.specs.Mapped.{mapped_row, with_mapped_slots}
-use Rattle.siri_model.specs.Direct.{shown}
+use Rattle.siri_model.specs.Direct.{direct_to}
 use Rattle.siri_model.specs.Rows.{KeptLife}
 use Rattle.siri_subscriptions.specs.declared.course.Course.{Course}
 
@@ -21,10 +21,10 @@ kept_row row = mapped_row kept row
 abbrev pub kept_rows : List (Row Course) → List (Row KeptLife)
 kept_rows rows = with_mapped_slots kept rows
 
--- where nothing is outstanding, it is known whether the acknowledged view meets what is shown
+-- where nothing is outstanding, it is known whether the acknowledged view meets the direct response
 abbrev pub KnowsLevel : ℕ → Items → Row Course → Type 0
 KnowsLevel now items row =
-    row.slot.rounds.outstanding ≡ None → row.slot.is_level ≡ change.meets row.wanted.slack row.slot.rounds.acknowledged (shown now items row.wanted.topic)
+    row.slot.rounds.outstanding ≡ None → row.slot.is_level ≡ change.meets row.wanted.slack row.slot.rounds.acknowledged (direct_to now items row.wanted.topic)
 
 abbrev pub KnowLevels : ℕ → Items → List (Row Course) → Type 0
 KnowLevels now items rows = All (KnowsLevel now items) rows

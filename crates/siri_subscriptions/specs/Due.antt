@@ -7,7 +7,7 @@ use Rattle.siri_records.specs.Keyed.{Items, KeyChange}
 use Rattle.siri_change.specs.Changes as change
 use Rattle.siri_life.specs.Life.{Outstanding}
 use Rattle.siri_subs.specs.declared.entry.Row.{Row}
-use Rattle.siri_model.specs.Direct.{shown}
+use Rattle.siri_model.specs.Direct.{direct_to}
 use Rattle.siri_model.specs.Followed.{look_at}
 use Rattle.siri_model.specs.Rows.{asked_of}
 use Rattle.siri_subscriptions.specs.declared.course.Course.{Course}
@@ -21,10 +21,10 @@ use Rattle.siri_subscriptions.specs.Settled.{level_by, settled_course}
 
 -- a finding is that of a look by the current items at a moment; where a round is outstanding there is no look
 pub record IsFound (now : ℕ) (items : Items) (row : Row Course) (finding : Finding) : Type 0 where
-  pub opening : with_opening now finding.opening row.slot.rounds ≡ looked (asked_of (kept_row row)) (shown now items row.wanted.topic) now row.slot.rounds
+  pub opening : with_opening now finding.opening row.slot.rounds ≡ looked (asked_of (kept_row row)) (direct_to now items row.wanted.topic) now row.slot.rounds
   pub can_open : CanOpen finding.opening row.slot.rounds
   pub level : finding.is_level ≡ level_by row.slot.rounds.outstanding
-      (change.meets row.wanted.slack row.slot.rounds.acknowledged (shown now items row.wanted.topic)) row.slot.is_level
+      (change.meets row.wanted.slack row.slot.rounds.acknowledged (direct_to now items row.wanted.topic)) row.slot.is_level
 
 -- where nothing is outstanding, these keys are kept apart after the look
 abbrev pub apart_by : Option (Outstanding Items (List KeyChange)) → List Key → Option (List Key)

@@ -27,13 +27,14 @@ followed_row marks row = mapped_row (followed marks) row
 abbrev pub followed_rows : Marked → List (Row Course) → List (Row Followed)
 followed_rows marks rows = with_mapped_slots (followed marks) rows
 
--- what holds of a subscription after a look: the number of the look isn't above that of the marks, the two facts hold,
--- and no key is kept apart unless the numbers of rounds are used up
+-- what holds of a subscription after a look: the number of the look isn't above that of the marks, the two facts hold, no
+-- key is kept apart unless the numbers of rounds are used up, and a round was opened
 pub record FollowsLook (known : Known) (row : Row Course) (looked : Looked) : Type 0 where
   pub number : looked.number ≤ known.marks.number
   pub facts : Follows row.wanted.slack row.wanted.topic known.moment known.held (goal_of (kept row.slot).rounds)
       (look_of known.marks looked)
   pub used_up : (looked.apart ≡ []) ⊎ (greatest_round ≤ row.slot.rounds.rounds_opened)
+  pub some_opened : 1 ≤ row.slot.rounds.rounds_opened
 
 -- before the first look no round was opened
 abbrev pub FollowsBy : Known → Row Course → Option Looked → Type 0

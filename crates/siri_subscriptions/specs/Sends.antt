@@ -5,7 +5,7 @@ use Rattle.siri_records.specs.Keyed.{Items}
 use Rattle.siri_messages.specs.declared.message.Message.{Message}
 use Rattle.siri_messages.specs.declared.message.Message.TheVariants as message
 use Rattle.siri_subs.specs.declared.entry.Row.{Row}
-use Rattle.siri_model.specs.Direct.{shown}
+use Rattle.siri_model.specs.Direct.{direct_to}
 use Rattle.siri_model.specs.Rows.{KeptLife, asked_of, looked, is_heartbeat_due}
 use Rattle.siri_replies.specs.Statuses.{heartbeat}
 use Rattle.siri_responder.specs.Known.{Known}
@@ -30,10 +30,10 @@ abbrev pub outs_with : Row KeptLife → Option Message → List Out
 outs_with row None = []
 outs_with row (Some message) = out_of row message ∷ []
 
--- the message of the wanted part, where one is due after a look at what is shown of the current items
+-- the message of the wanted part, where one is due after a look at the direct response by the current items
 abbrev pub part_due : At → Items → Row KeptLife → Option Message
 part_due at items row =
-    message_due at.producer at.start row.wanted row.number at.now (looked (asked_of row) (shown at.now items row.wanted.topic) at.now row.slot.rounds)
+    message_due at.producer at.start row.wanted row.number at.now (looked (asked_of row) (direct_to at.now items row.wanted.topic) at.now row.slot.rounds)
 
 abbrev pub heartbeat_due : At → Row KeptLife → Option Message
 heartbeat_due at row = if is_heartbeat_due at.now row then Some (message.HeartbeatNotification (heartbeat at.producer at.now at.started)) else None

@@ -10,7 +10,7 @@ ghost use Rattle.siri_change.specs.Changes as change;
 ghost use Rattle.siri_change.specs.Looks.{AgreeOutside};
 ghost use Rattle.siri_change.specs.Parts as part;
 ghost use Rattle.siri_subs.specs.Lent.{entry_of};
-ghost use Rattle.siri_model.specs.Direct.{shown};
+ghost use Rattle.siri_model.specs.Direct.{direct_to, most_of, shown};
 ghost use Rattle.siri_model.specs.Followed.{bound_since, complete_set};
 ghost use Rattle.siri_model.specs.Looks.{changes_found, found_of, shown_if};
 ghost use Rattle.siri_subscriptions.specs.Again.{AreLive, AreTouched, change_found, is_other, keys_looked_at, shown_again, shown_of};
@@ -20,6 +20,7 @@ ghost use Rattle.siri_subscriptions.specs.Looked.{FollowsLook, look_of};
 
 use crate::course::{Course, Looked};
 use crate::due::Seen;
+use crate::limited::{has_limit, look_limited};
 use crate::looks::{is_round_due, whole};
 use crate::touched::{Touched, is_found, merged, others};
 use crate::{Finding, Opening};
@@ -35,7 +36,8 @@ use std::rc::Rc;
 
 /// Looks at a subscription of which no round is outstanding, after an earlier look: of the stored items it reads those
 /// whose keys were touched since then and those of which an end of the topic's window passed an edge; and where a round
-/// opens that has all items, those of its target. Of the responder nothing but the counter of steps changes.
+/// opens that has all items, those of its target; and where the topic has MaximumStopVisits and there are any such keys or
+/// items, the visits up to the last that is shown. Of the responder nothing but the counter of steps changes.
 pub(crate) fn look_again(
     alloc: Global,
     responder: &mut Responder,
@@ -56,6 +58,9 @@ pub(crate) fn look_again(
     held_are_live(responder);
     touched.find(responder, looked.number)?;
     let crossed = responder.crossed(&entry.wanted.topic, looked.moment)?;
+    if has_limit(&entry.wanted.topic) {
+        return look_limited(alloc, responder, entry, looked, &touched.found, &crossed);
+    }
     if crossed.len() == 0 {
         return look_by(alloc, responder, entry, looked, &touched.found);
     }
@@ -71,7 +76,7 @@ fn held_are_live(responder: &Responder)
 }
 
 /// A law: a view is in order of key.
-fn view_is_in_order(view: &View)
+pub(crate) fn view_is_in_order(view: &View)
     ensures { InOrder view.now }
 {
     let _ = view.len();
@@ -89,11 +94,12 @@ fn look_by(
     requires follows { FollowsLook responder.old (entry_of entry.now) looked.now }
     requires live { AreLive responder.old }
     requires found { found.now ≡ found_of responder.old.held (keys_looked_at responder.old entry.now.wanted.now.topic looked.now) }
+    requires limitless { most_of entry.now.wanted.now.topic ≡ None }
     ensures found { IfOk result (λ seen. IsFound responder.old.moment responder.old.held (entry_of entry.now) seen.finding) }
     ensures apart { IfOk result (λ seen. seen.apart ≡ apart_at responder.old.moment responder.old.held (entry_of entry.now)) }
     ensures rest { responder.new ≡ record responder.old { reads = responder.new.reads } }
     ensures risen { responder.old.reads ≤ responder.new.reads }
-    ensures bound { responder.new.reads ≤ responder.old.reads + complete_set (kept_row (entry_of entry.now)) (shown responder.old.moment responder.old.held entry.now.wanted.now.topic) }
+    ensures bound { responder.new.reads ≤ responder.old.reads + complete_set (kept_row (entry_of entry.now)) (direct_to responder.old.moment responder.old.held entry.now.wanted.now.topic) }
 {
     let rounds = &entry.slot.rounds;
     view_is_in_order(rounds.acknowledged());
@@ -212,7 +218,7 @@ fn change_to(key: &SharedKey, item: Option<&Rc<Item>>) -> Result<Change, OutOfMe
 }
 
 /// The keys that are kept apart where no round opens: those of the changes and those that are left, in order.
-fn keys_apart(
+pub(crate) fn keys_apart(
     alloc: Global,
     changes: &List<Change>,
     left: &List<SharedKey>,

@@ -147,8 +147,8 @@ fn look_first(
     ensures risen { responder.old.reads ≤ responder.new.reads }
     ensures bound { responder.new.reads ≤ responder.old.reads + length responder.old.held }
 {
-    let shown = responder.shown(&entry.wanted.topic)?;
-    let finding = look(alloc, entry.wanted, &entry.slot.rounds, View::of(shown))?;
+    let direct = responder.direct_to(&entry.wanted.topic)?;
+    let finding = look(alloc, entry.wanted, &entry.slot.rounds, View::of(direct))?;
     Ok(Seen {
         finding,
         apart: Some(List::new(alloc)),

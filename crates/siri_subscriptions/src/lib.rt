@@ -46,6 +46,7 @@ mod acknowledgements;
 mod again;
 mod course;
 mod due;
+mod limited;
 mod looks;
 mod messages;
 mod outs;

@@ -10,7 +10,7 @@ pub returns-clause-found : goal.returns-clause-found
 returns-clause-found c =
     let row = entry_of c.args.entry.now in
     let now = c.args.responder.now.moment in
-    let direct = c.of.ensures ∙ c.in_ok-shown.ensures.ok in
+    let direct = c.of.ensures ∙ c.in_ok-direct.ensures.ok in
     record {
       opening = c.in_ok-finding.ensures.opening (asked_of (kept_row row)) refl now
           ∙ ap (λ d. looked (asked_of (kept_row row)) d now row.slot.rounds) direct;
