@@ -138,7 +138,7 @@ follows_row known row numbered holds = by row.slot.looked refl holds
         → HoldsBy known.moment known.held row.wanted (kept row.slot).rounds (option_map (look_of known.marks) o)
         → FollowsBy known row o
     by None e holds = holds
-    by (Some looked) e holds = record { number = numbered looked e; facts = holds.facts; used_up = holds.used_up }
+    by (Some looked) e holds = record { number = numbered looked e; facts = holds.facts; used_up = holds.used_up; some_opened = holds.some_opened }
 
 rows_follow : (known : responder.Known) (rows : List (Row Course)) → AreNumbered known.marks.number rows
     → AllHold known.moment known.held (followed_rows known.marks rows) → AllFollow known rows

@@ -25,7 +25,7 @@ use Rattle.siri_subs.specs.declared.entry.Row.{Row}
 use Rattle.siri_subs.specs.declared.errors.Accepted.{Accepted}
 use Rattle.siri_subs.specs.declared.errors.RenumberError.{RenumberError}
 use Rattle.siri_subs.specs.Table.{is_of}
-use Rattle.siri_model.specs.Direct.{answer, answering, at_most, most_of, response, shown}
+use Rattle.siri_model.specs.Direct.{answer, answering, at_most, direct_to, most_of, response, shown}
 use Rattle.siri_model.specs.Followed.{Followed, followed_after, followed_of}
 use Rattle.siri_model.specs.Followed as followed
 use Rattle.siri_model.specs.History.{History, State, Step, Take, Settle, after_step, current, now_of, start_of}
@@ -48,7 +48,7 @@ use Rattle.siri_subscriptions.specs.declared.supplies.SupplyAnswer.{SupplyAnswer
 use Rattle.siri_subscriptions.specs.Supplies.{not_supplied, supplied, supply_answer, supply_by, supply_in}
 use Rattle.siri_producer.specs.Answers.{answer_to, renew_note, supply_answer_to, supply_note}
 use Rattle.siri_producer.specs.declared.answers.Answer.{Answer}
-use Rattle.siri_producer.specs.Known.{Known, StandsFor, Follows, looks_of}
+use Rattle.siri_producer.specs.Known.{Known, StandsFor, Follows}
 use Rattle.siri_producer.specs.Lent.{OwnPart, has_all, head_of, if_it_has_all, is_lent, lent_topic, own_part, part_in}
 use Rattle.siri_producer.specs.Lent.{supplied_by, topics_of}
 use Rattle.siri_producer.specs.Sends.{sends}
@@ -246,7 +246,7 @@ looked_outstanding row direct now o is =
 part_settled : (now : ℕ) (items : Items) (row : Row KeptLife) (o : Outstanding Items Carried)
     → row.slot.rounds.outstanding ≡ Some o → own_part (settled_row now items row) ≡ own_part row
 part_settled now items row o is =
-    let direct = shown now items row.wanted.topic in
+    let direct = direct_to now items row.wanted.topic in
     ap (option_map (λ (part : WantedPart). record { number = row.number; wanted = row.wanted; part = part }))
     (sent_if_due_wanted now (looked (asked_of row) direct now row.slot.rounds)
     ∙ ap wanted_part (looked_outstanding row direct now o is))

@@ -1,5 +1,5 @@
 -- What is lent is what a history says.
-use Rattle.std.proofs.Common.{◌≡◌, ℕ, List, [], ◌∷◌, map, Bool, Option, None, Some, refl, sym, ap, ◌∙◌, subst}
+use Rattle.std.proofs.Common.{◌≡◌, ℕ, List, [], ◌∷◌, map, Bool, Option, None, Some, refl, sym, ap, ◌∙◌}
 use Rattle.std.specs.Prelude.{find, is_some, option_map, option_and_then}
 use Rattle.siri_records.specs.Keyed.{Items, KeyChange}
 use Rattle.siri_topic.specs.declared.topics.Topic.{Topic}
@@ -12,7 +12,7 @@ use Rattle.siri_subs.specs.Table.{is_of}
 use Rattle.siri_model.specs.Direct.{answer, response, shown}
 use Rattle.siri_model.specs.History.{History, current, now_of}
 use Rattle.siri_model.specs.Lives.{table_of}
-use Rattle.siri_model.specs.Rows.{KeptLife, rows_of}
+use Rattle.siri_model.specs.Rows.{rows_of}
 use Rattle.siri_model_laws.proofs.Lawful.{shown_live}
 use Rattle.siri_responder.specs.Known as responder
 use Rattle.siri_subscriptions.specs.Courses.{kept_row}

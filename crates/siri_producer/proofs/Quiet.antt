@@ -10,13 +10,13 @@ use Rattle.siri_life.specs.Life.{Outstanding}
 use Rattle.siri_rounds.specs.Wanted.{outstanding_carried}
 use Rattle.siri_subs.specs.declared.entry.Row.{Row}
 use Rattle.siri_subs.specs.Table.{is_of}
-use Rattle.siri_model.specs.Direct.{shown}
+use Rattle.siri_model.specs.Direct.{direct_to}
 use Rattle.siri_model.specs.History.{History, now_of, current}
 use Rattle.siri_model.specs.Lives.{Living, life_of, number_if_quiet, quiet_number}
 use Rattle.siri_model.specs.Meaning.{direct_of, meaning}
 use Rattle.siri_model.specs.Rows.{KeptLife, row_of}
 use Rattle.siri_model_laws.proofs.Histories.{row_of_life}
-use Rattle.siri_model_laws.proofs.Lawful.{shown_live}
+use Rattle.siri_model_laws.proofs.Lawful.{direct_live}
 use Rattle.siri_subscriptions.specs.declared.course.Course.{Course}
 use Rattle.siri_subscriptions.specs.Courses.{kept_row, KnowsLevel, KnowLevels}
 use Rattle.siri_responder.specs.Known as responder
@@ -47,15 +47,15 @@ found_level now items c s (r ∷ rows) row levels e = by (is_of c s r) e (found_
 abbrev quiet_at : ℕ → Items → Row KeptLife → Option (Outstanding Items Carried) → Bool
 quiet_at now items row (Some o) = false
 quiet_at now items row None = not (row.slot.rounds.rounds_opened == 0)
-    && change.meets row.wanted.slack row.slot.rounds.acknowledged (shown now items row.wanted.topic)
+    && change.meets row.wanted.slack row.slot.rounds.acknowledged (direct_to now items row.wanted.topic)
 
 abbrev row_quiet : ℕ → Items → Row KeptLife → Bool
 row_quiet now items row = quiet_at now items row row.slot.rounds.outstanding
 
-row_of_quiet : (now : ℕ) (items : Items) (l : Living) → row_quiet now items (row_of l) ≡ life.is_quiet meaning l (shown now items l.wanted.subscription.topic)
+row_of_quiet : (now : ℕ) (items : Items) (l : Living) → row_quiet now items (row_of l) ≡ life.is_quiet meaning l (direct_to now items l.wanted.subscription.topic)
 row_of_quiet now items l = by l.outstanding
   where
-    by : (o : Option (Outstanding Items Carried)) → quiet_at now items (row_of l) o ≡ life.quiet_at meaning o l (shown now items l.wanted.subscription.topic)
+    by : (o : Option (Outstanding Items Carried)) → quiet_at now items (row_of l) o ≡ life.quiet_at meaning o l (direct_to now items l.wanted.subscription.topic)
     by None = refl
     by (Some o) = refl
 
@@ -71,7 +71,7 @@ kept_quiet now items row level = by row.slot.rounds.outstanding refl
 -- ---- what is told
 
 told_found : (now : ℕ) (items : Items) (h : History) (found : Option (Row Course)) (living : Option Living)
-    → now ≡ now_of h → ((l : Living) → shown now items l.wanted.subscription.topic ≡ direct_of h l.wanted)
+    → now ≡ now_of h → ((l : Living) → direct_to now items l.wanted.subscription.topic ≡ direct_of h l.wanted)
     → option_map kept_row found ≡ option_map row_of living
     → ((row : Row Course) → found ≡ Some row → KnowsLevel now items row) → told found ≡ number_if_quiet h living
 told_found now items h None None n shows e levels = refl
@@ -88,8 +88,8 @@ pub told_is_quiet : (known : responder.Known) (rows : List (Row Course)) (h : Hi
     → told (find (is_of c s) rows) ≡ quiet_number h c s
 told_is_quiet known rows h c s stands levels =
     let knows = stands.responder in
-    let shows : (l : Living) → shown known.moment known.held l.wanted.subscription.topic ≡ direct_of h l.wanted = λ l.
-    (λ i. shown (knows.moment i) (knows.held i) l.wanted.subscription.topic) ∙ shown_live (now_of h) (current h) l.wanted.subscription.topic in
+    let shows : (l : Living) → direct_to known.moment known.held l.wanted.subscription.topic ≡ direct_of h l.wanted = λ l.
+    (λ i. direct_to (knows.moment i) (knows.held i) l.wanted.subscription.topic) ∙ direct_live (now_of h) (current h) l.wanted.subscription.topic in
     let same = sym (found_kept c s rows) ∙ ap (find (is_of c s)) stands.table ∙ row_of_life h c s in
     told_found known.moment known.held h (find (is_of c s) rows) (life_of c s h) knows.moment shows same
     (λ row e. found_level known.moment known.held c s rows row levels e)

@@ -17,7 +17,7 @@ use Rattle.siri_model.specs.History.{Settle, History, State, now_of, current, st
 use Rattle.siri_model.specs.Lives.{table_of}
 use Rattle.siri_model.specs.Rows as model
 use Rattle.siri_model.specs.Rows.{rows_after, rows_of}
-use Rattle.siri_model_laws.proofs.Lawful.{shown_live}
+use Rattle.siri_model_laws.proofs.Lawful.{direct_live}
 use Rattle.siri_responder.specs.Known as responder
 use Rattle.siri_responder.proofs.Stands.{stands_named}
 use Rattle.siri_subscriptions.specs.declared.course.Course.{Course}
@@ -102,7 +102,7 @@ look_live now items row =
       moment = now;
       touched = [];
       apart = cond (opens direct kept) [] (keys_apart row.wanted.slack kept.slot.rounds.acknowledged direct);
-    }) (shown_live now items row.wanted.topic) in
+    }) (direct_live now items row.wanted.topic) in
     λ i. record row {
       slot = record { life = (life i).slot; look = look_by kept.slot.rounds.outstanding row.slot.look (looks i) };
     }

@@ -20,7 +20,7 @@ use Rattle.siri_model.specs.Rows.{KeptLife, rows_after, rows_of, settled_row}
 use Rattle.siri_model_laws.proofs.Current.{last_appended}
 use Rattle.siri_model_laws.proofs.Histories.{rows_go_on}
 use Rattle.siri_model_laws.proofs.InOrder.{more_steps}
-use Rattle.siri_model_laws.proofs.Lawful.{shown_live}
+use Rattle.siri_model_laws.proofs.Lawful.{direct_live}
 use Rattle.siri_responder.specs.Known as responder
 use Rattle.siri_responder.proofs.Stands.{stands_alike, stands_named}
 use Rattle.siri_subscriptions.specs.declared.course.Course.{Course}
@@ -84,7 +84,7 @@ knows_fed known h m s = stands_alike known (h ++ Feed (entries_fed m) ∷ []) (h
 -- a settle by the live items is one by the current items
 pub settled_live : (now : ℕ) (items : Items) (row : Row KeptLife)
     → settled_row now (living now items) row ≡ settled_row now items row
-settled_live now items row = rw (shown_live now items row.wanted.topic) refl
+settled_live now items row = rw (direct_live now items row.wanted.topic) refl
 
 pub rows_settled_live : (now : ℕ) (items : Items) (rows : List (Row KeptLife))
     → map (settled_row now (living now items)) rows ≡ map (settled_row now items) rows
@@ -93,7 +93,7 @@ rows_settled_live now items (row ∷ rows) = λ i. settled_live now items row i 
 
 sends_live : (at : At) (items : Items) (row : Row KeptLife)
     → row_sends at (living at.now items) row ≡ row_sends at items row
-sends_live at items row = rw (shown_live at.now items row.wanted.topic) refl
+sends_live at items row = rw (direct_live at.now items row.wanted.topic) refl
 
 pub table_sends_live : (at : At) (items : Items) (rows : List (Row KeptLife))
     → table_sends at (living at.now items) rows ≡ table_sends at items rows

@@ -6,3 +6,4 @@ pub mod Quiet
 pub mod Oldest
 pub mod Reads
 pub mod Lent
+pub mod Holding

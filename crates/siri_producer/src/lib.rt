@@ -9,6 +9,7 @@
 //!
 //!     a ServiceRequest       -> direct ---> a ServiceDelivery with what is shown to each topic
 //!     an answer, lent        -> reply_head, lend; supply, part
+//!     what it holds, lent    -> look, subscription
 //!     a subscription         -> quiet  ---> its number, where its consumer's view is known to be right
 //! ```
 //!
@@ -24,11 +25,13 @@
 #![tactic(auto)]
 
 mod answers;
+mod holding;
 mod lending;
 mod producer;
 mod taking;
 
 pub use answers::{Answer, Note};
+pub use holding::Subscribed;
 pub use lending::{LentPart, Supplied, is_lent, lent_topic};
 pub use producer::Producer;
 pub use siri_responder::Fed;
