@@ -10,7 +10,7 @@ use Rattle.siri_status.specs.Beats as status
 use Rattle.siri_life.specs.Life.{Outstanding, is_due, resend_interval}
 use Rattle.siri_life.specs.Slot.{Slot, is_message_due, opens_round}
 use Rattle.siri_subs.specs.declared.entry.Row.{Row}
-use Rattle.siri_model.specs.Direct.{shown}
+use Rattle.siri_model.specs.Direct.{direct_to}
 use Rattle.siri_model.specs.History.{History, State, Settle, nothing, after_step, state_of, current}
 use Rattle.siri_model.specs.Lives.{table_of}
 use Rattle.siri_model.specs.Meaning.{meaning}
@@ -67,7 +67,7 @@ settled_beat every last now false is = is
 
 row_is_quiet : (at : At) (items : Items) (row : Row KeptLife) → row_sends at items (settled_row at.now items row) ≡ []
 row_is_quiet at items row =
-    let part = settled_is_quiet (asked_of row) (shown at.now items row.wanted.topic) at.now row.slot.rounds in
+    let part = settled_is_quiet (asked_of row) (direct_to at.now items row.wanted.topic) at.now row.slot.rounds in
     let beat = settled_beat row.beat row.slot.last_heartbeat at.now (is_heartbeat_due at.now row) refl in
     rw (part, beat) refl
 

@@ -18,7 +18,7 @@ use Rattle.siri_life.specs.Network.{act, acts, is_own, opening, own, packets_of,
 use Rattle.siri_life.specs.Serving.{Act, Clocked, Fed, Heard, Settled, opening_serving, serving_after, served}
 use Rattle.siri_life_laws.proofs.Alone.{apart, apart_at_settles, at_settles}
 use Rattle.siri_life_laws.proofs.Serves.{acts_serve, acts_send}
-use Rattle.siri_model.specs.Direct.{shown}
+use Rattle.siri_model.specs.Direct.{direct_to}
 use Rattle.siri_model.specs.History.{Entry, Step, Start, Clock, Feed, Take, Settle, History, State, entries_of, state_of}
 use Rattle.siri_model.specs.Lives.{Living, Served, acknowledgement_of, acts_in, acts_of, life_of, served_after, serving_of}
 use Rattle.siri_model.specs.Meaning.{direct_of, meaning}
@@ -52,7 +52,7 @@ unfolding served_after
 serving_along k t steps none = served_along (opening_serving meaning k t) steps none ∙ sym (acts_serve meaning (acts_along steps) (opening meaning k t))
 
 direct_same : (h : History) (wanted : Asked) → direct_of h wanted ≡ direct_of (serving_of h).known wanted
-direct_same h wanted = sym (ap (λ (s : State). shown s.now s.current wanted.subscription.topic) (goes_with h).known)
+direct_same h wanted = sym (ap (λ (s : State). direct_to s.now s.current wanted.subscription.topic) (goes_with h).known)
 
 -- ---- more steps
 

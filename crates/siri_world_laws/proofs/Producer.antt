@@ -11,7 +11,7 @@ use Rattle.siri_change.specs.Parts.{Carried}
 use Rattle.siri_life.specs.Life.{Subscribe, Terminate, Acknowledge}
 use Rattle.siri_life.specs.Named.{Name}
 use Rattle.siri_life.specs.Serving.{About, Carries, ToProducer, ToConsumer, lives_on, told, replies_to, row_letters}
-use Rattle.siri_model.specs.Direct.{shown}
+use Rattle.siri_model.specs.Direct.{direct_to}
 use Rattle.siri_model.specs.History.{Entry, Step, Start, Clock, Feed, Take, Settle, History, State, current, now_of}
 use Rattle.siri_model.specs.History.{start_of}
 use Rattle.siri_model.specs.Lives.{Living, Served, life_of, mark_of, served_after, serving_of, supply_of, table_of}
@@ -43,7 +43,7 @@ sends_are_letters h short =
     let v = serving_of h in
     let goes = goes_with h in
     rows_are_letters (at_of producer h) (current h) v.known
-    (λ wanted. ap (λ (s : State). shown s.now s.current wanted.subscription.topic) goes.known) v.table
+    (λ wanted. ap (λ (s : State). direct_to s.now s.current wanted.subscription.topic) goes.known) v.table
     (well_after h).named (recursion_from_All IsShort v.table short)
     (subst (λ k. AllLive (IsOf k) v.table) goes.start (stands_after h))
     ∙ ap (λ now. row_letters meaning v.known now v.table) (sym goes.now)

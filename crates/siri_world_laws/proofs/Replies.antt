@@ -14,7 +14,7 @@ use Rattle.siri_messages.specs.declared.supplies.Mark.{Mark}
 use Rattle.siri_messages.specs.declared.supplies.DataSupplyRequest.{DataSupplyRequest}
 use Rattle.siri_change.specs.Parts.{Carried}
 use Rattle.siri_subs.specs.Table.{is_of}
-use Rattle.siri_life.specs.Life.{Outstanding, Subscribe, Terminate, Supply, Delivery, part_at, part_if, part_message, supply_sends}
+use Rattle.siri_life.specs.Life.{Outstanding, Subscribe, Terminate, Delivery, part_at, part_if, part_message, supply_sends}
 use Rattle.siri_life.specs.Named.{Name, same_name}
 use Rattle.siri_life.specs.Serving.{About, Carries, ToProducer, ToConsumer, Heard, heard, serving_after, supply_letters, supply_replies, told}
 use Rattle.siri_life.specs.Slot.{slot_of, wants_of}

@@ -19,7 +19,7 @@ use Rattle.siri_life.specs.Named.{Name, Of}
 use Rattle.siri_life.specs.Serving.{heartbeat_letters, letters_for, row_letters}
 use Rattle.siri_life.specs.Slot.{begun, is_message_due, is_message_due_of, opens_round, slot_of}
 use Rattle.siri_life.proofs.Slots.{slot_begins}
-use Rattle.siri_model.specs.Direct.{shown}
+use Rattle.siri_model.specs.Direct.{direct_to}
 use Rattle.siri_model.specs.History.{History}
 use Rattle.siri_model.specs.Lives.{Living}
 use Rattle.siri_model.specs.Meaning.{direct_of, meaning}
@@ -149,9 +149,9 @@ module _ (at : At) (items : Items) where
   part_is : (l : Living) → l.number < 1000000000000000000 → IsOf at.start l
       → letters_with l.wanted.subscription.subscriber (part_due at items (row_of l))
       ≡ letters_for meaning l.wanted.subscription.subscriber l.wanted.subscription.identifier
-      (settle_sends meaning l (shown at.now items l.wanted.subscription.topic) at.now)
+      (settle_sends meaning l (direct_to at.now items l.wanted.subscription.topic) at.now)
   part_is l small is =
-      let direct = shown at.now items l.wanted.subscription.topic in
+      let direct = direct_to at.now items l.wanted.subscription.topic in
       let look = opened meaning l direct at.now in
       let goes = look_goes l direct at.now in
       ap (λ rounds. letters_with l.wanted.subscription.subscriber
@@ -166,7 +166,7 @@ module _ (at : At) (items : Items) where
   row_is : (x : Of Living) → IsNamed x → IsShort x → IsOf at.start x.it
       → letters_of (packets_out (row_sends at items (row_of x.it)))
       ≡ letters_for meaning x.subscriber x.identifier
-      (settle_sends meaning x.it (shown at.now items x.it.wanted.subscription.topic) at.now)
+      (settle_sends meaning x.it (direct_to at.now items x.it.wanted.subscription.topic) at.now)
       ++ heartbeat_letters meaning x.subscriber (sends_heartbeat meaning x.it at.now)
   row_is x named small is =
       let row = row_of x.it in
@@ -174,12 +174,12 @@ module _ (at : At) (items : Items) where
       ∙ (λ i. with_is row (part_due at items row) i ++ with_is row (heartbeat_due at row) i)
       ∙ (λ i. part_is x.it small is i ++ heartbeat_is at x.it i)
       ∙ (λ i. letters_for meaning (sym named.0 i) (sym named.1 i)
-      (settle_sends meaning x.it (shown at.now items x.it.wanted.subscription.topic) at.now)
+      (settle_sends meaning x.it (direct_to at.now items x.it.wanted.subscription.topic) at.now)
       ++ heartbeat_letters meaning (sym named.0 i) (sends_heartbeat meaning x.it at.now))
 
   -- all of them, by a history whose direct responses are what is shown
   pub rows_are_letters : (known : History) → ((wanted : Asked)
-      → direct_of known wanted ≡ shown at.now items wanted.subscription.topic) → (t : List (Of Living)) → AreNamed t
+      → direct_of known wanted ≡ direct_to at.now items wanted.subscription.topic) → (t : List (Of Living)) → AreNamed t
       → AllByRecursion IsShort t → AllLive (IsOf at.start) t
       → letters_of (packets_out (table_sends at items (rows_of t))) ≡ row_letters meaning known at.now t
   rows_are_letters known knows [] named short stand = refl
@@ -188,7 +188,7 @@ module _ (at : At) (items : Items) where
       let beat = heartbeat_letters meaning x.subscriber (sends_heartbeat meaning x.it at.now) in
       letters_join (row_sends at items (row_of x.it)) (table_sends at items (rows_of xs))
       ∙ (λ i. row_is x named.0 short.0 stand.0 i ++ rows_are_letters known knows xs named.1 short.1 stand.1 i)
-      ∙ append_assoc (sent (shown at.now items x.it.wanted.subscription.topic)) beat (row_letters meaning known at.now xs)
+      ∙ append_assoc (sent (direct_to at.now items x.it.wanted.subscription.topic)) beat (row_letters meaning known at.now xs)
       ∙ ap (λ direct. sent direct ++ (beat ++ row_letters meaning known at.now xs)) (sym (knows x.it.wanted))
 
 -- ---- each is a part for its receiver, or none
@@ -236,6 +236,6 @@ rows_are_made at items [] = All-nil IsMade
 rows_are_made at items (row ∷ rows) =
     made_join (row_sends at items row) (table_sends at items rows)
     (made_join (outs_with row (part_due at items row)) (outs_with row (heartbeat_due at row))
-    (made_part at row (looked (asked_of row) (shown at.now items row.wanted.topic) at.now row.slot.rounds))
+    (made_part at row (looked (asked_of row) (direct_to at.now items row.wanted.topic) at.now row.slot.rounds))
     (made_heartbeat at row))
     (rows_are_made at items rows)

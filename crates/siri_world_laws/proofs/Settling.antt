@@ -12,7 +12,7 @@ use Rattle.siri_life.specs.Named.{Name, find, first, those}
 use Rattle.siri_life.specs.Slot.{is_message_due, slot_of}
 use Rattle.siri_life_laws.proofs.Alone.{Rests, Still, settled_still}
 use Rattle.siri_life_laws.proofs.Names.{settled_all, those_settled}
-use Rattle.siri_model.specs.Direct.{shown}
+use Rattle.siri_model.specs.Direct.{direct_to}
 use Rattle.siri_model.specs.History.{Settle, History, State, after_step, current, now_of, state_of}
 use Rattle.siri_model.specs.Lives.{Living, Served, life_of, served_after, serving_of}
 use Rattle.siri_model.specs.Meaning.{direct_of, meaning}
@@ -46,7 +46,7 @@ rests wanted now = beat_rests wanted.beat now
 
 module _ (at : At) (items : Items) where
   abbrev direct : Asked → Items
-  direct wanted = shown at.now items wanted.subscription.topic
+  direct wanted = direct_to at.now items wanted.subscription.topic
 
   -- of a life that a settle leaves as it is nothing is due
   quiet_life : (l : Living) → Still meaning (direct l.wanted) at.now l → row_sends at items (row_of l) ≡ []
@@ -85,7 +85,7 @@ first_settled known now (l ∷ lives) = refl
 
 -- the life after a settle, by what is shown
 life_settles : (c s : Name) (h : History) → life_of c s (h ++ Settle ∷ []) ≡ option_map
-    (λ (l : Living). settled meaning l (shown (now_of h) (current h) l.wanted.subscription.topic) (now_of h))
+    (λ (l : Living). settled meaning l (direct_to (now_of h) (current h) l.wanted.subscription.topic) (now_of h))
     (life_of c s h)
 unfolding served_after
 life_settles c s h =
@@ -95,7 +95,7 @@ life_settles c s h =
     ∙ ap (λ lives. first lives) (those_settled meaning c s v.known v.now v.table)
     ∙ first_settled v.known v.now (those c s v.table)
     ∙ (λ i. option_map (λ (l : Living). settled meaning l
-    (shown (goes.known i).now (goes.known i).current l.wanted.subscription.topic) (goes.now i)) (life_of c s h))
+    (direct_to (goes.known i).now (goes.known i).current l.wanted.subscription.topic) (goes.now i)) (life_of c s h))
 
 state_settles : (h : History) → state_of (h ++ Settle ∷ []) ≡ state_of h
 unfolding after_step

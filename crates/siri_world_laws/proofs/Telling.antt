@@ -9,7 +9,7 @@ use Rattle.siri_life.specs.Named.{Name}
 use Rattle.siri_records.specs.Keyed.{Items, InOrder}
 use Rattle.siri_change.specs.Views.{is_keyed}
 use Rattle.siri_messages.specs.declared.requests.ServiceRequest.{ServiceRequest}
-use Rattle.siri_model.specs.Direct.{answer, answering, at_most, most_of, response, shown}
+use Rattle.siri_model.specs.Direct.{answer, answering, direct_to, response}
 use Rattle.siri_model.specs.History.{current, now_of}
 use Rattle.siri_model.specs.Meaning.{direct_of}
 use Rattle.siri_topic.specs.declared.topics.Topic.{Topic}
@@ -40,9 +40,9 @@ use Rattle.siri_world_laws.proofs.Views.{held_is, quiet_meets, quiet_view, view_
 
 -- the direct response to what the producer knows is that to what was observed
 direct_observed : (events : List Event) (topic : Topic) → Knows (world_after events) (observed events)
-    → shown (now_of (latest (world_after events))) (current (latest (world_after events))) topic ≡ direct_response
+    → direct_to (now_of (latest (world_after events))) (current (latest (world_after events))) topic ≡ direct_response
     events topic
-direct_observed events topic knows = λ i. shown (knows.now i) (knows.current i) topic
+direct_observed events topic knows = λ i. direct_to (knows.now i) (knows.current i) topic
 
 -- ---- what is told
 
@@ -152,7 +152,7 @@ module _ (events : List Event) (happen : AllHappen events) where
 
   topic_answered : (topic : Topic) → answering (now_of (latest known)) (current (latest known)) topic ≡ answered events topic
   unfolding answering
-  topic_answered topic = ap (λ (items : Items). map (λ entry. entry.1) (at_most (most_of topic) items))
+  topic_answered topic = ap (λ (items : Items). map (λ entry. entry.1) items)
       (direct_observed events topic (observed_known events happen))
 
   topics_answered : (topics : List Topic) → items_listed (map (answer (now_of (latest known)) (current (latest known))) topics) ≡ map (answered events) topics

@@ -11,7 +11,7 @@ use Rattle.siri_life.specs.Named.{Name, find}
 use Rattle.siri_life.specs.Network.{seen_by}
 use Rattle.siri_life_laws.specs.Claims.{ViewIsGoal, MeetsWhereQuiet}
 use Rattle.siri_life_laws.proofs.Every.{views, meets_where_quiet}
-use Rattle.siri_model.specs.Direct.{shown}
+use Rattle.siri_model.specs.Direct.{direct_to}
 use Rattle.siri_model.specs.History.{History, State}
 use Rattle.siri_model.specs.Lives.{Living, Served, is_settled, life_of, number_if_quiet, quiet_number, serving_of}
 use Rattle.siri_model.specs.Meaning.{direct_of, meaning}
@@ -61,7 +61,7 @@ view_is_goal es name identifier consumer kept found held =
 
 -- by what the side knows, and by the history
 direct_same : (h : History) (wanted : Asked) → direct_of (serving_of h).known wanted ≡ direct_of h wanted
-direct_same h wanted = ap (λ (s : State). shown s.now s.current wanted.subscription.topic) (goes_with h).known
+direct_same h wanted = ap (λ (s : State). direct_to s.now s.current wanted.subscription.topic) (goes_with h).known
 
 -- a subscription that is told as quiet has a life that is
 pub record HasQuiet (h : History) (c i : Name) (number : ℕ) : Type 0 where

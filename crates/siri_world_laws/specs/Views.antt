@@ -16,7 +16,7 @@ use Rattle.siri_change.specs.Changes.{Meets}
 use Rattle.siri_change.specs.Parts.{Carried}
 use Rattle.siri_life.specs.Life.{Mark}
 use Rattle.siri_life.specs.Named.{Name}
-use Rattle.siri_model.specs.Direct.{at_most, most_of, shown}
+use Rattle.siri_model.specs.Direct.{direct_to}
 use Rattle.siri_model.specs.History.{History, Start, Clock, Feed, entries_of, now_of, current}
 use Rattle.siri_view.specs.Hearing.{Delivered, heard}
 use Rattle.siri_view.specs.declared.outcome.Held.{Held}
@@ -42,9 +42,9 @@ abbrev pub observed : List Event → History
 observed events = fold observed_after [] events
 
 -- the direct response to a topic after these events (EN 15531-2, request and response): what is current and shown to it at
--- that moment, in order of key
+-- that moment, in order of key; where it has a MaximumStopVisits, only the first so many by call moment and then key
 abbrev pub direct_response : List Event → Topic → Items
-direct_response events topic = shown (now_of (observed events)) (current (observed events)) topic
+direct_response events topic = direct_to (now_of (observed events)) (current (observed events)) topic
 
 -- ---- what is told of a view
 
@@ -92,10 +92,9 @@ TellsView events consumer identifier lines = ShowsNone events consumer identifie
 
 -- ---- what is told of a request
 
--- the items that answer a topic: those of the direct response, and where the topic has a MaximumStopVisits the first so many of
--- them
+-- the items that answer a topic: those of the direct response
 abbrev pub answered : List Event → Topic → List AnItem
-answered events topic = map (λ entry. entry.1) (at_most (most_of topic) (direct_response events topic))
+answered events topic = map (λ entry. entry.1) (direct_response events topic)
 
 -- the items that each functional delivery lists
 abbrev pub items_listed : List FunctionalDelivery → List (List AnItem)
