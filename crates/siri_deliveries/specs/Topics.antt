@@ -1,8 +1,6 @@
 -- The tables of topics: what is asked of each of the four services, a line a row.
-use Rattle.std.specs.Prelude.{◌≡◌, ℕ, [], ◌∷◌, List, Option, Some, None, Result, Ok, Err}
+use Rattle.std.specs.Prelude.{[], ◌∷◌, List, Option, Some, Result, Ok}
 use Rattle.serde_json.specs.Data.{Data, no_members}
-use Rattle.siri_base.specs.declared.reason.Reason.TheVariants.{NotCarried}
-use Rattle.siri_json.specs.declared.path.Step.TheVariants.{Member}
 use Rattle.siri_records.specs.declared.item.Service.{Service}
 use Rattle.siri_records.specs.declared.item.Service.TheVariants as service
 use Rattle.siri_topic.specs.declared.topics.LineDirection.{LineDirection}
@@ -57,18 +55,8 @@ read_stop_topic_rows d = read_all stop_topic_table make_stop_topic d
 unfoldable pub written_stop_topic : StopTopic → Data
 written_stop_topic t = row_object (all_written stop_topic_table t)
 
--- the topic of a request
 unfoldable pub stop_topic : Data → Result Topic Refusal
 stop_topic d = read_stop_topic_rows d >>= λ t. Ok (topics.Stop t)
-
--- a most of visits belongs to the answer of a request; a subscription with one isn't carried
-abbrev pub without_maximum : StopTopic → Option ℕ → Result Topic Refusal
-without_maximum t None = Ok (topics.Stop t)
-without_maximum t (Some most) = Err (record { path = Member MAXIMUM_STOP_VISITS.now ∷ []; reason = NotCarried })
-
--- the topic of a subscription
-unfoldable pub subscribed_stop_topic : Data → Result Topic Refusal
-subscribed_stop_topic d = read_stop_topic_rows d >>= λ t. without_maximum t t.maximum_stop_visits
 
 -- LineDirection: a line, and a direction of it (EN 15531-3)
 abbrev pub line_direction_table : Table LineDirection
@@ -184,18 +172,3 @@ IsProperTopic s t = ⊥
 
 abbrev pub a_topic : Service → Kind Topic
 a_topic s = record { rule = table (topic_rows s); writing = topic_writing; Is = IsProperTopic s }
-
--- the topic of a subscription to a service
-abbrev pub subscribed_rows : Service → Data → Result Topic Refusal
-subscribed_rows service.Stop = subscribed_stop_topic
-subscribed_rows other = topic_rows other
-
--- MaximumStopVisits, where the topic has one
-abbrev pub maximum_of : Topic → Option ℕ
-maximum_of (topics.Stop t) = t.maximum_stop_visits
-maximum_of other = None
-
--- one of a subscription has no most of visits
-abbrev pub a_subscribed_topic : Service → Kind Topic
-a_subscribed_topic s = record
-    { rule = table (subscribed_rows s); writing = topic_writing; Is = λ t. IsProperTopic s t × (maximum_of t ≡ None) }

@@ -42,8 +42,7 @@ pub use pieces::{
 pub use read_deliveries::ServiceDeliveryTable;
 pub use read_error::error_condition;
 pub use read_topics::{
-    SituationTopicTable, StopTopicTable, SubscribedStopTable, TimetableTopicTable,
-    VehicleTopicTable,
+    SituationTopicTable, StopTopicTable, TimetableTopicTable, VehicleTopicTable,
 };
 pub use write_deliveries::write_service_delivery;
 pub use write_topics::TopicWriting;

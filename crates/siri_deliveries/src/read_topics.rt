@@ -2,14 +2,12 @@
 
 ghost use Rattle.siri_json.specs.Shown.{shown};
 ghost use Rattle.siri_tables.specs.Refusals.{Gives};
-ghost use Rattle.siri_deliveries.specs.Topics.{read_stop_topic_rows, stop_topic, subscribed_stop_topic, line_direction, timetable_topic, vehicle_topic, situation_topic};
+ghost use Rattle.siri_deliveries.specs.Topics.{read_stop_topic_rows, stop_topic, line_direction, timetable_topic, vehicle_topic, situation_topic};
 
 use crate::names;
-use siri_base::Reason;
 use siri_items::names as item_names;
 use siri_json::Tree;
 use siri_tables::TableError;
-use siri_tables::refusal::refuse_at;
 use siri_tables::rows::{list_inside, required_row, row};
 use siri_tables::rules::{MomentRule, NameRule, NonNegativeSpanRule, NumberRule, Table};
 use siri_topic::{LineDirection, SituationTopic, StopTopic, TimetableTopic, Topic, VehicleTopic};
@@ -35,7 +33,7 @@ fn read_stop_topic_rows(alloc: Global, tree: &Tree<'_>) -> Result<StopTopic, Tab
     })
 }
 
-/// The visits at a monitoring point, as a request asks for them (EN 15531-3, StopMonitoringRequest).
+/// The visits at a monitoring point (EN 15531-3, StopMonitoringRequest).
 pub struct StopTopicTable;
 
 impl Table for StopTopicTable {
@@ -46,25 +44,6 @@ impl Table for StopTopicTable {
     #[tactic(auto, unfolding(crate::specs::Topics::stop_topic))]
     fn read_rows(alloc: Global, tree: &Tree<'_>) -> Result<Topic, TableError> {
         Ok(Topic::Stop(read_stop_topic_rows(alloc, tree)?))
-    }
-}
-
-/// The visits at a monitoring point, as a subscription asks for them (EN 15531-3, StopMonitoringRequest):
-/// `NotCarried` at a MaximumStopVisits, which belongs to the answer of a request.
-pub struct SubscribedStopTable;
-
-impl Table for SubscribedStopTable {
-    type Out = Topic;
-
-    ghost rows = { subscribed_stop_topic };
-
-    #[tactic(auto, unfolding(crate::specs::Topics::subscribed_stop_topic))]
-    fn read_rows(alloc: Global, tree: &Tree<'_>) -> Result<Topic, TableError> {
-        let topic = read_stop_topic_rows(alloc, tree)?;
-        match topic.maximum_stop_visits {
-            None => Ok(Topic::Stop(topic)),
-            Some(_) => refuse_at(alloc, names::MAXIMUM_STOP_VISITS, Reason::NotCarried),
-        }
     }
 }
 

@@ -32,7 +32,7 @@ use Rattle.siri_wire.specs.declared.read_subscriptions.RequestedSubscriptions.{R
 use Rattle.siri_deliveries.specs.Rows.{a_whole_span, an_error, SpellsOr, with_default, entries, optional_inside}
 use Rattle.siri_wire.specs.Identifiers.{an_identifier}
 use Rattle.siri_wire.specs.Subscribers.{the_subscriber}
-use Rattle.siri_deliveries.specs.Topics.{subscribed_rows, topic_writing, a_subscribed_topic}
+use Rattle.siri_deliveries.specs.Topics.{topic_rows, topic_writing, a_topic}
 
 -- ---- the element of a subscription
 
@@ -45,7 +45,7 @@ request_of service.Situation = SITUATION_EXCHANGE_REQUEST.now
 
 -- the topic of a subscription to a service
 unfoldable pub topic_of : Service → Data → Result Topic Refusal
-topic_of s d = required_row (table (subscribed_rows s)) (request_of s) d
+topic_of s d = required_row (table (topic_rows s)) (request_of s) d
 
 -- its row, under the name of the service's request
 abbrev pub the_topic : {S : Type 0} → Service → (S → Topic) → Row S
@@ -53,9 +53,9 @@ the_topic s of = record {
   Of = Topic;
   of = of;
   read = topic_of s;
-  Spelled = λ d t. Spells (table (subscribed_rows s)) (request_of s) d (Some t);
+  Spelled = λ d t. Spells (table (topic_rows s)) (request_of s) d (Some t);
   write = λ t. (request_of s, topic_writing t) ∷ [];
-  Is = (a_subscribed_topic s).Is;
+  Is = (a_topic s).Is;
   blank = λ t. false;
 }
 

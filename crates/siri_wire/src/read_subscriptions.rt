@@ -9,8 +9,8 @@ ghost use Rattle.siri_wire.specs.Subscriptions.{topic_of, slack_of, is_fetched, 
 use crate::read_subscriber::subscriber_or;
 use siri_base::{List, Name, Reason, Span, Text};
 use siri_deliveries::{
-    SituationTopicTable, SubscribedStopTable, TimetableTopicTable, VehicleTopicTable,
-    error_condition, names,
+    SituationTopicTable, StopTopicTable, TimetableTopicTable, VehicleTopicTable, error_condition,
+    names,
 };
 use siri_json::{ObjectOf, Tree, object_of};
 use siri_messages::{ResponseStatus, SubscriptionRequest, SubscriptionResponse};
@@ -37,7 +37,7 @@ fn topic_of(alloc: Global, tree: &Tree<'_>, service: Service) -> Result<Topic, T
 {
     match service {
         Service::Stop => {
-            required_row::<SubscribedStopTable>(alloc, tree, names::STOP_MONITORING_REQUEST)
+            required_row::<StopTopicTable>(alloc, tree, names::STOP_MONITORING_REQUEST)
         }
         Service::Timetable => {
             required_row::<TimetableTopicTable>(alloc, tree, names::ESTIMATED_TIMETABLE_REQUEST)

@@ -1,12 +1,11 @@
 -- The laws of the tables of topics, of requests that are answered at once, and of answers.
-use Rattle.std.proofs.Common.{◌≡◌, ℕ, Bool, true, false, Option, Some, None, Ok, refl, ap, subst, if◌then◌else◌}
+use Rattle.std.proofs.Common.{◌≡◌, Bool, true, false, Some, Ok, refl, ap, subst, if◌then◌else◌}
 use Rattle.serde_json.specs.Data.{Data, object, Members}
 use Rattle.siri_base.specs.declared.reason.Reason.TheVariants.{NotCarried}
 use Rattle.siri_json.specs.Canonical.{as_texts}
 use Rattle.siri_json.specs.TextsOfTrees.{TextsAreUtf8}
 use Rattle.siri_records.specs.declared.item.Service.{Service}
 use Rattle.siri_records.specs.declared.item.Service.TheVariants as service
-use Rattle.siri_topic.specs.declared.topics.StopTopic.{StopTopic}
 use Rattle.siri_topic.specs.declared.topics.Topic.{Topic}
 use Rattle.siri_topic.specs.declared.topics.Topic.TheVariants as topics
 use Rattle.siri_messages.specs.declared.requests.ServiceRequest.{ServiceRequest}
@@ -21,12 +20,11 @@ use Rattle.siri_tables.proofs.TableLaws.{spelled_read, written_read, spelled_pro
 use Rattle.siri_tables.proofs.ValueLaws.{name_laws, moment_laws, number_laws, flag_laws}
 use Rattle.siri_deliveries.specs.declared.names.TheConstants.{LINE_DIRECTION}
 use Rattle.siri_deliveries.specs.Topics.{stop_topic_table, make_stop_topic, read_stop_topic_rows, written_stop_topic, stop_topic}
-use Rattle.siri_deliveries.specs.Topics.{without_maximum, subscribed_stop_topic, line_direction_table, make_line_direction, line_direction}
+use Rattle.siri_deliveries.specs.Topics.{line_direction_table, make_line_direction, line_direction}
 use Rattle.siri_deliveries.specs.Topics.{written_line_direction, a_line_direction, timetable_topic_table, make_timetable_topic}
 use Rattle.siri_deliveries.specs.Topics.{timetable_topic, written_timetable_topic, vehicle_topic_table, make_vehicle_topic, vehicle_topic}
 use Rattle.siri_deliveries.specs.Topics.{written_vehicle_topic, situation_topic_table, make_situation_topic, situation_topic}
 use Rattle.siri_deliveries.specs.Topics.{written_situation_topic, topic_rows, written_topic, topic_writing, IsProperTopic, a_topic}
-use Rattle.siri_deliveries.specs.Topics.{subscribed_rows, maximum_of, a_subscribed_topic}
 use Rattle.siri_wire.specs.Requests.{service_request_table, make_service_request, read_service_request_rows, written_service_request}
 use Rattle.siri_wire.specs.Requests.{asks_nothing, unless_for_nothing, service_request}
 use Rattle.siri_wire.specs.Subscriptions.{response_status_table, make_response_status, response_status, written_response_status}
@@ -34,7 +32,7 @@ use Rattle.siri_wire.specs.Subscriptions.{a_response_status, subscription_respon
 use Rattle.siri_wire.specs.Terminations.{termination_status_table, make_termination_status, termination_status, written_termination_status}
 use Rattle.siri_wire.specs.Terminations.{a_termination_status, termination_response_table, make_termination_response}
 use Rattle.siri_wire_laws.specs.ProperRequests.{IsProperServiceRequest}
-use Rattle.siri_wire_laws.specs.SpellingRequests.{SpellsTopic, SpellsSubscribed, SpellsServiceRequest}
+use Rattle.siri_wire_laws.specs.SpellingRequests.{SpellsTopic, SpellsServiceRequest}
 use Rattle.siri_wire_laws.proofs.ProperReadValues.{spelled_yields}
 use Rattle.siri_wire_laws.proofs.RowLaws.{whole_span_laws, error_laws, with_default_laws, entries_laws}
 
@@ -155,47 +153,11 @@ topic_entries s = record {
   yields = spelled_yields (topic_rows s) (IsProperTopic s) (λ d x u e. topic_proper s d x u (topic_spelled s d x e));
 }
 
--- ---- topics of a subscription to a service
-
-no_maximum_is : (t : StopTopic) (most : Option ℕ) (x : Topic) → without_maximum t most ≡ Ok x → (most ≡ None) × (topics.Stop t ≡ x)
-no_maximum_is t None x e = (refl, ok_is (topics.Stop t) x e)
-no_maximum_is t (Some most) x e = absurd cc
-
-no_maximum_ok : (t : StopTopic) (most : Option ℕ) → most ≡ None → without_maximum t most ≡ Ok (topics.Stop t)
-no_maximum_ok t None none = refl
-no_maximum_ok t (Some most) none = absurd (cc none)
-
-pub subscribed_spelled : (s : Service) (d : Data) (x : Topic) → subscribed_rows s d ≡ Ok x → SpellsSubscribed s d x
-unfolding subscribed_stop_topic read_stop_topic_rows timetable_topic vehicle_topic situation_topic
-subscribed_spelled service.Stop d x e =
-    let r = bind_ok (read_stop_topic_rows d) _ x e in
-    let m = no_maximum_is r.0 r.0.maximum_stop_visits x r.2 in
-    subst (λ (y : Topic). SpellsSubscribed service.Stop d y) m.1 (record { rows = read_spelled stop_topic_laws d r.0 r.1; no_maximum = m.0 })
-subscribed_spelled service.Timetable d x e = of_any timetable_topic_laws topics.Timetable d x
-    (SpellsSubscribed service.Timetable d) e (λ y is. record { rows = is; no_maximum = refl })
-subscribed_spelled service.Vehicle d x e = of_any vehicle_topic_laws topics.Vehicle d x
-    (SpellsSubscribed service.Vehicle d) e (λ y is. record { rows = is; no_maximum = refl })
-subscribed_spelled service.Situation d x e = of_any situation_topic_laws topics.Situation d x
-    (SpellsSubscribed service.Situation d) e (λ y is. record { rows = is; no_maximum = refl })
-
-pub subscribed_read : (s : Service) (d : Data) (x : Topic) → SpellsSubscribed s d x → subscribed_rows s d ≡ Ok x
-unfolding subscribed_stop_topic read_stop_topic_rows
-subscribed_read service.Stop d (topics.Stop t) s_ = rw (spelled_read stop_topic_laws d t s_.rows) (no_maximum_ok t t.maximum_stop_visits s_.no_maximum)
-subscribed_read service.Stop d x s_ = absurd s_.rows
-subscribed_read s d x s_ = topic_read s d x s_.rows
-
-subscribed_back : (s : Service) (x : Topic) → IsProperTopic s x → maximum_of x ≡ None → subscribed_rows s (as_texts (written_topic x)) ≡ Ok x
-unfolding subscribed_stop_topic read_stop_topic_rows written_topic written_stop_topic
-subscribed_back service.Stop (topics.Stop t) p none = rw (written_read stop_topic_laws t p) (no_maximum_ok t t.maximum_stop_visits none)
-subscribed_back service.Stop x p none = absurd p
-subscribed_back s x p none = topic_back s x p
-
-pub subscribed_kind : (s : Service) → KindLaws 4 (a_subscribed_topic s)
-subscribed_kind s = record {
-  back = λ x p. let o = topic_object x in rw o.1 (table_back (subscribed_rows s) o.0 x (rw o.1 at (subscribed_back s x p.0 p.1)));
-  within = λ x p. topic_within s x p.0;
-  yields = spelled_yields (subscribed_rows s) (λ x. IsProperTopic s x × (maximum_of x ≡ None))
-      (λ d x u e. let s_ = subscribed_spelled s d x e in (topic_proper s d x u s_.rows, s_.no_maximum));
+pub topic_kind : (s : Service) → KindLaws 4 (a_topic s)
+topic_kind s = record {
+  back = λ x p. let o = topic_object x in rw o.1 (table_back (topic_rows s) o.0 x (rw o.1 at (topic_back s x p)));
+  within = topic_within s;
+  yields = spelled_yields (topic_rows s) (IsProperTopic s) (λ d x u e. topic_proper s d x u (topic_spelled s d x e));
 }
 
 -- ---- requests that are answered at once

@@ -31,7 +31,7 @@ use Rattle.siri_deliveries.specs.declared.names.TheConstants.{MESSAGE_IDENTIFIER
 use Rattle.siri_deliveries.specs.declared.names.TheConstants.{SITUATION_EXCHANGE_SUBSCRIPTION_REQUEST, STOP_MONITORING_SUBSCRIPTION_REQUEST}
 use Rattle.siri_deliveries.specs.declared.names.TheConstants.{SUBSCRIBER_REF, SUBSCRIPTION_CONTEXT, VEHICLE_MONITORING_SUBSCRIPTION_REQUEST}
 use Rattle.siri_deliveries.specs.Rows.{a_whole_span}
-use Rattle.siri_deliveries.specs.Topics.{a_subscribed_topic}
+use Rattle.siri_deliveries.specs.Topics.{a_topic}
 use Rattle.siri_wire.specs.Subscribers.{named_or, subscriber_or, SpellsSubscriber, the_subscriber}
 use Rattle.siri_wire.specs.Subscriptions.{request_of, topic_of, the_topic, slack_of, the_slack, is_fetched, SpellsMethod, written_method}
 use Rattle.siri_wire.specs.Subscriptions.{the_method, element_table, subscription_table, make_subscription, subscription}
@@ -45,7 +45,7 @@ use Rattle.siri_wire_laws.specs.ProperRequests.{IsProperSubscriptionRequest}
 use Rattle.siri_wire_laws.specs.SpellingRequests.{SpellsSubscription, SpellsSubscriptionRequest}
 use Rattle.siri_wire_laws.proofs.MessageValues.{inside_again, identifier_back, identifier_within}
 use Rattle.siri_wire_laws.proofs.RowLaws.{whole_span_laws, identifier_laws, with_default_laws, name_entries, entries_laws, optional_inside_laws}
-use Rattle.siri_wire_laws.proofs.RequestTables.{subscribed_kind, unless_is}
+use Rattle.siri_wire_laws.proofs.RequestTables.{topic_kind, unless_is}
 
 -- ---- the subscriber
 
@@ -91,7 +91,7 @@ ascii_request s = refl
 
 topic_laws : {S : Type 0} {of : S → Topic} (s : Service) → RowLaws 4 (the_topic s of)
 unfolding topic_of
-topic_laws s = mandatory_laws {kind = a_subscribed_topic s} (subscribed_kind s) (ascii_request s) refl
+topic_laws s = mandatory_laws {kind = a_topic s} (topic_kind s) (ascii_request s) refl
 
 slack_laws : {S : Type 0} {of : S → ℤ} (s : Service) → RowLaws 4 (the_slack s of)
 unfolding slack_of

@@ -1,6 +1,6 @@
 -- The relation of trees and of requests and their answers: the member of each row spells the field's value under the row's
 -- rule, or is absent where there is none. Members that no row names are free.
-use Rattle.std.specs.Prelude.{◌≡◌, ℕ, List, false, Option, None}
+use Rattle.std.specs.Prelude.{◌≡◌, ℕ, List, false, Option}
 use Rattle.serde_json.specs.Data.{Data}
 use Rattle.siri_records.specs.declared.item.Service.{Service}
 use Rattle.siri_records.specs.declared.item.Service.TheVariants as service
@@ -20,7 +20,7 @@ use Rattle.siri_wire.specs.Requests.{service_request_table, asks_nothing}
 use Rattle.siri_wire.specs.Subscriptions.{subscription_table, requests_nothing, requested_by, subscription_request_table}
 use Rattle.siri_wire.specs.Subscriptions.{response_status_table, subscription_response_table}
 use Rattle.siri_wire.specs.Terminations.{termination_table, termination_status_table, termination_response_table}
-use Rattle.siri_deliveries.specs.Topics.{line_direction_table, stop_topic_table, timetable_topic_table, vehicle_topic_table, situation_topic_table, maximum_of}
+use Rattle.siri_deliveries.specs.Topics.{line_direction_table, stop_topic_table, timetable_topic_table, vehicle_topic_table, situation_topic_table}
 
 -- ---- topics
 
@@ -35,11 +35,6 @@ SpellsTopic service.Timetable d (topic.Timetable t) = AllSpelled timetable_topic
 SpellsTopic service.Vehicle d (topic.Vehicle t) = AllSpelled vehicle_topic_table d t
 SpellsTopic service.Situation d (topic.Situation t) = AllSpelled situation_topic_table d t
 SpellsTopic s d t = ⊥
-
--- the topic of a subscription, which has no most of visits
-pub record SpellsSubscribed (s : Service) (d : Data) (t : Topic) : Type 0 where
-  pub rows : SpellsTopic s d t
-  pub no_maximum : maximum_of t ≡ None
 
 -- ---- requests that are answered at once
 

@@ -10,15 +10,14 @@ ghost use Rattle.siri_topic.specs.declared.topics.LineDirection.{LineDirection};
 ghost use Rattle.siri_topic.specs.declared.topics.Topic.{Topic};
 ghost use Rattle.siri_messages.specs.declared.subscriptions.ResponseStatus.{ResponseStatus};
 ghost use Rattle.siri_messages.specs.declared.terminations.TerminationResponseStatus.{TerminationResponseStatus};
-ghost use Rattle.siri_wire_laws.specs.SpellingRequests.{SpellsTopic, SpellsSubscribed, SpellsLineDirection, SpellsSubscription, SpellsResponseStatus, SpellsTerminationStatus};
+ghost use Rattle.siri_wire_laws.specs.SpellingRequests.{SpellsTopic, SpellsLineDirection, SpellsSubscription, SpellsResponseStatus, SpellsTerminationStatus};
 ghost use Rattle.siri_wire.specs.Subscriptions.{subscription, response_status};
 ghost use Rattle.siri_wire.specs.Terminations.{termination_status};
-ghost use Rattle.siri_deliveries.specs.Topics.{stop_topic, subscribed_stop_topic, line_direction, timetable_topic, vehicle_topic, situation_topic};
+ghost use Rattle.siri_deliveries.specs.Topics.{stop_topic, line_direction, timetable_topic, vehicle_topic, situation_topic};
 
 /// A topic of each service, and a line with its direction, is read from an object exactly where the object spells it.
 pub fn topics_are_spelled()
     ensures of_stop { (d : Data) (t : Topic) → (stop_topic d ≡ Ok t) ↔ SpellsTopic service.Stop d t }
-    ensures of_subscribed_stop { (d : Data) (t : Topic) → (subscribed_stop_topic d ≡ Ok t) ↔ SpellsSubscribed service.Stop d t }
     ensures of_timetable { (d : Data) (t : Topic) → (timetable_topic d ≡ Ok t) ↔ SpellsTopic service.Timetable d t }
     ensures of_vehicle { (d : Data) (t : Topic) → (vehicle_topic d ≡ Ok t) ↔ SpellsTopic service.Vehicle d t }
     ensures of_situation { (d : Data) (t : Topic) → (situation_topic d ≡ Ok t) ↔ SpellsTopic service.Situation d t }

@@ -1,14 +1,11 @@
 use Rattle.siri_records.specs.declared.item.Service.TheVariants as service
 use Rattle.siri_tables.proofs.TableLaws.{is_spelled}
 use Rattle.siri_deliveries.specs.Topics.{line_direction}
-use Rattle.siri_wire_laws.proofs.RequestTables.{line_direction_laws, topic_spelled, topic_read, subscribed_spelled, subscribed_read}
+use Rattle.siri_wire_laws.proofs.RequestTables.{line_direction_laws, topic_spelled, topic_read}
 use Rattle.siri_wire_laws.proofs.request_laws.topics_are_spelled.Goals as goal
 
 pub returns-clause-of_stop : goal.returns-clause-of_stop
 returns-clause-of_stop c = λ d t. (topic_spelled service.Stop d t, topic_read service.Stop d t)
-
-pub returns-clause-of_subscribed_stop : goal.returns-clause-of_subscribed_stop
-returns-clause-of_subscribed_stop c = λ d t. (subscribed_spelled service.Stop d t, subscribed_read service.Stop d t)
 
 pub returns-clause-of_timetable : goal.returns-clause-of_timetable
 returns-clause-of_timetable c = λ d t. (topic_spelled service.Timetable d t, topic_read service.Timetable d t)
