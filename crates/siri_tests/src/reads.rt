@@ -13,6 +13,10 @@ const EIGHT: i64 = 1_714_550_400_000;
 const SUBSCRIBE: &str =
     "{\"Siri\":{\"SubscriptionRequest\":{\"MessageIdentifier\":\"1\",\"RequestTimestamp\":\"2024-05-01T08:00:00Z\",\"RequestorRef\":\"c1\",\"StopMonitoringSubscriptionRequest\":[{\"ChangeBeforeUpdates\":\"PT1M\",\"IncrementalUpdates\":true,\"InitialTerminationTime\":\"2024-05-01T20:00:00Z\",\"StopMonitoringRequest\":{\"MonitoringRef\":\"S1\",\"PreviewInterval\":\"PT1H\"},\"SubscriberRef\":\"c1\",\"SubscriptionIdentifier\":\"S\"}]}}}";
 
+/// The next two departures of a stop, however late.
+const SUBSCRIBE_TO_TWO: &str =
+    "{\"Siri\":{\"SubscriptionRequest\":{\"MessageIdentifier\":\"1\",\"RequestTimestamp\":\"2024-05-01T08:00:00Z\",\"RequestorRef\":\"c1\",\"StopMonitoringSubscriptionRequest\":[{\"IncrementalUpdates\":true,\"InitialTerminationTime\":\"2024-05-01T20:00:00Z\",\"StopMonitoringRequest\":{\"MaximumStopVisits\":2,\"MonitoringRef\":\"S1\"},\"SubscriberRef\":\"c1\",\"SubscriptionIdentifier\":\"S\"}]}}}";
+
 /// Whatever a producer answers is let go.
 fn take(alloc: Global, producer: &mut Producer, document: &str) -> Result<(), Fail> {
     let message = Rc::new(alloc, decode(alloc, document.as_bytes())?)?;
@@ -29,14 +33,15 @@ fn settle(alloc: Global, producer: &mut Producer) -> Result<u64, Fail> {
     Ok(producer.reads().saturating_sub(before))
 }
 
-/// A feed of so many visits of one stop, from 08:30 on, a second apart, fifty to a minute.
-fn visits(alloc: Global, count: u32) -> Result<String, Fail> {
+/// A feed of the visits of one stop from one number on and before another: from 08:30 on, a second apart, fifty to a
+/// minute.
+fn visits(alloc: Global, first: u32, end: u32) -> Result<String, Fail> {
     let mut text = String::new(alloc);
     text.push_str(
         "{\"Siri\":{\"ServiceDelivery\":{\"StopMonitoringDelivery\":[{\"MonitoredStopVisit\":[",
     )?;
-    for number in 0..count {
-        if number > 0 {
+    for number in first..end {
+        if number > first {
             text.push_str(",")?;
         }
         let minute = 30 + number / 50;
@@ -65,7 +70,7 @@ fn a_settle_reads_what_changed(rt: HostRuntime) -> Result<(), Fail> {
     let eight = Moment::new(EIGHT).ok_or("no moment")?;
     let later = Moment::new(EIGHT + 60_000).ok_or("no moment")?;
     let mut producer = Producer::new(alloc, Name::new(alloc, "p")?, 1, eight)?;
-    take(alloc, &mut producer, visits(alloc, 1000)?.as_str())?;
+    take(alloc, &mut producer, visits(alloc, 0, 1000)?.as_str())?;
     take(alloc, &mut producer, SUBSCRIBE)?;
     let first = settle(alloc, &mut producer)?;
     assert_eq!(rt; first, 1000);
@@ -79,11 +84,38 @@ fn a_settle_reads_what_changed(rt: HostRuntime) -> Result<(), Fail> {
     assert_eq!(rt; producer.quiet(&name, &identifier), Some(1));
     let quiet = settle(alloc, &mut producer)?;
     assert_eq!(rt; quiet, 0);
-    take(alloc, &mut producer, visits(alloc, 1)?.as_str())?;
+    take(alloc, &mut producer, visits(alloc, 0, 1)?.as_str())?;
     let fed = settle(alloc, &mut producer)?;
     assert!(rt; fed <= 1);
     producer.clock(later);
     let clocked = settle(alloc, &mut producer)?;
     assert_eq!(rt; clocked, 0);
+    Ok(())
+}
+
+#[test]
+fn a_settle_reads_up_to_the_last_departure_shown(rt: HostRuntime) -> Result<(), Fail> {
+    let alloc = rt.alloc();
+    let eight = Moment::new(EIGHT).ok_or("no moment")?;
+    let left = Moment::new(EIGHT + 30 * 60_000 + 1).ok_or("no moment")?;
+    let mut producer = Producer::new(alloc, Name::new(alloc, "p")?, 1, eight)?;
+    take(alloc, &mut producer, visits(alloc, 0, 1000)?.as_str())?;
+    take(alloc, &mut producer, SUBSCRIBE_TO_TWO)?;
+    let first = settle(alloc, &mut producer)?;
+    assert!(rt; first <= 1000);
+    take(alloc, &mut producer, acknowledgement(alloc, 1)?.as_str())?;
+    let quiet = settle(alloc, &mut producer)?;
+    assert_eq!(rt; quiet, 0);
+    let name = Name::new(alloc, "c1")?;
+    let identifier = Name::new(alloc, "S")?;
+    assert_eq!(rt; producer.quiet(&name, &identifier), Some(1));
+    take(alloc, &mut producer, visits(alloc, 999, 1000)?.as_str())?;
+    let fed = settle(alloc, &mut producer)?;
+    assert!(rt; fed <= 3);
+    assert_eq!(rt; producer.quiet(&name, &identifier), Some(1));
+    producer.clock(left);
+    let clocked = settle(alloc, &mut producer)?;
+    assert!(rt; clocked <= 3);
+    assert_eq!(rt; producer.quiet(&name, &identifier), None);
     Ok(())
 }

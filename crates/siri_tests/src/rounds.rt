@@ -468,6 +468,75 @@ const STATUS_TOLD: &str = concat!(
     "unknown c2\n",
 );
 
+/// A display of the next two departures: as one leaves, the next one comes.
+const NEXT_TWO: &str = concat!(
+    "start 2024-05-01T08:00:00Z\n",
+    "feed {\"Siri\":{\"ServiceDelivery\":{\"StopMonitoringDelivery\":[{\"MonitoredStopVisit\":[{\"ItemIdentifier\":\"a\",\"MonitoredVehicleJourney\":{\"LineRef\":\"L1\",\"MonitoredCall\":{\"ExpectedDepartureTime\":\"2024-05-01T08:10:00Z\"}},\"MonitoringRef\":\"S1\"},{\"ItemIdentifier\":\"b\",\"MonitoredVehicleJourney\":{\"LineRef\":\"L1\",\"MonitoredCall\":{\"ExpectedDepartureTime\":\"2024-05-01T08:20:00Z\"}},\"MonitoringRef\":\"S1\"},{\"ItemIdentifier\":\"c\",\"MonitoredVehicleJourney\":{\"LineRef\":\"L1\",\"MonitoredCall\":{\"ExpectedDepartureTime\":\"2024-05-01T08:30:00Z\"}},\"MonitoringRef\":\"S1\"}]}]}}}\n",
+    "subscribe c1 {\"StopMonitoringSubscriptionRequest\":{\"ChangeBeforeUpdates\":\"PT0S\",\"InitialTerminationTime\":\"2024-05-01T20:00:00Z\",\"StopMonitoringRequest\":{\"MaximumStopVisits\":2,\"MonitoringRef\":\"S1\",\"PreviewInterval\":\"PT1H\"},\"SubscriptionIdentifier\":\"S\"}}\n",
+    "deliver 1\n",
+    "deliver 3\n",
+    "deliver 4\n",
+    "clock 2024-05-01T08:10:00.001Z\n",
+);
+
+/// What is told of it.
+const NEXT_TWO_TOLD: &str = concat!(
+    "started 1\n",
+    "fed 3 0 0\n",
+    "packet 1 to producer {\"Siri\":{\"SubscriptionRequest\":{\"MessageIdentifier\":\"1\",\"RequestTimestamp\":\"2024-05-01T08:00:00Z\",\"RequestorRef\":\"c1\",\"StopMonitoringSubscriptionRequest\":[{\"ChangeBeforeUpdates\":\"PT0S\",\"IncrementalUpdates\":true,\"InitialTerminationTime\":\"2024-05-01T20:00:00Z\",\"StopMonitoringRequest\":{\"MaximumStopVisits\":2,\"MonitoringRef\":\"S1\",\"PreviewInterval\":\"PT1H\"},\"SubscriberRef\":\"c1\",\"SubscriptionIdentifier\":\"S\"}]}}}\n",
+    "took producer Subscribed\n",
+    "packet 2 to c1 {\"Siri\":{\"SubscriptionResponse\":{\"RequestMessageRef\":\"1\",\"ResponseStatus\":[{\"Status\":true,\"SubscriberRef\":\"c1\",\"SubscriptionRef\":\"S\",\"ValidUntil\":\"2024-05-01T20:00:00Z\"}],\"ResponseTimestamp\":\"2024-05-01T08:00:00Z\"}}}\n",
+    "packet 3 to c1 {\"Siri\":{\"ServiceDelivery\":{\"ProducerRef\":\"producer\",\"RequestMessageRef\":\"1\",\"ResponseTimestamp\":\"2024-05-01T08:00:00Z\",\"Status\":true,\"StopMonitoringDelivery\":[{\"Extensions\":{\"Part\":1,\"Round\":1,\"Start\":1},\"MonitoredStopVisit\":[{\"ItemIdentifier\":\"a\",\"MonitoredVehicleJourney\":{\"LineRef\":\"L1\",\"MonitoredCall\":{\"ExpectedDepartureTime\":\"2024-05-01T08:10:00Z\"}},\"MonitoringRef\":\"S1\"},{\"ItemIdentifier\":\"b\",\"MonitoredVehicleJourney\":{\"LineRef\":\"L1\",\"MonitoredCall\":{\"ExpectedDepartureTime\":\"2024-05-01T08:20:00Z\"}},\"MonitoringRef\":\"S1\"}],\"ResponseTimestamp\":\"2024-05-01T08:00:00Z\",\"Status\":true,\"SubscriberRef\":\"c1\",\"SubscriptionRef\":\"S\"}]}}}\n",
+    "took c1 Applied 1\n",
+    "packet 4 to producer {\"Siri\":{\"DataReceivedAcknowledgement\":{\"ConsumerRef\":\"c1\",\"Extensions\":{\"Number\":1,\"Part\":1,\"Round\":1,\"Start\":1,\"SubscriptionRef\":\"S\"},\"ResponseTimestamp\":\"2024-05-01T08:00:00Z\",\"Status\":true}}}\n",
+    "took producer Acknowledged\n",
+    "packet 5 to c1 {\"Siri\":{\"ServiceDelivery\":{\"ProducerRef\":\"producer\",\"RequestMessageRef\":\"1\",\"ResponseTimestamp\":\"2024-05-01T08:10:00.001Z\",\"Status\":true,\"StopMonitoringDelivery\":[{\"Extensions\":{\"Part\":1,\"Round\":2,\"Start\":1},\"MonitoredStopVisit\":[{\"ItemIdentifier\":\"c\",\"MonitoredVehicleJourney\":{\"LineRef\":\"L1\",\"MonitoredCall\":{\"ExpectedDepartureTime\":\"2024-05-01T08:30:00Z\"}},\"MonitoringRef\":\"S1\"}],\"MonitoredStopVisitCancellation\":[{\"ItemRef\":\"a\",\"MonitoringRef\":\"S1\"}],\"ResponseTimestamp\":\"2024-05-01T08:10:00.001Z\",\"Status\":true,\"SubscriberRef\":\"c1\",\"SubscriptionRef\":\"S\"}]}}}\n",
+);
+
+/// A departure that was second takes the place of the first, which moved by less than is to be told.
+const NEARER: &str = concat!(
+    "start 2024-05-01T08:00:00Z\n",
+    "feed {\"Siri\":{\"ServiceDelivery\":{\"StopMonitoringDelivery\":[{\"MonitoredStopVisit\":[{\"ItemIdentifier\":\"a\",\"MonitoredVehicleJourney\":{\"LineRef\":\"L1\",\"MonitoredCall\":{\"ExpectedDepartureTime\":\"2024-05-01T08:10:00Z\"}},\"MonitoringRef\":\"S1\"},{\"ItemIdentifier\":\"b\",\"MonitoredVehicleJourney\":{\"LineRef\":\"L1\",\"MonitoredCall\":{\"ExpectedDepartureTime\":\"2024-05-01T08:12:00Z\"}},\"MonitoringRef\":\"S1\"}]}]}}}\n",
+    "subscribe c1 {\"StopMonitoringSubscriptionRequest\":{\"ChangeBeforeUpdates\":\"PT5M\",\"InitialTerminationTime\":\"2024-05-01T20:00:00Z\",\"StopMonitoringRequest\":{\"MaximumStopVisits\":1,\"MonitoringRef\":\"S1\",\"PreviewInterval\":\"PT1H\"},\"SubscriptionIdentifier\":\"S\"}}\n",
+    "deliver 1\n",
+    "deliver 3\n",
+    "deliver 4\n",
+    "feed {\"Siri\":{\"ServiceDelivery\":{\"StopMonitoringDelivery\":[{\"MonitoredStopVisit\":[{\"ItemIdentifier\":\"a\",\"MonitoredVehicleJourney\":{\"LineRef\":\"L1\",\"MonitoredCall\":{\"ExpectedDepartureTime\":\"2024-05-01T08:13:00Z\"}},\"MonitoringRef\":\"S1\"}]}]}}}\n",
+);
+
+/// What is told of it.
+const NEARER_TOLD: &str = concat!(
+    "started 1\n",
+    "fed 2 0 0\n",
+    "packet 1 to producer {\"Siri\":{\"SubscriptionRequest\":{\"MessageIdentifier\":\"1\",\"RequestTimestamp\":\"2024-05-01T08:00:00Z\",\"RequestorRef\":\"c1\",\"StopMonitoringSubscriptionRequest\":[{\"ChangeBeforeUpdates\":\"PT5M\",\"IncrementalUpdates\":true,\"InitialTerminationTime\":\"2024-05-01T20:00:00Z\",\"StopMonitoringRequest\":{\"MaximumStopVisits\":1,\"MonitoringRef\":\"S1\",\"PreviewInterval\":\"PT1H\"},\"SubscriberRef\":\"c1\",\"SubscriptionIdentifier\":\"S\"}]}}}\n",
+    "took producer Subscribed\n",
+    "packet 2 to c1 {\"Siri\":{\"SubscriptionResponse\":{\"RequestMessageRef\":\"1\",\"ResponseStatus\":[{\"Status\":true,\"SubscriberRef\":\"c1\",\"SubscriptionRef\":\"S\",\"ValidUntil\":\"2024-05-01T20:00:00Z\"}],\"ResponseTimestamp\":\"2024-05-01T08:00:00Z\"}}}\n",
+    "packet 3 to c1 {\"Siri\":{\"ServiceDelivery\":{\"ProducerRef\":\"producer\",\"RequestMessageRef\":\"1\",\"ResponseTimestamp\":\"2024-05-01T08:00:00Z\",\"Status\":true,\"StopMonitoringDelivery\":[{\"Extensions\":{\"Part\":1,\"Round\":1,\"Start\":1},\"MonitoredStopVisit\":[{\"ItemIdentifier\":\"a\",\"MonitoredVehicleJourney\":{\"LineRef\":\"L1\",\"MonitoredCall\":{\"ExpectedDepartureTime\":\"2024-05-01T08:10:00Z\"}},\"MonitoringRef\":\"S1\"}],\"ResponseTimestamp\":\"2024-05-01T08:00:00Z\",\"Status\":true,\"SubscriberRef\":\"c1\",\"SubscriptionRef\":\"S\"}]}}}\n",
+    "took c1 Applied 1\n",
+    "packet 4 to producer {\"Siri\":{\"DataReceivedAcknowledgement\":{\"ConsumerRef\":\"c1\",\"Extensions\":{\"Number\":1,\"Part\":1,\"Round\":1,\"Start\":1,\"SubscriptionRef\":\"S\"},\"ResponseTimestamp\":\"2024-05-01T08:00:00Z\",\"Status\":true}}}\n",
+    "took producer Acknowledged\n",
+    "fed 1 0 0\n",
+    "packet 5 to c1 {\"Siri\":{\"ServiceDelivery\":{\"ProducerRef\":\"producer\",\"RequestMessageRef\":\"1\",\"ResponseTimestamp\":\"2024-05-01T08:00:00Z\",\"Status\":true,\"StopMonitoringDelivery\":[{\"Extensions\":{\"Part\":1,\"Round\":2,\"Start\":1},\"MonitoredStopVisit\":[{\"ItemIdentifier\":\"b\",\"MonitoredVehicleJourney\":{\"LineRef\":\"L1\",\"MonitoredCall\":{\"ExpectedDepartureTime\":\"2024-05-01T08:12:00Z\"}},\"MonitoringRef\":\"S1\"}],\"MonitoredStopVisitCancellation\":[{\"ItemRef\":\"a\",\"MonitoringRef\":\"S1\"}],\"ResponseTimestamp\":\"2024-05-01T08:00:00Z\",\"Status\":true,\"SubscriberRef\":\"c1\",\"SubscriptionRef\":\"S\"}]}}}\n",
+);
+
+/// The next departure, of two at one time: that of the smaller key, though it was fed later.
+const TIE: &str = concat!(
+    "start 2024-05-01T08:00:00Z\n",
+    "feed {\"Siri\":{\"ServiceDelivery\":{\"StopMonitoringDelivery\":[{\"MonitoredStopVisit\":[{\"ItemIdentifier\":\"b\",\"MonitoredVehicleJourney\":{\"LineRef\":\"L1\",\"MonitoredCall\":{\"ExpectedDepartureTime\":\"2024-05-01T08:10:00Z\"}},\"MonitoringRef\":\"S1\"},{\"ItemIdentifier\":\"a\",\"MonitoredVehicleJourney\":{\"LineRef\":\"L1\",\"MonitoredCall\":{\"ExpectedDepartureTime\":\"2024-05-01T08:10:00Z\"}},\"MonitoringRef\":\"S1\"}]}]}}}\n",
+    "subscribe c1 {\"StopMonitoringSubscriptionRequest\":{\"ChangeBeforeUpdates\":\"PT5M\",\"InitialTerminationTime\":\"2024-05-01T20:00:00Z\",\"StopMonitoringRequest\":{\"MaximumStopVisits\":1,\"MonitoringRef\":\"S1\",\"PreviewInterval\":\"PT1H\"},\"SubscriptionIdentifier\":\"S\"}}\n",
+    "deliver 1\n",
+);
+
+/// What is told of it.
+const TIE_TOLD: &str = concat!(
+    "started 1\n",
+    "fed 2 0 0\n",
+    "packet 1 to producer {\"Siri\":{\"SubscriptionRequest\":{\"MessageIdentifier\":\"1\",\"RequestTimestamp\":\"2024-05-01T08:00:00Z\",\"RequestorRef\":\"c1\",\"StopMonitoringSubscriptionRequest\":[{\"ChangeBeforeUpdates\":\"PT5M\",\"IncrementalUpdates\":true,\"InitialTerminationTime\":\"2024-05-01T20:00:00Z\",\"StopMonitoringRequest\":{\"MaximumStopVisits\":1,\"MonitoringRef\":\"S1\",\"PreviewInterval\":\"PT1H\"},\"SubscriberRef\":\"c1\",\"SubscriptionIdentifier\":\"S\"}]}}}\n",
+    "took producer Subscribed\n",
+    "packet 2 to c1 {\"Siri\":{\"SubscriptionResponse\":{\"RequestMessageRef\":\"1\",\"ResponseStatus\":[{\"Status\":true,\"SubscriberRef\":\"c1\",\"SubscriptionRef\":\"S\",\"ValidUntil\":\"2024-05-01T20:00:00Z\"}],\"ResponseTimestamp\":\"2024-05-01T08:00:00Z\"}}}\n",
+    "packet 3 to c1 {\"Siri\":{\"ServiceDelivery\":{\"ProducerRef\":\"producer\",\"RequestMessageRef\":\"1\",\"ResponseTimestamp\":\"2024-05-01T08:00:00Z\",\"Status\":true,\"StopMonitoringDelivery\":[{\"Extensions\":{\"Part\":1,\"Round\":1,\"Start\":1},\"MonitoredStopVisit\":[{\"ItemIdentifier\":\"a\",\"MonitoredVehicleJourney\":{\"LineRef\":\"L1\",\"MonitoredCall\":{\"ExpectedDepartureTime\":\"2024-05-01T08:10:00Z\"}},\"MonitoringRef\":\"S1\"}],\"ResponseTimestamp\":\"2024-05-01T08:00:00Z\",\"Status\":true,\"SubscriberRef\":\"c1\",\"SubscriptionRef\":\"S\"}]}}}\n",
+);
+
 /// Seventeen consumers, of which the last is one too many.
 const SEVENTEEN: &str = concat!(
     "start 2024-05-01T08:00:00Z\n",
@@ -527,6 +596,24 @@ const WHOLE: [(&str, &str); 13] = [
     (RESTART, RESTART_TOLD),
     (STATUS, STATUS_TOLD),
 ];
+
+/// Each script of subscriptions to the next so many visits, with its report.
+const LIMITED: [(&str, &str); 3] = [
+    (NEXT_TWO, NEXT_TWO_TOLD),
+    (NEARER, NEARER_TOLD),
+    (TIE, TIE_TOLD),
+];
+
+#[test]
+fn scripts_of_the_next_visits_bring_their_reports(rt: HostRuntime) -> Result<(), Fail> {
+    for (place, (script, report)) in LIMITED.iter().enumerate() {
+        assert!(rt;
+            brings(rt.alloc(), &["replay"], script.as_bytes(), report, 0, "")?,
+            "script {place}"
+        );
+    }
+    Ok(())
+}
 
 #[test]
 fn scripts_of_subscriptions_bring_their_reports(rt: HostRuntime) -> Result<(), Fail> {
