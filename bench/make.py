@@ -6,7 +6,8 @@ line, and asks A times for those of a stop; `make.py sorted N A` the same with v
 `make.py subscribed N S C` a script of N such visits, 100 to a stop, of S subscriptions to one stop each, and of C changes of one
 visit each, in which every packet is delivered in order; `make.py shared N S C` the same with subscriptions to one stop, the first, so
 that each shows each change; `make.py wide N S C` with one stop of all visits; `make.py ticks N S C` as `subscribed`, with clock lines
-that pass no departure in the place of changes. It goes to standard output."""
+that pass no departure in the place of changes; `make.py nearest N S C` with changes of the five departures of a stop that come first, and
+`make.py limited N S C` the same with MaximumStopVisits 5. It goes to standard output."""
 import json
 import sys
 
@@ -107,9 +108,14 @@ def in_order(count, asks):
     stops(count, asks, in_order=True)
 
 
-def subscribed(count, subscriptions, changes, number_of_stops=0, stops_asked=0, ticks=False):
+def expected_at(visit):
+    return visit["MonitoredVehicleJourney"]["MonitoredCall"]["ExpectedDepartureTime"]
+
+
+def subscribed(count, subscriptions, changes, number_of_stops=0, stops_asked=0, ticks=False, nearest=0, limit=None):
     """Every packet is delivered as soon as it is sent: a request, its response, the parts of the first round, each with its
-    acknowledgement; and of each change the round and its acknowledgement for each subscription that shows it."""
+    acknowledgement; and of each change the round and its acknowledgement for each subscription that shows it. The changes are of
+    any visit, or of so many of each stop that come first."""
     print("start 2024-05-01T04:00:00Z")
     number_of_stops = number_of_stops or count // 100
     stops_asked = stops_asked or number_of_stops
@@ -127,17 +133,25 @@ def subscribed(count, subscriptions, changes, number_of_stops=0, stops_asked=0, 
     for number in range(subscriptions):
         wanted = {"SubscriptionIdentifier": "s%d" % number, "InitialTerminationTime": "2024-05-31T00:00:00Z"}
         wanted["StopMonitoringRequest"] = {"MonitoringRef": stop_name(number % stops_asked), "PreviewInterval": "P1D"}
+        if limit:
+            wanted["StopMonitoringRequest"]["MaximumStopVisits"] = limit
         print("subscribe c%d" % (number % 16), json.dumps({"StopMonitoringSubscriptionRequest": wanted}, separators=(",", ":")))
-        deliver(2 + 2 * -(-a_stop // 100))
+        deliver(2 + 2 * -(-(limit or a_stop) // 100))
     if ticks:
         for tick in range(changes):
             print("clock 2024-05-01T04:00:%02d.%03dZ" % (tick // 1000 % 60, tick % 1000))
         return
     for change in range(changes):
-        place = change % subscriptions % stops_asked * a_stop + change // subscriptions % a_stop
-        visit = visits[place]
-        # (half a second, which no visit has before)
-        expected = clock(6 * 3600 + change * 61 % (16 * 3600)).replace("+", ".5+")
+        first = change % subscriptions % stops_asked * a_stop
+        again = change // subscriptions
+        if nearest:
+            visit = sorted(visits[first : first + a_stop], key=expected_at)[again % nearest]
+            # (each time another tenth of its second, so their order stays)
+            expected = "%s.%d+02:00" % (expected_at(visit)[:19], 1 + again // nearest % 9)
+        else:
+            visit = visits[first + again % a_stop]
+            # (half a second, which no visit has before)
+            expected = clock(6 * 3600 + change * 61 % (16 * 3600)).replace("+", ".5+")
         visit["MonitoredVehicleJourney"]["MonitoredCall"]["ExpectedDepartureTime"] = expected
         put("feed", {"ServiceDelivery": {"StopMonitoringDelivery": [{"MonitoredStopVisit": [visit]}]}})
         deliver(2 * len([number for number in range(subscriptions) if number % stops_asked == change % subscriptions % stops_asked]))
@@ -155,4 +169,12 @@ def ticks(count, subscriptions, changes):
     subscribed(count, subscriptions, changes, ticks=True)
 
 
-{"lines": lines, "visits": visits, "delivery": delivery, "stops": stops, "sorted": in_order, "subscribed": subscribed, "shared": shared, "wide": wide, "ticks": ticks}[sys.argv[1]](*map(int, sys.argv[2:]))
+def nearest(count, subscriptions, changes):
+    subscribed(count, subscriptions, changes, nearest=5)
+
+
+def limited(count, subscriptions, changes):
+    subscribed(count, subscriptions, changes, nearest=5, limit=5)
+
+
+{"lines": lines, "visits": visits, "delivery": delivery, "stops": stops, "sorted": in_order, "subscribed": subscribed, "shared": shared, "wide": wide, "ticks": ticks, "nearest": nearest, "limited": limited}[sys.argv[1]](*map(int, sys.argv[2:]))

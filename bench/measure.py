@@ -133,6 +133,8 @@ LOADS = [
     ("shared", 20_000, 200, 100, 20, 400),
     ("wide", 10_000, 1, 10_000, 200, 2),
     ("ticks", 20_000, 200, 100, 2_000, 0),
+    ("nearest", 20_000, 1, 100, 2_000, 2),
+    ("limited", 20_000, 1, 5, 2_000, 2),
 ]
 
 # Reads and writes each document of a script and of its report.
@@ -170,7 +172,7 @@ def subscriptions(program, folder):
         least, most = [min(run[place][0] for run in beside) for place in (0, 1)]
         bare, subscribed, changed = [max(run[place][1] for run in runs) for place in range(3)]
         ours, theirs = [(later - first) / changes * 1e3 for first, later in ((before, after), (least, most))]
-        held = "%.0f" % ((subscribed - bare) * 1e6 / (wanted * shown))
+        held = "%.0f" % ((subscribed - bare) * 1e6 / (wanted * shown)) if wanted * shown > 1_000 else "-"
         packet = "%.0f" % ((changed - subscribed) * 1e6 / (packets * changes)) if packets else "-"
         ratio = "%.1f" % (ours / theirs) if packets else "-"
         print(row % (kind, visits, wanted, changes, "%.3f" % ours, "%.3f" % theirs, ratio, held, packet))

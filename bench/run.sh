@@ -32,7 +32,7 @@ python3 "$here/make.py" stops 10000 0 >"$inputs/stops.10000.0"
 for asks in 0 100; do python3 "$here/make.py" stops 20000 "$asks" >"$inputs/stops.20000.$asks"; done
 for size in 10000 20000; do python3 "$here/make.py" sorted "$size" 0 >"$inputs/sorted.$size.0"; done
 # (each word of a load is an argument, and a part of the file's name)
-for load in subscribed,1000,20,2000 subscribed,20000,20,2000 subscribed,20000,200,2000 shared,20000,200,20 wide,10000,1,200 ticks,20000,200,2000; do
+for load in subscribed,1000,20,2000 subscribed,20000,20,2000 subscribed,20000,200,2000 shared,20000,200,20 wide,10000,1,200 ticks,20000,200,2000 nearest,20000,1,2000 limited,20000,1,2000; do
   IFS=, read -r kind visits wanted changes <<<"$load"
   for size in "0 0" "$wanted 0" "$wanted $changes"; do
     python3 "$here/make.py" "$kind" "$visits" $size >"$inputs/$kind.$visits.${size/ /.}"
