@@ -13,7 +13,7 @@ use Rattle.siri_base.specs.Wires.{Present, WireState, Writes, PutsBytes}
 use Rattle.siri_http.specs.declared.errors.HttpError.{HttpError}
 use Rattle.siri_http.specs.declared.errors.HttpError.TheVariants as http
 use Rattle.siri_http.specs.Connections.{OnConnection}
-use Rattle.siri_http.specs.Texts.{IsCut, Puts, PutsText, head_end, head_text, request_text, phrase_of, type_of}
+use Rattle.siri_http.specs.Texts.{IsCut, Puts, PutsText, closing, head_end, head_text, request_begin, request_text, phrase_of, type_of}
 use Rattle.siri_base.proofs.MetFailures.{passes_none, passes_more}
 use Rattle.siri_http.proofs.Connections.{on_map, on_then, on_same, told_map}
 
@@ -226,23 +226,28 @@ abbrev line_end : List ℕ
 line_end = 13 ∷ 10 ∷ []
 
 pub head_ends : (old : List ℕ) (count : ℕ)
-    → ((old ++ codes "Content-Length: ") ++ decimal count) ++ (line_end ++ ((codes "Connection: close" ++ line_end) ++ line_end)) ≡ old ++ head_end count
-head_ends old count = regroup old (codes "Content-Length: ") (decimal count) line_end (codes "Connection: close")
+    → (((old ++ codes "Content-Length: ") ++ decimal count) ++ line_end) ++ closing ≡ old ++ head_end count
+head_ends old count = regroup old (codes "Content-Length: ") (decimal count) line_end closing
   where
-    regroup : (old a d e c : List ℕ) → ((old ++ a) ++ d) ++ (e ++ ((c ++ e) ++ e)) ≡ old ++ (((a ++ d) ++ e) ++ ((c ++ e) ++ e))
+    regroup : (old a d e c : List ℕ) → (((old ++ a) ++ d) ++ e) ++ c ≡ old ++ (((a ++ d) ++ e) ++ c)
     regroup old a d e c = simp append_assoc
 
+pub begin_is : (method host target : List ℕ)
+    → (((method ++ target) ++ (codes " HTTP/1.1" ++ (line_end ++ codes "Host: "))) ++ host) ++ line_end ≡ request_begin method host target
+begin_is method host target = regroup method target (codes " HTTP/1.1") line_end (codes "Host: ") host
+  where
+    regroup : (m t v e h host : List ℕ) → (((m ++ t) ++ (v ++ (e ++ h))) ++ host) ++ e ≡ ((m ++ (t ++ v)) ++ e) ++ ((h ++ host) ++ e)
+    regroup m t v e h host = simp append_assoc
+
 pub request_is : (host path body : List ℕ)
-    → ((((((codes "POST ") ++ path) ++ (codes " HTTP/1.1" ++ (line_end ++ codes "Host: "))) ++ host)
-    ++ (line_end ++ (codes "Content-Type: application/json" ++ line_end)))
+    → ((request_begin (codes "POST ") host path ++ (codes "Content-Type: application/json" ++ line_end))
     ++ head_end (length body)) ++ body ≡ request_text host path body
 unfolding request_text
-request_is host path body = regroup (codes "POST ") path (codes " HTTP/1.1") line_end (codes "Host: ") host
-    (codes "Content-Type: application/json") (head_end (length body)) body
+request_is host path body = regroup (request_begin (codes "POST ") host path) (codes "Content-Type: application/json" ++ line_end)
+    (head_end (length body)) body
   where
-    regroup : (a p v e h host c end body : List ℕ) → (((((a ++ p) ++ (v ++ (e ++ h))) ++ host) ++ (e ++ (c ++ e)))
-        ++ end) ++ body ≡ ((a ++ (p ++ v)) ++ e) ++ (((h ++ host) ++ e) ++ ((c ++ e) ++ (end ++ body)))
-    regroup a p v e h host c end body = simp append_assoc
+    regroup : (begin c end body : List ℕ) → ((begin ++ c) ++ end) ++ body ≡ begin ++ (c ++ (end ++ body))
+    regroup begin c end body = simp append_assoc
 
 pub head_is : (status : ℕ) (plain : Bool) (count : ℕ)
     → ((((((codes "HTTP/1.1 " ++ code_digits status) ++ codes " ") ++ phrase_of status)

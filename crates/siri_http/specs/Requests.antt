@@ -17,6 +17,7 @@ status_of bad.NoLength = 411
 status_of bad.TransferCoding = 501
 status_of bad.BodyTooLong = 413
 status_of bad.NotPost = 405
+status_of bad.NoPath = 404
 
 abbrev pub name_of : BadRequest → List ℕ
 name_of bad.BadHead = codes "BadHead"
@@ -25,6 +26,7 @@ name_of bad.NoLength = codes "NoLength"
 name_of bad.TransferCoding = codes "TransferCoding"
 name_of bad.BodyTooLong = codes "BodyTooLong"
 name_of bad.NotPost = codes "NotPost"
+name_of bad.NoPath = codes "NoPath"
 
 -- a request, as it was read: its method and target, and its body; or why there is none
 abbrev pub Request : Type 0

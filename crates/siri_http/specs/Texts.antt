@@ -12,19 +12,30 @@ use Rattle.siri_http.specs.declared.errors.HttpError.TheVariants as http
 abbrev pub ended : List ℕ → List ℕ
 ended line = line ++ 13 ∷ 10 ∷ []
 
--- the end of a head: the length of the body, that no further message comes by the connection, and an empty line
+-- the last lines of a head: that no further message comes by the connection, and an empty line
+abbrev pub closing : List ℕ
+closing = ended (codes "Connection: close") ++ ended []
+
+-- the end of a head: the length of the body, and the last lines
 abbrev pub head_end : ℕ → List ℕ
-head_end count = ended (codes "Content-Length: " ++ decimal count) ++ (ended (codes "Connection: close") ++ ended [])
+head_end count = ended (codes "Content-Length: " ++ decimal count) ++ closing
+
+-- the first lines of a request of this method, with a space behind it: its target, and the host with its port
+abbrev pub request_begin : (method host target : List ℕ) → List ℕ
+request_begin method host target = ended (method ++ (target ++ codes " HTTP/1.1")) ++ ended (codes "Host: " ++ host)
 
 -- a POST to this target at this host, with its port
 unfoldable pub request_text : List ℕ → List ℕ → List ℕ → List ℕ
 request_text host path body =
-    ended (codes "POST " ++ (path ++ codes " HTTP/1.1"))
-    ++ (ended (codes "Host: " ++ host) ++ (ended (codes "Content-Type: application/json") ++ (head_end (length body) ++ body)))
+    request_begin (codes "POST ") host path ++ (ended (codes "Content-Type: application/json") ++ (head_end (length body) ++ body))
+
+-- a GET of this target at this host, with its port; it has no body
+unfoldable pub get_text : (host target : List ℕ) → List ℕ
+get_text host target = request_begin (codes "GET ") host target ++ closing
 
 -- the statuses that are written
 abbrev pub is_written : ℕ → Bool
-is_written status = list_any (λ one. one == status) (200 ∷ 400 ∷ 405 ∷ 411 ∷ 413 ∷ 431 ∷ 501 ∷ [])
+is_written status = list_any (λ one. one == status) (200 ∷ 400 ∷ 404 ∷ 405 ∷ 411 ∷ 413 ∷ 431 ∷ 501 ∷ [])
 
 -- the phrase of a status
 unfoldable pub phrase_of : ℕ → List ℕ

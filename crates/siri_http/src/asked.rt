@@ -27,6 +27,8 @@ pub enum BadRequest {
     BodyTooLong,
     /// Its method isn't POST.
     NotPost,
+    /// Its target's path is none that is served.
+    NoPath,
 }
 
 impl BadRequest {
@@ -42,6 +44,7 @@ impl BadRequest {
             BadRequest::TransferCoding => 501,
             BadRequest::BodyTooLong => 413,
             BadRequest::NotPost => 405,
+            BadRequest::NoPath => 404,
         }
     }
 
@@ -56,6 +59,7 @@ impl BadRequest {
             BadRequest::TransferCoding => "TransferCoding",
             BadRequest::BodyTooLong => "BodyTooLong",
             BadRequest::NotPost => "NotPost",
+            BadRequest::NoPath => "NoPath",
         }
     }
 }
@@ -73,8 +77,9 @@ pub enum Asked {
     Failed,
 }
 
-/// What a request asks.
-fn asked_of(request: HttpRequest) -> Asked
+/// What a request asks: its body where its method is POST, which it is in these letters alone. Its target isn't looked
+/// at.
+pub fn asked_of(request: HttpRequest) -> Asked
     ensures { result ≡ by_method (is_post request.method) request.body }
 {
     if request.method.text() == "POST" {
@@ -84,8 +89,8 @@ fn asked_of(request: HttpRequest) -> Asked
     }
 }
 
-/// What is asked where no request was read.
-fn unasked(error: HttpError) -> Result<Asked, OutOfMemory>
+/// What is asked where no request was read, for this reason; `OutOfMemory` exactly where that is the reason.
+pub fn unasked(error: HttpError) -> Result<Asked, OutOfMemory>
     ensures { outcome result ≡ unasked_of error }
 {
     match error {

@@ -4,6 +4,7 @@
 //! ```text
 //!   bytes that come -> read_request  ---> HttpRequest        bytes that come -> read_response ---> HttpResponse
 //!   bytes that go   <- write_request <--- an address, a body bytes that go   <- write_response <-- a status, a body
+//!                   <- write_get     <--- an address, a target
 //!
 //!   an accepted connection  -> read_asked ---> a POST with its body, a refused request, or none
 //!                           <- respond    <--- a status and a body; then it hangs up
@@ -37,11 +38,13 @@ mod tally;
 mod writing;
 
 pub use address::{Address, AddressError, is_address, is_host_with_port, read_address};
-pub use asked::{Asked, BadRequest, read_asked};
+pub use asked::{Asked, BadRequest, asked_of, read_asked, unasked};
 pub use errors::HttpError;
 pub use posting::{Sent, post, post_to};
 pub use request::{HttpRequest, read_request};
 pub use responding::{end_response, respond};
 pub use response::{HttpResponse, read_response};
 pub use tally::Tally;
-pub use writing::{response_head, write_head, write_piece, write_request, write_response};
+pub use writing::{
+    response_head, write_get, write_head, write_piece, write_request, write_response,
+};

@@ -17,7 +17,7 @@ use std::alloc::Global;
 
 /// Writes a response to the connection that is there, with a JSON body or a plain one, and hangs up. It answers whether
 /// the response was written whole; `false` comes only where the wire's count of faults rose. The status is one of 200,
-/// 400, 405, 411, 413, 431 and 501.
+/// 400, 404, 405, 411, 413, 431 and 501.
 pub fn respond<W: Wire>(
     alloc: Global,
     wire: &mut W,

@@ -3,11 +3,11 @@
 ghost use Rattle.std.specs.Prelude.{◌≡◌, ◌++◌, length, IfErr, IfOk, OnOk, true};
 ghost use Rattle.siri_http.specs.Connections.{OnConnection};
 ghost use Rattle.siri_http.specs.HttpCauses.{EndsWrite, HasWriteCause};
-ghost use Rattle.siri_http.specs.Texts.{PutsText, head_end, head_text, is_written, phrase_of, request_text, response_text, type_of};
+ghost use Rattle.siri_http.specs.Texts.{PutsText, closing, get_text, head_end, head_text, is_written, phrase_of, request_begin, request_text, response_text, type_of};
 
 use crate::{Address, HttpError};
 use http::StatusCode;
-use siri_base::{OutOfMemory, OutsideError, Wire, append, append_number};
+use siri_base::{Name, OutOfMemory, OutsideError, Text, Wire, append, append_number};
 use std::alloc::Global;
 
 /// Writes a piece of a body, all of it, in as many calls as it takes. It takes no memory of its own. `WriteFault` comes
@@ -31,28 +31,61 @@ pub fn write_piece<W: Wire>(wire: &mut W, piece: &[u8]) -> Result<(), HttpError>
     Ok(())
 }
 
+/// Puts the last lines of a head.
+fn append_closing(text: &mut Vec<u8>) -> Result<(), OutOfMemory>
+    ensures { OnOk result (text.new.items ≡ text.old.items ++ closing) }
+{
+    append(text, b"Connection: close\r\n\r\n")
+}
+
 /// Puts the end of a head, for a body of so many bytes.
 fn append_head_end(alloc: Global, text: &mut Vec<u8>, length: u64) -> Result<(), OutOfMemory>
     ensures { OnOk result (text.new.items ≡ text.old.items ++ head_end length) }
 {
     append(text, b"Content-Length: ")?;
     append_number(alloc, text, length)?;
-    append(text, b"\r\nConnection: close\r\n\r\n")?;
+    append(text, b"\r\n")?;
+    append_closing(text)?;
     Ok(())
 }
 
+/// The first lines of a request of this method, which a space follows: its target, and the host with its port.
+fn request_begin(
+    alloc: Global,
+    method: &[u8],
+    host: &Name,
+    target: &Text,
+) -> Result<Vec<u8>, OutOfMemory>
+    ensures { IfOk result (λ text. text.items ≡ request_begin method.now host.now target.now) }
+{
+    let mut text = Vec::new(alloc);
+    append(&mut text, method)?;
+    append(&mut text, target.text().as_bytes())?;
+    append(&mut text, b" HTTP/1.1\r\nHost: ")?;
+    append(&mut text, host.text().as_bytes())?;
+    append(&mut text, b"\r\n")?;
+    Ok(text)
+}
+
 /// The text of a request.
+#[tactic(auto, using(crate::proofs::Sending::request_is))]
 fn request_text(alloc: Global, address: &Address, body: &[u8]) -> Result<Vec<u8>, OutOfMemory>
     ensures { IfOk result (λ text. text.items ≡ request_text address.now.host address.now.path body.now) }
 {
-    let mut text = Vec::new(alloc);
-    append(&mut text, b"POST ")?;
-    append(&mut text, address.path.text().as_bytes())?;
-    append(&mut text, b" HTTP/1.1\r\nHost: ")?;
-    append(&mut text, address.host.text().as_bytes())?;
-    append(&mut text, b"\r\nContent-Type: application/json\r\n")?;
+    let mut text = request_begin(alloc, b"POST ", &address.host, &address.path)?;
+    append(&mut text, b"Content-Type: application/json\r\n")?;
     append_head_end(alloc, &mut text, body.len() as u64)?;
     append(&mut text, body)?;
+    Ok(text)
+}
+
+/// The text of a GET.
+#[tactic(auto, unfolding(crate::specs::Texts::get_text))]
+fn get_text(alloc: Global, host: &Name, target: &Text) -> Result<Vec<u8>, OutOfMemory>
+    ensures { IfOk result (λ text. text.items ≡ get_text host.now target.now) }
+{
+    let mut text = request_begin(alloc, b"GET ", host, target)?;
+    append_closing(&mut text)?;
     Ok(text)
 }
 
@@ -114,7 +147,26 @@ pub fn write_request<W: Wire>(
     write_piece(wire, &text)
 }
 
-/// The head of a response of one of the statuses 200, 400, 405, 411, 413, 431 and 501, for a JSON body or a plain one of
+/// Writes a GET of a target at the host of an address, without a body; the address's own path isn't asked. `WriteFault`
+/// comes only where the wire's count of faults rose.
+#[tactic(auto, using(crate::proofs::Sending::wrote_nothing))]
+pub fn write_get<W: Wire>(
+    alloc: Global,
+    wire: &mut W,
+    address: &Address,
+    target: &Text,
+) -> Result<(), HttpError>
+    requires there { W.is_open wire.old }
+    ensures open { W.is_open wire.new }
+    ensures told { OnConnection (PutsText (get_text address.now.host target.now) result) (W.tells wire.old) (W.tells wire.new) }
+    ensures cause { HasWriteCause (W.faults wire.old) (W.faults wire.new) result }
+    ensures ends { IfErr result EndsWrite }
+{
+    let text = get_text(alloc, &address.host, target)?;
+    write_piece(wire, &text)
+}
+
+/// The head of a response of one of the statuses 200, 400, 404, 405, 411, 413, 431 and 501, for a JSON body or a plain one of
 /// so many bytes.
 pub fn response_head(
     alloc: Global,
@@ -128,7 +180,7 @@ pub fn response_head(
     head_text(alloc, code_of(status), plain, length)
 }
 
-/// Writes the head of a response of one of the statuses 200, 400, 405, 411, 413, 431 and 501, for a JSON body or a plain
+/// Writes the head of a response of one of the statuses 200, 400, 404, 405, 411, 413, 431 and 501, for a JSON body or a plain
 /// one of so many bytes. `WriteFault` comes only where the wire's count of faults rose.
 #[tactic(auto, using(crate::proofs::Sending::wrote_nothing))]
 pub fn write_head<W: Wire>(
@@ -149,7 +201,7 @@ pub fn write_head<W: Wire>(
     write_piece(wire, &head)
 }
 
-/// Writes a response of one of the statuses 200, 400, 405, 411, 413, 431 and 501, with a JSON body or a plain one.
+/// Writes a response of one of the statuses 200, 400, 404, 405, 411, 413, 431 and 501, with a JSON body or a plain one.
 /// `WriteFault` comes only where the wire's count of faults rose.
 #[tactic(auto, using(crate::proofs::Sending::wrote_nothing))]
 pub fn write_response<W: Wire>(

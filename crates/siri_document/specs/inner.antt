@@ -1,2 +1,0 @@
--- Inner words: cited by private functions alone.
-pub mod DocumentParts
