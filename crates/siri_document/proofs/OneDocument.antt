@@ -1,5 +1,5 @@
 -- A run over one document.
-use Rattle.std.proofs.Common.{◌≡◌, ◌⊎◌, ◌+◌, ◌≤◌, ◌<◌, ℕ, List, [], ◌++◌, None, Some, Bool, true, false, Err, length, take, drop, refl, sym}
+use Rattle.std.proofs.Common.{◌≡◌, ◌⊎◌, ◌+◌, ◌≤◌, ◌<◌, ℕ, List, [], ◌++◌, None, Some, Bool, true, false, Ok, Err, length, take, drop, refl, sym}
 use Rattle.std.proofs.Common.{ap, ◌∙◌, subst, append-nil, arith, length-append, inl, inr}
 use Rattle.std.specs.Prelude.{MatchBool}
 use Rattle.std.specs.Io.KnownBytes.{Consumes, IsAtEnd}
@@ -15,8 +15,7 @@ use Rattle.siri_wire.specs.Documents.{message_of}
 use Rattle.siri_wire.proofs.Documents.{document_too_long}
 use Rattle.siri_lines.specs.RunResult.{RunResult}
 use Rattle.siri_lines.specs.Ends.{Bytes, Ends, AppendsFront, ReadsAll, is_cut}
-use Rattle.siri_document.specs.inner.DocumentParts.{IsDocument, Tells}
-use Rattle.siri_document.specs.OneDocument.{Answered, Answers, told_by, told_of}
+use Rattle.siri_document.specs.OneDocument.{Answered, Answers, IsDocument, Tells, told_by, told_of}
 
 -- a buffer after its whole was lent and came back
 pub lent_whole : (n : ℕ) (lent items : List ℕ) → length lent ≡ length items → n ≡ length items → take n (lent ++ drop (length lent) items) ≡ lent
@@ -32,7 +31,7 @@ taken_more a b c before room lent after f n p e v k q =
     (Consumes-trans a b c (take f before) (take n (drop f after)) p q)
 
 -- the message of what was read is that of the whole input
-message_same : (input later document : List ℕ) → input ≡ document ++ later → length document ≤ 8388609
+pub message_same : (input later document : List ℕ) → input ≡ document ++ later → length document ≤ 8388609
     → (length document < 8388609 → later ≡ []) → message_of document ≡ message_of input
 message_same input later document e bound whole = choose (eq-or-lt_of_le bound)
   where
@@ -43,7 +42,7 @@ message_same input later document e bound whole = choose (eq-or-lt_of_le bound)
     choose (inr n) = ap message_of (sym (append-nil document) ∙ ap (λ l. document ++ l) (sym (whole n)) ∙ sym e)
 
 -- what the input has left where it is read to its end, but no further than so many bytes
-input_read : (most : ℕ) (input later document : List ℕ) → input ≡ document ++ later → length document ≤ most
+pub input_read : (most : ℕ) (input later document : List ℕ) → input ≡ document ++ later → length document ≤ most
     → (length document < most → later ≡ []) → later ≡ drop most input
 input_read most input later document e bound whole = choose (eq-or-lt_of_le bound)
   where
@@ -90,7 +89,16 @@ at_end text input left old new document told d e w = choose (eq-or-lt_of_le d.bo
         absurd (cc (w.status_is, ap (λ (t : RunResult). t.status) refused))
     choose (inr n) = d.whole n
 
-reads_all : (left : Bytes) (end : Status) → (end ≡ status.Done → IsAtEnd left) → ReadsAll left end
+-- a document that is read as a message was read to its end
+pub read_whole : (message : Message) (input left : Bytes) (document : List ℕ) → IsDocument input left document
+    → message_of document ≡ Ok message → IsAtEnd left
+read_whole message input left document d e = choose (eq-or-lt_of_le d.bound)
+  where
+    choose : (length document ≡ 8388609) ⊎ (length document < 8388609) → IsAtEnd left
+    choose (inl n) = absurd (cc (e, document_too_long document (omega (arith, n))))
+    choose (inr n) = d.whole n
+
+pub reads_all : (left : Bytes) (end : Status) → (end ≡ status.Done → IsAtEnd left) → ReadsAll left end
 reads_all None end h = tt
 reads_all (Some left) status.Done h = h refl
 reads_all (Some left) status.Refused h = tt

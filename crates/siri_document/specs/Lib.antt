@@ -1,3 +1,2 @@
--- What a run over one document tells and leaves. The words in `inner` are cited by private functions alone.
+-- What a run over one document tells and leaves.
 pub mod OneDocument
-pub mod inner

@@ -1,5 +1,6 @@
 -- The commands over one document: what they tell of it, and how a run of one ends.
-use Rattle.std.specs.Prelude.{◌≡◌, ℕ, List, ◌++◌, drop, codes, None, Some, Result, Ok, Err, MatchBool}
+use Rattle.std.specs.Prelude.{◌≡◌, ◌≤◌, ◌<◌, ℕ, List, ◌++◌, length, drop, codes, Bool, true, false, None, Some, Result, Ok, Err, MatchBool}
+use Rattle.std.specs.Io.KnownBytes.{Consumes, IsAtEnd}
 use Rattle.siri_base.specs.declared.status.Status.{Status}
 use Rattle.siri_base.specs.declared.status.Status.TheVariants as status
 use Rattle.siri_tables.specs.Refusals.{Refusal}
@@ -34,6 +35,21 @@ check_text document = told_by ok_text document
 -- what `convert` tells of a document: its message's canonical text, or the refusal
 abbrev pub convert_text : List ℕ → RunResult
 convert_text document = told_by canonical document
+
+-- the status where a document is refused, and where it isn't
+abbrev pub status_where : Bool → Status
+status_where true = status.Refused
+status_where false = status.Done
+
+-- the document that was read: what the source had left, to its end or to byte 8,388,609
+pub record IsDocument (before after : Bytes) (document : List ℕ) : Type 0 where
+  pub taken : Consumes before after document
+  pub bound : length document ≤ 8388609
+  pub whole : length document < 8388609 → IsAtEnd after
+
+-- what is told was written, or a front of it where the run was cut off
+abbrev pub Tells : Bytes → RunResult → Bytes → Status → Type 0
+Tells old told new end = MatchBool (is_cut end) (AppendsFront old new told.text) (Ends old told new end)
 
 -- the whole text was written, the status is its own, and the input was read to its end, but no further than its byte 8,388,609
 pub record Answered (told : RunResult) (input : List ℕ) (left old new : Bytes) (end : Status) : Type 0 where

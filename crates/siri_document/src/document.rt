@@ -7,8 +7,7 @@ ghost use Rattle.siri_base.specs.MetFailures.{SinkMeets, SourceMeets, has_failed
 ghost use Rattle.siri_messages.specs.declared.message.Message.{Message as Msg};
 ghost use Rattle.siri_wire.specs.Documents.{Decodes, message_of};
 ghost use Rattle.siri_lines.specs.Ends.{ReadsAll};
-ghost use Rattle.siri_document.specs.inner.DocumentParts.{IsDocument, Tells};
-ghost use Rattle.siri_document.specs.OneDocument.{Answers, EndsDocument, refused_told, told_by};
+ghost use Rattle.siri_document.specs.OneDocument.{Answers, EndsDocument, IsDocument, Tells, refused_told, told_by};
 ghost use Rattle.siri_script.specs.Spaced.{line_feed};
 
 use siri_base::{OutOfMemory, OutsideError, Sink, Source, Status, append};
@@ -35,16 +34,16 @@ pub trait Telling {
         ensures { IfOk result (λ line. line.items ≡ text message ++ line_feed) };
 }
 
-/// What is told of a document, and whether it is refused.
+/// What a command over one document tells, and whether the document, or what became of it, is refused by that.
 #[derive(Drop)]
-struct Answer {
+pub struct Answer {
     text: Vec<u8>,
     refused: bool,
 }
 
 impl Model for Answer {
     ghost use Rattle.siri_lines.specs.RunResult.{RunResult};
-    ghost use Rattle.siri_document.specs.inner.DocumentParts.{status_where};
+    ghost use Rattle.siri_document.specs.OneDocument.{status_where};
 
     ghost Value = { RunResult };
 
@@ -52,8 +51,8 @@ impl Model for Answer {
 }
 
 impl Answer {
-    /// The text tells what the document is.
-    fn of(text: Vec<u8>) -> Answer
+    /// The text tells what was asked for; the run ends with status 0.
+    pub fn of(text: Vec<u8>) -> Answer
         ensures { result ≡ record { text = text.items; status = Status.Done } }
     {
         Answer {
@@ -62,20 +61,28 @@ impl Answer {
         }
     }
 
-    /// `PATH: REASON`: the text tells why the document is refused.
-    fn refused(refusal: &Refusal) -> Result<Answer, OutOfMemory>
+    /// The text tells why that can't be told; the run ends with status 1.
+    pub fn refusing(text: Vec<u8>) -> Answer
+        ensures { result ≡ record { text = text.items; status = Status.Refused } }
+    {
+        Answer {
+            text,
+            refused: true,
+        }
+    }
+
+    /// `PATH: REASON` and a line feed: the text tells why the document is refused.
+    pub fn refused(refusal: &Refusal) -> Result<Answer, OutOfMemory>
         ensures { IfOk result (λ answer. answer ≡ refused_told (record { path = refusal.now.path; reason = refusal.now.reason })) }
     {
         let mut text = refusal.text()?;
         append(&mut text, b"\n")?;
-        Ok(Answer {
-            text,
-            refused: true,
-        })
+        Ok(Answer::refusing(text))
     }
 
-    /// Writes the whole text.
-    fn write<K: Sink>(self, sink: &mut K) -> Status
+    /// Writes the whole text, and ends the run: with its status, or where the sink fails or there is no memory for
+    /// that, with `WriteFault` or `OutOfMemory`.
+    pub fn write<K: Sink>(self, sink: &mut K) -> Status
         ensures text { Tells (K.held sink.old) self (K.held sink.new) result }
         ensures write { result ≡ Status.WriteFault → Rose (K.faults sink.old) (K.faults sink.new) }
         ensures read { is_read_fault result ≡ false }
@@ -130,9 +137,10 @@ fn answer_of<T: Telling>(alloc: Global, document: Vec<u8>) -> Result<Answer, Out
     }
 }
 
-/// Reads the document to its end, or to its byte 8,388,609, where it is too long.
+/// Reads the document to its end, or to its byte 8,388,609, where it is too long. `Failed` comes only where the source's
+/// count of faults rose.
 #[tactic(auto, using(siri_lines::proofs::Meeting::source_none, siri_lines::proofs::Meeting::source_more))]
-fn read_document<S: Source>(alloc: Global, source: &mut S) -> Result<Vec<u8>, OutsideError>
+pub fn read_document<S: Source>(alloc: Global, source: &mut S) -> Result<Vec<u8>, OutsideError>
     ensures document { IfOk result (λ document. IsDocument (S.left source.old) (S.left source.new) document.items) }
     ensures cause { HasOutsideCause (S.faults source.old) (S.faults source.new) result }
     ensures meets { SourceMeets (has_failed result) (S.left source.old) (S.left source.new) (S.fails source.old) (S.fails source.new) }

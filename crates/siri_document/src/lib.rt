@@ -5,6 +5,8 @@
 //! (document.rt)         (siri_wire)           (check.rt, convert.rt)
 //! ```
 //!
+//! Its two ends are there for other commands over one document: [`read_document`] and [`Answer`].
+//!
 //! Stands on `siri_wire`, `siri_messages` and `siri_json` for what a document spells and how a message is written, and
 //! on `siri_base` and `siri_lines` for what a run reads and leaves in its sink; its definitions cite the end of a line
 //! of `siri_script`. It knows no word of a command line.
@@ -16,4 +18,4 @@ mod document;
 
 pub use check::Check;
 pub use convert::Convert;
-pub use document::{Telling, answer_document};
+pub use document::{Answer, Telling, answer_document, read_document};
