@@ -45,7 +45,7 @@ line_direction_entries : EntryLaws 1 a_line_direction
 unfolding line_direction written_line_direction
 line_direction_entries = table_entries line_direction_laws
 
-stop_topic_laws : TableLaws 3 stop_topic_table make_stop_topic
+pub stop_topic_laws : TableLaws 3 stop_topic_table make_stop_topic
 stop_topic_laws = record {
   rows = search (
     optional_laws,
@@ -60,7 +60,7 @@ stop_topic_laws = record {
   distinct = λ t. refl;
 }
 
-timetable_topic_laws : TableLaws 3 timetable_topic_table make_timetable_topic
+pub timetable_topic_laws : TableLaws 3 timetable_topic_table make_timetable_topic
 timetable_topic_laws = record {
   rows = (
     optional_laws whole_span_laws refl refl,
@@ -78,10 +78,10 @@ timetable_topic_laws = record {
   distinct = λ t. refl;
 }
 
-vehicle_topic_laws : TableLaws 3 vehicle_topic_table make_vehicle_topic
+pub vehicle_topic_laws : TableLaws 3 vehicle_topic_table make_vehicle_topic
 vehicle_topic_laws = record { rows = search (optional_laws, name_laws); whole = λ t. refl; holds = λ a b c. search; distinct = λ t. refl }
 
-situation_topic_laws : TableLaws 3 situation_topic_table make_situation_topic
+pub situation_topic_laws : TableLaws 3 situation_topic_table make_situation_topic
 situation_topic_laws = record {
   rows = search (optional_laws, name_laws, whole_span_laws, moment_laws);
   whole = λ t. refl;

@@ -1,0 +1,2 @@
+-- What a query asks of a request.
+pub mod Queried
