@@ -1,21 +1,17 @@
 -- What a connection is answered where its answer is lent: what is taken before the settle, and what is written after
 -- it.
 use Rattle.std.proofs.Common.{◌≡◌, ℕ, List, [], ◌∷◌, ◌++◌, Bool, true, false, length, Option, None, Some, Result, Ok}
-use Rattle.std.proofs.Common.{Err, refl, sym, ap, ◌∙◌, subst, append-nil, append_assoc, inr}
+use Rattle.std.proofs.Common.{Err, refl, sym, ap, ◌∙◌, subst, append-nil, append_assoc}
 use Rattle.std.specs.Prelude.{IfOk, IsErr, IsErrOf, MatchBool, OnOk, OnErr, ⊤}
 use Rattle.siri_base.specs.declared.errors.OutOfMemory.{OutOfMemory}
 use Rattle.siri_http.specs.Messages.{UnlessMemory, is_memory}
 use Rattle.siri_http.specs.declared.errors.HttpError.{HttpError}
 use Rattle.siri_http.specs.declared.errors.HttpError.TheVariants as http
 use Rattle.siri_base.specs.Wires.{WireState}
-use Rattle.siri_http.specs.Connections.{OnConnection}
-use Rattle.siri_http.specs.ExchangeCauses.{HasAskedCause}
-use Rattle.siri_http.specs.Requests.{Asks as AsksOf}
 use Rattle.siri_http.specs.Responses.{WroteFront}
 use Rattle.siri_http.specs.Texts.{head_text, response_text}
 use Rattle.siri_http.proofs.Connections.{on_same}
 use Rattle.siri_http.specs.declared.asked.Asked.{Asked}
-use Rattle.siri_http.specs.declared.tally.Tally.{Tally}
 use Rattle.siri_messages.specs.declared.message.Message.{Message}
 use Rattle.siri_messages.specs.declared.message.Message.TheVariants as message
 use Rattle.siri_messages.specs.Kinds.{service_request_of}
@@ -40,12 +36,10 @@ use Rattle.siri_ends.specs.declared.answering.Brought.TheVariants as brought
 use Rattle.siri_ends.specs.declared.reply.Reply.{Reply}
 use Rattle.siri_ends.specs.declared.reply.Reply.TheVariants as reply
 use Rattle.siri_ends.specs.declared.response.Response.{Response}
-use Rattle.siri_ends.specs.Answering.{AnswersWith, StopsWriting}
-use Rattle.siri_ends.specs.At.{Goes, end_of, surroundings}
-use Rattle.siri_ends.specs.Lending.{IsReply, LendsPart, Prepares, PreparesFor, Turned, delivering, is_direct}
+use Rattle.siri_ends.specs.Answering.{StopsWriting}
+use Rattle.siri_ends.specs.Lending.{IsReply, LendsPart, Prepares, PreparesFor, TurnedBy, delivering, is_direct}
 use Rattle.siri_ends.specs.Lending.{message_response}
 use Rattle.siri_ends.specs.Responses.{message_asked, producer_reply, replying, response_to, taking, turn_steps}
-use Rattle.siri_ends.specs.Serving.{Answers, FirstAnswer}
 use Rattle.siri_ends.specs.Turns.{Brings, TakesFor}
 
 -- ---- nothing changed but the counter of steps
@@ -214,15 +208,15 @@ turns_by : (asked : Asked) (reply : Reply) (outs : List Out) (first taken last :
     → ((h : History) → StandsFor first h
     → IsReply reply first.responder.name (h ++ turn_steps (message_asked asked))
     (response_to first.responder.name h asked))
-    → Turned first last asked outs reply
+    → TurnedBy asked outs reply first last
 turns_by asked reply outs first taken last takes named settles sent kept is =
     let message = message_asked asked in
     record {
-      name = kept ∙ named;
-      stands = λ h stands.
+      keeps = kept ∙ named;
+      stands_for = λ h stands.
           subst (StandsFor last) (append_assoc h (taking message) (Settle ∷ []))
           (settles.stands (h ++ taking message) (takes h stands));
-      outs_are = λ h stands.
+      messages_are = λ h stands.
           sent (h ++ taking message) (takes h stands) ∙ ap (λ name. sends name (h ++ taking message)) named;
       reply_is = is;
     }
@@ -257,7 +251,7 @@ pub turns : (asked : Asked) (reply : Reply) (outs : List Out) (first taken last 
     → PreparesFor first taken asked reply
     → taken.responder.name ≡ first.responder.name → GoesOn taken last Settle → SendsFor taken outs
     → last.responder.name ≡ taken.responder.name
-    → Turned first last asked outs reply
+    → TurnedBy asked outs reply first last
 turns asked (reply.Made made) outs first taken last so named settles sent kept =
     turns_by asked (reply.Made made) outs first taken last so.stands named settles sent kept
     (λ h stands. sym (so.made_is h stands))
@@ -277,11 +271,11 @@ turns asked (reply.Part subscriber subscription) outs first taken last so named 
     (part_lends first.responder.name h so.request (response_to first.responder.name h asked)
     (so.answer_is first.responder.name h) (so.supplied_is h stands)))))
 turns asked (reply.Direct request) outs first taken last so named settles sent kept = record {
-  name = kept ∙ named;
-  stands = λ h stands.
+  keeps = kept ∙ named;
+  stands_for = λ h stands.
       subst (λ m. StandsFor last (h ++ turn_steps m)) (sym so.asked)
       (request_forgotten h request last (settles.stands h (subst (λ k. StandsFor k h) (sym so.same) stands)));
-  outs_are = λ h stands.
+  messages_are = λ h stands.
       sent h (subst (λ k. StandsFor k h) (sym so.same) stands)
       ∙ ap (λ name. sends name h) named
       ∙ sends_asked first.responder.name h request
@@ -293,54 +287,6 @@ turns asked (reply.Direct request) outs first taken last so named settles sent k
       (direct_is first.responder.name h request (response_to first.responder.name h asked)
       (so.answer_is first.responder.name h));
 }
-
--- the request is read, its message taken and settled, and the answer written
-pub answers_one : (outs : List Out) (asked : Asked) (reply : Reply) (first last end : Known) (old new : Tally)
-    (before read after : Option WireState) (earlier between later : ℕ)
-    → OnConnection (AsksOf (Some asked)) before read → HasAskedCause earlier between (Some asked)
-    → Turned first last asked outs reply
-    → ((h : History) (response : Option Response) → StandsFor last h → IsReply reply last.responder.name h response
-    → AnswersWith response (surroundings old read between) (surroundings new after later))
-    → SameButReads last end
-    → Goes (Answers outs) (end_of first old before earlier) (end_of end new after later)
-answers_one outs asked reply first last end old new before read after earlier between later told cause turned writes
-    same = record {
-      name = same_name last end same ∙ turned.name;
-      goes = λ h stands.
-          let steps = h ++ turn_steps (message_asked asked) in
-          let response = response_to first.responder.name h asked in
-          let there = turned.stands h stands in (
-            steps,
-            same_stands last end steps same there,
-            record {
-              asked = asked;
-              read = surroundings old read between;
-              reads = record { told = told; cause = cause; tally = refl };
-              answers = writes steps response there
-                  (subst (λ name. IsReply reply name steps response) (sym turned.name) (turned.reply_is h stands));
-              history = refl;
-              outs_are = turned.outs_are h stands;
-            },
-          );
-    }
-
--- where memory was wanting while the answer was written
-pub stops_writing : (outs : List Out) (asked : Asked) (reply : Reply) (first last : Known)
-    (before read after : Option WireState)
-    → OnConnection (AsksOf (Some asked)) before read → Turned first last asked outs reply
-    → ((h : History) (response : Option Response) → StandsFor last h → IsReply reply last.responder.name h response
-    → StopsWriting response read after)
-    → (h : History) → StandsFor first h → FirstAnswer first.responder.name h before after
-stops_writing outs asked reply first last before read after told turned stops h stands =
-    let steps = h ++ turn_steps (message_asked asked) in
-    let response = response_to first.responder.name h asked in
-    inr (
-      asked,
-      read,
-      told,
-      inr (stops steps response (turned.stands h stands)
-          (subst (λ name. IsReply reply name steps response) (sym turned.name) (turned.reply_is h stands))),
-    )
 
 -- ---- what is said where a call answers
 

@@ -1,8 +1,8 @@
 mod Examples
-pub mod InTurn
+pub mod Consumes
 pub mod Lends
 pub mod LentTexts
 pub mod Puts
 pub mod Sends
 pub mod Serves
-pub mod SendsUp
+pub mod Taking

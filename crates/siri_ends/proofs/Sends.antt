@@ -1,113 +1,172 @@
 -- Messages that are sent, one after the other.
-use Rattle.std.proofs.Common.{◌≡◌, ℕ, suc, List, [], ◌∷◌, ◌++◌, length, Option, None, Some, refl, sym, ap, ◌∙◌, subst}
-use Rattle.std.proofs.Common.{append-nil, inl, inr}
-use Rattle.siri_model.specs.History.{History}
-use Rattle.siri_producer.specs.Known.{Known, StandsFor}
-use Rattle.siri_subscriptions.specs.declared.outs.Out.{Out}
-use Rattle.siri_base.specs.OutsideCalls.{WhereTold}
+use Rattle.std.proofs.Common.{◌≡◌, ℕ, zero, suc, List, [], ◌∷◌, ◌++◌, length, drop, Option, None, Some, refl, sym, ap, ◌∙◌}
+use Rattle.std.proofs.Common.{subst, inl, inr, arith, Result, Ok, Err}
+use Rattle.std.specs.Prelude.{OnErr}
 use Rattle.siri_base.specs.Wires.{WireState}
-use Rattle.siri_wire.specs.Canonical.{canonical}
-use Rattle.siri_http.specs.Posts.{Posts}
 use Rattle.siri_http.specs.Tallies.{with_unsent}
-use Rattle.siri_ends.specs.At.{At, End, Goes, at_of}
-use Rattle.siri_ends.specs.Sending.{LeavesUnsent, PostsOut, SendsOne, SendsAll, SendsSome, history_after, settled_by}
-use Rattle.siri_ends.specs.Sending.{target_of, most_sends}
-use Rattle.siri_ends.specs.Turns.{Hears, SendsNext, StopsAt}
-use Rattle.siri_ends.proofs.InTurn.{FirstLeads, Leads, first_leads_next, first_leads_stop, leads_full, leads_last}
-use Rattle.siri_ends.proofs.InTurn.{leads_next}
+use Rattle.siri_http.specs.declared.posting.Sent.{Sent}
+use Rattle.siri_ends.specs.At.{At, Goes, stood_for}
+use Rattle.siri_ends.specs.EndCalls.{SendsNext, StopsAt}
+use Rattle.siri_ends.specs.InTurn.{FirstInTurn, FirstSends, InTurn, SendsAll, SendsOne, most_sends}
+use Rattle.siri_ends.specs.Manners.{Manner, Posting, after_hearing, brings_of, message_answered}
 
--- without an acknowledgement nothing is taken
-pub hears_nothing : (known : Known) → Hears known known None []
-hears_nothing known = record {
-  name = refl;
-  stands = λ h s. subst (StandsFor known) (sym (append-nil h)) s;
-  outs_are = λ h s. refl;
-}
+-- ---- one after the other
 
--- nothing of an exchange was made
-pub posts_nothing : (wire : Option WireState) (target : Option (List ℕ × List ℕ)) (body : List ℕ)
-    → WhereTold wire wire (Posts target body None)
-posts_nothing None target body = tt
-posts_nothing (Some wire) None body = refl
-posts_nothing (Some wire) (Some address) body = inl refl
+module _ {State M : Type 0} (Posts : Posting M) (manner : Manner State M) where
+  -- a message that was sent is the first of those that are
+  one_sent : (less : ℕ) (first : M) (rest : List M) (outcome : Sent) (now next end : At State)
+      → SendsOne Posts manner first outcome now next
+      → InTurn Posts manner less (rest ++ brings_of manner (message_answered outcome) now.state) next end
+      → InTurn Posts manner (suc less) (first ∷ rest) now end
+  unfolding InTurn
+  one_sent less first rest outcome now next end sent p = (outcome, next, sent, p)
 
--- nothing of it was made
-pub out_still : (out : Out) (wire : Option WireState) → PostsOut out None wire wire
-out_still out wire = posts_nothing wire (target_of out.address) (canonical out.message)
+  none_sent : (less : ℕ) (now : At State) → InTurn Posts manner (suc less) [] now now
+  unfolding InTurn
+  none_sent less now = refl
 
--- Some messages were sent: whatever the rest of the sends comes to is what all of them come to.
-pub record Comes (outs : List Out) (start now : End) (left : ℕ) (queue : List Out) : Type 0 where
-  pub name : now.producer.responder.name ≡ start.producer.responder.name
-  pub comes : (h : History) → StandsFor start.producer h → (after : History) × StandsFor now.producer after
-      × Leads SendsOne
-      (λ outcome at. settled_by start.producer.responder.name outcome at.history) LeavesUnsent most_sends
-      outs (at_of start h) left queue (at_of now after)
-      × FirstLeads PostsOut
-      (settled_by start.producer.responder.name) history_after most_sends outs h start.wire left queue after now.wire
+  all_left : (list : List M) (now : At State)
+      → InTurn Posts manner zero list now (record now { tally = with_unsent (length list) now.tally })
+  unfolding InTurn
+  all_left list now = refl
 
-pub comes_next : (outs queue later : List Out) (start now next : End) (left less : ℕ) (out : Out) (rest more : List Out)
-    → Comes outs start now left queue → queue ≡ out ∷ rest → left ≡ suc less → SendsNext out more now next
-    → later ≡ rest ++ more → Comes outs start next less later
-comes_next outs queue later start now next left less out rest more c front one s last = record {
-  name = s.hears.name ∙ c.name;
-  comes = λ h stands.
-      let before = c.comes h stands in
-      let after = before.0 in
-      let name = start.producer.responder.name in
-      let same : more ≡ settled_by name s.outcome after = s.hears.outs_are after before.1
-      ∙ ap (λ n. settled_by n s.outcome after) c.name in
-      let joined : later ≡ rest ++ settled_by name s.outcome after = last ∙ ap (λ m. rest ++ m) same in
-      let sent : SendsOne out s.outcome (at_of now after) (at_of next (history_after s.outcome after)) =
-      record { told = s.told; cause = s.cause; history = refl; tally = s.tally } in (
-        history_after s.outcome after,
-        s.hears.stands after before.1,
-        leads_next SendsOne _ LeavesUnsent most_sends outs queue later (at_of start h) (at_of now after)
-            (at_of next (history_after s.outcome after)) left less out rest s.outcome before.2 front one sent joined,
-        first_leads_next PostsOut _ history_after most_sends outs queue later h after
-            (history_after s.outcome after) start.wire now.wire next.wire left less out rest s.outcome before.3 front
-            one s.told joined refl,
-      );
-}
+  first_sent : (less : ℕ) (first : M) (rest : List M) (outcome : Sent) (s : State) (wire next now : Option WireState)
+      → Posts first (Some outcome) wire next
+      → FirstInTurn Posts manner less (rest ++ brings_of manner (message_answered outcome) s)
+      (after_hearing manner (message_answered outcome) s) next now
+      → FirstInTurn Posts manner (suc less) (first ∷ rest) s wire now
+  unfolding FirstInTurn
+  first_sent less first rest outcome s wire next now sent p = inr (outcome, next, sent, p)
 
--- no message is left
-pub comes_last : (outs queue : List Out) (start now : End) (left less : ℕ) → Comes outs start now left queue
-    → queue ≡ [] → left ≡ suc less → Goes (SendsAll outs) start now
-comes_last outs queue start now left less c none one = record {
-  name = c.name;
-  goes = λ h stands.
-      let before = c.comes h stands in (
-        before.0,
-        before.1,
-        leads_last SendsOne _ LeavesUnsent most_sends outs queue (at_of start h)
-            (at_of now before.0) left less before.2 none one,
-      );
-}
+  -- where memory was wanting no further send was made
+  module _ (still : (message : M) (wire : Option WireState) → Posts message None wire wire) where
+    none_begun : (limit : ℕ) (list : List M) (s : State) (wire : Option WireState)
+        → FirstInTurn Posts manner limit list s wire wire
+    unfolding FirstInTurn
+    none_begun zero list s wire = refl
+    none_begun (suc limit) [] s wire = refl
+    none_begun (suc limit) (first ∷ rest) s wire = inl (still first wire)
 
--- no further message may be sent
-pub comes_full : (outs queue : List Out) (start now : End) (left : ℕ) → Comes outs start now left queue → left ≡ 0
-    → Goes (SendsAll outs) start (record now { tally = with_unsent (length queue) now.tally })
-comes_full outs queue start now left c none = record {
-  name = c.name;
-  goes = λ h stands.
-      let before = c.comes h stands in
-      let at = at_of now before.0 in
-      let end : At = record at { tally = with_unsent (length queue) at.tally } in (
-        before.0,
-        before.1,
-        leads_full SendsOne _ LeavesUnsent most_sends outs queue (at_of start h) at end left before.2 none refl,
-      );
-}
+    last_begun : (less : ℕ) (first : M) (rest : List M) (s : State) (wire now : Option WireState)
+        → StopsAt (Posts first) wire now → FirstInTurn Posts manner (suc less) (first ∷ rest) s wire now
+    unfolding FirstInTurn
+    last_begun less first rest s wire now (inl part) = inl part
+    last_begun less first rest s wire now (inr whole) =
+        inr (
+          whole.0,
+          now,
+          whole.1,
+          none_begun less (rest ++ brings_of manner (message_answered whole.0) s)
+              (after_hearing manner (message_answered whole.0) s) now,
+        )
 
--- memory was wanting in the next send
-pub comes_short : (outs queue : List Out) (start now : End) (left less : ℕ) (out : Out) (rest : List Out)
-    (end : Option WireState) → Comes outs start now left queue → queue ≡ out ∷ rest → left ≡ suc less
-    → StopsAt (PostsOut out) now.wire end → SendsSome outs start.producer start.wire end
-comes_short outs queue start now left less out rest end c front one stops h stands =
-    let before = c.comes h stands in
-    first_leads_stop PostsOut _ history_after most_sends outs queue h before.0 start.wire now.wire end left less out
-    rest before.3 front one out_still stops
+-- ---- by whatever state an end stood for
 
--- memory was wanting after a send
-pub whole_stop : (out : Out) (more : List Out) (old new : End) → SendsNext out more old new
-    → StopsAt (PostsOut out) old.wire new.wire
-whole_stop out more old new s = inr (s.outcome, s.told)
+module _ {Own Kept State M : Type 0} (kept : Own → Kept) (stands : Own → State → Type 0) (Posts : Posting M)
+    (manner : Kept → Manner State M) where
+  -- Some messages were sent: whatever the rest of the sends comes to is what all of them come to.
+  pub record Comes (list : List M) (start now : At Own) (left : ℕ) (queue : List M) : Type 0 where
+    pub keeps : kept now.state ≡ kept start.state
+    pub comes : (s : State) → stands start.state s → (after : State) × stands now.state after
+        × ((end : At State) → InTurn Posts (manner (kept start.state)) left queue (stood_for now after) end
+        → SendsAll Posts (manner (kept start.state)) list (stood_for start s) end)
+        × ((wire : Option WireState) → FirstInTurn Posts (manner (kept start.state)) left queue after now.wire wire
+        → FirstSends Posts (manner (kept start.state)) list s start.wire wire)
+
+  pub comes_first : (list queue : List M) (start : At Own) → queue ≡ list → Comes list start start most_sends queue
+  comes_first list queue start is = subst (λ q. Comes list start start most_sends q) (sym is)
+      (record { keeps = refl; comes = λ s so. (s, so, (λ end p. p), (λ wire p. p)) })
+
+  pub comes_next : (list queue later : List M) (start now next : At Own) (left less : ℕ) (first : M) (rest more : List M)
+      → Comes list start now left queue → queue ≡ first ∷ rest → left ≡ suc less
+      → SendsNext kept stands Posts manner first more now next → later ≡ rest ++ more
+      → Comes list start next less later
+  comes_next list queue later start now next left less first rest more c front one sent joined = record {
+    keeps = sent.hears.keeps ∙ c.keeps;
+    comes = λ s so.
+        let before = c.comes s so in
+        let after = before.0 in
+        let own = manner (kept start.state) in
+        let answered = message_answered sent.outcome in
+        let same : manner (kept now.state) ≡ own = ap manner c.keeps in
+        let further = after_hearing own answered after in
+        let brought : later ≡ rest ++ brings_of own answered after =
+        joined ∙ ap (λ m. rest ++ m) (sent.hears.more_are after before.1 ∙ ap (λ k. brings_of k answered after) same) in
+        let one_is : SendsOne Posts own first sent.outcome (stood_for now after) (stood_for next further) =
+        record { told = sent.told; cause = sent.cause; state = refl; tally = sent.tally } in (
+          further,
+          subst (λ k. stands next.state (after_hearing k answered after)) same (sent.hears.stands_for after before.1),
+          (λ end p. before.2 end
+              (subst (λ l. InTurn Posts own l queue (stood_for now after) end) (sym one)
+              (subst (λ q. InTurn Posts own (suc less) q (stood_for now after) end) (sym front)
+              (one_sent Posts own less first rest sent.outcome (stood_for now after) (stood_for next further) end one_is
+              (subst (λ q. InTurn Posts own less q (stood_for next further) end) brought p))))),
+          (λ wire p. before.3 wire
+              (subst (λ l. FirstInTurn Posts own l queue after now.wire wire) (sym one)
+              (subst (λ q. FirstInTurn Posts own (suc less) q after now.wire wire) (sym front)
+              (first_sent Posts own less first rest sent.outcome after now.wire next.wire wire sent.told
+              (subst (λ q. FirstInTurn Posts own less q further next.wire wire) brought p))))),
+        );
+  }
+
+  -- no message is left
+  pub comes_last : (list queue : List M) (start now : At Own) (left less : ℕ) → Comes list start now left queue
+      → queue ≡ [] → left ≡ suc less
+      → Goes kept stands (λ k. SendsAll Posts (manner k) list) start now
+  comes_last list queue start now left less c none one = record {
+    keeps = c.keeps;
+    goes = λ s so.
+        let before = c.comes s so in
+        let own = manner (kept start.state) in
+        let end = stood_for now before.0 in (
+          before.0,
+          before.1,
+          before.2 end (subst (λ l. InTurn Posts own l queue end end) (sym one)
+              (subst (λ q. InTurn Posts own (suc less) q end end) (sym none) (none_sent Posts own less end))),
+        );
+  }
+
+  -- no further message may be sent
+  pub comes_full : (list queue : List M) (start now : At Own) (left : ℕ) → Comes list start now left queue → left ≡ 0
+      → Goes kept stands (λ k. SendsAll Posts (manner k) list) start
+      (record now { tally = with_unsent (length queue) now.tally })
+  comes_full list queue start now left c none = record {
+    keeps = c.keeps;
+    goes = λ s so.
+        let before = c.comes s so in
+        let own = manner (kept start.state) in
+        let last = stood_for now before.0 in
+        let end : At State = record last { tally = with_unsent (length queue) last.tally } in (
+          before.0,
+          before.1,
+          before.2 end (subst (λ l. InTurn Posts own l queue last end) (sym none) (all_left Posts own queue last)),
+        );
+  }
+
+  -- memory was wanting in the next send
+  pub comes_short : ((message : M) (wire : Option WireState) → Posts message None wire wire)
+      → (list queue : List M) (start now : At Own) (left less : ℕ) (first : M) (rest : List M) (end : Option WireState)
+      → Comes list start now left queue → queue ≡ first ∷ rest → left ≡ suc less → StopsAt (Posts first) now.wire end
+      → (s : State) → stands start.state s → FirstSends Posts (manner (kept start.state)) list s start.wire end
+  comes_short still list queue start now left less first rest end c front one stops s so =
+      let before = c.comes s so in
+      let own = manner (kept start.state) in
+      before.3 end
+      (subst (λ l. FirstInTurn Posts own l queue before.0 now.wire end) (sym one)
+      (subst (λ q. FirstInTurn Posts own (suc less) q before.0 now.wire end) (sym front)
+      (last_begun Posts own still less first rest before.0 now.wire end stops)))
+
+  -- memory was wanting after a send
+  pub whole_stop : (message : M) (more : List M) (old new : At Own) → SendsNext kept stands Posts manner message more old new
+      → StopsAt (Posts message) old.wire new.wire
+  whole_stop message more old new sent = inr (sent.outcome, sent.told)
+
+-- what is left of an empty queue
+pub none_left : {M : Type 0} (queue : List M) → queue ≡ drop 1 queue → queue ≡ []
+none_left [] e = refl
+none_left (first ∷ rest) e = absurd (omega (arith, ap length e))
+
+-- what holds anyway holds where memory was wanting
+pub on_err : {T E : Type 0} (result : Result T E) (P : Type 0) → P → OnErr result P
+on_err (Ok value) P p = tt
+on_err (Err error) P p = p

@@ -1,17 +1,17 @@
 -- An end at a moment of its run.
-use Rattle.std.specs.Prelude.{◌≡◌, ℕ, List, Option}
+use Rattle.std.specs.Prelude.{◌≡◌, ℕ, Option}
 use Rattle.siri_base.specs.Wires.{WireState}
-use Rattle.siri_model.specs.History.{History}
-use Rattle.siri_producer.specs.Known.{Known, StandsFor}
-use Rattle.siri_view.specs.Consuming.{Consuming}
 use Rattle.siri_http.specs.declared.tally.Tally.{Tally}
 
--- a producer's end: its history, what was counted, what the wire tells, where it does, and how often it failed
-pub record At : Type 0 where
-  pub history : History
+-- its state, what was counted, what the wire tells, where it does, and how often it failed
+pub record At (State : Type 0) : Type 0 where
+  pub state : State
   pub tally : Tally
   pub wire : Option WireState
   pub faults : ℕ
+
+abbrev pub at_of : {State : Type 0} → State → Tally → Option WireState → ℕ → At State
+at_of state tally wire faults = record { state = state; tally = tally; wire = wire; faults = faults }
 
 -- what surrounds an end: what was counted, what the wire tells, where it does, and how often it failed
 pub record Surroundings : Type 0 where
@@ -22,38 +22,17 @@ pub record Surroundings : Type 0 where
 abbrev pub surroundings : Tally → Option WireState → ℕ → Surroundings
 surroundings tally wire faults = record { tally = tally; wire = wire; faults = faults }
 
-abbrev pub around : At → Surroundings
+abbrev pub around : {State : Type 0} → At State → Surroundings
 around at = surroundings at.tally at.wire at.faults
 
--- a producer's end, with the producer as it is
-pub record End : Type 0 where
-  pub producer : Known
-  pub tally : Tally
-  pub wire : Option WireState
-  pub faults : ℕ
+-- an end as it is, in a state that it stands for
+abbrev pub stood_for : {Own State : Type 0} → At Own → State → At State
+stood_for own state = at_of state own.tally own.wire own.faults
 
-abbrev pub end_of : Known → Tally → Option WireState → ℕ → End
-end_of producer tally wire faults = record { producer = producer; tally = tally; wire = wire; faults = faults }
-
-abbrev pub at_of : End → History → At
-at_of end history = record { history = history; tally = end.tally; wire = end.wire; faults = end.faults }
-
--- A call does this: whatever history the producer stood for before it, it stands for the one that the call leaves. Its
--- name stays.
-pub record Goes (Does : (name : List ℕ) → At → At → Type 0) (old new : End) : Type 0 where
-  pub name : new.producer.responder.name ≡ old.producer.responder.name
-  pub goes : (h : History) → StandsFor old.producer h → (after : History) × StandsFor new.producer after
-      × Does old.producer.responder.name (at_of old h) (at_of new after)
-
--- a consumer's end: the consumer, what was counted, what the wire tells, where it does, and how often it failed
-pub record ConsumerAt : Type 0 where
-  pub consumer : Consuming
-  pub tally : Tally
-  pub wire : Option WireState
-  pub faults : ℕ
-
-abbrev pub consumer_at : Consuming → Tally → Option WireState → ℕ → ConsumerAt
-consumer_at consumer tally wire faults = record { consumer = consumer; tally = tally; wire = wire; faults = faults }
-
-abbrev pub around_consumer : ConsumerAt → Surroundings
-around_consumer at = surroundings at.tally at.wire at.faults
+-- A call does this: whatever state the end stood for before it, it stands for the one that the call leaves. What it keeps
+-- as long as it runs stays.
+pub record Goes {Own Kept State : Type 0} (kept : Own → Kept) (stands : Own → State → Type 0)
+    (Does : Kept → At State → At State → Type 0) (old new : At Own) : Type 0 where
+  pub keeps : kept new.state ≡ kept old.state
+  pub goes : (s : State) → stands old.state s → (after : State) × stands new.state after
+      × Does (kept old.state) (stood_for old s) (stood_for new after)

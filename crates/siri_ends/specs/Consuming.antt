@@ -1,14 +1,19 @@
--- A connection that a consumer answers (EN 15531-2, deliveries and notifications).
-use Rattle.std.specs.Prelude.{◌≡◌, ◌⊎◌, ℕ, List, [], ◌∷◌, Option, None, Some}
+-- A consumer as an end of the exchange (EN 15531-2, deliveries, notifications and their acknowledgements).
+use Rattle.std.specs.Prelude.{ℕ, List, [], ◌∷◌, Option, None, Some}
+use Rattle.std.proofs.Common.{refl, inl}
 use Rattle.siri_base.specs.Wires.{WireState}
+use Rattle.siri_base.specs.OutsideCalls.{WhereTold}
+use Rattle.siri_http.specs.Posts.{PostsTo}
+use Rattle.siri_http.specs.Texts.{request_text}
+use Rattle.siri_http.specs.declared.posting.Sent.{Sent}
 use Rattle.siri_messages.specs.declared.message.Message.{Message}
-use Rattle.siri_view.specs.Consuming.{Consuming, seen_of}
-use Rattle.siri_http.specs.declared.asked.Asked.{Asked}
-use Rattle.siri_ends.specs.declared.response.Response.{Response}
+use Rattle.siri_view.specs.Consuming.{Consuming, after_message, seen_of}
+use Rattle.siri_wire.specs.Canonical.{canonical}
+use Rattle.siri_ends.specs.At.{At}
+use Rattle.siri_ends.specs.InTurn.{FirstSends, SendsAll}
+use Rattle.siri_ends.specs.Manners.{Manner}
 use Rattle.siri_ends.specs.Responses.{message_asked, responding}
-use Rattle.siri_ends.specs.At.{ConsumerAt, Surroundings, around_consumer}
-use Rattle.siri_ends.specs.Answering.{AnswersWith, Reads, StopsAnswering}
-use Rattle.siri_ends.specs.SendingUp.{FirstSendsUp, SendsUp, after_taking, replies_to}
+use Rattle.siri_ends.specs.TurnsTaken.{StopsTurn, TakesTurn}
 
 -- the first of the replies to a message is its answer
 abbrev pub first_of : List Message → Option Message
@@ -24,32 +29,47 @@ further_of (first ∷ further) = further
 abbrev pub consumer_reply : Consuming → Message → Option Message
 consumer_reply consumer message = first_of (seen_of consumer message).replies
 
--- what it answers a connection
-abbrev pub consumer_response : Consuming → Asked → Option Response
-consumer_response consumer asked = responding (consumer_reply consumer) asked
+-- a message's exchange with the producer's address, or the first steps of it, which `PostsTo` tells
+abbrev pub PostsUp : (host path : List ℕ) → Message → Option Sent → (before after : Option WireState) → Type 0
+PostsUp host path message outcome before after = WhereTold before after
+    (PostsTo host (request_text host path (canonical message)) outcome)
 
--- what is to be sent up after a connection
-abbrev pub further_replies : Consuming → Asked → List Message
-further_replies consumer asked = further_of (replies_to consumer (message_asked asked))
+-- the first steps of it may be none
+pub none_posted_up : (host path : List ℕ) (message : Message) (wire : Option WireState) → PostsUp host path message None wire wire
+none_posted_up host path message None = tt
+none_posted_up host path message (Some wire) = inl refl
 
--- The connection that is there is answered: its request is read, its message is taken, where it brings one, and the
--- answer is written.
-pub record AnswersFirst (asked : Asked) (at mid : ConsumerAt) : Type 0 where
-  pub read : Surroundings
-  pub reads : Reads asked (around_consumer at) read
-  pub answers : AnswersWith (consumer_response at.consumer asked) read (around_consumer mid)
-  pub consumer : mid.consumer ≡ after_taking at.consumer (message_asked asked)
+-- the consumer takes the message of a connection, where that brings one
+abbrev pub after_taking : Consuming → Option Message → Consuming
+after_taking consumer None = consumer
+after_taking consumer (Some message) = after_message consumer message
+
+-- and replies this to it
+abbrev pub replies_to : Consuming → Option Message → List Message
+replies_to consumer None = []
+replies_to consumer (Some message) = (seen_of consumer message).replies
+
+-- It takes the message of a connection, where that brings one; the first reply is the answer, and the further ones are to be
+-- sent. Of what is answered to its own messages it takes each, and all replies are to be sent.
+abbrev pub consuming : Manner Consuming Message
+consuming = record {
+  responds = λ consumer asked. responding (consumer_reply consumer) asked;
+  after = λ consumer asked. after_taking consumer (message_asked asked);
+  sends = λ consumer asked. further_of (replies_to consumer (message_asked asked));
+  hears = λ consumer message. after_message consumer message;
+  replies = λ consumer message. (seen_of consumer message).replies;
+}
+
+-- messages are sent up
+abbrev pub SendsUp : (host path : List ℕ) → List Message → (at end : At Consuming) → Type 0
+SendsUp host path list at end = SendsAll (PostsUp host path) consuming list at end
+
+abbrev pub FirstSendsUp : (host path : List ℕ) → List Message → Consuming → (before after : Option WireState) → Type 0
+FirstSendsUp host path list consumer before after = FirstSends (PostsUp host path) consuming list consumer before after
 
 -- a connection is answered, and the further replies are sent up
-pub record ConsumesOne (host path : List ℕ) (at end : ConsumerAt) : Type 0 where
-  pub asked : Asked
-  pub mid : ConsumerAt
-  pub answers : AnswersFirst asked at mid
-  pub sends : SendsUp host path (further_replies at.consumer asked) mid end
+abbrev pub ConsumesOne : (host path : List ℕ) → (at end : At Consuming) → Type 0
+ConsumesOne host path at end = TakesTurn (PostsUp host path) consuming at end
 
--- where memory was wanting in a turn: the first steps of its answer were made, or its answer and the first sends
-abbrev pub ConsumesSome : (host path : List ℕ) → ConsumerAt → (after : Option WireState) → Type 0
-ConsumesSome host path at after =
-    StopsAnswering (consumer_response at.consumer) at.wire after
-    ⊎ ((asked : Asked) × (mid : ConsumerAt) × AnswersFirst asked at mid
-    × FirstSendsUp host path (further_replies at.consumer asked) mid.consumer mid.wire after)
+abbrev pub ConsumesSome : (host path : List ℕ) → At Consuming → (after : Option WireState) → Type 0
+ConsumesSome host path at after = StopsTurn (PostsUp host path) consuming at after

@@ -1,5 +1,5 @@
 -- Inner words: cited by private functions alone. An answer that is written from what a producer lends.
-use Rattle.std.specs.Prelude.{◌≡◌, ⊤, ℕ, Bool, true, false, List, ◌++◌, Option, Some}
+use Rattle.std.specs.Prelude.{◌≡◌, ⊤, ℕ, Bool, true, false, List, Option, Some}
 use Rattle.siri_http.specs.declared.asked.Asked.{Asked}
 use Rattle.siri_messages.specs.declared.deliveries.ServiceDelivery.{ServiceDelivery}
 use Rattle.siri_messages.specs.declared.message.Message.{Message}
@@ -13,15 +13,16 @@ use Rattle.siri_model.specs.Rows.{rows_of}
 use Rattle.siri_producer.specs.Answers.{answer_to}
 use Rattle.siri_producer.specs.Known.{Known, StandsFor}
 use Rattle.siri_producer.specs.Lent.{OwnPart, is_lent, part_in, supplied_by}
-use Rattle.siri_producer.specs.Sends.{sends}
 use Rattle.siri_producer.specs.declared.lending.Supplied.TheVariants as supplied
 use Rattle.siri_replies.specs.Parts.{part_delivery}
 use Rattle.siri_subscriptions.specs.declared.outs.Out.{Out}
 use Rattle.siri_ends.specs.declared.reply.Reply.{Reply}
 use Rattle.siri_ends.specs.declared.reply.Reply.TheVariants as reply
 use Rattle.siri_ends.specs.declared.response.Response.{Response}
-use Rattle.siri_ends.specs.Responses.{message_asked, producer_reply, replying, response_to, taking, turn_steps}
-use Rattle.siri_ends.specs.Turns.{AreWritten, GoesBy, TakesFor}
+use Rattle.siri_ends.specs.Responses.{message_asked, producer_reply, replying, response_to}
+use Rattle.siri_ends.specs.Serving.{serving}
+use Rattle.siri_ends.specs.EndCalls.{Turned}
+use Rattle.siri_ends.specs.Turns.{AreWritten, TakesFor}
 
 -- a response of this document, or of an empty body
 abbrev pub of_document : List ℕ → Response
@@ -106,11 +107,7 @@ PreparesFor first taken asked reply = Prepares first taken (message_asked asked)
 
 -- The producer went through the turn of a connection, these messages are to be sent, and the reply is what the
 -- connection is answered.
-pub record Turned (first last : Known) (asked : Asked) (outs : List Out) (reply : Reply) : Type 0 where
-  pub name : last.responder.name ≡ first.responder.name
-  pub stands : GoesBy first last (turn_steps (message_asked asked))
-  pub outs_are : (h : History) → StandsFor first h
-      → outs ≡ sends first.responder.name (h ++ taking (message_asked asked))
-  pub reply_is : (h : History) → StandsFor first h
-      → IsReply reply first.responder.name (h ++ turn_steps (message_asked asked))
-      (response_to first.responder.name h asked)
+abbrev pub TurnedBy : Asked → List Out → Reply → (first last : Known) → Type 0
+TurnedBy asked outs reply first last =
+    Turned (λ known. known.responder.name) StandsFor serving (λ name reply h response. IsReply reply name h response) asked
+    outs reply first last

@@ -1,14 +1,15 @@
--- In order of reading: what a connection is answered; a producer's end at a moment of its run; a connection that is
--- answered; messages that are sent one after the other. Of a producer: messages that are sent out; a connection that is
--- served. Of a consumer: messages that are sent up; a connection that is answered. The last five have inner words: what
--- a part of a turn does, where the text of a body goes, and answers that are written from what is lent.
+-- In order of reading: what a connection is answered; an end at a moment of its run; how an end takes part in the exchange;
+-- a connection that is answered; messages that are sent one after the other; a turn, and the calls of it; a producer and
+-- a consumer as ends. The last five have inner words: what a part of a turn does, where the text of a body goes, and
+-- answers that are written from what is lent.
 pub mod Responses
 pub mod At
+pub mod Manners
 pub mod Answering
 pub mod InTurn
-pub mod Sending
+pub mod TurnsTaken
+pub mod EndCalls
 pub mod Serving
-pub mod SendingUp
 pub mod Consuming
 pub mod Turns
 pub mod Sinks

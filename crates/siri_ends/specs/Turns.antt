@@ -1,24 +1,17 @@
 -- Inner words: cited by private functions alone. What a part of a turn does.
-use Rattle.std.specs.Prelude.{◌≡◌, ◌⊎◌, ⊤, ℕ, true, List, ◌++◌, Option, None, Some, Result}
-use Rattle.siri_base.specs.Wires.{WireState}
+use Rattle.std.specs.Prelude.{◌≡◌, ⊤, true, List, ◌++◌, Option, None, Some, Result}
 use Rattle.siri_http.specs.Texts.{is_written}
 use Rattle.siri_tables.specs.Refusals.{Refusal}
 use Rattle.siri_messages.specs.declared.message.Message.{Message}
 use Rattle.siri_model.specs.History.{History}
 use Rattle.siri_producer.specs.Known.{Known, StandsFor}
-use Rattle.siri_subscriptions.specs.declared.outs.Out.{Out}
-use Rattle.siri_http.specs.ExchangeCauses.{HasSentCause}
-use Rattle.siri_http.specs.Posts.{Posts}
 use Rattle.siri_http.specs.declared.asked.Asked.{Asked}
-use Rattle.siri_http.specs.declared.posting.Sent.{Sent}
+use Rattle.siri_subscriptions.specs.declared.outs.Out.{Out}
 use Rattle.siri_ends.specs.declared.answering.Brought.{Brought}
 use Rattle.siri_ends.specs.declared.answering.Brought.TheVariants as brought
 use Rattle.siri_ends.specs.declared.response.Response.{Response}
 use Rattle.siri_ends.specs.Responses.{message_asked, message_in, replying, responding, responding_to, taking}
-use Rattle.siri_ends.specs.At.{ConsumerAt, End}
-use Rattle.siri_ends.specs.Sending.{PostsOut, acknowledgement, sends_after, steps_after, tally_after}
-use Rattle.siri_ends.specs.SendingUp.{SendsOneUp, replies_after}
-use Rattle.siri_ends.specs.Consuming.{AnswersFirst, further_replies}
+use Rattle.siri_ends.specs.Serving.{after_acknowledging, settled_by}
 
 -- ---- what a connection brings
 
@@ -65,37 +58,7 @@ abbrev pub TakesFor : Known → Known → Option Message → Type 0
 TakesFor old new message = GoesBy old new (taking message)
 
 -- an acknowledgement is taken and settled, where there is one, and these messages are to be sent
-pub record Hears (old new : Known) (message : Option Message) (outs : List Out) : Type 0 where
+pub record Acknowledges (old new : Known) (message : Option Message) (outs : List Out) : Type 0 where
   pub name : new.responder.name ≡ old.responder.name
-  pub stands : GoesBy old new (steps_after message)
-  pub outs_are : (h : History) → StandsFor old h → outs ≡ sends_after old.responder.name h message
-
--- a message is sent, and what an acknowledgement of it settles is more to be sent
-pub record SendsNext (out : Out) (more : List Out) (old new : End) : Type 0 where
-  pub outcome : Sent
-  pub told : PostsOut out (Some outcome) old.wire new.wire
-  pub cause : HasSentCause old.faults new.faults (Some outcome)
-  pub tally : new.tally ≡ tally_after outcome old.tally
-  pub hears : Hears old.producer new.producer (acknowledgement outcome) more
-
--- ---- a consumer
-
--- a connection is answered, and these messages are to be sent up
-pub record AnswersOne (further : List Message) (at mid : ConsumerAt) : Type 0 where
-  pub asked : Asked
-  pub answers : AnswersFirst asked at mid
-  pub further_are : further ≡ further_replies at.consumer asked
-
--- a message is sent up, and the replies to what is answered are more to be sent
-pub record SendsNextUp (host path : List ℕ) (message : Message) (more : List Message)
-    (at next : ConsumerAt) : Type 0 where
-  pub outcome : Sent
-  pub sends : SendsOneUp host path message outcome at next
-  pub more_are : more ≡ replies_after outcome at.consumer
-
--- ---- where memory was wanting
-
--- an exchange was made whole, or its first steps
-abbrev pub StopsAt : (Posts : Option Sent → (before after : Option WireState) → Type 0)
-    → (before after : Option WireState) → Type 0
-StopsAt Posts before after = Posts None before after ⊎ ((outcome : Sent) × Posts (Some outcome) before after)
+  pub stands : (h : History) → StandsFor old h → StandsFor new (after_acknowledging message h)
+  pub outs_are : (h : History) → StandsFor old h → outs ≡ settled_by old.responder.name message h

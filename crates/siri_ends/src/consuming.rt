@@ -1,36 +1,42 @@
 //! Answers a connection as a consumer.
 
 ghost use Rattle.std.specs.Prelude.{◌≡◌, IfOk, OnOk, OnErr, Some};
-ghost use Rattle.siri_ends.specs.Responses.{message_asked, replying};
-ghost use Rattle.siri_ends.specs.At.{consumer_at};
-ghost use Rattle.siri_ends.specs.Answering.{StopsAnswering};
-ghost use Rattle.siri_ends.specs.SendingUp.{after_taking};
-ghost use Rattle.siri_ends.specs.Consuming.{ConsumesOne, ConsumesSome, consumer_response, first_of, further_of, further_replies};
-ghost use Rattle.siri_ends.specs.Turns.{AnswersOne, AreWritten};
+ghost use Rattle.siri_view.specs.Consuming.{Consuming, after_message, seen_of};
+ghost use Rattle.siri_ends.specs.Responses.{replying};
+ghost use Rattle.siri_ends.specs.At.{at_of};
+ghost use Rattle.siri_ends.specs.Consuming.{ConsumesOne, ConsumesSome, FirstSendsUp, PostsUp, SendsUp, consuming, first_of, further_of, none_posted_up};
+ghost use Rattle.siri_ends.specs.Turns.{AreWritten};
 
 use crate::Tally;
 use crate::answering::{Brought, brought_by, finish};
 use crate::response::{Response, replying};
-use crate::sending_up::{send_up, take_message};
+use crate::sending::send_all;
+use crate::taker::Taker;
+use crate::turning::take_turn;
 use siri_base::{List, OutOfMemory, Wire};
-use siri_http::{Address, Asked, read_asked};
+use siri_http::{Address, Asked, Sent, post_to};
 use siri_messages::Message;
 use siri_view::Consumer;
+use siri_wire::encode;
 use std::alloc::Global;
 use std::collections::VecDeque;
 
-/// What a connection is answered, and what is to be sent up after it.
-#[derive(Drop)]
-struct Replied {
-    response: Option<Response>,
-    further: List<Message>,
+/// Takes a message, and gives the replies to it.
+fn take_message(consumer: &mut Consumer, message: Message) -> Result<List<Message>, OutOfMemory>
+    ensures consumer { OnOk result (consumer.new ≡ after_message consumer.old message) }
+    ensures replies { IfOk result (λ replies. replies ≡ (seen_of consumer.old message).replies) }
+{
+    Ok(consumer.take_owned(message)?.replies)
 }
 
 /// The first reply is the answer, and the further ones are to be sent up.
-fn split(alloc: Global, replies: List<Message>) -> Result<Replied, OutOfMemory>
-    ensures response { IfOk result (λ replied. replied.response ≡ Some (replying (first_of replies))) }
-    ensures written { IfOk result (λ replied. AreWritten replied.response) }
-    ensures further { IfOk result (λ replied. replied.further ≡ further_of replies) }
+fn split(
+    alloc: Global,
+    replies: List<Message>,
+) -> Result<(Option<Response>, List<Message>), OutOfMemory>
+    ensures response { IfOk result (λ split. split.0 ≡ Some (replying (first_of replies))) }
+    ensures written { IfOk result (λ split. AreWritten split.0) }
+    ensures further { IfOk result (λ split. split.1 ≡ further_of replies) }
 {
     let mut replies = VecDeque::from(replies.into_vec());
     let first = replies.pop_front();
@@ -38,10 +44,7 @@ fn split(alloc: Global, replies: List<Message>) -> Result<Replied, OutOfMemory>
     drop(first);
     let further = List::of(Vec::from(replies));
     match response {
-        Ok(response) => Ok(Replied {
-            response: Some(response),
-            further,
-        }),
+        Ok(response) => Ok((Some(response), further)),
         Err(OutOfMemory) => {
             drop(further);
             Err(OutOfMemory)
@@ -49,49 +52,105 @@ fn split(alloc: Global, replies: List<Message>) -> Result<Replied, OutOfMemory>
     }
 }
 
-/// Takes the message that a connection brings, where it brings one, and gives the answer, where there is one.
-fn reply_to(alloc: Global, consumer: &mut Consumer, asked: &Asked) -> Result<Replied, OutOfMemory>
-    ensures consumer { OnOk result (consumer.new ≡ after_taking consumer.old (message_asked asked.now)) }
-    ensures response { IfOk result (λ replied. replied.response ≡ consumer_response consumer.old asked.now) }
-    ensures written { IfOk result (λ replied. AreWritten replied.response) }
-    ensures further { IfOk result (λ replied. replied.further ≡ further_replies consumer.old asked.now) }
+/// Takes the message that a connection brings, where it brings one: the answer, where there is one, and what is to be
+/// sent up.
+fn reply_to(
+    alloc: Global,
+    consumer: &mut Consumer,
+    asked: &Asked,
+) -> Result<(Option<Response>, List<Message>), OutOfMemory>
+    ensures consumer { OnOk result (consumer.new ≡ consuming.after consumer.old asked.now) }
+    ensures response { IfOk result (λ replied. replied.0 ≡ consuming.responds consumer.old asked.now) }
+    ensures written { IfOk result (λ replied. AreWritten replied.0) }
+    ensures further { IfOk result (λ replied. replied.1 ≡ consuming.sends consumer.old asked.now) }
 {
     match brought_by(alloc, asked)? {
         Brought::Message(message) => {
             let replies = take_message(consumer, message)?;
             split(alloc, replies)
         }
-        Brought::Refused(response) => Ok(Replied {
-            response: Some(response),
-            further: List::new(alloc),
-        }),
-        Brought::Nothing => Ok(Replied {
-            response: None,
-            further: List::new(alloc),
-        }),
+        Brought::Refused(response) => Ok((Some(response), List::new(alloc))),
+        Brought::Nothing => Ok((None, List::new(alloc))),
     }
 }
 
-/// Answers the connection that is there, and gives what is to be sent up.
-fn answer_one<W: Wire>(
+impl Taker for Consumer {
+    type Reply = Option<Response>;
+
+    type Message = Message;
+
+    type Target = Address;
+
+    ghost Kept = { Unit {0} };
+
+    ghost kept = { λ _. tt };
+
+    ghost State = { Consuming };
+
+    ghost stands = { λ consumer state. state ≡ consumer };
+
+    ghost manner = { λ _. consuming };
+
+    ghost posts = { λ producer. PostsUp producer.host producer.path };
+
+    ghost can_be_written = { AreWritten };
+
+    ghost is_reply = { λ _ reply _ response. response ≡ reply };
+
+    #[tactic(auto, using(crate::proofs::Consumes::took))]
+    fn take(
+        &mut self,
+        alloc: Global,
+        asked: &Asked,
+    ) -> Result<(Option<Response>, List<Message>), OutOfMemory> {
+        let replied = reply_to(alloc, self, asked)?;
+        Ok(replied)
+    }
+
+    fn write_reply<W: Wire>(
+        &mut self,
+        alloc: Global,
+        wire: &mut W,
+        reply: &Option<Response>,
+        tally: &mut Tally,
+    ) -> Result<(), OutOfMemory> {
+        finish(alloc, wire, reply, tally)
+    }
+
+    #[tactic(auto, using(crate::specs::Consuming::none_posted_up))]
+    fn post<W: Wire>(
+        alloc: Global,
+        wire: &mut W,
+        message: &Message,
+        producer: &Address,
+    ) -> Result<Sent, OutOfMemory> {
+        let document = encode(alloc, message)?;
+        post_to(alloc, wire, producer, &document)
+    }
+
+    #[tactic(auto, using(crate::proofs::Consumes::heard))]
+    fn hear(&mut self, _alloc: Global, message: Message) -> Result<List<Message>, OutOfMemory> {
+        let replies = take_message(self, message)?;
+        Ok(replies)
+    }
+
+    ghost none_posted = { λ producer message wire. none_posted_up producer.host producer.path message wire };
+}
+
+/// Sends messages up to the producer's address, as [`send_all`] says. The message of a response of status 200, where its
+/// body is a document, is taken, and all the replies to it join the end.
+pub fn send_up<W: Wire>(
     alloc: Global,
     wire: &mut W,
+    list: List<Message>,
+    producer: &Address,
     consumer: &mut Consumer,
     tally: &mut Tally,
-) -> Result<List<Message>, OutOfMemory>
-    requires there { W.is_open wire.old }
-    ensures ok { IfOk result (λ further. AnswersOne further (consumer_at consumer.old tally.old (W.tells wire.old) (W.faults wire.old)) (consumer_at consumer.new tally.new (W.tells wire.new) (W.faults wire.new))) }
-    ensures err { OnErr result (StopsAnswering (consumer_response consumer.old) (W.tells wire.old) (W.tells wire.new)) }
+) -> Result<(), OutOfMemory>
+    ensures ok { OnOk result (SendsUp producer.now.host producer.now.path list (at_of consumer.old tally.old (W.tells wire.old) (W.faults wire.old)) (at_of consumer.new tally.new (W.tells wire.new) (W.faults wire.new))) }
+    ensures err { OnErr result (FirstSendsUp producer.now.host producer.now.path list consumer.old (W.tells wire.old) (W.tells wire.new)) }
 {
-    let asked = read_asked(alloc, wire)?;
-    let Replied { response, further } = reply_to(alloc, consumer, &asked)?;
-    match finish(alloc, wire, &response, tally) {
-        Ok(()) => Ok(further),
-        Err(OutOfMemory) => {
-            drop(further);
-            Err(OutOfMemory)
-        }
-    }
+    send_all(alloc, wire, list, producer, consumer, tally)
 }
 
 /// Answers the connection that was accepted. Its request is read; where it is a POST whose body is a document, the
@@ -110,9 +169,8 @@ pub fn consume_one<W: Wire>(
     tally: &mut Tally,
 ) -> Result<(), OutOfMemory>
     requires there { W.is_open wire.old }
-    ensures ok { OnOk result (ConsumesOne producer.now.host producer.now.path (consumer_at consumer.old tally.old (W.tells wire.old) (W.faults wire.old)) (consumer_at consumer.new tally.new (W.tells wire.new) (W.faults wire.new))) }
-    ensures err { OnErr result (ConsumesSome producer.now.host producer.now.path (consumer_at consumer.old tally.old (W.tells wire.old) (W.faults wire.old)) (W.tells wire.new)) }
+    ensures ok { OnOk result (ConsumesOne producer.now.host producer.now.path (at_of consumer.old tally.old (W.tells wire.old) (W.faults wire.old)) (at_of consumer.new tally.new (W.tells wire.new) (W.faults wire.new))) }
+    ensures err { OnErr result (ConsumesSome producer.now.host producer.now.path (at_of consumer.old tally.old (W.tells wire.old) (W.faults wire.old)) (W.tells wire.new)) }
 {
-    let further = answer_one(alloc, wire, consumer, tally)?;
-    send_up(alloc, wire, further, producer, consumer, tally)
+    take_turn(alloc, wire, producer, consumer, tally)
 }

@@ -2,16 +2,17 @@
 //! sends.
 //!
 //! ```text
-//!   a connection -> serve_one:   the producer takes the message of its request, settles, answers and hangs up, and sends out
-//!                                what was settled
-//!   messages     -> send_out:    to each one's address, one after the other; an acknowledgement that comes back is taken,
-//!                                and what that settles joins the messages
+//!   a connection -> answer_asked: what it asks is taken, the answer written, and the connection hung up
+//!   messages     -> send_all:     posted one after the other; what is answered is heard, and what that brings joins them
 //!
-//!   a connection -> consume_one: the consumer takes the message of its request, answers the first reply and hangs up, and
-//!                                sends up the further ones
-//!   messages     -> send_up:     to the producer's address, one after the other; a message that comes back is taken, and the
-//!                                replies to it join the messages
+//!                 serve_one                                           consume_one
+//!   takes         the message, and settles                            the message
+//!   answers       what the message is answered                        the first reply
+//!   sends then    what was settled, each to its address               the further replies, to the producer's address
+//!   hears         an acknowledgement, which is taken and settled      each message, whose replies are sent
 //! ```
+//!
+//! Both are one turn over the trait [`Taker`], which is stated and proved once.
 //!
 //! What a producer holds is not copied for an answer: the items of a direct response and the changes of a supplied part are
 //! written from what the producer lends after it settled. The length stands before them, in the head: a short text is
@@ -29,17 +30,20 @@
 
 mod answering;
 mod consuming;
-mod in_turn;
 mod lending;
 mod reply;
 mod response;
 mod sending;
-mod sending_up;
 mod serving;
 mod sink;
+mod taker;
+mod turning;
 
-pub use consuming::consume_one;
-pub use sending::send_out;
-pub use sending_up::send_up;
+pub use consuming::{consume_one, send_up};
+pub use reply::Reply;
+pub use response::Response;
+pub use sending::send_all;
 pub use serving::serve_one;
 pub use siri_http::Tally;
+pub use taker::Taker;
+pub use turning::answer_asked;

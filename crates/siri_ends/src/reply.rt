@@ -22,7 +22,7 @@ use std::alloc::Global;
 
 /// What a connection is to be answered.
 #[derive(Drop)]
-pub(crate) enum Reply {
+pub enum Reply {
     /// A response that was made, or nothing, where the request didn't come whole.
     Made(Option<Response>),
     /// The direct response to a request whose items are lent. The producer isn't told of the request.

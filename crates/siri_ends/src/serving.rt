@@ -1,21 +1,25 @@
 //! Serves a connection.
 
-ghost use Rattle.std.specs.Prelude.{Option, IfOk, OnOk, OnErr};
+ghost use Rattle.std.specs.Prelude.{List, ℕ, Option, IfOk, OnOk, OnErr, Some};
 ghost use Rattle.siri_model.specs.History.{History};
 ghost use Rattle.siri_producer.specs.Known.{SameButReads, StandsFor};
 ghost use Rattle.siri_ends.specs.declared.response.Response.{Response};
 ghost use Rattle.siri_ends.specs.Answering.{AnswersWith, StopsWriting};
-ghost use Rattle.siri_ends.specs.At.{Goes, end_of, surroundings};
+ghost use Rattle.siri_ends.specs.At.{at_of, surroundings};
 ghost use Rattle.siri_ends.specs.Lending.{CanBeWritten, IsReply};
-ghost use Rattle.siri_ends.specs.Serving.{Answers, FirstAnswer, ServesOne, ServesSome};
+ghost use Rattle.siri_ends.specs.Serving.{Goes, PostsOut, ServesOne, ServesSome, acknowledging, none_posted_out, serving};
+ghost use Rattle.siri_ends.specs.Turns.{Acknowledges};
 
 use crate::answering::finish;
 use crate::lending::{write_direct, write_part};
 use crate::reply::{Reply, reply_for};
-use crate::sending::send_out;
+use crate::taker::Taker;
+use crate::turning::take_turn;
 use siri_base::{List, OutOfMemory, Wire};
-use siri_http::{Tally, read_asked};
+use siri_http::{Asked, Sent, Tally, post};
+use siri_messages::Message;
 use siri_producer::{Out, Producer};
+use siri_wire::encode;
 use std::alloc::Global;
 
 /// Writes what a connection is to be answered, and hangs up.
@@ -42,27 +46,103 @@ fn write_reply<W: Wire>(
     }
 }
 
-/// Answers the connection that is there, and gives what is to be sent out.
-fn answer_one<W: Wire>(
-    alloc: Global,
-    wire: &mut W,
+/// Takes an acknowledgement and settles it, and gives what that sends.
+fn settle_acknowledgement(
     producer: &mut Producer,
-    tally: &mut Tally,
+    message: &Message,
 ) -> Result<List<Out>, OutOfMemory>
-    requires there { W.is_open wire.old }
-    ensures ok { IfOk result (λ outs. Goes (Answers outs) (end_of producer.old tally.old (W.tells wire.old) (W.faults wire.old)) (end_of producer.new tally.new (W.tells wire.new) (W.faults wire.new))) }
-    ensures err { OnErr result ((h : History) → StandsFor producer.old h → FirstAnswer producer.old.responder.name h (W.tells wire.old) (W.tells wire.new)) }
+    ensures { IfOk result (λ outs. Acknowledges producer.old producer.new (Some message.now) outs) }
 {
-    let asked = read_asked(alloc, wire)?;
-    let reply = reply_for(alloc, producer, &asked)?;
+    producer.take(message)?;
     let outs = producer.settle()?;
-    write_reply(alloc, wire, producer, &reply, tally)?;
     Ok(outs)
+}
+
+/// Takes a message that was answered, where it is an acknowledgement.
+#[tactic(auto, using(crate::proofs::Serves::acknowledges_nothing))]
+fn hear_message(
+    alloc: Global,
+    producer: &mut Producer,
+    message: &Message,
+) -> Result<List<Out>, OutOfMemory>
+    ensures { IfOk result (λ outs. Acknowledges producer.old producer.new (acknowledging message.now) outs) }
+{
+    match message {
+        Message::DataReceivedAcknowledgement(_) => settle_acknowledgement(producer, message),
+        _ => Ok(List::new(alloc)),
+    }
+}
+
+impl Taker for Producer {
+    type Reply = Reply;
+
+    type Message = Out;
+
+    type Target = ();
+
+    ghost Kept = { List ℕ };
+
+    ghost kept = { λ producer. producer.responder.name };
+
+    ghost State = { History };
+
+    ghost stands = { StandsFor };
+
+    ghost manner = { serving };
+
+    ghost posts = { λ _. PostsOut };
+
+    ghost can_be_written = { CanBeWritten };
+
+    ghost is_reply = { λ name reply h response. IsReply reply name h response };
+
+    fn take(&mut self, alloc: Global, asked: &Asked) -> Result<(Reply, List<Out>), OutOfMemory> {
+        let reply = reply_for(alloc, self, asked)?;
+        let outs = self.settle()?;
+        Ok((reply, outs))
+    }
+
+    fn write_reply<W: Wire>(
+        &mut self,
+        alloc: Global,
+        wire: &mut W,
+        reply: &Reply,
+        tally: &mut Tally,
+    ) -> Result<(), OutOfMemory> {
+        write_reply(alloc, wire, self, reply, tally)
+    }
+
+    #[tactic(auto, using(crate::specs::Serving::none_posted_out))]
+    fn post<W: Wire>(
+        alloc: Global,
+        wire: &mut W,
+        out: &Out,
+        _target: &(),
+    ) -> Result<Sent, OutOfMemory> {
+        match &out.address {
+            Some(address) => {
+                let document = encode(alloc, &out.message)?;
+                post(alloc, wire, address, &document)
+            }
+            None => Ok(Sent::Refused),
+        }
+    }
+
+    #[tactic(auto, using(crate::proofs::Serves::heard))]
+    fn hear(&mut self, alloc: Global, message: Message) -> Result<List<Out>, OutOfMemory> {
+        let outs = hear_message(alloc, self, &message);
+        drop(message);
+        let outs = outs?;
+        Ok(outs)
+    }
+
+    ghost none_posted = { λ _ out wire. none_posted_out out wire };
 }
 
 /// Serves the connection that was accepted. Its request is read; where it is a POST whose body is a document, the
 /// message is taken; the producer settles; the answer is written, and the connection hung up. What was settled is then
-/// sent out, as [`send_out`] says.
+/// sent out, as [`send_all`](crate::send_all) says; of what is answered to it a DataReceivedAcknowledgement is taken and
+/// settled.
 ///
 /// The answer has status 200 and the reply's document, or an empty body where there is no reply. A refused head, method
 /// or body is answered with its own status and a line of text, and counted as refused. A request that didn't come whole
@@ -78,10 +158,8 @@ pub fn serve_one<W: Wire>(
     tally: &mut Tally,
 ) -> Result<(), OutOfMemory>
     requires there { W.is_open wire.old }
-    ensures ok { OnOk result (Goes ServesOne (end_of producer.old tally.old (W.tells wire.old) (W.faults wire.old)) (end_of producer.new tally.new (W.tells wire.new) (W.faults wire.new))) }
-    ensures err { OnErr result (ServesSome (end_of producer.old tally.old (W.tells wire.old) (W.faults wire.old)) (W.tells wire.new)) }
+    ensures ok { OnOk result (Goes ServesOne (at_of producer.old tally.old (W.tells wire.old) (W.faults wire.old)) (at_of producer.new tally.new (W.tells wire.new) (W.faults wire.new))) }
+    ensures err { OnErr result ((h : History) → StandsFor producer.old h → ServesSome producer.old.responder.name (at_of h tally.old (W.tells wire.old) (W.faults wire.old)) (W.tells wire.new)) }
 {
-    let outs = answer_one(alloc, wire, producer, tally)?;
-    send_out(alloc, wire, outs, producer, tally)?;
-    Ok(())
+    take_turn(alloc, wire, &(), producer, tally)
 }

@@ -22,6 +22,26 @@ no_write_fault error.ClockFault = refl
 no_write_fault error.KeeperFault = refl
 no_write_fault error.OutOfMemory = refl
 
+-- which error a status is of
+
+pub wire_is : (e : NetworkError) → status.WireFault ≡ status_of e → e ≡ error.WireFault
+wire_is error.WireFault is = refl
+wire_is error.ClockFault is = absurd (cc is)
+wire_is error.KeeperFault is = absurd (cc is)
+wire_is error.OutOfMemory is = absurd (cc is)
+
+pub clock_is : (e : NetworkError) → status.ClockFault ≡ status_of e → e ≡ error.ClockFault
+clock_is error.WireFault is = absurd (cc is)
+clock_is error.ClockFault is = refl
+clock_is error.KeeperFault is = absurd (cc is)
+clock_is error.OutOfMemory is = absurd (cc is)
+
+pub keeper_is : (e : NetworkError) → status.KeeperFault ≡ status_of e → e ≡ error.KeeperFault
+keeper_is error.WireFault is = absurd (cc is)
+keeper_is error.ClockFault is = absurd (cc is)
+keeper_is error.KeeperFault is = refl
+keeper_is error.OutOfMemory is = absurd (cc is)
+
 -- ---- a run by its status
 
 -- one that ended otherwise than by its sink

@@ -1,70 +1,26 @@
 -- A run that ends with a fault has raised a count.
-use Rattle.std.proofs.Common.{◌≡◌, ◌≤◌, ℕ, zero, suc, List, [], ◌∷◌, ◌++◌, Option, None, Some, refl, sym, ap, ◌∙◌, subst, arith, inl, inr}
+use Rattle.std.proofs.Common.{ℕ, List, sym, ap, ◌∙◌, subst, arith, inl, inr}
 use Rattle.siri_base.specs.Causes.{Rose}
 use Rattle.siri_base.specs.declared.status.Status.TheVariants as status
-use Rattle.siri_messages.specs.declared.message.Message.{Message}
-use Rattle.siri_ends.specs.declared.response.Response.{Response}
-use Rattle.siri_ends.specs.Answering.{AnswersWith}
-use Rattle.siri_ends.specs.At.{ConsumerAt, Surroundings, around_consumer}
-use Rattle.siri_ends.specs.Consuming.{consumer_response, further_replies}
-use Rattle.siri_ends.specs.InTurn.{InTurn}
-use Rattle.siri_ends.specs.SendingUp.{LeavesUnsentUp, SendsOneUp, replies_after}
+use Rattle.siri_ends.specs.Consuming.{PostsUp, consuming}
+use Rattle.siri_ends.specs.InTurn.{most_sends}
 use Rattle.siri_lines.specs.Ends.{Bytes}
 use Rattle.siri_runs.specs.Calls.{Outside}
-use Rattle.siri_runs.specs.Errors.{status_of}
-use Rattle.siri_runs.specs.declared.network_error.NetworkError.{NetworkError}
 use Rattle.siri_runs.specs.declared.network_error.NetworkError.TheVariants as error
 use Rattle.siri_runs.proofs.Causes.{AnswersLater, clock_failed, keeper_failed, no_clock_of_keeper, no_clock_of_wire, no_keeper_of_clock}
 use Rattle.siri_runs.proofs.Causes.{no_keeper_of_wire, no_wire_of_clock, no_wire_of_keeper, rose_since, turns_clock_rose}
 use Rattle.siri_runs.proofs.Causes.{turns_keeper_not, turns_wire_rose, wire_failed}
+use Rattle.siri_runs.proofs.Statuses.{clock_is, keeper_is, wire_is}
+use Rattle.siri_runs.proofs.TurnsTaken.{sends_later, turn_later}
 use Rattle.siri_runs.specs.consumers.Consumption.{Consumes, EndsInTurns, StopsConsuming, Target, asking, end_at, given, requests}
 use Rattle.siri_runs.specs.consumers.Opening.{opened}
 use Rattle.siri_runs.specs.consumers.Runs.{ConsumesNot}
-use Rattle.siri_ends.specs.Sending.{most_sends}
 
 -- ---- the wire's count while a connection is answered
 
-up_later : (host path : List ℕ) (limit : ℕ) (list : List Message) (at end : ConsumerAt)
-    → InTurn (SendsOneUp host path) (λ outcome at. replies_after outcome at.consumer) LeavesUnsentUp limit list at end
-    → at.faults ≤ end.faults
-unfolding InTurn
-up_later host path zero list at end is = omega (arith, ap (λ (a : ConsumerAt). a.faults) is)
-up_later host path (suc limit) [] at end is = omega (arith, ap (λ (a : ConsumerAt). a.faults) is)
-up_later host path (suc limit) (message ∷ rest) at end some =
-    omega (arith, some.2.cause.later, up_later host path limit (rest ++ replies_after some.0 at.consumer) some.1 end some.3)
-
-answer_later : (response : Option Response) (at mid : Surroundings) → AnswersWith response at mid → at.faults ≤ mid.faults
-answer_later None at mid answers = answers.later
-answer_later (Some response) at mid answers = answers.cause.later
-
 consumed_later : (target : Target) → AnswersLater (Consumes target)
 consumed_later target from before to after consumes =
-    omega (
-      arith,
-      consumes.answers.reads.cause.later,
-      answer_later (consumer_response from.consumer consumes.asked) consumes.answers.read (around_consumer consumes.mid) consumes.answers.answers,
-      up_later target.0 target.1 most_sends (further_replies from.consumer consumes.asked) consumes.mid (end_at to after) consumes.sends,
-    )
-
--- ---- which error a status is of
-
-wire_is : (e : NetworkError) → status.WireFault ≡ status_of e → e ≡ error.WireFault
-wire_is error.WireFault is = refl
-wire_is error.ClockFault is = absurd (cc is)
-wire_is error.KeeperFault is = absurd (cc is)
-wire_is error.OutOfMemory is = absurd (cc is)
-
-clock_is : (e : NetworkError) → status.ClockFault ≡ status_of e → e ≡ error.ClockFault
-clock_is error.WireFault is = absurd (cc is)
-clock_is error.ClockFault is = refl
-clock_is error.KeeperFault is = absurd (cc is)
-clock_is error.OutOfMemory is = absurd (cc is)
-
-keeper_is : (e : NetworkError) → status.KeeperFault ≡ status_of e → e ≡ error.KeeperFault
-keeper_is error.WireFault is = absurd (cc is)
-keeper_is error.ClockFault is = absurd (cc is)
-keeper_is error.KeeperFault is = refl
-keeper_is error.OutOfMemory is = absurd (cc is)
+    turn_later (PostsUp target.0 target.1) consuming (end_at from before) (end_at to after) consumes
 
 -- ---- what ended a run
 
@@ -81,7 +37,7 @@ wire_rose name listen target count input left from to (inl (inr (inr (inr (inr n
 wire_rose name listen target count input left from to (inr (inl ask)) = absurd (cc ask.end_is)
 wire_rose name listen target count input left from to (inr (inr turn)) =
     let first = turn.opens.listens.cause.later in
-    let next = up_later target.0 target.1 most_sends (requests (opened name listen turn.start turn.moment) turn.list)
+    let next = sends_later (PostsUp target.0 target.1) consuming most_sends (requests (opened name listen turn.start turn.moment) turn.list)
     (asking (opened name listen turn.start turn.moment) turn.list turn.open_.wire)
     (end_at turn.asked.state turn.asked.outside.wire) turn.asks.sends in
     rose_since from.wire.faults turn.asked.outside.wire.faults to.wire.faults (omega (arith, first, next))

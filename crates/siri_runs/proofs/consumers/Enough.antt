@@ -1,68 +1,50 @@
 -- Where the outside has enough for so many connections and all lines are good, a run of `consume` that ends before every connection
 -- was answered ends for want of memory, or because the source failed.
-use Rattle.std.proofs.Common.{◌≡◌, ℕ, zero, suc, List, [], ◌∷◌, ◌++◌, Option, None, Some, refl, sym, ap, subst, inl, inr}
+use Rattle.std.proofs.Common.{◌≡◌, ℕ, List, Option, None, Some, refl, sym, ap, subst, inl, inr}
 use Rattle.std.specs.Prelude.{IsSomeAnd, is_ok}
 use Rattle.siri_base.specs.declared.status.Status.{Status}
 use Rattle.siri_base.specs.declared.status.Status.TheVariants as status
-use Rattle.siri_http.specs.Texts.{request_text, response_text}
+use Rattle.siri_base.specs.Wires.{WireState}
+use Rattle.siri_http.specs.Texts.{request_text}
+use Rattle.siri_http.specs.declared.posting.Sent.{Sent}
 use Rattle.siri_life.specs.Named.{Name}
 use Rattle.siri_lines.specs.Ends.{Bytes}
 use Rattle.siri_messages.specs.declared.message.Message.{Message}
 use Rattle.siri_view.specs.Consuming.{Consuming}
 use Rattle.siri_wire.specs.Canonical.{canonical}
 use Rattle.siri_wire.specs.declared.wanted.Wanted.{Wanted}
-use Rattle.siri_http.specs.Requests.{Asks as Asking}
-use Rattle.siri_ends.specs.declared.response.Response.{Response}
-use Rattle.siri_ends.specs.Answering.{AnswersWith}
-use Rattle.siri_ends.specs.At.{ConsumerAt, Surroundings, around_consumer}
-use Rattle.siri_ends.specs.Consuming.{consumer_response, further_replies}
-use Rattle.siri_ends.specs.InTurn.{InTurn}
-use Rattle.siri_ends.specs.SendingUp.{LeavesUnsentUp, SendsOneUp, replies_after}
+use Rattle.siri_ends.specs.Consuming.{PostsUp, consuming}
+use Rattle.siri_ends.specs.InTurn.{most_sends}
 use Rattle.siri_runs.specs.Calls.{Outside}
 use Rattle.siri_runs.specs.Enough.{EndsWhole, HasConnections, HasEnough, HasMoments}
 use Rattle.siri_runs.specs.Turns.{Running}
 use Rattle.siri_runs.specs.declared.network_error.NetworkError.TheVariants as error
-use Rattle.siri_runs.proofs.Enough.{AnswersOnly, HasAccepted, HasTurns, ends_wanting, fails_to_listen, fails_to_raise, fails_to_tell}
+use Rattle.siri_runs.proofs.Enough.{AnswersOnly, HasTurns, ends_wanting, fails_to_listen, fails_to_raise, fails_to_tell}
 use Rattle.siri_runs.proofs.Enough.{opened_with, turns_fail}
-use Rattle.siri_runs.proofs.Exchanges.{hung_up_only, post_only, read_only, response_only}
+use Rattle.siri_runs.proofs.Exchanges.{post_only}
+use Rattle.siri_runs.proofs.TurnsTaken.{sends_only, turn_only}
 use Rattle.siri_runs.specs.consumers.Consumption.{Asks, Consumes, Consumption, StopsConsuming, Target, asking, end_at, given, requests}
 use Rattle.siri_runs.specs.consumers.Opening.{FailsToOpen, opened}
 use Rattle.siri_runs.specs.consumers.Reading.{EndsReading, StopsAt, TellsWanted}
 use Rattle.siri_runs.specs.consumers.Runs.{ConsumesNot}
-use Rattle.siri_ends.specs.Sending.{most_sends}
 
 -- ---- answering a connection takes none of those that are still to come
 
-up_only : (host path : List ℕ) (limit n : ℕ) (list : List Message) (at end : ConsumerAt)
-    → IsSomeAnd at.wire (HasConnections n) → InTurn (SendsOneUp host path)
-    (λ outcome at. replies_after outcome at.consumer) LeavesUnsentUp limit list at end
-    → IsSomeAnd end.wire (HasConnections n)
-unfolding InTurn
-up_only host path zero n list at end has is = subst (λ (a : ConsumerAt). IsSomeAnd a.wire (HasConnections n)) (sym is) has
-up_only host path (suc limit) n [] at end has is = subst (λ (a : ConsumerAt). IsSomeAnd a.wire (HasConnections n)) (sym is) has
-up_only host path (suc limit) n (message ∷ rest) at end has some =
-    up_only host path limit n (rest ++ replies_after some.0 at.consumer) some.1 end
-    (post_only host (request_text host path (canonical message)) some.0 n at.wire some.1.wire has some.2.told)
-    some.3
-
-answer_only : (response : Option Response) (n : ℕ) (at mid : Surroundings) → IsSomeAnd at.wire (HasAccepted n)
-    → AnswersWith response at mid → IsSomeAnd mid.wire (HasConnections n)
-answer_only None n at mid has answers = hung_up_only n at.wire mid.wire has answers.told
-answer_only (Some response) n at mid has answers = response_only
-    (response_text response.status response.plain response.body) answers.whole n at.wire mid.wire has answers.told
+posted_only : (target : Target) (message : Message) (outcome : Sent) (n : ℕ) (old new : Option WireState)
+    → IsSomeAnd old (HasConnections n) → PostsUp target.0 target.1 message (Some outcome) old new
+    → IsSomeAnd new (HasConnections n)
+posted_only target message outcome n old new has told =
+    post_only target.0 (request_text target.0 target.1 (canonical message)) outcome n old new has told
 
 consumed_only : (target : Target) → AnswersOnly (Consumes target)
-consumed_only target n from before to after has consumes =
-    let read = read_only (Asking (Some consumes.asked)) n before.tells consumes.answers.read.wire has consumes.answers.reads.told in
-    let answered = answer_only (consumer_response from.consumer consumes.asked) n consumes.answers.read
-    (around_consumer consumes.mid) read consumes.answers.answers in
-    up_only target.0 target.1 most_sends n (further_replies from.consumer consumes.asked) consumes.mid (end_at to after) answered consumes.sends
+consumed_only target n from before to after has consumes = turn_only (PostsUp target.0 target.1) consuming
+    (posted_only target) n (end_at from before) (end_at to after) has consumes
 
 -- what is asked for at first takes none either
 asked_with : (target : Target) (list : List Wanted) (consumer : Consuming) (n : ℕ) (from : Outside)
     (to : Running Consumption) → HasTurns n from → Asks target list consumer from to → HasTurns n to.outside
 asked_with target list consumer n from to has asks = record {
-  connections = up_only target.0 target.1 most_sends n (requests consumer list) (asking consumer list from.wire)
+  connections = sends_only (PostsUp target.0 target.1) consuming (posted_only target) most_sends n (requests consumer list) (asking consumer list from.wire)
       (end_at to.state to.outside.wire) has.connections asks.sends;
   moments = subst (λ (o : Outside). IsSomeAnd o.clock.tells (HasMoments n)) (sym asks.rest) has.moments;
 }

@@ -10,8 +10,8 @@ use Rattle.siri_base.specs.declared.status.Status.{Status}
 use Rattle.siri_base.specs.declared.status.Status.TheVariants as status
 use Rattle.siri_http.specs.declared.tally.Tally.{Tally}
 use Rattle.siri_http.specs.Tallies.{nothing_yet}
-use Rattle.siri_ends.specs.At.{consumer_at}
-use Rattle.siri_ends.specs.SendingUp.{FirstSendsUp, SendsUp}
+use Rattle.siri_ends.specs.At.{at_of}
+use Rattle.siri_ends.specs.Consuming.{FirstSendsUp, SendsUp}
 use Rattle.siri_lines.specs.Ends.{AppendsFront, Bytes, ReadsAll}
 use Rattle.siri_view.specs.Consuming.{Consuming}
 use Rattle.siri_wire.specs.declared.wanted.Wanted.{Wanted}
@@ -33,16 +33,16 @@ asks_all : (target : Target) (list : List Wanted) (first begun later : Consuming
     (wire after : Told WireState) (clock : Told ClockState) (keeper : Told KeeperState) → begun ≡ first
     → none ≡ nothing_yet
     → SendsUp target.0 target.1 (requests begun list)
-    (consumer_at (after_asking begun list) none wire.tells wire.faults)
-    (consumer_at later tally after.tells after.faults)
+    (at_of (after_asking begun list) none wire.tells wire.faults)
+    (at_of later tally after.tells after.faults)
     → Asks target list first (outside_of wire clock keeper) (running (state_of later tally) (outside_of after clock keeper))
 asks_all target list first begun later none tally wire after clock keeper is nothing sends = record {
   sends = subst (λ t. SendsUp target.0 target.1 (requests first list)
-      (consumer_at (after_asking first list) t wire.tells wire.faults)
-      (consumer_at later tally after.tells after.faults)) nothing
+      (at_of (after_asking first list) t wire.tells wire.faults)
+      (at_of later tally after.tells after.faults)) nothing
       (subst (λ c. SendsUp target.0 target.1 (requests c list)
-      (consumer_at (after_asking c list) none wire.tells wire.faults)
-      (consumer_at later tally after.tells after.faults)) is sends);
+      (at_of (after_asking c list) none wire.tells wire.faults)
+      (at_of later tally after.tells after.faults)) is sends);
   rest = refl;
 }
 
@@ -52,8 +52,8 @@ pub all_consumed : (name listen : List ℕ) (target : Target) (count : ℕ) (inp
     (clock : Told ClockState) (keeper : Told KeeperState) (to : Outside) → none ≡ nothing_yet
     → OpensConsumer name listen input list begun from (outside_of wire clock keeper)
     → SendsUp target.0 target.1 (requests begun list)
-    (consumer_at (after_asking begun list) none wire.tells wire.faults)
-    (consumer_at later first after.tells after.faults)
+    (at_of (after_asking begun list) none wire.tells wire.faults)
+    (at_of later first after.tells after.faults)
     → ConsumesTurns target count (running (state_of later first) (outside_of after clock keeper)) (running (state_of last tally) to)
     → ConsumesAll name listen target count input (state_of last tally) from to
 all_consumed name listen target count input list begun later last none first tally from wire after clock keeper to nothing opens sends turns = record {
@@ -99,8 +99,8 @@ pub turn_ended : (name listen : List ℕ) (target : Target) (count : ℕ) (input
     → none ≡ nothing_yet → end ≡ status_of e
     → OpensConsumer name listen input list begun from (outside_of wire clock keeper)
     → SendsUp target.0 target.1 (requests begun list)
-    (consumer_at (after_asking begun list) none wire.tells wire.faults)
-    (consumer_at later first after.tells after.faults)
+    (at_of (after_asking begun list) none wire.tells wire.faults)
+    (at_of later first after.tells after.faults)
     → EndsInTurns target count e (running (state_of later first) (outside_of after clock keeper)) to
     → ConsumesNot name listen target count input left end from to
 turn_ended name listen target count input left list begun later none first from wire after clock keeper to e end nothing is opens sends ends =

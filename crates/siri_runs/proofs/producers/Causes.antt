@@ -1,44 +1,21 @@
 -- A run that ends with a fault has raised a count.
-use Rattle.std.proofs.Common.{◌≤◌, ℕ, zero, suc, List, [], ◌∷◌, ◌++◌, Option, None, Some, ap, arith, inl, inr}
+use Rattle.std.proofs.Common.{ℕ, List, inl, inr}
 use Rattle.siri_base.specs.Causes.{Rose}
-use Rattle.siri_subscriptions.specs.declared.outs.Out.{Out}
-use Rattle.siri_ends.specs.declared.response.Response.{Response}
-use Rattle.siri_ends.specs.Answering.{AnswersWith}
-use Rattle.siri_ends.specs.At.{At, Surroundings, around}
-use Rattle.siri_ends.specs.InTurn.{InTurn}
-use Rattle.siri_ends.specs.Responses.{response_to}
-use Rattle.siri_ends.specs.Sending.{SendsOut, settled_by, most_sends}
+use Rattle.siri_ends.specs.Serving.{PostsOut, serving}
 use Rattle.siri_runs.specs.Calls.{Outside}
 use Rattle.siri_runs.specs.declared.network_error.NetworkError.TheVariants as error
 use Rattle.siri_runs.proofs.Causes.{AnswersLater, clock_failed, keeper_failed, no_clock_of_keeper, no_clock_of_wire, no_keeper_of_clock}
 use Rattle.siri_runs.proofs.Causes.{no_keeper_of_wire, no_wire_of_clock, no_wire_of_keeper, rose_since, turns_clock_rose}
 use Rattle.siri_runs.proofs.Causes.{turns_keeper_not, turns_wire_rose, wire_failed}
+use Rattle.siri_runs.proofs.TurnsTaken.{turn_later}
 use Rattle.siri_runs.specs.producers.Opening.{FailsToOpen, opened}
 use Rattle.siri_runs.specs.producers.Runs.{ServesNot}
 use Rattle.siri_runs.specs.producers.Serving.{Serves, StopsServing, end_at, given}
 
 -- ---- the wire's count while a connection is served
 
--- the sends of a turn, whatever name the producer has
-sends_later : (name : List ℕ) (limit : ℕ) (outs : List Out) (at end : At) → SendsOut name limit outs at end → at.faults ≤ end.faults
-unfolding InTurn
-sends_later name zero outs at end is = omega (arith, ap (λ (a : At). a.faults) is)
-sends_later name (suc limit) [] at end is = omega (arith, ap (λ (a : At). a.faults) is)
-sends_later name (suc limit) (out ∷ rest) at end some =
-    omega (arith, some.2.cause.later, sends_later name limit (rest ++ settled_by name some.0 at.history) some.1 end some.3)
-
-answer_later : (response : Option Response) (at mid : Surroundings) → AnswersWith response at mid → at.faults ≤ mid.faults
-answer_later None at mid answers = answers.later
-answer_later (Some response) at mid answers = answers.cause.later
-
 served_later : (name : List ℕ) → AnswersLater (Serves name)
-served_later name from before to after serves =
-    omega (
-      arith,
-      serves.answers.reads.cause.later,
-      answer_later (response_to name from.history serves.answers.asked) serves.answers.read (around serves.mid) serves.answers.answers,
-      sends_later name most_sends serves.outs serves.mid (end_at to after) serves.sends,
-    )
+served_later name from before to after serves = turn_later PostsOut (serving name) (end_at from before) (end_at to after) serves
 
 -- ---- what ended a run
 

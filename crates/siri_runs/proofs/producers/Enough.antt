@@ -1,50 +1,26 @@
 -- Where the outside has enough for so many connections, a run of `serve` that ends before every connection was served ends for
 -- want of memory.
-use Rattle.std.proofs.Common.{◌≡◌, ℕ, zero, suc, List, [], ◌∷◌, ◌++◌, Option, None, Some, sym, subst, inl, inr}
-use Rattle.std.specs.Prelude.{IsSomeAnd}
+use Rattle.std.proofs.Common.{◌≡◌, ℕ, List, inl, inr}
 use Rattle.siri_base.specs.declared.status.Status.{Status}
-use Rattle.siri_http.specs.Texts.{response_text}
-use Rattle.siri_subscriptions.specs.declared.outs.Out.{Out}
-use Rattle.siri_http.specs.Requests.{Asks}
-use Rattle.siri_ends.specs.declared.response.Response.{Response}
-use Rattle.siri_ends.specs.Answering.{AnswersWith}
-use Rattle.siri_ends.specs.At.{At, Surroundings, around}
-use Rattle.siri_ends.specs.InTurn.{InTurn}
-use Rattle.siri_ends.specs.Responses.{response_to}
-use Rattle.siri_ends.specs.Sending.{SendsOut, settled_by, target_of, most_sends}
+use Rattle.siri_ends.specs.Serving.{PostsOut, serving, target_of}
 use Rattle.siri_runs.specs.Calls.{Outside}
-use Rattle.siri_runs.specs.Enough.{EndsWhole, HasConnections, HasEnough}
+use Rattle.siri_runs.specs.Enough.{EndsWhole, HasEnough}
 use Rattle.siri_runs.specs.Errors.{status_of}
 use Rattle.siri_runs.specs.declared.network_error.NetworkError.{NetworkError}
 use Rattle.siri_runs.specs.declared.network_error.NetworkError.TheVariants as error
-use Rattle.siri_runs.proofs.Enough.{AnswersOnly, HasAccepted, ends_wanting, fails_to_listen, fails_to_raise, fails_to_tell, opened_with, turns_fail}
-use Rattle.siri_runs.proofs.Exchanges.{hung_up_only, post_to_only, read_only, response_only}
+use Rattle.siri_runs.proofs.Enough.{AnswersOnly, ends_wanting, fails_to_listen, fails_to_raise, fails_to_tell, opened_with, turns_fail}
+use Rattle.siri_runs.proofs.Exchanges.{post_to_only}
+use Rattle.siri_runs.proofs.TurnsTaken.{turn_only}
 use Rattle.siri_runs.specs.producers.Opening.{FailsToOpen, opened}
 use Rattle.siri_runs.specs.producers.Runs.{ServesNot}
 use Rattle.siri_runs.specs.producers.Serving.{Serves, StopsServing, end_at, given}
 
 -- ---- serving a connection takes none of those that are still to come
 
-sends_only : (name : List ℕ) (limit n : ℕ) (outs : List Out) (at end : At) → IsSomeAnd at.wire (HasConnections n)
-    → SendsOut name limit outs at end → IsSomeAnd end.wire (HasConnections n)
-unfolding InTurn
-sends_only name zero n outs at end has is = subst (λ (a : At). IsSomeAnd a.wire (HasConnections n)) (sym is) has
-sends_only name (suc limit) n [] at end has is = subst (λ (a : At). IsSomeAnd a.wire (HasConnections n)) (sym is) has
-sends_only name (suc limit) n (out ∷ rest) at end has some =
-    sends_only name limit n (rest ++ settled_by name some.0 at.history) some.1 end
-    (post_to_only (target_of out.address) _ some.0 n at.wire some.1.wire has some.2.told) some.3
-
-answer_only : (response : Option Response) (n : ℕ) (at mid : Surroundings) → IsSomeAnd at.wire (HasAccepted n)
-    → AnswersWith response at mid → IsSomeAnd mid.wire (HasConnections n)
-answer_only None n at mid has answers = hung_up_only n at.wire mid.wire has answers.told
-answer_only (Some response) n at mid has answers = response_only
-    (response_text response.status response.plain response.body) answers.whole n at.wire mid.wire has answers.told
-
 served_only : (name : List ℕ) → AnswersOnly (Serves name)
-served_only name n from before to after has serves =
-    let read = read_only (Asks (Some serves.answers.asked)) n before.tells serves.answers.read.wire has serves.answers.reads.told in
-    let answered = answer_only (response_to name from.history serves.answers.asked) n serves.answers.read (around serves.mid) read serves.answers.answers in
-    sends_only name most_sends n serves.outs serves.mid (end_at to after) answered serves.sends
+served_only name n from before to after has serves = turn_only PostsOut (serving name)
+    (λ out outcome n old new has told. post_to_only (target_of out.address) _ outcome n old new has told) n
+    (end_at from before) (end_at to after) has serves
 
 -- ---- what ends a run
 

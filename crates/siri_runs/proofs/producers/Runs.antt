@@ -7,8 +7,8 @@ use Rattle.siri_http.specs.declared.tally.Tally.{Tally}
 use Rattle.siri_http.specs.Tallies.{nothing_yet}
 use Rattle.siri_lines.specs.Ends.{Bytes}
 use Rattle.siri_base.specs.Wires.{WireState}
-use Rattle.siri_ends.specs.At as ends
-use Rattle.siri_ends.specs.At.{end_of}
+use Rattle.siri_ends.specs.At.{at_of}
+use Rattle.siri_ends.specs.Serving as ends
 use Rattle.siri_ends.specs.Serving.{ServesOne}
 use Rattle.siri_producer.specs.Known.{Known, StandsFor}
 use Rattle.siri_runs.specs.Calls.{Outside, Told}
@@ -22,6 +22,7 @@ use Rattle.siri_runs.specs.Turns.{running}
 use Rattle.siri_runs.specs.declared.serving.server.Server.{Server}
 use Rattle.siri_runs.specs.producers.Serving.{EndsInTurns, Serves, Serving, ServesTurns}
 use Rattle.siri_runs.specs.producers.Steps.{OpensProducer, Stands}
+use Rattle.siri_runs.proofs.Statuses.{clock_is, keeper_is, wire_is}
 use Rattle.siri_runs.proofs.producers.Causes.{clock_rose, keeper_rose, wire_rose}
 
 -- what a server keeps, and what it stands for
@@ -39,7 +40,7 @@ begins producer first state own is begun =
 
 -- a connection was served, by whatever history the producer stood for
 pub serves_on : (old new : Known) (was is : Tally) (before after : Told WireState)
-    → ends.Goes ServesOne (end_of old was before.tells before.faults) (end_of new is after.tells after.faults)
+    → ends.Goes ServesOne (at_of old was before.tells before.faults) (at_of new is after.tells after.faults)
     → (state : Serving) → Stands old was state
     → (next : Serving) × Stands new is next × Serves old.responder.name state before next after
 serves_on old new was is before after goes state stands =
@@ -101,39 +102,20 @@ pub run_ended : (name listen : List ℕ) (count : ℕ) (from to : Outside) (held
 run_ended name listen count from to held e end is ends =
     subst (ServeRun name listen count from to held held) (sym is) (ended_by name listen count from to held e ends)
 
-wire_by : (name listen : List ℕ) (count : ℕ) (from to : Outside) (e : NetworkError)
-    → ServesNot name listen count e from to → status_of e ≡ status.WireFault → Rose from.wire.faults to.wire.faults
-wire_by name listen count from to error.WireFault ends is = wire_rose name listen count from to ends
-wire_by name listen count from to error.ClockFault ends is = absurd (cc is)
-wire_by name listen count from to error.KeeperFault ends is = absurd (cc is)
-wire_by name listen count from to error.OutOfMemory ends is = absurd (cc is)
-
 pub wire_fault : (name listen : List ℕ) (count : ℕ) (from to : Outside) (e : NetworkError) (end : Status)
     → end ≡ status_of e → ServesNot name listen count e from to → end ≡ status.WireFault
     → Rose from.wire.faults to.wire.faults
-wire_fault name listen count from to e end is ends at = wire_by name listen count from to e ends (sym is ∙ at)
-
-clock_by : (name listen : List ℕ) (count : ℕ) (from to : Outside) (e : NetworkError)
-    → ServesNot name listen count e from to → status_of e ≡ status.ClockFault → Rose from.clock.faults to.clock.faults
-clock_by name listen count from to error.WireFault ends is = absurd (cc is)
-clock_by name listen count from to error.ClockFault ends is = clock_rose name listen count from to ends
-clock_by name listen count from to error.KeeperFault ends is = absurd (cc is)
-clock_by name listen count from to error.OutOfMemory ends is = absurd (cc is)
+wire_fault name listen count from to e end is ends at = wire_rose name listen count from to
+    (subst (λ e. ServesNot name listen count e from to) (wire_is e (sym at ∙ is)) ends)
 
 pub clock_fault : (name listen : List ℕ) (count : ℕ) (from to : Outside) (e : NetworkError) (end : Status)
     → end ≡ status_of e → ServesNot name listen count e from to → end ≡ status.ClockFault
     → Rose from.clock.faults to.clock.faults
-clock_fault name listen count from to e end is ends at = clock_by name listen count from to e ends (sym is ∙ at)
-
-keeper_by : (name listen : List ℕ) (count : ℕ) (from to : Outside) (e : NetworkError)
-    → ServesNot name listen count e from to → status_of e ≡ status.KeeperFault
-    → Rose from.keeper.faults to.keeper.faults
-keeper_by name listen count from to error.WireFault ends is = absurd (cc is)
-keeper_by name listen count from to error.ClockFault ends is = absurd (cc is)
-keeper_by name listen count from to error.KeeperFault ends is = keeper_rose name listen count from to ends
-keeper_by name listen count from to error.OutOfMemory ends is = absurd (cc is)
+clock_fault name listen count from to e end is ends at = clock_rose name listen count from to
+    (subst (λ e. ServesNot name listen count e from to) (clock_is e (sym at ∙ is)) ends)
 
 pub keeper_fault : (name listen : List ℕ) (count : ℕ) (from to : Outside) (e : NetworkError) (end : Status)
     → end ≡ status_of e → ServesNot name listen count e from to → end ≡ status.KeeperFault
     → Rose from.keeper.faults to.keeper.faults
-keeper_fault name listen count from to e end is ends at = keeper_by name listen count from to e ends (sym is ∙ at)
+keeper_fault name listen count from to e end is ends at = keeper_rose name listen count from to
+    (subst (λ e. ServesNot name listen count e from to) (keeper_is e (sym at ∙ is)) ends)

@@ -7,9 +7,8 @@ use Rattle.siri_messages.specs.declared.message.Message.{Message}
 use Rattle.siri_topic.specs.declared.subscription.Subscription.{Subscription}
 use Rattle.siri_view.specs.Consuming.{Consuming, after_subscribe, clocked, request_for}
 use Rattle.siri_wire.specs.declared.wanted.Wanted.{Wanted}
-use Rattle.siri_ends.specs.At.{ConsumerAt, consumer_at}
-use Rattle.siri_ends.specs.Consuming.{ConsumesOne, ConsumesSome}
-use Rattle.siri_ends.specs.SendingUp.{FirstSendsUp, SendsUp}
+use Rattle.siri_ends.specs.At.{At, at_of}
+use Rattle.siri_ends.specs.Consuming.{ConsumesOne, ConsumesSome, FirstSendsUp, SendsUp}
 use Rattle.siri_runs.specs.Calls.{Outside, Told}
 use Rattle.siri_runs.specs.Turns.{Running, Turn, TurnFails, Turns, TurnsFail}
 use Rattle.siri_runs.specs.declared.network_error.NetworkError.{NetworkError}
@@ -24,8 +23,8 @@ abbrev pub given : ℕ → Consumption → Consumption
 given moment state = record state { consumer = clocked state.consumer moment }
 
 -- the same over a wire, as an end of an exchange
-abbrev pub end_at : Consumption → Told WireState → ConsumerAt
-end_at state wire = consumer_at state.consumer state.tally wire.tells wire.faults
+abbrev pub end_at : Consumption → Told WireState → At Consuming
+end_at state wire = at_of state.consumer state.tally wire.tells wire.faults
 
 -- the producer's address: a host with its port, and a path
 abbrev pub Target : Type 0
@@ -48,8 +47,8 @@ after_asking consumer [] = consumer
 after_asking consumer (first ∷ rest) = after_subscribe consumer (subscriptions (first ∷ rest)) first.beat
 
 -- a consumer that has asked, before anything was sent
-abbrev pub asking : Consuming → List Wanted → Told WireState → ConsumerAt
-asking consumer list wire = consumer_at (after_asking consumer list) nothing_yet wire.tells wire.faults
+abbrev pub asking : Consuming → List Wanted → Told WireState → At Consuming
+asking consumer list wire = at_of (after_asking consumer list) nothing_yet wire.tells wire.faults
 
 -- the request goes to the producer, whose response is taken; its replies are sent as well
 pub record Asks (target : Target) (list : List Wanted) (consumer : Consuming) (from : Outside) (to : Running Consumption) : Type 0 where

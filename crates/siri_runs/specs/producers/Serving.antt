@@ -1,12 +1,10 @@
 -- A producer that serves connections (EN 15531-2 for what is said, RFC 9112 for how).
-use Rattle.std.specs.Prelude.{◌⊎◌, ℕ, List, [], ◌∷◌, ◌++◌, Option}
+use Rattle.std.specs.Prelude.{ℕ, List, [], ◌∷◌, ◌++◌}
 use Rattle.siri_base.specs.Wires.{WireState}
 use Rattle.siri_http.specs.declared.tally.Tally.{Tally}
 use Rattle.siri_model.specs.History.{Clock, History}
-use Rattle.siri_subscriptions.specs.declared.outs.Out.{Out}
-use Rattle.siri_ends.specs.At.{At}
-use Rattle.siri_ends.specs.Sending.{FirstSends, most_sends}
-use Rattle.siri_ends.specs.Serving.{Answers, FirstAnswer, ServesOne}
+use Rattle.siri_ends.specs.At.{At, at_of}
+use Rattle.siri_ends.specs.Serving.{ServesOne, ServesSome}
 use Rattle.siri_runs.specs.Calls.{Outside, Told}
 use Rattle.siri_runs.specs.Turns.{Running, Turn, TurnFails, Turns, TurnsFail}
 use Rattle.siri_runs.specs.declared.network_error.NetworkError.{NetworkError}
@@ -21,21 +19,16 @@ abbrev pub given : ℕ → Serving → Serving
 given moment serving = record serving { history = serving.history ++ Clock moment ∷ [] }
 
 -- the same over a wire, as an end of an exchange
-abbrev pub end_at : Serving → Told WireState → At
-end_at serving wire = record { history = serving.history; tally = serving.tally; wire = wire.tells; faults = wire.faults }
+abbrev pub end_at : Serving → Told WireState → At History
+end_at serving wire = at_of serving.history serving.tally wire.tells wire.faults
 
 -- the connection that is there is served, whole
 abbrev pub Serves : (name : List ℕ) → Serving → Told WireState → Serving → Told WireState → Type 0
 Serves name from before to after = ServesOne name (end_at from before) (end_at to after)
 
 -- it is served in part: of its answer the first steps were made, or its answer and the first sends
-abbrev pub ServesFirst : (name : List ℕ) → At → Option WireState → Type 0
-ServesFirst name at after =
-    FirstAnswer name at.history at.wire after
-    ⊎ ((outs : List Out) × (mid : At) × Answers outs name at mid × FirstSends name most_sends outs mid.history mid.wire after)
-
 abbrev pub StopsServing : (name : List ℕ) → Serving → Told WireState → Told WireState → Type 0
-StopsServing name from before after = ServesFirst name (end_at from before) after.tells
+StopsServing name from before after = ServesSome name (end_at from before) after.tells
 
 -- ---- its turns
 

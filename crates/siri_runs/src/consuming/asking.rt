@@ -1,8 +1,8 @@
 //! What a run sends at first.
 
 ghost use Rattle.std.specs.Prelude.{◌≡◌, ◌⊎◌, IfOk, OnErr, OnOk};
-ghost use Rattle.siri_ends.specs.At.{consumer_at};
-ghost use Rattle.siri_ends.specs.SendingUp.{FirstSendsUp, SendsUp};
+ghost use Rattle.siri_ends.specs.At.{at_of};
+ghost use Rattle.siri_ends.specs.Consuming.{FirstSendsUp, SendsUp};
 ghost use Rattle.siri_runs.specs.Calls.{told_by};
 ghost use Rattle.siri_runs.specs.consumers.inner.Steps.{MayAsk};
 ghost use Rattle.siri_runs.specs.consumers.Consumption.{after_asking, requests, subscriptions};
@@ -51,8 +51,8 @@ pub(crate) fn ask_all<W: Wire>(
 ) -> Result<(), OutOfMemory>
     requires { MayAsk consumer.old wanted }
     ensures ok { OnOk result (SendsUp producer.now.host producer.now.path (requests consumer.old wanted)
-        (consumer_at (after_asking consumer.old wanted) tally.old (W.tells wire.old) (W.faults wire.old))
-        (consumer_at consumer.new tally.new (W.tells wire.new) (W.faults wire.new))) }
+        (at_of (after_asking consumer.old wanted) tally.old (W.tells wire.old) (W.faults wire.old))
+        (at_of consumer.new tally.new (W.tells wire.new) (W.faults wire.new))) }
     ensures err { OnErr result ((told_by (W.tells wire.new) (W.faults wire.new) ≡ told_by (W.tells wire.old) (W.faults wire.old))
         ⊎ FirstSendsUp producer.now.host producer.now.path (requests consumer.old wanted) (after_asking consumer.old wanted) (W.tells wire.old) (W.tells wire.new)) }
 {

@@ -3,7 +3,7 @@ use Rattle.siri_model.specs.Direct.{response}
 use Rattle.siri_model.specs.History.{current, now_of}
 use Rattle.siri_wire.specs.Canonical.{canonical}
 use Rattle.siri_ends.specs.Sinks.{WritesText}
-use Rattle.siri_ends.proofs.InTurn.{on_err}
+use Rattle.siri_ends.proofs.Sends.{on_err}
 use Rattle.siri_ends.proofs.Lends.{on_err_too, on_ok, same_stands, same_then, sent_body, stops_unwritten, unless_told}
 use Rattle.siri_ends.proofs.lending.write_direct.Goals as goal
 

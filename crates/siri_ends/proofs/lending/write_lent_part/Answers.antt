@@ -5,7 +5,7 @@ use Rattle.siri_replies.specs.Parts.{part_delivery}
 use Rattle.siri_wire.specs.Canonical.{canonical}
 use Rattle.siri_ends.specs.Pieces.{part_text}
 use Rattle.siri_ends.specs.Sinks.{WritesText}
-use Rattle.siri_ends.proofs.InTurn.{on_err}
+use Rattle.siri_ends.proofs.Sends.{on_err}
 use Rattle.siri_ends.proofs.Lends.{on_err_too, on_ok, sent_body, stops_unwritten}
 use Rattle.siri_ends.proofs.lending.write_lent_part.Goals as goal
 
