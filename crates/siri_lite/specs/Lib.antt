@@ -1,0 +1,2 @@
+-- What a request asks where queries are answered.
+pub mod Asking
