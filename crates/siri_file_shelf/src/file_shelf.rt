@@ -1,0 +1,107 @@
+//! A shelf in a file.
+
+ghost use Rattle.std.specs.Prelude.{◌≡◌, IsSome, None};
+ghost use Rattle.siri_base.specs.Causes.{HasOutsideCause};
+
+use crate::opened::Opened;
+use siri_base::{List, Name, OutsideError};
+use siri_shelf::{Put, Row, Shelf};
+use sqlite::{Error, ErrorCode};
+
+/// Rows in a file that `sqlite3` reads: a table `shelf` with the columns `part` (the table), `place` (the key) and
+/// `content` (the text). While it is open no other process can open the file. Each refusal of the database but want of
+/// memory counts as a fault, and the last is kept.
+pub struct FileShelf {
+    rt: HostRuntime,
+    database: Option<Opened>,
+    fault: Option<Error>,
+    faults: u64,
+}
+
+impl Drop for FileShelf {
+    fn drop(self) {
+        let FileShelf {
+            rt: _,
+            database: _,
+            fault: _,
+            faults: _,
+        } = self;
+    }
+}
+
+impl FileShelf {
+    /// A shelf with no file open.
+    pub fn new(rt: HostRuntime) -> FileShelf
+        ensures faults { ⟦<FileShelf as Shelf>⟧.faults result ≡ 0 }
+        ensures fault { result.fault ≡ None }
+    {
+        FileShelf {
+            rt,
+            database: None,
+            fault: None,
+            faults: 0,
+        }
+    }
+
+    /// What the database told at the last failure.
+    pub fn fault(&self) -> Option<Error>
+        ensures { result ≡ self.now.fault }
+    {
+        self.fault
+    }
+}
+
+/// What a call of the database comes to. A refusal for another cause than memory is counted and kept.
+fn counted<T: Drop>(
+    fault: &mut Option<Error>,
+    faults: &mut u64,
+    answer: Result<T, Error>,
+) -> Result<T, OutsideError>
+    ensures { HasOutsideCause faults.old faults.new result }
+{
+    match answer {
+        Ok(value) => Ok(value),
+        Err(Error::SqliteFailure(ErrorCode::OutOfMemory)) => Err(OutsideError::OutOfMemory),
+        Err(error) => {
+            *fault = Some(error);
+            *faults = faults.saturating_add(1);
+            Err(OutsideError::Failed)
+        }
+    }
+}
+
+impl Shelf for FileShelf {
+    ghost is_open = { λ s. IsSome s.database };
+
+    ghost tells = { λ s. None };
+
+    ghost faults = { λ s. s.faults };
+
+    fn open(&mut self, file: &Name) -> Result<(), OutsideError> {
+        self.database = None;
+        let opened = Opened::open(&self.rt, file.text());
+        let database = counted(&mut self.fault, &mut self.faults, opened)?;
+        self.database = Some(database);
+        Ok(())
+    }
+
+    fn next(&mut self, table: u8, after: Option<&[u8]>) -> Result<Option<Row>, OutsideError> {
+        match &mut self.database {
+            Some(database) => {
+                let found = database.next(table, after);
+                counted(&mut self.fault, &mut self.faults, found)
+            }
+            None => unreachable!(),
+        }
+    }
+
+    fn write(&mut self, list: &List<Put>) -> Result<(), OutsideError> {
+        match &mut self.database {
+            Some(database) => {
+                let written = database.write(list.slice());
+                counted(&mut self.fault, &mut self.faults, written)
+            }
+            None => unreachable!(),
+        }
+    }
+}
