@@ -1,7 +1,8 @@
-//! The table of the rows in a database, over any store of one: which row comes next.
+//! The table of the rows in a database, over any store of one.
 
+use crate::writing::write;
 use siri_base::List;
-use siri_shelf::Row;
+use siri_shelf::{Put, Row};
 use sqlite::types::ValueRef;
 use sqlite::{Alter, Connection, Error, params};
 
@@ -24,11 +25,6 @@ pub(crate) fn run<S: Alter>(
 ) -> Result<(), Error> {
     database.execute(statement, values)?;
     Ok(())
-}
-
-/// Makes the table, where there is none.
-pub(crate) fn make_table<S: Alter>(database: &mut Connection<S>) -> Result<(), Error> {
-    run(database, TABLE, &[])
 }
 
 /// The first row of the answer to a query.
@@ -66,14 +62,41 @@ fn row_of(row: &sqlite::Row) -> Result<Row, Error> {
 }
 
 /// The row of a table with the least key above the one that is given, or with the least of all.
-pub(crate) fn next<S: Alter>(
+fn next<S: Alter>(
     database: &mut Connection<S>,
     table: u8,
     after: Option<&[u8]>,
 ) -> Result<Option<Row>, Error> {
     match found(database, table, after) {
-        Ok(row) => Ok(Some(row_of(&row)?)),
+        Ok(row) => {
+            let told = row_of(&row);
+            drop(row);
+            Ok(Some(told?))
+        }
         Err(Error::QueryReturnedNoRows) => Ok(None),
         Err(error) => Err(error),
     }
+}
+
+/// What is asked of a database.
+pub(crate) enum Asked<'a> {
+    /// To have the table, which is made where there is none.
+    Table,
+    /// The row of a table with the least key above the one that is given, or with the least of all.
+    Next { table: u8, after: Option<&'a [u8]> },
+    /// To make all puts in one transaction, or none where one of them or the commit is refused.
+    Write(&'a [Put]),
+}
+
+/// Does what is asked of a database, and gives the row that was asked for, where there is one.
+pub(crate) fn ask<S: Alter>(
+    database: &mut Connection<S>,
+    asked: Asked<'_>,
+) -> Result<Option<Row>, Error> {
+    match asked {
+        Asked::Table => run(database, TABLE, &[])?,
+        Asked::Next { table, after } => return next(database, table, after),
+        Asked::Write(list) => write(database, list)?,
+    }
+    Ok(None)
 }

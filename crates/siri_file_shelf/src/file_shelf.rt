@@ -3,6 +3,7 @@
 ghost use Rattle.std.specs.Prelude.{◌≡◌, IsSome, None};
 ghost use Rattle.siri_base.specs.Causes.{HasOutsideCause};
 
+use crate::database::Asked;
 use crate::opened::Opened;
 use siri_base::{List, Name, OutsideError};
 use siri_shelf::{Put, Row, Shelf};
@@ -88,7 +89,7 @@ impl Shelf for FileShelf {
     fn next(&mut self, table: u8, after: Option<&[u8]>) -> Result<Option<Row>, OutsideError> {
         match &mut self.database {
             Some(database) => {
-                let found = database.next(table, after);
+                let found = database.ask(Asked::Next { table, after });
                 counted(&mut self.fault, &mut self.faults, found)
             }
             None => unreachable!(),
@@ -98,8 +99,9 @@ impl Shelf for FileShelf {
     fn write(&mut self, list: &List<Put>) -> Result<(), OutsideError> {
         match &mut self.database {
             Some(database) => {
-                let written = database.write(list.slice());
-                counted(&mut self.fault, &mut self.faults, written)
+                let written = database.ask(Asked::Write(list.slice()));
+                counted(&mut self.fault, &mut self.faults, written)?;
+                Ok(())
             }
             None => unreachable!(),
         }

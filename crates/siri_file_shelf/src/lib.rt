@@ -6,8 +6,8 @@
 //!
 //! It is the trusted edge, as `siri_system` is: a few lines over `sqlite`, which raise a count at each failure and tell
 //! nothing of what the file holds. Each write is one transaction, which is on the disk before the call ends. Each call
-//! of the database stands in one function over any store, which says nothing of it: so no proof carries what it says,
-//! and none but those of `opened` the type of a database in a file.
+//! of the database stands in one function over any store, which says nothing of it, so that no proof carries what it
+//! says. All goes through one call of `opened`, since each function that names a database in a file takes long to prove.
 //!
 //! Stands on `siri_shelf` and `sqlite`. It looks into no key and no text.
 #![tactic(auto)]

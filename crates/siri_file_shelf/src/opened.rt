@@ -1,7 +1,7 @@
 //! The database of a file.
 
-use crate::{database, writing};
-use siri_shelf::{Put, Row};
+use crate::database::{Asked, ask};
+use siri_shelf::Row;
 use sqlite::{Connection, Error, FileFrom, FileStore, Wary};
 
 /// A database in a file, with the table of the rows. Each write that ends is synced, and a stop leaves its log beside the
@@ -29,17 +29,12 @@ impl Opened {
     /// another one of these, has the file open.
     pub(crate) fn open(rt: &HostRuntime, file: &str) -> Result<Opened, Error> {
         let mut opened = connect(rt, file)?;
-        database::make_table(&mut opened.database)?;
+        opened.ask(Asked::Table)?;
         Ok(opened)
     }
 
-    /// The row of a table with the least key above the one that is given, or with the least of all.
-    pub(crate) fn next(&mut self, table: u8, after: Option<&[u8]>) -> Result<Option<Row>, Error> {
-        database::next(&mut self.database, table, after)
-    }
-
-    /// Makes all puts in one transaction, or none where one of them or the commit is refused.
-    pub(crate) fn write(&mut self, list: &[Put]) -> Result<(), Error> {
-        writing::write(&mut self.database, list)
+    /// Does what is asked of the database, and gives the row that was asked for, where there is one.
+    pub(crate) fn ask(&mut self, asked: Asked<'_>) -> Result<Option<Row>, Error> {
+        ask(&mut self.database, asked)
     }
 }
