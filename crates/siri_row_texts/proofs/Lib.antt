@@ -1,0 +1,4 @@
+mod Alone
+mod Firsts
+mod Joined
+mod Rows
