@@ -8,6 +8,7 @@ import json
 import os
 import random
 import re
+import signal
 import subprocess
 import sys
 import tempfile
@@ -134,6 +135,7 @@ def feed_for_good(port):
 
 
 def main(siri, port="8000"):
+    signal.signal(signal.SIGTERM, lambda *_: sys.exit(0))
     server = http.server.ThreadingHTTPServer(("127.0.0.1", int(port)), Handler)
     with http.server.ThreadingHTTPServer(("127.0.0.1", 0), Handler) as free:
         Handler.producer = free.server_port
