@@ -173,7 +173,7 @@ class Board:
     def refuses(self):
         """A question that is refused says so, beside one that isn't; what of the address is wrong is told."""
         self.open("stop=%s&stop=S1&zone=Europe/Paris&every=1" % ("x" * 256))
-        self.wait(STATE + ".includes('is refused: ')", "a refusal isn't told")
+        self.wait("/is refused: .*(NotPlain|BadName)/.test(%s)" % STATE, "a refusal isn't told")
         self.wait_rows([["10"]], "a stop beside one that is refused", stop=1)
         self.open("stop=S1&zone=Nowhere/At+all&every=0")
         self.wait("%s.includes('“Nowhere/At all” is no time zone') && %s.includes('“every” is a number from 1 to 600')" % (STATE, STATE), "a bad address isn't told")
