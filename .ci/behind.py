@@ -74,6 +74,7 @@ class Nginx:
 
     def __init__(self, folder, deploy, pages, producer_port):
         self.folder, self.process = folder, None
+        self.answers = os.path.join("/dev/shm" if os.access("/dev/shm", os.W_OK) else folder, "wurtelim-answers-%d" % os.getpid())
         self.public, self.feeds, self.plain = free_port(), free_port(), free_port()
         for name in ("tls", "www", "temporary"):
             os.makedirs(os.path.join(folder, name))
@@ -82,7 +83,7 @@ class Nginx:
         with open(os.path.join(deploy, "nginx", "wurtelim.conf")) as file:
             text = file.read()
         for there, here in (("127.0.0.1:7001", "127.0.0.1:%d" % producer_port), ("/etc/wurtelim/tls", os.path.join(folder, "tls")),
-                            ("/var/www/wurtelim", os.path.join(folder, "www")), ("/var/lib/nginx/siri", os.path.join(folder, "cache")),
+                            ("/var/www/wurtelim", os.path.join(folder, "www")), ("/run/wurtelim-answers", self.answers),
                             ("listen 80;", "listen 127.0.0.1:%d;" % self.plain), ("listen 443 ssl;", "listen 127.0.0.1:%d ssl;" % self.public),
                             ("listen 8443 ssl;", "listen 127.0.0.1:%d ssl;" % self.feeds)):
             if there not in text:
@@ -136,6 +137,7 @@ class Nginx:
             self.process.terminate()
             self.process.wait()
             self.process = None
+        shutil.rmtree(self.answers, ignore_errors=True)
 
     @functools.cache
     def context(self, certificate=None):

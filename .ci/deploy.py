@@ -248,7 +248,7 @@ class Deployed:
 
     def reader(self):
         """Who doesn't take its answer holds nobody up."""
-        self.producer.feed({"StopMonitoringDelivery": [{"MonitoredStopVisit": [visit("big", "v%d" % number, DestinationName="x" * 16000) for number in range(100)]}]})
+        self.producer.feed({"StopMonitoringDelivery": [{"MonitoredStopVisit": [visit("big", "v%d" % number, DestinationName="x" * 16000) for number in range(400)]}]})
         plain = socket.create_connection(("127.0.0.1", self.nginx.public), 20)
         plain.setsockopt(socket.SOL_SOCKET, socket.SO_RCVBUF, 4096)
         with self.nginx.context().wrap_socket(plain, server_hostname="127.0.0.1") as peer:
@@ -260,7 +260,7 @@ class Deployed:
                 time.sleep(0.1)
                 with open(os.path.join(self.producer.folder, "errors")) as file:
                     line = re.search(r"MonitoringRef=big .* 200 OK\" in \d+ out (\d+) bytes", file.read())
-            self.check(line and int(line[1]) > 1600000, "a client that doesn't read holds the producer: %s" % (line and line[0]))
+            self.check(line and int(line[1]) > 6400000, "a client that doesn't read holds the producer: %s" % (line and line[0]))
             begun = time.monotonic()
             self.check(self.nginx.ask("/siri-lite/stop-monitoring.json?MonitoringRef=S1&LineRef=L1")[0] == 200, "beside a client that doesn't read nobody is answered")
             self.check(time.monotonic() - begun < 1, "beside a client that doesn't read it takes %.1f seconds" % (time.monotonic() - begun))
