@@ -184,7 +184,7 @@ class Board:
         """Names stay texts, whatever they hold."""
         self.feed([visit("<script>", HOSTILE, HOSTILE, self.now + 1200, DeparturePlatformName=HOSTILE, journey={"PublishedLineName": HOSTILE})],
                   [situation(HOSTILE, HOSTILE, places=["S1"])])
-        time.sleep(1.1)  # (nginx keeps an answer for a second)
+        time.sleep(2.1)  # (nginx keeps an answer for up to two seconds)
         self.open("stop=S1&zone=Europe/Paris&every=1")
         self.wait_rows([[HOSTILE, HOSTILE, at(self.now + 1200), None, HOSTILE, "on time"], ["10"]], "a board of hostile names")
         self.wait("[...document.querySelectorAll('.situations li')].some((one) => one.textContent === %s)" % json.dumps(HOSTILE), "a hostile disturbance isn't shown as it is")
@@ -215,7 +215,7 @@ class Board:
         """A telephone, 200 %, a wall, light and dark: nothing is cut off, and a reader of screens finds a table."""
         self.feed([visit("f", "N", "A destination whose name is rather long, via a bridge and a hospital", self.now + 2400, 180, DeparturePlatformName="12a"),
                    visit("g", "Donaudampfschifffahrtslinie", "Linz", self.now + 3000, DepartureStatus="cancelled")], [situation("4", "x" * 300, places=["S1"])])
-        time.sleep(1.1)
+        time.sleep(2.1)
         for width, height, scale, dark in ((320, 640, 2, False), (360, 740, 3, True), (640, 512, 2, False), (1280, 800, 1, True), (1920, 1080, 1, True)):
             self.browser.size(width, height, scale, dark)
             self.open("stop=S1&zone=Europe/Paris&every=5")
@@ -247,7 +247,7 @@ class Board:
                    visit("p3", "24N", "Old Mill via Hospital", now + 660, 0, "P1", DeparturePlatformName="C", DepartureStatus="cancelled"),
                    visit("p4", "10", "Harbour", now + 1080, 0, "P1", DeparturePlatformName="B"), visit("p5", "31", "Airport", now + 1500, None, "P1")],
                   [situation("p", "Works at the old mill: buses of line 24N end at the hospital until Friday.", lines=["24N"])])
-        time.sleep(1.1)
+        time.sleep(2.1)
         self.browser.size(760, 430)
         self.open("stop=P1&zone=Europe/Paris")
         self.wait_rows([["10"], ["6"], ["24N"], ["10"], ["31"]], "the board of the picture")
