@@ -231,7 +231,7 @@ class Deployed:
                     return client.getresponse().status
 
                 waiting = [pool.submit(ask, number) for number in range(150)]
-                end = time.monotonic() + 10
+                end = time.monotonic() + 15
                 while sum(one.done() for one in waiting) < 50 and time.monotonic() < end:
                     time.sleep(0.05)
                 refused = sum(one.done() for one in waiting)
