@@ -160,8 +160,9 @@ class Board:
         self.wait(STATE + ".includes('can’t be reached')", "it isn't told that the producer can't be reached")
         self.wait(STATE + ".includes('These departures are old')", "it isn't told that departures are old")
         self.check(len(self.rows()) == 2, "what was known is shown no more")
-        self.wait("performance.getEntriesByType('resource').length >= 6", "it isn't asked again", 40)
-        starts = self.browser.run("performance.getEntriesByType('resource').map((one) => one.startTime)")[-4:]
+        failed = "performance.getEntriesByType('resource').filter((one) => one.responseStatus >= 500)"
+        self.wait(failed + ".length >= 4", "it isn't asked again", 40)
+        starts = self.browser.run(failed + ".map((one) => one.startTime)")[:4]
         gaps = [after - before for before, after in zip(starts, starts[1:])]
         self.check(all(after > before * 1.2 for before, after in zip(gaps, gaps[1:])), "pauses don't grow: %s" % gaps)
         self.producer.start()
