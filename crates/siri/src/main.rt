@@ -19,6 +19,7 @@ const COMMANDS: &str = "siri replay < SCRIPT
 siri check < DOCUMENT
 siri convert < DOCUMENT
 siri load SEED COUNT
+siri get PRODUCER < DOCUMENT
 siri serve NAME HOST:PORT COUNT
 siri consume NAME HOST:PORT PRODUCER COUNT < SUBSCRIPTIONS
 ";

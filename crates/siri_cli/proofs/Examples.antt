@@ -3,8 +3,8 @@ use Rattle.std.proofs.Common.{◌≡◌, [], ◌∷◌, codes, refl, true, false
 use Rattle.siri_http.specs.Addresses.{address_of, is_host_with_port}
 use Rattle.siri_base.specs.Numbers.{number_of}
 use Rattle.siri_cli.specs.Arguments.{is_listen, producer_of, count_of}
-use Rattle.siri_cli.specs.Commands.{load_by, serve_by, consume_by, command_with, command_of}
-use Rattle.siri_cli.specs.declared.command.Command.TheVariants.{Replay, Check, Convert, Load, Serve, Consume}
+use Rattle.siri_cli.specs.Commands.{load_by, get_by, serve_by, consume_by, command_with, command_of}
+use Rattle.siri_cli.specs.declared.command.Command.TheVariants.{Replay, Check, Convert, Load, Get, Serve, Consume}
 
 -- ---- words of one command
 
@@ -61,6 +61,21 @@ a_seed_of_19_digits = refl
 a_seed_below_zero : command_of (codes "load" ∷ codes "-7" ∷ codes "1" ∷ []) ≡ None
 unfolding command_of command_with
 a_seed_below_zero = refl
+
+-- ---- `get`
+
+a_get : command_of (codes "get" ∷ codes "http://127.0.0.1:7001/z" ∷ [])
+    ≡ Some (Get (record { host = codes "127.0.0.1:7001"; path = codes "/z" }))
+unfolding command_of command_with get_by producer_of address_of number_of
+a_get = refl
+
+a_get_without_scheme : get_by (codes "127.0.0.1:7001") ≡ None
+unfolding get_by producer_of address_of number_of
+a_get_without_scheme = refl
+
+a_get_of_none : command_of (codes "get" ∷ []) ≡ None
+unfolding command_of command_with
+a_get_of_none = refl
 
 -- ---- `serve`
 

@@ -8,9 +8,9 @@ use Rattle.siri_base.specs.Numbers.{number_of}
 use Rattle.siri_http.specs.declared.address.Address.{Address as Producer}
 use Rattle.siri_cli.specs.Arguments.{count_of, is_listen, is_name, producer_of, most_events, most_connections}
 use Rattle.siri_cli.specs.Commands.{begins_with_minus, command_by, command_named, command_of, command_with, consume_by, consume_of}
-use Rattle.siri_cli.specs.Commands.{consume_with, is_word, load_by, load_of, load_with, plain_of, serve_by, serve_of}
+use Rattle.siri_cli.specs.Commands.{consume_with, get_by, get_of, is_word, load_by, load_of, load_with, plain_of, serve_by, serve_of}
 use Rattle.siri_cli.specs.declared.command.Command.{Command}
-use Rattle.siri_cli.specs.declared.command.Command.TheVariants.{Replay, Check, Convert, Serve, Consume}
+use Rattle.siri_cli.specs.declared.command.Command.TheVariants.{Replay, Check, Convert, Get, Serve, Consume}
 
 abbrev Bounded : Option Command → Type 0
 Bounded (Some (Consume name listen producer count)) = nat_le (length listen) 247 ≡ true
@@ -31,6 +31,16 @@ bounded_loads [] = tt
 bounded_loads (seed ∷ []) = tt
 bounded_loads (seed ∷ count ∷ []) = bounded_load (number_of seed) (count_of 0 most_events count)
 bounded_loads (seed ∷ count ∷ more ∷ rest) = tt
+
+bounded_get : (producer : Option Producer) → Bounded (option_map Get producer)
+bounded_get (Some producer) = tt
+bounded_get None = tt
+
+bounded_gets : (arguments : List (List ℕ)) → Bounded (get_of arguments)
+unfolding get_by
+bounded_gets [] = tt
+bounded_gets (producer ∷ []) = bounded_get (producer_of producer)
+bounded_gets (producer ∷ more ∷ rest) = tt
 
 bounded_serve : (name listen : List ℕ) (count : Option ℕ) → Bounded (option_map (Serve name listen) count)
 bounded_serve name listen (Some count) = tt
@@ -86,9 +96,10 @@ bounded_with : (word : List ℕ) (arguments : List (List ℕ)) → Bounded (comm
 unfolding command_with
 bounded_with word arguments =
     bounded_either (is_word word (codes "load")) (load_of arguments) _ (bounded_loads arguments)
+    (bounded_either (is_word word (codes "get")) (get_of arguments) _ (bounded_gets arguments)
     (bounded_either (is_word word (codes "serve")) (serve_of arguments) _ (bounded_serves arguments)
     (bounded_either (is_word word (codes "consume")) (consume_of arguments) (plain_of word arguments)
-    (bounded_consumes arguments) (bounded_plain word arguments)))
+    (bounded_consumes arguments) (bounded_plain word arguments))))
 
 bounded_by : (words : List (List ℕ)) → Bounded (command_by words)
 bounded_by [] = tt

@@ -2,7 +2,7 @@
 use Rattle.std.proofs.Common.{◌≡◌, ◌≢◌, ℕ, List, [], ◌∷◌, length, map, Bool, None, refl, ap}
 use Rattle.std.specs.Prelude.{◌||◌}
 use Rattle.std.specs.List.{list_any}
-use Rattle.siri_cli.specs.Commands.{load_of, serve_of, consume_of}
+use Rattle.siri_cli.specs.Commands.{load_of, get_of, serve_of, consume_of}
 
 -- a test of what elements are mapped to
 pub any_of_map : {X Y : Type 0} (test : Y → Bool) (image : X → Y) (list : List X) → list_any test (map image list) ≡ list_any (λ x. test (image x)) list
@@ -16,6 +16,11 @@ module _ {X : Type 0} (text : X → List ℕ) where
   no_load (a ∷ []) other = refl
   no_load (a ∷ b ∷ []) other = absurd (other refl)
   no_load (a ∷ b ∷ c ∷ rest) other = refl
+
+  pub no_get : (list : List X) → length list ≢ 1 → get_of (map text list) ≡ None
+  no_get [] other = refl
+  no_get (a ∷ []) other = absurd (other refl)
+  no_get (a ∷ b ∷ rest) other = refl
 
   pub no_serve : (list : List X) → length list ≢ 3 → serve_of (map text list) ≡ None
   no_serve [] other = refl

@@ -4,8 +4,8 @@ use Rattle.std.specs.Prelude.{is_some, option_map, if◌then◌else◌, ◌&&◌
 use Rattle.siri_base.specs.Numbers.{number_of}
 use Rattle.siri_http.specs.declared.address.Address.{Address}
 use Rattle.siri_cli.specs.Arguments.{count_of, is_listen, is_name, producer_of, most_events, most_connections}
-use Rattle.siri_cli.specs.Commands.{HasArguments, consume_by, consume_with, load_by, load_with, serve_by}
-use Rattle.siri_cli.specs.declared.command.Command.TheVariants.{Serve}
+use Rattle.siri_cli.specs.Commands.{HasArguments, consume_by, consume_with, get_by, load_by, load_with, serve_by}
+use Rattle.siri_cli.specs.declared.command.Command.TheVariants.{Get, Serve}
 
 load_some : (seed count : Option ℕ) → is_some (load_with seed count) ≡ true → HasArguments (load_with seed count)
 load_some (Some seed) (Some count) is = tt
@@ -15,6 +15,14 @@ load_some None count is = cc
 pub some_load : (seed count : List ℕ) → is_some (load_by seed count) ≡ true → HasArguments (load_by seed count)
 unfolding load_by
 some_load seed count is = load_some (number_of seed) (count_of 0 most_events count) is
+
+get_some : (producer : Option Address) → is_some (option_map Get producer) ≡ true → HasArguments (option_map Get producer)
+get_some (Some producer) is = tt
+get_some None is = cc
+
+pub some_get : (producer : List ℕ) → is_some (get_by producer) ≡ true → HasArguments (get_by producer)
+unfolding get_by
+some_get producer is = get_some (producer_of producer) is
 
 serve_some : (name listen : List ℕ) (count : Option ℕ) → is_some (option_map (Serve name listen) count) ≡ true
     → HasArguments (option_map (Serve name listen) count)

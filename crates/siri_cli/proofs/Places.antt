@@ -3,7 +3,7 @@ use Rattle.std.proofs.Common.{◌≡◌, ◌∙◌, refl, ap, sym, codes, Option
 use Rattle.std.specs.Prelude.{unwrap_or}
 use Rattle.clap.specs.Words.{Text}
 use Rattle.clap.proofs.OnLiterals.{clap_on_literals}
-use Rattle.siri_cli.specs.inner.Values.{Takes, value_of, load_app, load_words, serve_app, serve_words, consume_app, consume_words}
+use Rattle.siri_cli.specs.inner.Values.{Takes, value_of, load_app, load_words, get_app, get_words, serve_app, serve_words, consume_app, consume_words}
 
 module _ (seed count : Text) where
   pub load_takes : Takes load_app (load_words seed count)
@@ -17,6 +17,15 @@ module _ (seed count : Text) where
   pub load_count : value_of load_app (load_words seed count) (codes "COUNT") ≡ Some count
   unfolding value_of load_app clap_on_literals
   load_count = refl
+
+module _ (producer : Text) where
+  pub get_takes : Takes get_app (get_words producer)
+  unfolding Takes get_app clap_on_literals
+  get_takes = refl
+
+  pub get_producer : value_of get_app (get_words producer) (codes "PRODUCER") ≡ Some producer
+  unfolding value_of get_app clap_on_literals
+  get_producer = refl
 
 module _ (name listen count : Text) where
   pub serve_takes : Takes serve_app (serve_words name listen count)

@@ -6,7 +6,7 @@ use Rattle.siri_base.specs.Numbers.{number_of}
 use Rattle.siri_http.specs.declared.address.Address.{Address}
 use Rattle.siri_cli.specs.Arguments.{is_name, is_listen, producer_of, count_of, most_events, most_connections}
 use Rattle.siri_cli.specs.declared.command.Command.{Command}
-use Rattle.siri_cli.specs.declared.command.Command.TheVariants.{Replay, Check, Convert, Load, Serve, Consume}
+use Rattle.siri_cli.specs.declared.command.Command.TheVariants.{Replay, Check, Convert, Load, Get, Serve, Consume}
 
 -- the word is that text
 abbrev pub is_word : (word text : List ℕ) → Bool
@@ -40,6 +40,15 @@ abbrev pub load_of : List (List ℕ) → Option Command
 load_of (seed ∷ count ∷ []) = load_by seed count
 load_of arguments = None
 
+-- ---- `get PRODUCER`
+
+unfoldable pub get_by : (producer : List ℕ) → Option Command
+get_by producer = option_map Get (producer_of producer)
+
+abbrev pub get_of : List (List ℕ) → Option Command
+get_of (producer ∷ []) = get_by producer
+get_of arguments = None
+
 -- ---- `serve NAME LISTEN COUNT`
 
 -- COUNT is 1 to 1,000,000
@@ -72,6 +81,7 @@ consume_of arguments = None
 unfoldable pub command_with : List ℕ → List (List ℕ) → Option Command
 command_with word arguments =
     if is_word word (codes "load") then load_of arguments
+    else if is_word word (codes "get") then get_of arguments
     else if is_word word (codes "serve") then serve_of arguments
     else if is_word word (codes "consume") then consume_of arguments
     else plain_of word arguments
@@ -91,6 +101,7 @@ command_of words = if list_any begins_with_minus words then None else command_by
 -- it is a command with arguments
 abbrev pub HasArguments : Option Command → Type 0
 HasArguments (Some (Load seed count)) = Unit {0}
+HasArguments (Some (Get producer)) = Unit {0}
 HasArguments (Some (Serve name listen count)) = Unit {0}
 HasArguments (Some (Consume name listen producer count)) = Unit {0}
 HasArguments other = ⊥

@@ -5,6 +5,7 @@ ghost use Rattle.std.specs.List.{list_any};
 ghost use Rattle.siri_cli.specs.Commands.{HasArguments, begins_with_minus, command_by, command_named, command_of, command_with, plain_of};
 
 use crate::consume::consume;
+use crate::get::get;
 use crate::load::load;
 use crate::serve::serve;
 use siri_base::{Name, OutOfMemory};
@@ -26,6 +27,11 @@ pub enum Command {
         seed: u64,
         /// How many events are drawn, at most 20,000.
         count: u64,
+    },
+    /// Reads one document, asks it of a producer as a query by GET, and writes what is answered.
+    Get {
+        /// The producer's address.
+        producer: Address,
     },
     /// Serves connections as a producer.
     Serve {
@@ -85,6 +91,8 @@ impl Command {
     {
         if word == "load" {
             load(alloc, arguments)
+        } else if word == "get" {
+            get(alloc, arguments)
         } else if word == "serve" {
             serve(alloc, arguments)
         } else if word == "consume" {

@@ -10,7 +10,8 @@ ghost use Rattle.siri_lines.specs.RunResult.{verdict};
 ghost use Rattle.siri_document.specs.OneDocument.{Answers, EndsDocument, check_text, convert_text};
 ghost use Rattle.siri_lines.specs.Reports.{Reports};
 ghost use Rattle.siri_lines.specs.Stops.{EndsReading};
-ghost use Rattle.siri_cli.specs.Run.{EndsEarly, IsLoad, IsOnNetwork, ReadsInput, ReadsNothing, TakesDocument, UsesNone};
+ghost use Rattle.siri_cli.specs.Run.{EndsEarly, IsGet, IsLoad, IsOnNetwork, ReadsInput, ReadsNothing, TakesDocument, TellsDocument, UsesNoWire, UsesNone};
+ghost use Rattle.siri_get.specs.Runs.{EndsGet, GetRun};
 ghost use Rattle.siri_load.specs.Load.{load_text};
 ghost use Rattle.siri_load.specs.Runs.{EndsLoad, Writes};
 ghost use Rattle.siri_runs.specs.Calls.{outside_told};
@@ -26,6 +27,7 @@ ghost use Rattle.siri_cli.specs.Commands.{command_of};
 use crate::command::Command;
 use siri_base::{Clock, Keeper, OutOfMemory, Sink, Source, Status, Wire};
 use siri_document::{Check, Convert, answer_document};
+use siri_get::get;
 use siri_load::load;
 use siri_replay::replay;
 use siri_runs::{consume, serve};
@@ -33,16 +35,17 @@ use std::alloc::Global;
 
 /// Does what the words after the program's name say: `replay` reads a script and writes its report, `check` and
 /// `convert` read one document and write what is told of it, `load` plays a large script that is made from a number,
-/// `serve` is a producer over the network, and `consume` a consumer. A view that a report tells as `quiet` lists the
+/// `get` asks a document of a producer as a query by GET and writes what is answered, `serve` is a producer over the
+/// network, and `consume` a consumer. A view that a report tells as `quiet` lists the
 /// items of a direct response at that moment over all observations that were taken since the producer's latest start,
 /// whatever packets were lost, repeated or late, and however often either end restarted.
 ///
 /// `Usage` exactly where the words are no plain spelling of a command. `Refused` where the document of `check` or
-/// `convert` is refused. `Script` and `Limit` where a line of a script, or of what a consumer wants, is refused or
+/// `convert` is refused, and where `get` has no body to write of a response. `Script` and `Limit` where a line of a script, or of what a consumer wants, is refused or
 /// passes a limit, each with the number of that line. `ReadFault`, `WriteFault`, `WireFault`, `ClockFault` and
 /// `KeeperFault` only where the source, the sink, the wire, the clock or the keeper failed, the wire to listen or to
-/// accept; `OutOfMemory` wherever memory is asked for, otherwise `Done`. Only `serve` and `consume` use the wire, the
-/// clock and the keeper.
+/// accept, and in `get` to dial, to write or to read; `OutOfMemory` wherever memory is asked for, otherwise `Done`. Only
+/// `serve` and `consume` use the clock and the keeper, and only they and `get` the wire.
 #[tactic(auto, using(siri_lines::proofs::Meeting::sink_none, siri_lines::proofs::Meeting::source_none, siri_lines::proofs::Whole::ends_at_once))]
 pub fn run<S: Source, K: Sink, W: Wire, C: Clock, E: Keeper>(
     alloc: Global,
@@ -64,6 +67,9 @@ pub fn run<S: Source, K: Sink, W: Wire, C: Clock, E: Keeper>(
         → Answers convert_text (S.left source.old) (S.left source.new) (K.held sink.old) (K.held sink.new) result }
     ensures load { (seed count : ℕ) → command_of (map string_bytes words.now) ≡ Some (Command.Load seed count)
         → Writes (load_text seed count) (K.held sink.old) (K.held sink.new) result }
+    ensures get { (producer : Target) → command_of (map string_bytes words.now) ≡ Some (Command.Get producer)
+        → GetRun producer.host (S.left source.old) (S.left source.new) (W.tells wire.old) (W.tells wire.new)
+        (K.held sink.old) (K.held sink.new) result }
     ensures serve { (name listen : List ℕ) (count : ℕ) → command_of (map string_bytes words.now) ≡ Some (Command.Serve name listen count)
         → ServeRun name listen count
         (outside_told W.Wire C.Clock E.Keeper wire.old clock.old keeper.old)
@@ -107,15 +113,17 @@ pub fn run<S: Source, K: Sink, W: Wire, C: Clock, E: Keeper>(
     ensures clock_fault { result ≡ Status.ClockFault → Rose (C.faults clock.old) (C.faults clock.new) }
     ensures keeper_fault { result ≡ Status.KeeperFault → Rose (E.faults keeper.old) (E.faults keeper.new) }
     ensures refused { result ≡ Status.Refused → TakesDocument (command_of (map string_bytes words.now)) }
-    ensures document { TakesDocument (command_of (map string_bytes words.now)) → EndsDocument result }
+    ensures document { TellsDocument (command_of (map string_bytes words.now)) → EndsDocument result }
+    ensures asked { IsGet (command_of (map string_bytes words.now)) → EndsGet result }
     ensures unread { TakesDocument (command_of (map string_bytes words.now)) → result ≡ Status.ReadFault → sink.new ≡ sink.old }
     ensures script { command_of (map string_bytes words.now) ≡ Some Command.Replay → EndsReading result }
     ensures made { IsLoad (command_of (map string_bytes words.now)) → EndsLoad result }
     ensures unwritten { IsOnNetwork (command_of (map string_bytes words.now)) → EndsEarly result → sink.new ≡ sink.old }
 
     // The rest of the outside.
-    ensures unused { UsesNone (command_of (map string_bytes words.now))
-        → (wire.new ≡ wire.old) × (clock.new ≡ clock.old) × (keeper.new ≡ keeper.old) }
+    ensures unused { UsesNone (command_of (map string_bytes words.now)) → (clock.new ≡ clock.old) × (keeper.new ≡ keeper.old) }
+    ensures uncalled { UsesNoWire (command_of (map string_bytes words.now)) → wire.new ≡ wire.old }
+    ensures unasked { IsGet (command_of (map string_bytes words.now)) → result ≡ Status.ReadFault → wire.new ≡ wire.old }
 {
     let command = match Command::read(alloc, words) {
         Ok(Some(command)) => command,
@@ -127,6 +135,7 @@ pub fn run<S: Source, K: Sink, W: Wire, C: Clock, E: Keeper>(
         Command::Check => answer_document::<Check, S, K>(alloc, source, sink),
         Command::Convert => answer_document::<Convert, S, K>(alloc, source, sink),
         Command::Load { seed, count } => load(alloc, sink, seed, count),
+        Command::Get { producer } => get(alloc, &producer, source, sink, wire),
         Command::Serve {
             name,
             listen,

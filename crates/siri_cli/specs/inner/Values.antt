@@ -37,6 +37,12 @@ load_app = with_rule (with_rule (without_help (new_app (codes "load"))) (new_rul
 abbrev pub load_words : (seed count : Text) → List Text
 load_words seed count = codes "load" ∷ codes "--" ∷ seed ∷ count ∷ []
 
+unfoldable pub get_app : App
+get_app = with_rule (without_help (new_app (codes "get"))) (new_rule (codes "PRODUCER"))
+
+abbrev pub get_words : (producer : Text) → List Text
+get_words producer = codes "get" ∷ codes "--" ∷ producer ∷ []
+
 unfoldable pub serve_app : App
 serve_app = with_rule (with_rule (with_rule (without_help (new_app (codes "serve"))) (new_rule (codes "NAME")))
     (new_rule (codes "LISTEN"))) (new_rule (codes "COUNT"))
