@@ -22,6 +22,8 @@ mod failing_consume;
 #[cfg(test)]
 mod failing_serve;
 #[cfg(test)]
+mod getting;
+#[cfg(test)]
 mod harness;
 #[cfg(test)]
 mod hostile;
