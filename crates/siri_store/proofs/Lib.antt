@@ -7,6 +7,7 @@ pub mod Sides
 pub mod LookUps
 pub mod Tied
 pub mod Orders
+pub mod FirstStamps
 pub mod FirstEnd
 pub mod LeastEdge
 pub mod Inserted

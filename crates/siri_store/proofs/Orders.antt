@@ -1,11 +1,10 @@
 -- Stamps that are put, that are taken out, and that come first.
 use Rattle.std.proofs.Common.{◌≡◌, ◌+◌, ℕ, Bool, true, false, cond, ◌&&◌, ◌||◌, List, [], ◌∷◌, Option, Some, None, refl, ap}
 use Rattle.std.proofs.Common.{◌∙◌, sym, arith}
-use Rattle.std.specs.Prelude.{not, nat_eq, nat_lt, nat_le, max, ℤ, pos, int_lt, option_map, IfSome, IfNone}
-use Rattle.std.specs.Borrow.{Bor}
+use Rattle.std.specs.Prelude.{not, nat_eq, nat_lt, nat_le, max, ℤ, pos, int_lt}
 use Rattle.std.specs.BTreeMap.Range.{range_contains}
 use Rattle.std.specs.declared.ops.Bound.TheVariants.{Included, Excluded}
-use Rattle.std.specs.Ordering.{nat_cmp, ordering_then, is_eq, is_gt, is_lt, is_le}
+use Rattle.std.specs.Ordering.{nat_cmp, ordering_then, is_eq, is_lt, is_le}
 use Rattle.std.specs.Option.{option_cmp}
 use Rattle.std.specs.declared.cmp.Ordering.{Ordering}
 use Rattle.std.specs.declared.cmp.Ordering.TheVariants.{Less, Equal, Greater}
@@ -15,20 +14,19 @@ use Rattle.siri_records.specs.declared.item.Service.{Service}
 use Rattle.siri_records.specs.declared.item.Service.TheVariants as service
 use Rattle.siri_records.specs.declared.key.Key.{Key}
 use Rattle.siri_records.specs.Edges.{listed, edges_of}
-use Rattle.siri_records.specs.Ends.{end_of}
 use Rattle.siri_records.specs.Order.{key_cmp}
 use Rattle.siri_store.specs.Stamped.{Stamp, stamp_cmp, has_stamp, has, moments_of, moments_held, is_one_at, is_one_of}
-use Rattle.siri_store.specs.Stamped.{by_end, by_edge, service_of, has_ended, IsFirstEnd, NoneEnded, AllKeyed}
+use Rattle.siri_store.specs.Stamped.{by_end, by_edge, service_of, own_end_of}
 use Rattle.siri_store.specs.Between.{is_between, is_since}
 
 -- ---- one stamp
 
-eq_then : (o p : Ordering) → is_eq (ordering_then o p) ≡ (is_eq o && is_eq p)
+pub eq_then : (o p : Ordering) → is_eq (ordering_then o p) ≡ (is_eq o && is_eq p)
 eq_then Less p = refl
 eq_then Equal p = refl
 eq_then Greater p = refl
 
-eq_nat : (a b : ℕ) → is_eq (nat_cmp a b) ≡ nat_eq a b
+pub eq_nat : (a b : ℕ) → is_eq (nat_cmp a b) ≡ nat_eq a b
 eq_nat a b = grind (arith, nat_tests)
 
 none_eq : (b : Bool) → (b && false) ≡ false
@@ -42,12 +40,12 @@ bits true false true = refl
 bits true false false = refl
 bits false b c = refl
 
-both_are : (a b : Bool) → (a && b) ≡ true → (a ≡ true) × (b ≡ true)
+pub both_are : (a b : Bool) → (a && b) ≡ true → (a ≡ true) × (b ≡ true)
 both_are true true h = (refl, refl)
 both_are true false h = absurd (cc h)
 both_are false b h = absurd (cc h)
 
-equal_numbers : (a b : ℕ) → nat_eq a b ≡ true → a ≡ b
+pub equal_numbers : (a b : ℕ) → nat_eq a b ≡ true → a ≡ b
 equal_numbers a b h = grind (arith, nat_tests)
 
 turned_eq : (a b : ℕ) → nat_eq a b ≡ nat_eq b a
@@ -136,7 +134,7 @@ item_bits false false true e1 e2 e unlike a b c = c refl refl
 item_bits false false false e1 e2 e unlike a b c = refl
 
 module _ (order : ℕ) (i : Item) where
-  at_end : nat_eq order by_end ≡ true → moments_of order i ≡ listed (end_of i)
+  at_end : nat_eq order by_end ≡ true → moments_of order i ≡ listed (own_end_of i)
   at_end h = rw h refl
 
   at_edge : nat_eq order by_end ≡ false → nat_eq order (by_edge (service_of i)) ≡ true → moments_of order i ≡ edges_of i
@@ -147,14 +145,14 @@ module _ (order : ℕ) (i : Item) where
 
 pub of_item : (key : Key) (i : Item) (s : Stamp)
     → is_one_of key (Some i) s
-    ≡ (is_one_at by_end key (listed (end_of i)) s || is_one_at (by_edge (service_of i)) key (edges_of i) s)
+    ≡ (is_one_at by_end key (listed (own_end_of i)) s || is_one_at (by_edge (service_of i)) key (edges_of i) s)
 of_item key i (o, m, None) = refl
 of_item key i (o, m, Some k) =
-    item_bits (nat_eq o by_end) (nat_eq o (by_edge (service_of i))) (is_eq (key_cmp key k)) (has m (listed (end_of i)))
+    item_bits (nat_eq o by_end) (nat_eq o (by_edge (service_of i))) (is_eq (key_cmp key k)) (has m (listed (own_end_of i)))
     (has m (edges_of i)) (has m (moments_of o i))
     (apart o (service_of i))
     (λ h. ap (has m) (at_end o i h)) (λ h e. ap (has m) (at_edge o i h e)) (λ h e. ap (has m) (at_none o i h e))
-    ∙ (λ j. (turned_eq o by_end j && (is_eq (key_cmp key k) && has m (listed (end_of i)))) ||
+    ∙ (λ j. (turned_eq o by_end j && (is_eq (key_cmp key k) && has m (listed (own_end_of i)))) ||
     (turned_eq o (by_edge (service_of i)) j && (is_eq (key_cmp key k) && has m (edges_of i))))
 
 -- ---- one more of many
@@ -332,31 +330,31 @@ some_one false false false new n = n
 
 module _ (key : Key) (i : Item) (old : List Stamp) where
   pub added : (mid new : List Stamp)
-      → ((s : Stamp) → has_stamp mid s ≡ (is_one_at by_end key (listed (end_of i)) s || has_stamp old s))
+      → ((s : Stamp) → has_stamp mid s ≡ (is_one_at by_end key (listed (own_end_of i)) s || has_stamp old s))
       → ((s : Stamp) → has_stamp new s ≡ (is_one_at (by_edge (service_of i)) key (edges_of i) s || has_stamp mid s))
       → (s : Stamp) → has_stamp new s ≡ (is_one_of key (Some i) s || has_stamp old s)
   added mid new a b s =
-      add_bits (is_one_at by_end key (listed (end_of i)) s) (is_one_at (by_edge (service_of i)) key (edges_of i) s)
+      add_bits (is_one_at by_end key (listed (own_end_of i)) s) (is_one_at (by_edge (service_of i)) key (edges_of i) s)
       (has_stamp old s) (has_stamp mid s) (has_stamp new s) (a s) (b s)
       ∙ ap (λ x. x || has_stamp old s) (sym (of_item key i s))
 
   pub some_added : (mid new : List Stamp)
-      → ((s : Stamp) → has_stamp mid s ≡ (is_one_at by_end key (listed (end_of i)) s || has_stamp old s))
+      → ((s : Stamp) → has_stamp mid s ≡ (is_one_at by_end key (listed (own_end_of i)) s || has_stamp old s))
       → ((s : Stamp)
       → has_stamp new s
       ≡ (has_stamp mid s || (is_one_at (by_edge (service_of i)) key (edges_of i) s && has_stamp new s)))
       → (s : Stamp) → has_stamp new s ≡ (has_stamp old s || (is_one_of key (Some i) s && has_stamp new s))
   some_added mid new a b s =
-      some_two (is_one_at by_end key (listed (end_of i)) s) (is_one_at (by_edge (service_of i)) key (edges_of i) s)
+      some_two (is_one_at by_end key (listed (own_end_of i)) s) (is_one_at (by_edge (service_of i)) key (edges_of i) s)
       (has_stamp old s) (has_stamp mid s) (has_stamp new s) (a s) (b s)
       ∙ ap (λ x. has_stamp old s || (x && has_stamp new s)) (sym (of_item key i s))
 
   pub some_ends : (new : List Stamp)
       → ((s : Stamp)
-      → has_stamp new s ≡ (has_stamp old s || (is_one_at by_end key (listed (end_of i)) s && has_stamp new s)))
+      → has_stamp new s ≡ (has_stamp old s || (is_one_at by_end key (listed (own_end_of i)) s && has_stamp new s)))
       → (s : Stamp) → has_stamp new s ≡ (has_stamp old s || (is_one_of key (Some i) s && has_stamp new s))
   some_ends new a s =
-      some_one (is_one_at by_end key (listed (end_of i)) s) (is_one_at (by_edge (service_of i)) key (edges_of i) s)
+      some_one (is_one_at by_end key (listed (own_end_of i)) s) (is_one_at (by_edge (service_of i)) key (edges_of i) s)
       (has_stamp old s) (has_stamp new s) (a s)
       ∙ ap (λ x. has_stamp old s || (x && has_stamp new s)) (sym (of_item key i s))
 
@@ -374,13 +372,13 @@ out_bits false b kept old mid new m n = rw n (rw m (ap (λ x. x && not (b && not
 pub taken_out : (key : Key) (i : Item) (kept : Option Item) (old mid new : List Stamp)
     → ((s : Stamp)
     → has_stamp mid s
-    ≡ (has_stamp old s && not (is_one_at by_end key (listed (end_of i)) s && not (is_one_of key kept s))))
+    ≡ (has_stamp old s && not (is_one_at by_end key (listed (own_end_of i)) s && not (is_one_of key kept s))))
     → ((s : Stamp)
     → has_stamp new s
     ≡ (has_stamp mid s && not (is_one_at (by_edge (service_of i)) key (edges_of i) s && not (is_one_of key kept s))))
     → (s : Stamp) → has_stamp new s ≡ (has_stamp old s && not (is_one_of key (Some i) s && not (is_one_of key kept s)))
 taken_out key i kept old mid new a b s =
-    out_bits (is_one_at by_end key (listed (end_of i)) s) (is_one_at (by_edge (service_of i)) key (edges_of i) s)
+    out_bits (is_one_at by_end key (listed (own_end_of i)) s) (is_one_at (by_edge (service_of i)) key (edges_of i) s)
     (is_one_of key kept s) (has_stamp old s) (has_stamp mid s) (has_stamp new s) (a s) (b s)
     ∙ ap (λ x. has_stamp old s && not (x && not (is_one_of key kept s))) (sym (of_item key i s))
 
@@ -391,30 +389,6 @@ none_out key kept old (o, m, Some k) =
     true_and (has_stamp old (o, m, Some k))
     ∙ ap (λ b. has_stamp old (o, m, Some k) && not (b && not (is_one_of key kept (o, m, Some k))))
     (sym (none_eq (is_eq (key_cmp key k))))
-
--- ---- the first stamp
-
-module _ (now : ℕ) (stamps : List Stamp) (first : Stamp) (member : has_stamp stamps first ≡ true) where
-  pub first_key : (r : Option (Bor Key)) → option_map (λ key. key.now) r ≡ first.2
-      → ((s : Stamp) → has_stamp stamps s ≡ true → is_gt (stamp_cmp first s) ≡ false)
-      → has_ended now first ≡ true → IfSome r (λ key. IsFirstEnd now stamps key.now)
-  first_key None is least ended = tt
-  first_key (Some key) is least ended =
-      let parts = both_are (nat_eq first.0 by_end) (nat_lt first.1 now) ended in
-      let whole : first ≡ (by_end, first.1, Some key.now) =
-      (λ i. (equal_numbers first.0 by_end parts.0 i, first.1, sym is i)) in
-      record {
-        end = first.1;
-        held = ap (has_stamp stamps) (sym whole) ∙ member;
-        ended = parts.1;
-        first = λ s held. ap (λ x. is_gt (stamp_cmp x s)) (sym whole) ∙ least s held;
-      }
-
-  pub first_has_key : AllKeyed stamps → (r : Option (Bor Key)) → option_map (λ key. key.now) r ≡ first.2
-      → IfNone r (NoneEnded now stamps)
-  first_has_key keyed None is =
-      absurd (cc (sym member ∙ ap (λ key. has_stamp stamps (first.0, first.1, key)) (sym is) ∙ keyed first.0 first.1))
-  first_has_key keyed (Some key) is = tt
 
 -- ---- a range of moments
 

@@ -1,5 +1,5 @@
 -- Stamps: at which moments items end, and at which they have an edge.
-use Rattle.std.specs.Prelude.{◌≡◌, ℕ, Bool, true, false, ◌&&◌, nat_eq, nat_lt, if◌then◌else◌, List, [], Option, Some}
+use Rattle.std.specs.Prelude.{◌≡◌, ℕ, Bool, true, false, ◌&&◌, ◌||◌, nat_eq, nat_lt, if◌then◌else◌, List, [], Option, Some}
 use Rattle.std.specs.Prelude.{None}
 use Rattle.std.specs.BTreeMap.{is_at}
 use Rattle.std.specs.List.{list_any}
@@ -34,7 +34,7 @@ has moment moments = list_any (nat_eq moment) moments
 
 -- ---- the orders
 
--- the order of all items by their ends; it is before those by edges
+-- the order by their ends of all items but visits, whose one edge is their end; it is before those by edges
 abbrev pub by_end : ℕ
 by_end = 0
 
@@ -52,10 +52,17 @@ service_of (item.Journey j) = service.Timetable
 service_of (item.Vehicle v) = service.Vehicle
 service_of (item.Situation s) = service.Situation
 
--- the moments of an item in an order: its end in the one, its edges in the one of its service
+-- the end of an item that isn't its edge: a visit has none
+abbrev pub own_end_of : Item → Option ℕ
+own_end_of (item.Visit v) = None
+own_end_of (item.Journey j) = end_of (item.Journey j)
+own_end_of (item.Vehicle v) = end_of (item.Vehicle v)
+own_end_of (item.Situation s) = end_of (item.Situation s)
+
+-- the moments of an item in an order: its end in the one, where that isn't its edge; its edges in the one of its service
 abbrev pub moments_of : ℕ → Item → List ℕ
 moments_of order i =
-    if nat_eq order by_end then listed (end_of i) else
+    if nat_eq order by_end then listed (own_end_of i) else
     (if nat_eq order (by_edge (service_of i)) then edges_of i else [])
 
 abbrev pub moments_held : ℕ → Option Item → List ℕ
@@ -84,20 +91,56 @@ Tied es stamps = (stamp : Stamp) → has_stamp stamps stamp ≡ is_stamped es st
 
 -- ---- which end is the first
 
--- the stamp of an end before a moment
-abbrev pub has_ended : ℕ → Stamp → Bool
-has_ended now stamp = nat_eq stamp.0 by_end && nat_lt stamp.1 now
+-- the orders whose moments are ends: that by ends, and that of visits by their edges
+abbrev pub is_of_ends : ℕ → Bool
+is_of_ends order = nat_eq order by_end || nat_eq order (by_edge service.Stop)
 
--- the first stamp is the one of this key, and of an end before a moment
+-- by the moment and then by the key
+abbrev pub end_cmp : Stamp → Stamp → Ordering
+end_cmp a b = ordering_then (nat_cmp a.1 b.1) (option_cmp key_cmp a.2 b.2)
+
+-- a stamp of ends, which no other one of ends comes before
+pub record IsFirstOfEnds (stamps : List Stamp) (first : Stamp) : Type 0 where
+  pub held : has_stamp stamps first ≡ true
+  pub of_ends : is_of_ends first.0 ≡ true
+  pub least : (stamp : Stamp) → has_stamp stamps stamp ≡ true → is_of_ends stamp.0 ≡ true → is_gt (end_cmp first stamp) ≡ false
+
+-- the first stamp of an order
+pub record IsFirstOf (order : ℕ) (stamps : List Stamp) (first : Stamp) : Type 0 where
+  pub held : has_stamp stamps first ≡ true
+  pub in_order : first.0 ≡ order
+  pub least : (stamp : Stamp) → has_stamp stamps stamp ≡ true → stamp.0 ≡ order → is_gt (end_cmp first stamp) ≡ false
+
+-- an order has no stamp
+abbrev pub HasNoneOf : ℕ → List Stamp → Type 0
+HasNoneOf order stamps = (stamp : Stamp) → has_stamp stamps stamp ≡ true → stamp.0 ≡ order → ⊥
+
+-- what comes first of an order, where there is anything
+abbrev pub IsFirstIn : ℕ → List Stamp → Option Stamp → Type 0
+IsFirstIn order stamps None = HasNoneOf order stamps
+IsFirstIn order stamps (Some first) = IsFirstOf order stamps first
+
+-- what comes first of all stamps of ends, where there is any
+abbrev pub IsFirstEnding : List Stamp → Option Stamp → Type 0
+IsFirstEnding stamps None = (stamp : Stamp) → has_stamp stamps stamp ≡ true → is_of_ends stamp.0 ≡ true → ⊥
+IsFirstEnding stamps (Some first) = IsFirstOfEnds stamps first
+
+-- of two stamps the earlier by moment and then by key; the one, where there is no other
+abbrev pub earlier : Option Stamp → Option Stamp → Option Stamp
+earlier None other = other
+earlier (Some one) None = Some one
+earlier (Some one) (Some other) = Some (if is_gt (end_cmp one other) then other else one)
+
+-- the first stamp of ends is the one of this key, at a moment before another
 pub record IsFirstEnd (now : ℕ) (stamps : List Stamp) (key : Key) : Type 0 where
+  pub order : ℕ
   pub end : ℕ
-  pub held : has_stamp stamps (by_end, end, Some key) ≡ true
+  pub first : IsFirstOfEnds stamps (order, end, Some key)
   pub ended : nat_lt end now ≡ true
-  pub first : (stamp : Stamp) → has_stamp stamps stamp ≡ true → is_gt (stamp_cmp (by_end, end, Some key) stamp) ≡ false
 
--- no stamp is of an end before a moment
+-- no stamp of ends is at a moment before another
 abbrev pub NoneEnded : ℕ → List Stamp → Type 0
-NoneEnded now stamps = (stamp : Stamp) → has_stamp stamps stamp ≡ true → has_ended now stamp ≡ false
+NoneEnded now stamps = (stamp : Stamp) → has_stamp stamps stamp ≡ true → is_of_ends stamp.0 ≡ true → nat_lt stamp.1 now ≡ false
 
 -- each stamp has a key
 abbrev pub AllKeyed : List Stamp → Type 0

@@ -3,17 +3,20 @@
 
 ghost use Rattle.std.specs.Prelude.{◌≡◌, ◌+◌, ◌<◌, ◌^◌, ℕ, pos, nat_lt, int_lt, [], ◌∷◌, ◌&&◌, ◌||◌, not, Some, IsSome, option_map, IfSome, IfNone, OnOk, OnErr};
 ghost use Rattle.std.specs.List.Sorted.{IsStrictlySortedBy};
-ghost use Rattle.siri_store.specs.Stamped.{Stamp, stamp_cmp, has_stamp, has, moments_of, moments_held, is_one_at, is_one_of, by_edge, service_of, has_ended, IsFirstEnd, NoneEnded, AllKeyed};
+ghost use Rattle.siri_store.specs.Stamped.{Stamp, stamp_cmp, has_stamp, has, moments_of, moments_held, is_one_at, is_one_of, by_edge, service_of, own_end_of, end_cmp, earlier, IsFirstIn, IsFirstEnd, NoneEnded, AllKeyed};
+ghost use Rattle.std.specs.Ordering.{is_gt};
+ghost use Rattle.siri_records.specs.Edges.{listed};
 ghost use Rattle.siri_store.specs.Between.{between, since};
 
 use siri_base::{Copies, Moment, OutOfMemory};
 use siri_records::{Item, Moments, Service, SharedKey, edges_of, ends_of};
 use std::alloc::Global;
+use std::cmp::Ordering;
 use std::collections::BTreeSet;
 use std::collections::btree_set::Range;
 use std::marker::Model;
 
-/// The order of all items by their ends. It is before those by edges.
+/// The order by their ends of all items but visits, whose one edge is their end. It is before those by edges.
 pub(crate) const BY_END: u8 = 0;
 
 /// The number of an order, a moment and a key. The bounds of a range have no key, which comes before all keys.
@@ -54,7 +57,7 @@ impl Stamps {
         ensures ok { OnOk result ((stamp : Stamp) → has_stamp self.new stamp ≡ (is_one_of key.now (Some item.now) stamp || has_stamp self.old stamp)) }
         ensures some { (stamp : Stamp) → has_stamp self.new stamp ≡ (has_stamp self.old stamp || (is_one_of key.now (Some item.now) stamp && has_stamp self.new stamp)) }
     {
-        self.put_all(BY_END, ends_of(item), key)?;
+        self.put_all(BY_END, own_ends_of(item), key)?;
         self.put_all(by_edge(service_of(item)), edges_of(item), key)
     }
 
@@ -71,7 +74,7 @@ impl Stamps {
         match item {
             None => key,
             Some(item) => {
-                let key = self.remove_all(BY_END, ends_of(item), kept, key);
+                let key = self.remove_all(BY_END, own_ends_of(item), kept, key);
                 self.remove_all(by_edge(service_of(item)), edges_of(item), kept, key)
             }
         }
@@ -148,19 +151,56 @@ impl Stamps {
             .range((order, bound(from), None)..(order + 1, 0, None))
     }
 
-    /// The key of the first stamp, where that is of an end before a moment.
+    /// The key of the first stamp of ends, where that is of a moment before another. Those are the stamps by ends and, of
+    /// visits, those by edges.
     pub(crate) fn first_ended(&self, now: Moment) -> Option<&SharedKey>
         requires { AllKeyed self.now }
         ensures first { IfSome result (λ key. IsFirstEnd now self.now key.now) }
         ensures none { IfNone result (NoneEnded now self.now) }
     {
-        let first = self.set.first()?;
-        if ended(first, now) {
+        let end = self.first_of(BY_END);
+        let visit = self.first_of(by_edge(Service::Stop));
+        let first = earlier(end, visit)?;
+        if is_before(first, now) {
             first.2.as_ref()
         } else {
             None
         }
     }
+
+    /// The first stamp of an order.
+    fn first_of(&self, order: u8) -> Option<&Stamp>
+        requires { order + 1 < 2 ^ 8 }
+        ensures { IsFirstIn order self.now (option_map (λ first. first.now) result) }
+    {
+        let mut stamps = self.since(order, 0);
+        let first = stamps.next()?;
+        Some(first)
+    }
+}
+
+/// Of two stamps the earlier by moment and then by key; the one, where there is no other.
+fn earlier<'a>(one: Option<&'a Stamp>, other: Option<&'a Stamp>) -> Option<&'a Stamp>
+    ensures { option_map (λ stamp. stamp.now) result ≡ earlier (option_map (λ stamp. stamp.now) one.entry) (option_map (λ stamp. stamp.now) other.entry) }
+{
+    match (one, other) {
+        (Some(one), Some(other)) => {
+            if is_later(one, other) {
+                Some(other)
+            } else {
+                Some(one)
+            }
+        }
+        (None, other) => other,
+        (one, None) => one,
+    }
+}
+
+/// Whether a stamp is later than another by moment and then by key.
+fn is_later(one: &Stamp, other: &Stamp) -> bool
+    ensures { result ≡ is_gt (end_cmp one.now other.now) }
+{
+    one.1.cmp(&other.1).then_with(|| one.2.cmp(&other.2)) == Ordering::Greater
 }
 
 /// The first moment that isn't before a number of milliseconds since 1970.
@@ -177,11 +217,11 @@ fn stamp(order: u8, moment: Moment, key: SharedKey) -> Stamp
     (order, moment.ms() as u64, Some(key))
 }
 
-/// Whether a stamp is of an end before a moment.
-fn ended(stamp: &Stamp, now: Moment) -> bool
-    ensures { result ≡ has_ended now stamp.now }
+/// Whether a stamp is at a moment before another.
+fn is_before(stamp: &Stamp, now: Moment) -> bool
+    ensures { result ≡ nat_lt stamp.now.1 now }
 {
-    stamp.0 == BY_END && stamp.1 < now.ms() as u64
+    stamp.1 < now.ms() as u64
 }
 
 /// The key of a stamp that has one.
@@ -219,11 +259,21 @@ fn moments(item: &Item, order: u8) -> Moments<'_>
     ensures { result ≡ moments_of order item.now }
 {
     if order == BY_END {
-        ends_of(item)
+        own_ends_of(item)
     } else if order == by_edge(service_of(item)) {
         edges_of(item)
     } else {
         Moments::none()
+    }
+}
+
+/// The end of an item that isn't its edge: a visit has none.
+fn own_ends_of(item: &Item) -> Moments<'_>
+    ensures { result ≡ listed (own_end_of item.now) }
+{
+    match item {
+        Item::Visit(_) => Moments::none(),
+        _ => ends_of(item),
     }
 }
 

@@ -16,7 +16,7 @@ returns-in-Some-clause-rest c =
     λ s. taken_out c.args.key c.in-Some.item.now kept old mid c.remove_all.new.self
     (λ s. c.remove_all-key.ensures.rest s
     ∙ ap (λ moments. has_stamp old s && not
-    (is_one_at by_end c.args.key moments s && not (is_one_of c.args.key kept s))) c.ends_of.ensures)
+    (is_one_at by_end c.args.key moments s && not (is_one_of c.args.key kept s))) c.own_ends_of.ensures)
     (λ s. c.remove_all.ensures.rest s
     ∙ (λ j. has_stamp mid s && not
     (is_one_at (order j) (c.remove_all-key.ensures.key j) (c.edges_of.ensures j) s && not
