@@ -41,8 +41,8 @@ use std::alloc::Global;
 /// whatever packets were lost, repeated or late, and however often either end restarted.
 ///
 /// `Usage` exactly where the words are no plain spelling of a command. `Refused` where the document of `check` or
-/// `convert` is refused, and where `get` has no body to write of a response. `Script` and `Limit` where a line of a script, or of what a consumer wants, is refused or
-/// passes a limit, each with the number of that line. `ReadFault`, `WriteFault`, `WireFault`, `ClockFault` and
+/// `convert` is refused, and where `get` has no body to write of a response. `Script` and `Limit` where a line of a
+/// script, or of what a consumer wants, is refused or passes a limit, each with the number of that line. `ReadFault`, `WriteFault`, `WireFault`, `ClockFault` and
 /// `KeeperFault` only where the source, the sink, the wire, the clock or the keeper failed, the wire to listen or to
 /// accept, and in `get` to dial, to write or to read; `OutOfMemory` wherever memory is asked for, otherwise `Done`. Only
 /// `serve` and `consume` use the clock and the keeper, and only they and `get` the wire.

@@ -111,6 +111,8 @@ reads_all (Some left) status.OutOfMemory h = tt
 reads_all (Some left) status.WriteFault h = tt
 reads_all (Some left) status.ClockFault h = tt
 reads_all (Some left) status.KeeperFault h = tt
+reads_all (Some left) status.ShelfFault h = tt
+reads_all (Some left) (status.BadShelf shelf) h = tt
 
 pub told_all : (text : Message → List ℕ) (input left old new : Bytes) (document : List ℕ) (told : RunResult)
     (end : Status) → IsDocument input left document → told ≡ told_by text document → Tells old told new end

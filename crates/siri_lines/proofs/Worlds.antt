@@ -290,6 +290,8 @@ lines_no_read_fault status.OutOfMemory e = refl
 lines_no_read_fault status.WriteFault e = refl
 lines_no_read_fault status.ClockFault e = refl
 lines_no_read_fault status.KeeperFault e = refl
+lines_no_read_fault status.ShelfFault e = refl
+lines_no_read_fault (status.BadShelf shelf) e = refl
 
 pub stop_no_read_fault : (end : Stop) → is_read_fault (status_of end) ≡ false
 stop_no_read_fault (stop.Script n why) = refl

@@ -114,6 +114,8 @@ views_written script left old new status.OutOfMemory w = (w, views_direct w.whol
 views_written script left old new status.WriteFault w = (w, views_direct w.whole)
 views_written script left old new status.ClockFault w = all_written script old new status.ClockFault w
 views_written script left old new status.KeeperFault w = all_written script old new status.KeeperFault w
+views_written script left old new status.ShelfFault w = all_written script old new status.ShelfFault w
+views_written script left old new (status.BadShelf shelf) w = all_written script old new (status.BadShelf shelf) w
 
 pub views_reported : (source left old new : Bytes) (end : Status) → Reports report source left old new end → ReportsViews source left old new end
 views_reported None left old new end w = tt

@@ -57,6 +57,8 @@ written_unless status.OutOfMemory not = refl
 written_unless status.WriteFault not = absurd (not refl)
 written_unless status.ClockFault not = refl
 written_unless status.KeeperFault not = refl
+written_unless status.ShelfFault not = refl
+written_unless (status.BadShelf shelf) not = refl
 
 -- where no failure is named, none was met
 pub no_sink_failure : (held more old new : Bytes) → old ≡ Some [] → SinkMeets true held more old new → ⊥

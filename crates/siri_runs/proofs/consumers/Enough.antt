@@ -65,6 +65,8 @@ reading_whole name (Some input) left status.WireFault wanted stops ends read = a
 reading_whole name (Some input) left status.WriteFault wanted stops ends read = absurd ends
 reading_whole name (Some input) left status.ClockFault wanted stops ends read = absurd ends
 reading_whole name (Some input) left status.KeeperFault wanted stops ends read = absurd ends
+reading_whole name (Some input) left status.ShelfFault wanted stops ends read = absurd ends
+reading_whole name (Some input) left (status.BadShelf shelf) wanted stops ends read = absurd ends
 
 opening_whole : (name listen : List ℕ) (count : ℕ) (input left : Bytes) (end : Status) (from to : Outside)
     → HasEnough count from → TellsWanted name input → (end ≡ status.ReadFault → ⊥)

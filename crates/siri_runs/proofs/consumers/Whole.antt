@@ -173,6 +173,8 @@ reading_early status.OutOfMemory ends = tt
 reading_early status.WriteFault ends = ends
 reading_early status.ClockFault ends = tt
 reading_early status.KeeperFault ends = tt
+reading_early status.ShelfFault ends = tt
+reading_early (status.BadShelf shelf) ends = tt
 
 by_error : (e : NetworkError) (end : Status) → end ≡ status_of e → IsEarly end
 by_error e end is = subst IsEarly (sym is) (error_early e)
@@ -206,6 +208,8 @@ run_ended name listen target count input left from to held (status.Limit n) ends
 run_ended name listen target count input left from to held status.WireFault ends = (ends, refl)
 run_ended name listen target count input left from to held status.ClockFault ends = (ends, refl)
 run_ended name listen target count input left from to held status.KeeperFault ends = (ends, refl)
+run_ended name listen target count input left from to held status.ShelfFault ends = (ends, refl)
+run_ended name listen target count input left from to held (status.BadShelf shelf) ends = (ends, refl)
 
 -- when each fault comes
 
@@ -252,6 +256,8 @@ reads_unless (Some left) status.OutOfMemory not = tt
 reads_unless (Some left) status.WriteFault not = tt
 reads_unless (Some left) status.ClockFault not = tt
 reads_unless (Some left) status.KeeperFault not = tt
+reads_unless (Some left) status.ShelfFault not = tt
+reads_unless (Some left) (status.BadShelf shelf) not = tt
 
 pub reads_early : (name listen : List ℕ) (target : Target) (count : ℕ) (input left : Bytes) (from to : Outside)
     (end : Status) → ConsumesNot name listen target count input left end from to → ReadsAll left end
