@@ -76,13 +76,14 @@ def phases(program, folder):
 
 
 def documents(program, yardstick, folder):
-    """`siri convert` and `siri check` of one document, beside a program on serde_json in the same runs."""
+    """`siri convert` and `siri check` of one document, beside a program on serde_json and one written by hand in the same runs."""
     path = os.path.join(folder, "delivery.8000")
     megabytes = os.path.getsize(path) / 1e6
-    commands = [("convert", [program, "convert"]), ("check", [program, "check"]), ("yardstick", [yardstick, "convert"])]
+    by_hand = [("%s by hand" % command, [yardstick, "--by-hand", command]) for command in ("convert", "check")]
+    commands = [("convert", [program, "convert"]), ("check", [program, "check"]), ("yardstick", [yardstick, "convert"])] + by_hand
     runs = [[run_once(command, path) for _, command in commands] for _ in range(PHASE_RUNS)]
-    least = min(run[-1][0] for run in runs)
-    row = "%-9s %7s %9s %8s %9s %9s %7s"
+    least = min(run[2][0] for run in runs)
+    row = "%-15s %7s %9s %8s %9s %9s %7s"
     print(row % ("command", "MB", "seconds", "MB/s", "peak MB", "peak/doc", "ratio"))
     for place, (name, _) in enumerate(commands):
         seconds = min(run[place][0] for run in runs)

@@ -6,7 +6,7 @@
 #   passed-over lines, and for the visits python's json, which reads the same four documents and writes them;
 # - the phases of reading and writing items of a delivery of 5.5 MB, as differences of runs of `siri_speed`;
 # - `siri convert` and `siri check` of that delivery, beside a program on Rust's serde_json (bench/yardstick), which wants
-#   cargo and Debian's package librust-serde-json-dev;
+#   cargo and Debian's package librust-serde-json-dev, and beside one that is written by hand for such a delivery (--by-hand);
 # - `siri replay` of 20,000 live visits and 100 asks that show 200 of them each, beside the same program, which keeps the
 #   visits as trees: time and memory of a fed visit and time of an ask, as differences of runs;
 # - `siri replay` of visits, subscriptions and changes of one visit in which every packet is delivered, beside python's json over
@@ -49,9 +49,10 @@ instructions() {
 }
 if command -v valgrind >/dev/null; then
   siri=$here/../crates/siri/out/siri yardstick=$here/yardstick/target/release/yardstick
-  printf '\n%-42s%8s%11s\n' "millions of instructions, by callgrind" siri yardstick
+  printf '\n%-42s%8s%11s%11s\n' "millions of instructions, by callgrind" siri yardstick "by hand"
   for command in convert check; do
-    printf '%-42s%8s%11s\n' "$command" "$(instructions delivery.8000 "$siri" "$command")" "$(instructions delivery.8000 "$yardstick" convert)"
+    printf '%-42s%8s%11s%11s\n' "$command" "$(instructions delivery.8000 "$siri" "$command")" "$(instructions delivery.8000 "$yardstick" convert)" \
+      "$(instructions delivery.8000 "$yardstick" --by-hand "$command")"
   done
   for asks in 0 100; do
     printf '%-42s%8s%11s\n' "20,000 visits in no order, $asks asks" "$(instructions "stops.20000.$asks" "$siri" replay)" "$(instructions "stops.20000.$asks" "$yardstick" replay)"

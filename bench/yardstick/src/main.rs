@@ -3,6 +3,11 @@
 //! `yardstick convert` parses the document on standard input to a tree, and writes the tree compactly. `yardstick replay`
 //! reads a script: of each `feed` line it keeps the visits as trees, and at each `ask` line it writes those of the asked
 //! monitoring point, looking at all of them. It neither sorts them nor knows which of them are current.
+//!
+//! `yardstick --by-hand convert` and `yardstick --by-hand check` are a second yardstick, which takes no library and goes over
+//! the bytes once: `by_hand`.
+mod by_hand;
+
 use std::env;
 use std::io::{self, BufRead, BufWriter, Read, Write};
 
@@ -10,9 +15,10 @@ use serde_json::Value;
 
 fn main() -> io::Result<()> {
     match env::args().nth(1).as_deref() {
+        Some("--by-hand") => by_hand::run(&env::args().nth(2).unwrap_or_default()),
         Some("convert") => convert(),
         Some("replay") => replay(),
-        _ => Err(io::Error::new(io::ErrorKind::InvalidInput, "convert or replay")),
+        _ => Err(io::Error::new(io::ErrorKind::InvalidInput, "convert, replay or --by-hand")),
     }
 }
 
