@@ -1,9 +1,9 @@
 -- A turn: a connection is answered, and what comes of it is sent.
-use Rattle.std.proofs.Common.{◌≡◌, ℕ, List, Option, Some, refl, sym, ◌∙◌, subst, inr}
+use Rattle.std.proofs.Common.{◌≡◌, ℕ, List, Option, Some, refl, sym, ◌∙◌, subst, inl, inr}
 use Rattle.siri_base.specs.Wires.{WireState}
 use Rattle.siri_http.specs.Connections.{OnConnection}
 use Rattle.siri_http.specs.ExchangeCauses.{HasAskedCause}
-use Rattle.siri_http.specs.Requests.{Asks}
+use Rattle.siri_http.specs.Requests.{Asks, Meaning, StopsAsking, WholeRequest}
 use Rattle.siri_http.specs.declared.asked.Asked.{Asked}
 use Rattle.siri_http.specs.declared.tally.Tally.{Tally}
 use Rattle.siri_ends.specs.declared.response.Response.{Response}
@@ -47,11 +47,13 @@ module _ {Own Kept State M : Type 0} (kept : Own → Kept) (stands : Own → Sta
       inr (stops last response (turned.stands_for s so)
       (subst (λ k. IsReply k reply last response) (sym turned.keeps) (turned.reply_is s so)))
 
+module _ {Own Kept State M : Type 0} (asks : Meaning) (kept : Own → Kept) (stands : Own → State → Type 0)
+    (manner : Kept → Manner State M) where
   -- its request was read before
   answers_of : (asked : Asked) (list : List M) (old : Own) (new : At Own) (was : Tally) (before read : Option WireState)
-      (earlier between : ℕ) → OnConnection (Asks (Some asked)) before read → HasAskedCause earlier between (Some asked)
+      (earlier between : ℕ) → OnConnection (Asks asks (Some asked)) before read → HasAskedCause earlier between (Some asked)
       → AnswersAsked kept stands manner asked list (at_of old was read between) new
-      → (s : State) → stands old s → Answers (manner (kept old)) asked (at_of s was before earlier)
+      → (s : State) → stands old s → Answers asks (manner (kept old)) asked (at_of s was before earlier)
       (stood_for new ((manner (kept old)).after s asked))
   answers_of asked list old new was before read earlier between told cause answers s so = record {
     read = surroundings was read between;
@@ -63,10 +65,10 @@ module _ {Own Kept State M : Type 0} (kept : Own → Kept) (stands : Own → Sta
   -- and what comes of it is sent
   pub turn_taken : (Posts : Posting M) (asked : Asked) (list : List M) (old : Own) (mid new : At Own) (was : Tally)
       (before read : Option WireState) (earlier between : ℕ)
-      → OnConnection (Asks (Some asked)) before read → HasAskedCause earlier between (Some asked)
+      → OnConnection (Asks asks (Some asked)) before read → HasAskedCause earlier between (Some asked)
       → AnswersAsked kept stands manner asked list (at_of old was read between) mid
       → Goes kept stands (λ k. SendsAll Posts (manner k) list) mid new
-      → Goes kept stands (λ k. TakesTurn Posts (manner k)) (at_of old was before earlier) new
+      → Goes kept stands (λ k. TakesTurn asks Posts (manner k)) (at_of old was before earlier) new
   turn_taken Posts asked list old mid new was before read earlier between told cause answers sends = record {
     keeps = sends.keeps ∙ answers.keeps;
     goes = λ s so.
@@ -88,10 +90,10 @@ module _ {Own Kept State M : Type 0} (kept : Own → Kept) (stands : Own → Sta
   -- where memory was wanting in the sends
   pub turn_stopped : (Posts : Posting M) (asked : Asked) (list : List M) (old : Own) (mid : At Own) (was : Tally)
       (before read after : Option WireState) (earlier between : ℕ)
-      → OnConnection (Asks (Some asked)) before read → HasAskedCause earlier between (Some asked)
+      → OnConnection (Asks asks (Some asked)) before read → HasAskedCause earlier between (Some asked)
       → AnswersAsked kept stands manner asked list (at_of old was read between) mid
       → ((s : State) → stands mid.state s → FirstSends Posts (manner (kept mid.state)) list s mid.wire after)
-      → (s : State) → stands old s → StopsTurn Posts (manner (kept old)) (at_of s was before earlier) after
+      → (s : State) → stands old s → StopsTurn asks Posts (manner (kept old)) (at_of s was before earlier) after
   turn_stopped Posts asked list old mid was before read after earlier between told cause answers fails s so =
       let last = (manner (kept old)).after s asked in
       inr (
@@ -102,3 +104,17 @@ module _ {Own Kept State M : Type 0} (kept : Own → Kept) (stands : Own → Sta
             (subst (λ k. FirstSends Posts (manner k) list last mid.wire after) answers.keeps
             (fails last (answers.stands_for s so))),
       )
+
+-- where memory was wanting while its request was read, or for what it asks
+pub reading_stopped : {State M : Type 0} (asks : Meaning) (takes_memory : WholeRequest → Type 0)
+    (Posts : Posting M) (manner : Manner State M) (at : At State) (after : Option WireState)
+    → StopsAsking asks takes_memory at.wire after → StopsTurn asks Posts manner at after
+reading_stopped asks takes_memory Posts manner at after (inl stops) = inl (inl stops)
+reading_stopped asks takes_memory Posts manner at after (inr whole) =
+    inl (inr (asks whole.0, after, whole.2, inl refl))
+
+-- where it was answered in part
+pub answer_stopped : {State M : Type 0} (asks : Meaning) (Posts : Posting M) (manner : Manner State M)
+    (asked : Asked) (at : At State) (read after : Option WireState) → OnConnection (Asks asks (Some asked)) at.wire read
+    → StopsAsked (manner.responds at.state asked) read after → StopsTurn asks Posts manner at after
+answer_stopped asks Posts manner asked at read after told stops = inl (inr (asked, read, told, stops))

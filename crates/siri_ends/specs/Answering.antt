@@ -5,7 +5,7 @@ use Rattle.siri_base.specs.Wires.{WireState, hung_up}
 use Rattle.siri_http.specs.Connections.{OnConnection}
 use Rattle.siri_http.specs.Texts.{response_text}
 use Rattle.siri_http.specs.ExchangeCauses.{HasAskedCause, HasResponseCause}
-use Rattle.siri_http.specs.Requests.{Asks}
+use Rattle.siri_http.specs.Requests.{Asks, Meaning}
 use Rattle.siri_http.specs.Responses.{Responds}
 use Rattle.siri_http.specs.Tallies.{with_served, with_refused, with_dropped}
 use Rattle.siri_http.specs.declared.asked.Asked.{Asked}
@@ -43,9 +43,9 @@ abbrev pub AnswersWith : Option Response → (at mid : Surroundings) → Type 0
 AnswersWith None at mid = HangsUp at mid
 AnswersWith (Some response) at mid = Writes response at mid
 
--- what the connection that is there asks is read
-pub record Reads (asked : Asked) (at mid : Surroundings) : Type 0 where
-  pub told : OnConnection (Asks (Some asked)) at.wire mid.wire
+-- what the connection that is there asks is read, where a request that is whole asks so
+pub record Reads (asks : Meaning) (asked : Asked) (at mid : Surroundings) : Type 0 where
+  pub told : OnConnection (Asks asks (Some asked)) at.wire mid.wire
   pub cause : HasAskedCause at.faults mid.faults (Some asked)
   pub tally : mid.tally ≡ at.tally
 
@@ -57,8 +57,9 @@ StopsWriting (Some response) before after = WhereTold before after
 
 -- where memory was wanting before the connection was answered: some of its request was read, or all of it and a front
 -- of the answer was written, if any
-abbrev pub StopsAnswering : (answer : Asked → Option Response) → (before after : Option WireState) → Type 0
-StopsAnswering answer before after =
-    OnConnection (Asks None) before after
-    ⊎ ((asked : Asked) × (read : Option WireState) × OnConnection (Asks (Some asked)) before read
+abbrev pub StopsAnswering : (asks : Meaning) → (answer : Asked → Option Response)
+    → (before after : Option WireState) → Type 0
+StopsAnswering asks answer before after =
+    OnConnection (Asks asks None) before after
+    ⊎ ((asked : Asked) × (read : Option WireState) × OnConnection (Asks asks (Some asked)) before read
     × ((after ≡ read) ⊎ StopsWriting (answer asked) read after))

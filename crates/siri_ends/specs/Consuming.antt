@@ -4,6 +4,7 @@ use Rattle.std.proofs.Common.{refl, inl}
 use Rattle.siri_base.specs.Wires.{WireState}
 use Rattle.siri_base.specs.OutsideCalls.{WhereTold}
 use Rattle.siri_http.specs.Posts.{PostsTo}
+use Rattle.siri_http.specs.Requests.{post_alone}
 use Rattle.siri_http.specs.Texts.{request_text}
 use Rattle.siri_http.specs.declared.posting.Sent.{Sent}
 use Rattle.siri_messages.specs.declared.message.Message.{Message}
@@ -69,7 +70,7 @@ FirstSendsUp host path list consumer before after = FirstSends (PostsUp host pat
 
 -- a connection is answered, and the further replies are sent up
 abbrev pub ConsumesOne : (host path : List ℕ) → (at end : At Consuming) → Type 0
-ConsumesOne host path at end = TakesTurn (PostsUp host path) consuming at end
+ConsumesOne host path at end = TakesTurn post_alone (PostsUp host path) consuming at end
 
 abbrev pub ConsumesSome : (host path : List ℕ) → At Consuming → (after : Option WireState) → Type 0
-ConsumesSome host path at after = StopsTurn (PostsUp host path) consuming at after
+ConsumesSome host path at after = StopsTurn post_alone (PostsUp host path) consuming at after

@@ -5,6 +5,8 @@ use Rattle.siri_base.specs.Wires.{WireState}
 use Rattle.siri_base.specs.OutsideCalls.{WhereTold}
 use Rattle.siri_http.specs.Addresses.{address_of}
 use Rattle.siri_http.specs.Posts.{Posts}
+use Rattle.siri_http.specs.Requests.{Meaning}
+use Rattle.siri_http.specs.declared.asked.Asked.{Asked}
 use Rattle.siri_http.specs.declared.posting.Sent.{Sent}
 use Rattle.siri_messages.specs.declared.message.Message.{Message}
 use Rattle.siri_messages.specs.declared.message.Message.TheVariants as message
@@ -64,12 +66,12 @@ serving name = record {
   replies = λ h message. settled_by name (acknowledging message) h;
 }
 
--- a connection is answered, and what was settled is sent out
-abbrev pub ServesOne : (name : List ℕ) → (at end : At History) → Type 0
-ServesOne name at end = TakesTurn PostsOut (serving name) at end
+-- a connection is answered, whose request asks so where it is whole, and what was settled is sent out
+abbrev pub ServesOne : (asks : Meaning) → (name : List ℕ) → (at end : At History) → Type 0
+ServesOne asks name at end = TakesTurn asks PostsOut (serving name) at end
 
-abbrev pub ServesSome : (name : List ℕ) → At History → (after : Option WireState) → Type 0
-ServesSome name at after = StopsTurn PostsOut (serving name) at after
+abbrev pub ServesSome : (asks : Meaning) → (name : List ℕ) → At History → (after : Option WireState) → Type 0
+ServesSome asks name at after = StopsTurn asks PostsOut (serving name) at after
 
 -- whatever history a producer stood for before a call; its name stays
 abbrev pub Goes : (Does : (name : List ℕ) → At History → At History → Type 0) → (old new : At Known) → Type 0

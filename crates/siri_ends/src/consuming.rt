@@ -14,7 +14,7 @@ use crate::sending::send_all;
 use crate::taker::Taker;
 use crate::turning::take_turn;
 use siri_base::{List, OutOfMemory, Wire};
-use siri_http::{Address, Asked, Sent, post_to};
+use siri_http::{Address, Asked, PostAlone, Sent, post_to};
 use siri_messages::Message;
 use siri_view::Consumer;
 use siri_wire::encode;
@@ -172,5 +172,5 @@ pub fn consume_one<W: Wire>(
     ensures ok { OnOk result (ConsumesOne producer.now.host producer.now.path (at_of consumer.old tally.old (W.tells wire.old) (W.faults wire.old)) (at_of consumer.new tally.new (W.tells wire.new) (W.faults wire.new))) }
     ensures err { OnErr result (ConsumesSome producer.now.host producer.now.path (at_of consumer.old tally.old (W.tells wire.old) (W.faults wire.old)) (W.tells wire.new)) }
 {
-    take_turn(alloc, wire, producer, consumer, tally)
+    take_turn::<W, PostAlone, Consumer>(alloc, wire, producer, consumer, tally)
 }

@@ -44,6 +44,6 @@ pub use reply::Reply;
 pub use response::Response;
 pub use sending::send_all;
 pub use serving::serve_one;
-pub use siri_http::Tally;
+pub use siri_http::{PostAlone, Tally};
 pub use taker::Taker;
 pub use turning::answer_asked;

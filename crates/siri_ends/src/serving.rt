@@ -16,7 +16,7 @@ use crate::reply::{Reply, reply_for};
 use crate::taker::Taker;
 use crate::turning::take_turn;
 use siri_base::{List, OutOfMemory, Wire};
-use siri_http::{Asked, Sent, Tally, post};
+use siri_http::{Asked, Asking, Sent, Tally, post};
 use siri_messages::Message;
 use siri_producer::{Out, Producer};
 use siri_wire::encode;
@@ -139,8 +139,8 @@ impl Taker for Producer {
     ghost none_posted = { λ _ out wire. none_posted_out out wire };
 }
 
-/// Serves the connection that was accepted. Its request is read; where it is a POST whose body is a document, the
-/// message is taken; the producer settles; the answer is written, and the connection hung up. What was settled is then
+/// Serves the connection that was accepted. Its request is read; where it is a POST whose body is a document, or asks
+/// what such a POST asks by [`Asking`], the message is taken; the producer settles; the answer is written, and the connection hung up. What was settled is then
 /// sent out, as [`send_all`](crate::send_all) says; of what is answered to it a DataReceivedAcknowledgement is taken and
 /// settled.
 ///
@@ -151,15 +151,15 @@ impl Taker for Producer {
 /// The items of a direct response without MaximumStopVisits, and those of a part that is supplied, are written one by one
 /// from what the producer lends. Where the length of such an answer would pass 2^64 - 1, memory counts as wanting. After
 /// want of memory while an answer is written, a front of it was written.
-pub fn serve_one<W: Wire>(
+pub fn serve_one<W: Wire, A: Asking>(
     alloc: Global,
     wire: &mut W,
     producer: &mut Producer,
     tally: &mut Tally,
 ) -> Result<(), OutOfMemory>
     requires there { W.is_open wire.old }
-    ensures ok { OnOk result (Goes ServesOne (at_of producer.old tally.old (W.tells wire.old) (W.faults wire.old)) (at_of producer.new tally.new (W.tells wire.new) (W.faults wire.new))) }
-    ensures err { OnErr result ((h : History) → StandsFor producer.old h → ServesSome producer.old.responder.name (at_of h tally.old (W.tells wire.old) (W.faults wire.old)) (W.tells wire.new)) }
+    ensures ok { OnOk result (Goes (ServesOne A.asks) (at_of producer.old tally.old (W.tells wire.old) (W.faults wire.old)) (at_of producer.new tally.new (W.tells wire.new) (W.faults wire.new))) }
+    ensures err { OnErr result ((h : History) → StandsFor producer.old h → ServesSome A.asks producer.old.responder.name (at_of h tally.old (W.tells wire.old) (W.faults wire.old)) (W.tells wire.new)) }
 {
-    take_turn(alloc, wire, &(), producer, tally)
+    take_turn::<W, A, Producer>(alloc, wire, &(), producer, tally)
 }

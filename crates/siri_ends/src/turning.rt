@@ -8,7 +8,7 @@ ghost use Rattle.siri_ends.specs.TurnsTaken.{StopsTurn, TakesTurn};
 use crate::sending::send_all;
 use crate::taker::Taker;
 use siri_base::{List, OutOfMemory, Wire};
-use siri_http::{Asked, Tally, read_asked};
+use siri_http::{Asked, Asking, Tally, read_asked};
 use std::alloc::Global;
 
 /// Answers the connection that is there, of which this was read, and gives what is to be sent then.
@@ -33,8 +33,9 @@ pub fn answer_asked<W: Wire, T: Taker>(
     }
 }
 
-/// Answers the connection that was accepted, whose request is read, and sends what comes of it.
-pub(crate) fn take_turn<W: Wire, T: Taker>(
+/// Answers the connection that was accepted, whose request is read and asks what [`Asking`] says, and sends what comes
+/// of it.
+pub(crate) fn take_turn<W: Wire, A: Asking, T: Taker>(
     alloc: Global,
     wire: &mut W,
     target: &T::Target,
@@ -42,10 +43,10 @@ pub(crate) fn take_turn<W: Wire, T: Taker>(
     tally: &mut Tally,
 ) -> Result<(), OutOfMemory>
     requires there { W.is_open wire.old }
-    ensures ok { OnOk result (Goes T.kept T.stands (λ kept. TakesTurn (T.posts target.now) (T.manner kept)) (at_of taker.old tally.old (W.tells wire.old) (W.faults wire.old)) (at_of taker.new tally.new (W.tells wire.new) (W.faults wire.new))) }
-    ensures err { OnErr result ((s : T.State) → T.stands taker.old s → StopsTurn (T.posts target.now) (T.manner (T.kept taker.old)) (at_of s tally.old (W.tells wire.old) (W.faults wire.old)) (W.tells wire.new)) }
+    ensures ok { OnOk result (Goes T.kept T.stands (λ kept. TakesTurn A.asks (T.posts target.now) (T.manner kept)) (at_of taker.old tally.old (W.tells wire.old) (W.faults wire.old)) (at_of taker.new tally.new (W.tells wire.new) (W.faults wire.new))) }
+    ensures err { OnErr result ((s : T.State) → T.stands taker.old s → StopsTurn A.asks (T.posts target.now) (T.manner (T.kept taker.old)) (at_of s tally.old (W.tells wire.old) (W.faults wire.old)) (W.tells wire.new)) }
 {
-    let asked = read_asked(alloc, wire)?;
+    let asked = read_asked::<W, A>(alloc, wire)?;
     let list = answer_asked(alloc, wire, &asked, taker, tally)?;
     send_all(alloc, wire, list, target, taker, tally)
 }

@@ -7,7 +7,7 @@ use Rattle.siri_http.specs.Bodies.{body_length, values}
 use Rattle.siri_http.specs.Heads.{full_lines, head_text}
 use Rattle.siri_http.specs.Messages.{Head, RequestLine, message}
 use Rattle.siri_http.specs.Texts.{ended}
-use Rattle.siri_http.specs.Requests.{asked_of}
+use Rattle.siri_http.specs.Requests.{asked_of, post_alone}
 use Rattle.siri_http.specs.declared.asked.Asked.TheVariants as asked
 
 -- the head of a POST with 34 bytes of body
@@ -19,6 +19,6 @@ abbrev cut_bytes : List ℕ
 cut_bytes = ended (codes "POST / HTTP/1.1") ++ (ended (codes "Content-Length: 34") ++ (ended [] ++ codes "0123456789"))
 
 -- a body that is cut is Short
-cut_body_is_short : asked_of (message post http.Short cut_bytes) ≡ Some asked.Short
+cut_body_is_short : asked_of post_alone (message post http.Short cut_bytes) ≡ Some asked.Short
 unfolding message head_text full_lines body_length values number_of
 cut_body_is_short = refl

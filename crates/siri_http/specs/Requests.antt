@@ -1,6 +1,7 @@
 -- What an accepted connection asks (RFC 9112).
-use Rattle.std.specs.Prelude.{◌≡◌, ℕ, Bool, true, false, List, codes, Option, None, Some, Result, Ok, Err}
-use Rattle.siri_base.specs.Wires.{Present}
+use Rattle.std.specs.Prelude.{◌≡◌, ◌⊎◌, ℕ, Bool, true, false, List, codes, Option, None, Some, Result, Ok, Err}
+use Rattle.siri_base.specs.Wires.{Present, WireState}
+use Rattle.siri_http.specs.Connections.{OnConnection}
 use Rattle.siri_http.specs.declared.errors.HttpError.{HttpError}
 use Rattle.siri_http.specs.declared.errors.HttpError.TheVariants as http
 use Rattle.siri_http.specs.Messages.{IsRequest, ReadsMessage, RequestLine, is_post}
@@ -28,14 +29,26 @@ name_of bad.BodyTooLong = codes "BodyTooLong"
 name_of bad.NotPost = codes "NotPost"
 name_of bad.NoPath = codes "NoPath"
 
--- a request, as it was read: its method and target, and its body; or why there is none
+-- a request that was read whole: its method and target, and its body
+abbrev pub WholeRequest : Type 0
+WholeRequest = RequestLine × List ℕ
+
+-- a request, as it was read; or why there is none
 abbrev pub Request : Type 0
-Request = Result (RequestLine × List ℕ) HttpError
+Request = Result WholeRequest HttpError
 
 -- a request of this body, where its method is POST, or isn't
 abbrev pub by_method : Bool → List ℕ → Asked
 by_method true body = asked.Posted body
 by_method false body = asked.Refused bad.NotPost
+
+-- what requests ask that are read whole
+abbrev pub Meaning : Type 0
+Meaning = WholeRequest → Asked
+
+-- where a POST alone asks something, it asks that its body is taken, whatever its target
+abbrev pub post_alone : Meaning
+post_alone request = by_method (is_post request.0.0) request.1
 
 -- what is asked where no request was read; nothing is said where there was no memory
 abbrev pub unasked_of : HttpError → Option Asked
@@ -49,12 +62,31 @@ unasked_of http.ReadFault = Some asked.Failed
 unasked_of http.WriteFault = Some asked.Failed
 unasked_of http.OutOfMemory = None
 
-abbrev pub asked_of : Request → Option Asked
-asked_of (Ok request) = Some (by_method (is_post request.0.0) request.1)
-asked_of (Err error) = unasked_of error
+-- what a request asks, where one that is whole asks so
+abbrev pub asked_of : (asks : Meaning) → Request → Option Asked
+asked_of asks (Ok request) = Some (asks request)
+asked_of asks (Err error) = unasked_of error
 
 -- the connection brings a request that asks this; want of memory says nothing of what it brings
-pub record Asks (outcome : Option Asked) (before after : Present) : Type 0 where
+pub record Asks (asks : Meaning) (outcome : Option Asked) (before after : Present) : Type 0 where
   pub request : Request
   pub reads : ReadsMessage IsRequest request before after
-  pub asked_is : outcome ≡ asked_of request
+  pub asked_is : outcome ≡ asked_of asks request
+
+-- where memory was wanting, some of its request was read; or all of it, where what it asks may take memory
+abbrev pub StopsAsking : (asks : Meaning) → (takes_memory : WholeRequest → Type 0)
+    → (before after : Option WireState) → Type 0
+StopsAsking asks takes_memory before after =
+    OnConnection (Asks asks None) before after
+    ⊎ ((request : WholeRequest) × takes_memory request × OnConnection (Asks asks (Some (asks request))) before after)
+
+-- none asks what a request asks of which a read failed
+abbrev pub NeverFails : Meaning → Type 0
+NeverFails asks = (request : WholeRequest) → asks request ≡ asked.Failed → ⊥
+
+by_method_never_fails : (is : Bool) (body : List ℕ) → by_method is body ≡ asked.Failed → ⊥
+by_method_never_fails true body e = cc e
+by_method_never_fails false body e = cc e
+
+pub post_alone_never_fails : NeverFails post_alone
+post_alone_never_fails request e = by_method_never_fails (is_post request.0.0) request.1 e

@@ -1,16 +1,12 @@
 //! What an accepted connection asks.
 
 ghost use Rattle.std.specs.Prelude.{◌≡◌, true};
-ghost use Rattle.siri_http.specs.Connections.{OnConnection};
-ghost use Rattle.siri_http.specs.Messages.{is_post};
 ghost use Rattle.siri_http.specs.Texts.{is_written};
-ghost use Rattle.siri_http.specs.Requests.{Asks, by_method, name_of, status_of, unasked_of};
-ghost use Rattle.siri_http.specs.ExchangeCauses.{HasAskedCause, outcome};
+ghost use Rattle.siri_http.specs.Requests.{name_of, status_of, unasked_of};
+ghost use Rattle.siri_http.specs.ExchangeCauses.{outcome};
 
 use crate::errors::HttpError;
-use crate::request::{HttpRequest, read_request};
-use siri_base::{List, OutOfMemory, Wire};
-use std::alloc::Global;
+use siri_base::{List, OutOfMemory};
 
 /// Why a request is refused before its body is looked at.
 #[derive(Clone, Copy, Debug, PartialEq, Eq)]
@@ -77,18 +73,6 @@ pub enum Asked {
     Failed,
 }
 
-/// What a request asks: its body where its method is POST, which it is in these letters alone. Its target isn't looked
-/// at.
-pub fn asked_of(request: HttpRequest) -> Asked
-    ensures { result ≡ by_method (is_post request.method) request.body }
-{
-    if request.method.text() == "POST" {
-        Asked::Posted(request.body)
-    } else {
-        Asked::Refused(BadRequest::NotPost)
-    }
-}
-
 /// What is asked where no request was read, for this reason; `OutOfMemory` exactly where that is the reason.
 pub fn unasked(error: HttpError) -> Result<Asked, OutOfMemory>
     ensures { outcome result ≡ unasked_of error }
@@ -102,18 +86,5 @@ pub fn unasked(error: HttpError) -> Result<Asked, OutOfMemory>
         HttpError::Short => Ok(Asked::Short),
         HttpError::ReadFault | HttpError::WriteFault => Ok(Asked::Failed),
         HttpError::OutOfMemory => Err(OutOfMemory),
-    }
-}
-
-/// Reads what the connection that is there asks. `Failed` comes only where the wire's count of faults rose.
-pub fn read_asked<W: Wire>(alloc: Global, wire: &mut W) -> Result<Asked, OutOfMemory>
-    requires there { W.is_open wire.old }
-    ensures open { W.is_open wire.new }
-    ensures told { OnConnection (Asks (outcome result)) (W.tells wire.old) (W.tells wire.new) }
-    ensures cause { HasAskedCause (W.faults wire.old) (W.faults wire.new) (outcome result) }
-{
-    match read_request(alloc, wire) {
-        Ok(request) => Ok(asked_of(request)),
-        Err(error) => unasked(error),
     }
 }

@@ -6,7 +6,8 @@
 //!   bytes that go   <- write_request <--- an address, a body bytes that go   <- write_response <-- a status, a body
 //!                   <- write_get     <--- an address, a target
 //!
-//!   an accepted connection  -> read_asked ---> a POST with its body, a refused request, or none
+//!   an accepted connection  -> read_asked ---> a POST with its body, a refused request, or none; `Asking` says which
+//!                                              other requests are taken for a POST
 //!                           <- respond    <--- a status and a body; then it hangs up
 //!                           <- write_head <--- a status and a length; then pieces of a body, and end_response hangs up
 //!
@@ -25,6 +26,7 @@
 
 mod address;
 mod asked;
+mod asking;
 mod connection;
 mod errors;
 mod fields;
@@ -38,7 +40,8 @@ mod tally;
 mod writing;
 
 pub use address::{Address, AddressError, is_address, is_host_with_port, read_address};
-pub use asked::{Asked, BadRequest, asked_of, read_asked, unasked};
+pub use asked::{Asked, BadRequest, unasked};
+pub use asking::{Asking, PostAlone, asked_of, read_asked};
 pub use errors::HttpError;
 pub use posting::{Sent, post, post_to};
 pub use request::{HttpRequest, read_request};
