@@ -1,1 +1,3 @@
 pub mod Paths
+pub mod Posts
+pub mod Queries

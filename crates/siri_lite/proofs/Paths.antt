@@ -1,16 +1,17 @@
 -- A target that stands for a document begins with `/siri-lite/`.
-use Rattle.std.proofs.Common.{◌≡◌, ℕ, Bool, true, false, cond, List, [], ◌∷◌, ◌++◌, Option, Some, None, Ok, codes, drop, take-append-drop, refl, sym, ap, ◌∙◌, subst}
+use Rattle.std.proofs.Common.{◌≡◌, ℕ, Bool, true, false, cond, List, [], ◌∷◌, ◌++◌, Option, Some, None, codes, drop, take-append-drop, refl, sym, ap, ◌∙◌, subst}
 use Rattle.std.specs.Prelude.{nat_eq, ◌==◌, option_map, unwrap_or}
 use Rattle.std.specs.List.{find, position_or_len, starts_with}
 use Rattle.std.specs.Cmp.Lexicographic.{pointwise}
 use Rattle.std.proofs.lemmas.Slice.Eq.{bytes_eq-Decides}
 use Rattle.siri_records.specs.declared.item.Service.{Service}
 use Rattle.siri_records.specs.declared.item.Service.TheVariants as service
+use Rattle.siri_http.specs.declared.asked.Asked.TheVariants as asked
 use Rattle.siri_queries.specs.Documents.{document_of, document_tree}
 use Rattle.serde_json.specs.Written.{compact_text}
 use Rattle.siri_queries.specs.Pairs.{path_in, query_in}
 use Rattle.siri_queries.specs.Paths.{path_of, service_at, services}
-use Rattle.siri_lite.specs.Asking.{is_query, lite_asked_of}
+use Rattle.siri_lite.specs.Asking.{is_query, post_or_query}
 
 first_found : (path : List ℕ) (x s : Service) (rest : Option Service) (is : Bool) → pointwise nat_eq path (path_of x) ≡ is
     → cond is (Some x) rest ≡ Some s → (rest ≡ Some s → path ≡ path_of s) → path ≡ path_of s
@@ -42,7 +43,14 @@ query_is target document None is e = absurd (cc e)
 query_is target document (Some s) is e = target_begins target s (found (path_in target) services s is)
 
 pub asks_the_same : (target document other body : List ℕ) → document_of target ≡ Some document
-    → lite_asked_of (Ok ((codes "GET", target), body)) ≡ lite_asked_of (Ok ((codes "POST", other), document))
+    → post_or_query ((codes "GET", target), body) ≡ post_or_query ((codes "POST", other), document)
 asks_the_same target document other body e =
+    let query : is_query (codes "GET") target ≡ true = query_is target document (service_at (path_in target)) refl e in
+    rw (query, e) refl
+
+-- so a GET of it asks the document
+pub asks_its_document : (target document body : List ℕ) → document_of target ≡ Some document
+    → post_or_query ((codes "GET", target), body) ≡ asked.Posted document
+asks_its_document target document body e =
     let query : is_query (codes "GET") target ≡ true = query_is target document (service_at (path_in target)) refl e in
     rw (query, e) refl

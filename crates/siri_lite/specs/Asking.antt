@@ -1,7 +1,7 @@
 -- What a request asks where queries by GET are answered. The paths are this profile's own.
-use Rattle.std.specs.Prelude.{ℕ, Bool, ◌&&◌, List, codes, bytes_eq, nat_eq, Option, None, Some, Ok, Err, if◌then◌else◌}
+use Rattle.std.specs.Prelude.{◌≡◌, ℕ, Bool, true, false, ◌&&◌, List, codes, bytes_eq, nat_eq, Option, None, Some, if◌then◌else◌}
 use Rattle.std.specs.List.{starts_with}
-use Rattle.siri_http.specs.Requests.{Request, asked_of}
+use Rattle.siri_http.specs.Requests.{Meaning, NeverFails, WholeRequest, post_alone, post_alone_never_fails}
 use Rattle.siri_http.specs.declared.asked.Asked.{Asked}
 use Rattle.siri_http.specs.declared.asked.Asked.TheVariants as asked
 use Rattle.siri_http.specs.declared.asked.BadRequest.TheVariants as bad
@@ -16,7 +16,24 @@ abbrev pub query_asked : Option (List ℕ) → Asked
 query_asked (Some document) = asked.Posted document
 query_asked None = asked.Refused bad.NoPath
 
-abbrev pub lite_asked_of : Request → Option Asked
-lite_asked_of (Ok request) =
-    if is_query request.0.0 request.0.1 then Some (query_asked (document_of request.0.1)) else asked_of (Ok request)
-lite_asked_of (Err error) = asked_of (Err error)
+-- a query asks its document; every other request asks what it asks where a POST alone does
+abbrev pub post_or_query : Meaning
+post_or_query request =
+    if is_query request.0.0 request.0.1 then query_asked (document_of request.0.1) else post_alone request
+
+-- a query is read to know its document, which takes memory
+abbrev pub IsQuery : WholeRequest → Type 0
+IsQuery request = is_query request.0.0 request.0.1 ≡ true
+
+-- no such request is one of which a read failed
+query_never_fails : (document : Option (List ℕ)) → query_asked document ≡ asked.Failed → ⊥
+query_never_fails (Some document) e = cc e
+query_never_fails None e = cc e
+
+either_never_fails : (query : Bool) (request : WholeRequest)
+    → (if query then query_asked (document_of request.0.1) else post_alone request) ≡ asked.Failed → ⊥
+either_never_fails true request e = query_never_fails (document_of request.0.1) e
+either_never_fails false request e = post_alone_never_fails request e
+
+pub post_or_query_never_fails : NeverFails post_or_query
+post_or_query_never_fails request e = either_never_fails (is_query request.0.0 request.0.1) request e

@@ -1,12 +1,11 @@
 //! What a request asks where queries are answered.
 
-ghost use Rattle.std.specs.Prelude.{◌≡◌, Some, IfOk};
-ghost use Rattle.siri_http.specs.Parts.{request_parts};
+ghost use Rattle.std.specs.Prelude.{◌≡◌, IfOk};
 ghost use Rattle.siri_queries.specs.Documents.{document_of};
-ghost use Rattle.siri_lite.specs.Asking.{is_query, lite_asked_of, query_asked};
+ghost use Rattle.siri_lite.specs.Asking.{IsQuery, is_query, post_or_query, post_or_query_never_fails, query_asked};
 
 use siri_base::{List, OutOfMemory, Text};
-use siri_http::{Asked, BadRequest, HttpError, HttpRequest, asked_of, unasked};
+use siri_http::{Asked, Asking, BadRequest, HttpRequest, asked_of};
 use siri_queries::{QueryError, document_of};
 use std::alloc::Global;
 
@@ -30,23 +29,23 @@ fn query_asked(alloc: Global, target: &Text) -> Result<Asked, OutOfMemory>
     }
 }
 
-/// What a request asks that was read, or of which a reason is there why it wasn't. A GET of a target that begins with
-/// `/siri-lite/` asks what a POST of its document asks, its own body is passed over, and where it stands for no document
-/// it is refused for `NoPath`. Everything else asks what `read_asked` says.
-pub fn lite_asked_of(
-    alloc: Global,
-    read: Result<HttpRequest, HttpError>,
-) -> Result<Asked, OutOfMemory>
-    ensures { IfOk result (λ asked. lite_asked_of (request_parts read) ≡ Some asked) }
-{
-    match read {
-        Ok(request) => {
-            if is_query(request.method.text(), request.target.text()) {
-                query_asked(alloc, &request.target)
-            } else {
-                Ok(asked_of(request))
-            }
+/// A POST asks something, and so does a query: a GET of a target that begins with `/siri-lite/` asks what a POST of its
+/// document asks, its own body is passed over, and where it stands for no document it is refused for `NoPath`. Every other
+/// request asks what it asks of [`PostAlone`](siri_http::PostAlone).
+pub struct PostOrQuery;
+
+impl Asking for PostOrQuery {
+    ghost asks = { post_or_query };
+
+    ghost takes_memory = { IsQuery };
+
+    fn asked(alloc: Global, request: HttpRequest) -> Result<Asked, OutOfMemory> {
+        if is_query(request.method.text(), request.target.text()) {
+            query_asked(alloc, &request.target)
+        } else {
+            Ok(asked_of(request))
         }
-        Err(error) => unasked(error),
     }
+
+    ghost never_fails = { post_or_query_never_fails };
 }
