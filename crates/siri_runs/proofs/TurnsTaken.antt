@@ -2,7 +2,8 @@
 use Rattle.std.proofs.Common.{◌≤◌, ℕ, zero, suc, List, [], ◌∷◌, ◌++◌, Option, None, Some, ap, sym, subst, arith}
 use Rattle.std.specs.Prelude.{IsSomeAnd}
 use Rattle.siri_base.specs.Wires.{WireState}
-use Rattle.siri_http.specs.Requests.{Asks}
+use Rattle.siri_http.specs.Requests.{Asks, Meaning}
+use Rattle.siri_http.specs.declared.asked.Asked.{Asked}
 use Rattle.siri_http.specs.Texts.{response_text}
 use Rattle.siri_http.specs.declared.posting.Sent.{Sent}
 use Rattle.siri_ends.specs.declared.response.Response.{Response}
@@ -33,8 +34,8 @@ module _ {State M : Type 0} (Posts : Posting M) (manner : Manner State M) where
   sends_later (suc limit) (message ∷ rest) at end some =
       omega (arith, some.2.cause.later, sends_later limit (rest ++ brings_of manner (message_answered some.0) at.state) some.1 end some.3)
 
-  pub turn_later : (at end : At State) → TakesTurn Posts manner at end → at.faults ≤ end.faults
-  turn_later at end turn =
+  pub turn_later : (asks : Meaning) (at end : At State) → TakesTurn asks Posts manner at end → at.faults ≤ end.faults
+  turn_later asks at end turn =
       omega (
         arith,
         turn.answers.reads.cause.later,
@@ -53,9 +54,9 @@ module _ {State M : Type 0} (Posts : Posting M) (manner : Manner State M) where
         sends_only limit n (rest ++ brings_of manner (message_answered some.0) at.state) some.1 end
         (posts_only message some.0 n at.wire some.1.wire has some.2.told) some.3
 
-    pub turn_only : (n : ℕ) (at end : At State) → IsSomeAnd at.wire (HasAccepted n) → TakesTurn Posts manner at end
-        → IsSomeAnd end.wire (HasConnections n)
-    turn_only n at end has turn =
-        let read = read_only (Asks (Some turn.asked)) n at.wire turn.answers.read.wire has turn.answers.reads.told in
+    pub turn_only : (asks : Meaning) (n : ℕ) (at end : At State) → IsSomeAnd at.wire (HasAccepted n)
+        → TakesTurn asks Posts manner at end → IsSomeAnd end.wire (HasConnections n)
+    turn_only asks n at end has turn =
+        let read = read_only (Asks asks (Some turn.asked)) n at.wire turn.answers.read.wire has turn.answers.reads.told in
         let answered = answer_only (manner.responds at.state turn.asked) n turn.answers.read (around turn.mid) read turn.answers.answers in
         sends_only most_sends n (manner.sends at.state turn.asked) turn.mid end answered turn.sends

@@ -1,4 +1,4 @@
-//! The command `serve`.
+//! The commands `serve` and `lite`.
 
 ghost use Rattle.std.specs.Prelude.{◌≡◌, IfErr, IfOk, Some, []};
 ghost use Rattle.siri_base.specs.Causes.{Rose};
@@ -16,17 +16,18 @@ use crate::turns::run_turns;
 use opening::open;
 use server::Server;
 use siri_base::{Clock, Keeper, Name, OutsideError, Sink, Status, Wire};
-use siri_http::Tally;
+use siri_http::{Asking, Tally};
 use std::alloc::Global;
 
 /// A producer of this name for so many connections at `HOST:PORT`: it raises the number of its start, listens, reads
-/// the clock for its first moment, and serves each connection at the clock's moment. Then it writes `served N refused R
-/// dropped D unsent U`.
+/// the clock for its first moment, and serves each connection at the clock's moment, whose request asks what [`Asking`]
+/// says: in `serve` a POST alone asks something, in `lite` a query by GET, too. Then it writes `served N refused R dropped
+/// D unsent U`.
 ///
 /// `KeeperFault`, `WireFault` and `ClockFault` only where the keeper, the wire or the clock failed, the wire to listen
 /// or to accept; nothing is written then. `WriteFault` only where the sink failed, `OutOfMemory` wherever memory is
 /// asked for, otherwise `Done`.
-pub fn serve<K: Sink, W: Wire, C: Clock, E: Keeper>(
+pub fn serve<A: Asking, K: Sink, W: Wire, C: Clock, E: Keeper>(
     alloc: Global,
     name: Name,
     address: &Name,
@@ -36,7 +37,7 @@ pub fn serve<K: Sink, W: Wire, C: Clock, E: Keeper>(
     clock: &mut C,
     keeper: &mut E,
 ) -> Status
-    ensures run { ServeRun name address.now count
+    ensures run { ServeRun A.asks name address.now count
         (outside_told W.Wire C.Clock E.Keeper wire.old clock.old keeper.old)
         (outside_told W.Wire C.Clock E.Keeper wire.new clock.new keeper.new)
         (K.held sink.old) (K.held sink.new) result }
@@ -51,7 +52,7 @@ pub fn serve<K: Sink, W: Wire, C: Clock, E: Keeper>(
     ensures clock_fault { result ≡ Status.ClockFault → Rose (C.faults clock.old) (C.faults clock.new) }
     ensures keeper_fault { result ≡ Status.KeeperFault → Rose (E.faults keeper.old) (E.faults keeper.new) }
 {
-    match serve_all(alloc, name, address, count, wire, clock, keeper) {
+    match serve_all::<A, W, C, E>(alloc, name, address, count, wire, clock, keeper) {
         Ok(tally) => match write_summary(alloc, &tally, sink) {
             Ok(()) => Status::Done,
             Err(OutsideError::Failed) => Status::WriteFault,
@@ -62,7 +63,7 @@ pub fn serve<K: Sink, W: Wire, C: Clock, E: Keeper>(
 }
 
 /// Opens and serves all connections, and gives what was counted.
-fn serve_all<W: Wire, C: Clock, E: Keeper>(
+fn serve_all<A: Asking, W: Wire, C: Clock, E: Keeper>(
     alloc: Global,
     name: Name,
     address: &Name,
@@ -71,15 +72,15 @@ fn serve_all<W: Wire, C: Clock, E: Keeper>(
     clock: &mut C,
     keeper: &mut E,
 ) -> Result<Tally, NetworkError>
-    ensures ok { IfOk result (λ tally. ServesAll name address.now count tally
+    ensures ok { IfOk result (λ tally. ServesAll A.asks name address.now count tally
         (outside_told W.Wire C.Clock E.Keeper wire.old clock.old keeper.old)
         (outside_told W.Wire C.Clock E.Keeper wire.new clock.new keeper.new)) }
-    ensures err { IfErr result (λ error. ServesNot name address.now count error
+    ensures err { IfErr result (λ error. ServesNot A.asks name address.now count error
         (outside_told W.Wire C.Clock E.Keeper wire.old clock.old keeper.old)
         (outside_told W.Wire C.Clock E.Keeper wire.new clock.new keeper.new)) }
 {
     let producer = open(alloc, name, address, wire, clock, keeper)?;
-    let mut server = Server::new(alloc, producer);
+    let mut server: Server<A> = Server::new(alloc, producer);
     run_turns(count, wire, clock, &mut server)?;
     Ok(server.tally())
 }

@@ -5,6 +5,7 @@ use Rattle.siri_base.specs.declared.status.Status.TheVariants as status
 use Rattle.siri_ends.specs.Consuming.{PostsUp, consuming}
 use Rattle.siri_ends.specs.InTurn.{most_sends}
 use Rattle.siri_lines.specs.Ends.{Bytes}
+use Rattle.siri_http.specs.Requests.{post_alone}
 use Rattle.siri_runs.specs.Calls.{Outside}
 use Rattle.siri_runs.specs.declared.network_error.NetworkError.TheVariants as error
 use Rattle.siri_runs.proofs.Causes.{AnswersLater, clock_failed, keeper_failed, no_clock_of_keeper, no_clock_of_wire, no_keeper_of_clock}
@@ -20,7 +21,7 @@ use Rattle.siri_runs.specs.consumers.Runs.{ConsumesNot}
 
 consumed_later : (target : Target) → AnswersLater (Consumes target)
 consumed_later target from before to after consumes =
-    turn_later (PostsUp target.0 target.1) consuming (end_at from before) (end_at to after) consumes
+    turn_later (PostsUp target.0 target.1) consuming post_alone (end_at from before) (end_at to after) consumes
 
 -- ---- what ended a run
 

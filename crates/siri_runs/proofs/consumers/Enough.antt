@@ -5,6 +5,7 @@ use Rattle.std.specs.Prelude.{IsSomeAnd, is_ok}
 use Rattle.siri_base.specs.declared.status.Status.{Status}
 use Rattle.siri_base.specs.declared.status.Status.TheVariants as status
 use Rattle.siri_base.specs.Wires.{WireState}
+use Rattle.siri_http.specs.Requests.{post_alone}
 use Rattle.siri_http.specs.Texts.{request_text}
 use Rattle.siri_http.specs.declared.posting.Sent.{Sent}
 use Rattle.siri_life.specs.Named.{Name}
@@ -38,7 +39,7 @@ posted_only target message outcome n old new has told =
 
 consumed_only : (target : Target) → AnswersOnly (Consumes target)
 consumed_only target n from before to after has consumes = turn_only (PostsUp target.0 target.1) consuming
-    (posted_only target) n (end_at from before) (end_at to after) has consumes
+    (posted_only target) post_alone n (end_at from before) (end_at to after) has consumes
 
 -- what is asked for at first takes none either
 asked_with : (target : Target) (list : List Wanted) (consumer : Consuming) (n : ℕ) (from : Outside)

@@ -1,6 +1,8 @@
 -- A run that ends with a fault has raised a count.
 use Rattle.std.proofs.Common.{ℕ, List, inl, inr}
 use Rattle.siri_base.specs.Causes.{Rose}
+use Rattle.siri_http.specs.Requests.{Meaning}
+use Rattle.siri_http.specs.declared.asked.Asked.{Asked}
 use Rattle.siri_ends.specs.Serving.{PostsOut, serving}
 use Rattle.siri_runs.specs.Calls.{Outside}
 use Rattle.siri_runs.specs.declared.network_error.NetworkError.TheVariants as error
@@ -14,8 +16,8 @@ use Rattle.siri_runs.specs.producers.Serving.{Serves, StopsServing, end_at, give
 
 -- ---- the wire's count while a connection is served
 
-served_later : (name : List ℕ) → AnswersLater (Serves name)
-served_later name from before to after serves = turn_later PostsOut (serving name) (end_at from before) (end_at to after) serves
+served_later : (asks : Meaning) (name : List ℕ) → AnswersLater (Serves asks name)
+served_later asks name from before to after serves = turn_later PostsOut (serving name) asks (end_at from before) (end_at to after) serves
 
 -- ---- what ended a run
 
@@ -26,12 +28,12 @@ opening_wire_rose listen from to (inr (inl fails)) = wire_failed fails.listens.f
 opening_wire_rose listen from to (inr (inr (inl tell))) = absurd (no_wire_of_clock tell.tells.failure tell.tells.error_is)
 opening_wire_rose listen from to (inr (inr (inr stop))) = absurd (cc stop.error_is)
 
-pub wire_rose : (name listen : List ℕ) (count : ℕ) (from to : Outside)
-    → ServesNot name listen count error.WireFault from to → Rose from.wire.faults to.wire.faults
-wire_rose name listen count from to (inl opening) = opening_wire_rose listen from to opening
-wire_rose name listen count from to (inr turn) =
+pub wire_rose : (asks : Meaning) (name listen : List ℕ) (count : ℕ) (from to : Outside)
+    → ServesNot asks name listen count error.WireFault from to → Rose from.wire.faults to.wire.faults
+wire_rose asks name listen count from to (inl opening) = opening_wire_rose listen from to opening
+wire_rose asks name listen count from to (inr turn) =
     rose_since from.wire.faults turn.open_.wire.faults to.wire.faults turn.opens.listens.cause.later
-    (turns_wire_rose given (Serves name) (StopsServing name) (served_later name) count
+    (turns_wire_rose given (Serves asks name) (StopsServing asks name) (served_later asks name) count
     (opened turn.start turn.moment turn.open_) to turn.fails)
 
 opening_clock_rose : (listen : List ℕ) (from to : Outside) → FailsToOpen listen error.ClockFault from to → Rose from.clock.faults to.clock.faults
@@ -41,21 +43,21 @@ opening_clock_rose listen from to (inr (inr (inl tell))) =
     clock_failed tell.tells.failure from.clock.faults to.clock.faults tell.tells.error_is tell.tells.call.cause
 opening_clock_rose listen from to (inr (inr (inr stop))) = absurd (cc stop.error_is)
 
-pub clock_rose : (name listen : List ℕ) (count : ℕ) (from to : Outside)
-    → ServesNot name listen count error.ClockFault from to → Rose from.clock.faults to.clock.faults
-clock_rose name listen count from to (inl opening) = opening_clock_rose listen from to opening
-clock_rose name listen count from to (inr turn) =
+pub clock_rose : (asks : Meaning) (name listen : List ℕ) (count : ℕ) (from to : Outside)
+    → ServesNot asks name listen count error.ClockFault from to → Rose from.clock.faults to.clock.faults
+clock_rose asks name listen count from to (inl opening) = opening_clock_rose listen from to opening
+clock_rose asks name listen count from to (inr turn) =
     rose_since from.clock.faults turn.open_.clock.faults to.clock.faults turn.opens.tells.cause.later
-    (turns_clock_rose given (Serves name) (StopsServing name) (served_later name) count
+    (turns_clock_rose given (Serves asks name) (StopsServing asks name) (served_later asks name) count
     (opened turn.start turn.moment turn.open_) to turn.fails)
 
-pub keeper_rose : (name listen : List ℕ) (count : ℕ) (from to : Outside)
-    → ServesNot name listen count error.KeeperFault from to → Rose from.keeper.faults to.keeper.faults
-keeper_rose name listen count from to (inl (inl raise)) =
+pub keeper_rose : (asks : Meaning) (name listen : List ℕ) (count : ℕ) (from to : Outside)
+    → ServesNot asks name listen count error.KeeperFault from to → Rose from.keeper.faults to.keeper.faults
+keeper_rose asks name listen count from to (inl (inl raise)) =
     keeper_failed raise.raises.failure from.keeper.faults to.keeper.faults raise.raises.error_is raise.raises.call.cause
-keeper_rose name listen count from to (inl (inr (inl fails))) = absurd (no_keeper_of_wire fails.listens.failure fails.listens.error_is)
-keeper_rose name listen count from to (inl (inr (inr (inl tell)))) = absurd (no_keeper_of_clock tell.tells.failure tell.tells.error_is)
-keeper_rose name listen count from to (inl (inr (inr (inr stop)))) = absurd (cc stop.error_is)
-keeper_rose name listen count from to (inr turn) = absurd
-    (turns_keeper_not given (Serves name) (StopsServing name) count
+keeper_rose asks name listen count from to (inl (inr (inl fails))) = absurd (no_keeper_of_wire fails.listens.failure fails.listens.error_is)
+keeper_rose asks name listen count from to (inl (inr (inr (inl tell)))) = absurd (no_keeper_of_clock tell.tells.failure tell.tells.error_is)
+keeper_rose asks name listen count from to (inl (inr (inr (inr stop)))) = absurd (cc stop.error_is)
+keeper_rose asks name listen count from to (inr turn) = absurd
+    (turns_keeper_not given (Serves asks name) (StopsServing asks name) count
     (opened turn.start turn.moment turn.open_) to turn.fails)

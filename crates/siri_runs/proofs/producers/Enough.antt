@@ -2,6 +2,8 @@
 -- want of memory.
 use Rattle.std.proofs.Common.{◌≡◌, ℕ, List, inl, inr}
 use Rattle.siri_base.specs.declared.status.Status.{Status}
+use Rattle.siri_http.specs.Requests.{Meaning}
+use Rattle.siri_http.specs.declared.asked.Asked.{Asked}
 use Rattle.siri_ends.specs.Serving.{PostsOut, serving, target_of}
 use Rattle.siri_runs.specs.Calls.{Outside}
 use Rattle.siri_runs.specs.Enough.{EndsWhole, HasEnough}
@@ -17,9 +19,9 @@ use Rattle.siri_runs.specs.producers.Serving.{Serves, StopsServing, end_at, give
 
 -- ---- serving a connection takes none of those that are still to come
 
-served_only : (name : List ℕ) → AnswersOnly (Serves name)
-served_only name n from before to after has serves = turn_only PostsOut (serving name)
-    (λ out outcome n old new has told. post_to_only (target_of out.address) _ outcome n old new has told) n
+served_only : (asks : Meaning) (name : List ℕ) → AnswersOnly (Serves asks name)
+served_only asks name n from before to after has serves = turn_only PostsOut (serving name)
+    (λ out outcome n old new has told. post_to_only (target_of out.address) _ outcome n old new has told) asks n
     (end_at from before) (end_at to after) has serves
 
 -- ---- what ends a run
@@ -31,14 +33,14 @@ opening_wanting listen count e from to has (inr (inl fails)) = fails_to_listen l
 opening_wanting listen count e from to has (inr (inr (inl tell))) = fails_to_tell count e from.clock to.clock has.moments tell.tells
 opening_wanting listen count e from to has (inr (inr (inr stop))) = stop.error_is
 
-run_wanting : (name listen : List ℕ) (count : ℕ) (e : NetworkError) (from to : Outside) → HasEnough count from
-    → ServesNot name listen count e from to → e ≡ error.OutOfMemory
-run_wanting name listen count e from to has (inl opening) = opening_wanting listen count e from to has opening
-run_wanting name listen count e from to has (inr turn) =
-    turns_fail given (Serves name) (StopsServing name) (served_only name) count e (opened turn.start turn.moment turn.open_) to
+run_wanting : (asks : Meaning) (name listen : List ℕ) (count : ℕ) (e : NetworkError) (from to : Outside) → HasEnough count from
+    → ServesNot asks name listen count e from to → e ≡ error.OutOfMemory
+run_wanting asks name listen count e from to has (inl opening) = opening_wanting listen count e from to has opening
+run_wanting asks name listen count e from to has (inr turn) =
+    turns_fail given (Serves asks name) (StopsServing asks name) (served_only asks name) count e (opened turn.start turn.moment turn.open_) to
     (opened_with count turn.moment listen from turn.open_ has turn.opens.listens turn.opens.tells) turn.fails
 
 -- the status that it ends with
-pub ends_whole : (name listen : List ℕ) (count : ℕ) (from to : Outside) (e : NetworkError) (end : Status)
-    → end ≡ status_of e → ServesNot name listen count e from to → HasEnough count from → EndsWhole end
-ends_whole name listen count from to e end is ends has = ends_wanting e end is (run_wanting name listen count e from to has ends)
+pub ends_whole : (asks : Meaning) (name listen : List ℕ) (count : ℕ) (from to : Outside) (e : NetworkError) (end : Status)
+    → end ≡ status_of e → ServesNot asks name listen count e from to → HasEnough count from → EndsWhole end
+ends_whole asks name listen count from to e end is ends has = ends_wanting e end is (run_wanting asks name listen count e from to has ends)

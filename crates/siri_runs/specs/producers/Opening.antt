@@ -1,4 +1,4 @@
--- How a run of `serve` opens: the number of its start is raised, it listens, and the clock tells its first moment.
+-- How a run of `serve` or `lite` opens: the number of its start is raised, it listens, and the clock tells its first moment.
 use Rattle.std.specs.Prelude.{◌≡◌, ◌⊎◌, ℕ, List, [], ◌∷◌, Ok}
 use Rattle.siri_base.specs.OutsideCalls.{GivesMoment, RaisesNumber}
 use Rattle.siri_base.specs.Wires.{Listens}

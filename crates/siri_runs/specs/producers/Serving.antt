@@ -1,6 +1,8 @@
 -- A producer that serves connections (EN 15531-2 for what is said, RFC 9112 for how).
 use Rattle.std.specs.Prelude.{ℕ, List, [], ◌∷◌, ◌++◌}
 use Rattle.siri_base.specs.Wires.{WireState}
+use Rattle.siri_http.specs.Requests.{Meaning}
+use Rattle.siri_http.specs.declared.asked.Asked.{Asked}
 use Rattle.siri_http.specs.declared.tally.Tally.{Tally}
 use Rattle.siri_model.specs.History.{Clock, History}
 use Rattle.siri_ends.specs.At.{At, at_of}
@@ -22,25 +24,25 @@ given moment serving = record serving { history = serving.history ++ Clock momen
 abbrev pub end_at : Serving → Told WireState → At History
 end_at serving wire = at_of serving.history serving.tally wire.tells wire.faults
 
--- the connection that is there is served, whole
-abbrev pub Serves : (name : List ℕ) → Serving → Told WireState → Serving → Told WireState → Type 0
-Serves name from before to after = ServesOne name (end_at from before) (end_at to after)
+-- the connection that is there is served, whole, where a request that is read whole asks so
+abbrev pub Serves : (asks : Meaning) → (name : List ℕ) → Serving → Told WireState → Serving → Told WireState → Type 0
+Serves asks name from before to after = ServesOne asks name (end_at from before) (end_at to after)
 
 -- it is served in part: of its answer the first steps were made, or its answer and the first sends
-abbrev pub StopsServing : (name : List ℕ) → Serving → Told WireState → Told WireState → Type 0
-StopsServing name from before after = ServesSome name (end_at from before) after.tells
+abbrev pub StopsServing : (asks : Meaning) → (name : List ℕ) → Serving → Told WireState → Told WireState → Type 0
+StopsServing asks name from before after = ServesSome asks name (end_at from before) after.tells
 
 -- ---- its turns
 
-abbrev pub ServesTurn : (name : List ℕ) → Running Serving → Running Serving → Type 0
-ServesTurn name from to = Turn given (Serves name) from to
+abbrev pub ServesTurn : (asks : Meaning) → (name : List ℕ) → Running Serving → Running Serving → Type 0
+ServesTurn asks name from to = Turn given (Serves asks name) from to
 
-abbrev pub ServesTurns : (name : List ℕ) → ℕ → Running Serving → Running Serving → Type 0
-ServesTurns name count from to = Turns (ServesTurn name) count from to
+abbrev pub ServesTurns : (asks : Meaning) → (name : List ℕ) → ℕ → Running Serving → Running Serving → Type 0
+ServesTurns asks name count from to = Turns (ServesTurn asks name) count from to
 
 -- a turn that ended the run
-abbrev pub EndsAtTurn : (name : List ℕ) → NetworkError → Running Serving → Outside → Type 0
-EndsAtTurn name error from to = TurnFails given (StopsServing name) error from to
+abbrev pub EndsAtTurn : (asks : Meaning) → (name : List ℕ) → NetworkError → Running Serving → Outside → Type 0
+EndsAtTurn asks name error from to = TurnFails given (StopsServing asks name) error from to
 
-abbrev pub EndsInTurns : (name : List ℕ) → ℕ → NetworkError → Running Serving → Outside → Type 0
-EndsInTurns name count error from to = TurnsFail (ServesTurn name) (EndsAtTurn name) count error from to
+abbrev pub EndsInTurns : (asks : Meaning) → (name : List ℕ) → ℕ → NetworkError → Running Serving → Outside → Type 0
+EndsInTurns asks name count error from to = TurnsFail (ServesTurn asks name) (EndsAtTurn asks name) count error from to

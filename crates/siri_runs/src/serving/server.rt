@@ -8,21 +8,23 @@ ghost use Rattle.siri_runs.specs.producers.Steps.{Stands};
 use crate::end::End;
 use siri_base::{Moment, OutOfMemory, Wire};
 use siri_ends::serve_one;
-use siri_http::Tally;
+use siri_http::{Asking, Tally};
 use siri_producer::Producer;
 use std::alloc::Global;
+use std::marker::PhantomData;
 
-/// A producer, and what was counted.
+/// A producer, what requests ask of it, and what was counted.
 #[derive(Drop)]
-pub(crate) struct Server {
+pub(crate) struct Server<A: Asking> {
     alloc: Global,
     producer: Producer,
     tally: Tally,
+    asking: PhantomData<A>,
 }
 
-impl Server {
+impl<A: Asking> Server<A> {
     /// A producer that has served nothing yet.
-    pub(crate) fn new(alloc: Global, producer: Producer) -> Server
+    pub(crate) fn new(alloc: Global, producer: Producer) -> Server<A>
         ensures producer { result.producer ≡ producer }
         ensures tally { result.tally ≡ nothing_yet }
     {
@@ -30,6 +32,7 @@ impl Server {
             alloc,
             producer,
             tally: Tally::new(),
+            asking: PhantomData,
         }
     }
 
@@ -41,7 +44,7 @@ impl Server {
     }
 }
 
-impl End for Server {
+impl<A: Asking> End for Server<A> {
     ghost Kept = { List ℕ };
 
     ghost kept = { λ server. server.producer.responder.name };
@@ -52,15 +55,15 @@ impl End for Server {
 
     ghost given = { serving.given };
 
-    ghost Answers = { serving.Serves };
+    ghost Answers = { serving.Serves A.asks };
 
-    ghost Stops = { serving.StopsServing };
+    ghost Stops = { serving.StopsServing A.asks };
 
     fn clock(&mut self, now: Moment) {
         self.producer.clock(now);
     }
 
     fn answer<W: Wire>(&mut self, wire: &mut W) -> Result<(), OutOfMemory> {
-        serve_one(self.alloc, wire, &mut self.producer, &mut self.tally)
+        serve_one::<W, A>(self.alloc, wire, &mut self.producer, &mut self.tally)
     }
 }

@@ -5,19 +5,19 @@ use Rattle.siri_runs.proofs.producers.Runs.{clock_fault, keeper_fault, run_ended
 use Rattle.siri_runs.proofs.serving.serve.Goals as goal
 
 pub returns-in-Err-clause-run : goal.returns-in-Err-clause-run
-returns-in-Err-clause-run g c = run_ended _ _ _ _ _ _ c.in-Err.error c.from.result c.from.ensures c.in-Err.ensures.err
+returns-in-Err-clause-run g c = run_ended _ _ _ _ _ _ _ c.in-Err.error c.from.result c.from.ensures c.in-Err.ensures.err
 
 pub returns-in-Err-clause-wire_fault : goal.returns-in-Err-clause-wire_fault
-returns-in-Err-clause-wire_fault g c = wire_fault _ _ _ _ _ c.in-Err.error c.from.result c.from.ensures c.in-Err.ensures.err
+returns-in-Err-clause-wire_fault g c = wire_fault _ _ _ _ _ _ c.in-Err.error c.from.result c.from.ensures c.in-Err.ensures.err
 
 pub returns-in-Err-clause-clock_fault : goal.returns-in-Err-clause-clock_fault
-returns-in-Err-clause-clock_fault g c = clock_fault _ _ _ _ _ c.in-Err.error c.from.result c.from.ensures c.in-Err.ensures.err
+returns-in-Err-clause-clock_fault g c = clock_fault _ _ _ _ _ _ c.in-Err.error c.from.result c.from.ensures c.in-Err.ensures.err
 
 pub returns-in-Err-clause-keeper_fault : goal.returns-in-Err-clause-keeper_fault
-returns-in-Err-clause-keeper_fault g c = keeper_fault _ _ _ _ _ c.in-Err.error c.from.result c.from.ensures c.in-Err.ensures.err
+returns-in-Err-clause-keeper_fault g c = keeper_fault _ _ _ _ _ _ c.in-Err.error c.from.result c.from.ensures c.in-Err.ensures.err
 
 pub returns-in-Err-clause-complete : goal.returns-in-Err-clause-complete
-returns-in-Err-clause-complete g c = λ has _. ends_whole _ _ _ _ _ c.in-Err.error c.from.result c.from.ensures c.in-Err.ensures.err has
+returns-in-Err-clause-complete g c = λ has _. ends_whole _ _ _ _ _ _ c.in-Err.error c.from.result c.from.ensures c.in-Err.ensures.err has
 
 pub returns-in-Err-clause-meets : goal.returns-in-Err-clause-meets
 returns-in-Err-clause-meets g c = rw (c.from.ensures, no_write_fault c.in-Err.error) (sink_none _ _)
