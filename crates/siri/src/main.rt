@@ -21,6 +21,7 @@ siri convert < DOCUMENT
 siri load SEED COUNT
 siri get PRODUCER < DOCUMENT
 siri serve NAME HOST:PORT COUNT
+siri lite NAME HOST:PORT COUNT
 siri consume NAME HOST:PORT PRODUCER COUNT < SUBSCRIPTIONS
 ";
 

@@ -4,7 +4,8 @@ use Rattle.siri_http.specs.Addresses.{address_of, is_host_with_port}
 use Rattle.siri_base.specs.Numbers.{number_of}
 use Rattle.siri_cli.specs.Arguments.{is_listen, producer_of, count_of}
 use Rattle.siri_cli.specs.Commands.{load_by, get_by, serve_by, consume_by, command_with, command_of}
-use Rattle.siri_cli.specs.declared.command.Command.TheVariants.{Replay, Check, Convert, Load, Get, Serve, Consume}
+use Rattle.siri_cli.specs.declared.command.Command.TheVariants.{Replay, Check, Convert, Load, Get, Serve, Lite, Consume}
+use Rattle.siri_cli.specs.declared.serve.Producing.TheVariants as producing
 
 -- ---- words of one command
 
@@ -79,7 +80,7 @@ a_get_of_none = refl
 
 -- ---- `serve`
 
-a_serve : serve_by (codes "AGENCY") (codes "localhost:8080") (codes "1000000") ≡ Some (Serve (codes "AGENCY") (codes "localhost:8080") 1000000)
+a_serve : serve_by producing.Serve (codes "AGENCY") (codes "localhost:8080") (codes "1000000") ≡ Some (Serve (codes "AGENCY") (codes "localhost:8080") 1000000)
 unfolding serve_by count_of is_host_with_port number_of
 a_serve = refl
 
@@ -87,15 +88,19 @@ a_whole_serve : command_of (codes "serve" ∷ codes "AGENCY" ∷ codes "0.0.0.0:
 unfolding command_of command_with serve_by count_of is_host_with_port number_of
 a_whole_serve = refl
 
-no_connection : serve_by (codes "AGENCY") (codes "localhost:8080") (codes "0") ≡ None
+a_whole_lite : command_of (codes "lite" ∷ codes "AGENCY" ∷ codes "0.0.0.0:080" ∷ codes "1" ∷ []) ≡ Some (Lite (codes "AGENCY") (codes "0.0.0.0:080") 1)
+unfolding command_of command_with serve_by count_of is_host_with_port number_of
+a_whole_lite = refl
+
+no_connection : serve_by producing.Serve (codes "AGENCY") (codes "localhost:8080") (codes "0") ≡ None
 unfolding serve_by count_of is_host_with_port number_of
 no_connection = refl
 
-too_many_connections : serve_by (codes "AGENCY") (codes "localhost:8080") (codes "1000001") ≡ None
+too_many_connections : serve_by producing.Serve (codes "AGENCY") (codes "localhost:8080") (codes "1000001") ≡ None
 unfolding serve_by count_of is_host_with_port number_of
 too_many_connections = refl
 
-no_port : serve_by (codes "AGENCY") (codes "localhost") (codes "1") ≡ None
+no_port : serve_by producing.Serve (codes "AGENCY") (codes "localhost") (codes "1") ≡ None
 unfolding serve_by count_of is_host_with_port number_of
 no_port = refl
 
@@ -119,7 +124,7 @@ an_address_as_listen : is_listen (codes "http://localhost:8080") ≡ false
 unfolding is_host_with_port number_of
 an_address_as_listen = refl
 
-an_empty_name : serve_by [] (codes "localhost:8080") (codes "1") ≡ None
+an_empty_name : serve_by producing.Serve [] (codes "localhost:8080") (codes "1") ≡ None
 unfolding serve_by count_of is_host_with_port number_of
 an_empty_name = refl
 

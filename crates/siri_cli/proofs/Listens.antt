@@ -8,9 +8,12 @@ use Rattle.siri_base.specs.Numbers.{number_of}
 use Rattle.siri_http.specs.declared.address.Address.{Address as Producer}
 use Rattle.siri_cli.specs.Arguments.{count_of, is_listen, is_name, producer_of, most_events, most_connections}
 use Rattle.siri_cli.specs.Commands.{begins_with_minus, command_by, command_named, command_of, command_with, consume_by, consume_of}
-use Rattle.siri_cli.specs.Commands.{consume_with, get_by, get_of, is_word, load_by, load_of, load_with, plain_of, serve_by, serve_of}
+use Rattle.siri_cli.specs.Commands.{consume_with, get_by, get_of, is_word, load_by, load_of, load_with, plain_of, producer_command, serve_by}
+use Rattle.siri_cli.specs.Commands.{serve_of}
 use Rattle.siri_cli.specs.declared.command.Command.{Command}
-use Rattle.siri_cli.specs.declared.command.Command.TheVariants.{Replay, Check, Convert, Get, Serve, Consume}
+use Rattle.siri_cli.specs.declared.command.Command.TheVariants.{Replay, Check, Convert, Get, Consume}
+use Rattle.siri_cli.specs.declared.serve.Producing.{Producing}
+use Rattle.siri_cli.specs.declared.serve.Producing.TheVariants as producing
 
 abbrev Bounded : Option Command → Type 0
 Bounded (Some (Consume name listen producer count)) = nat_le (length listen) 247 ≡ true
@@ -42,19 +45,20 @@ bounded_gets [] = tt
 bounded_gets (producer ∷ []) = bounded_get (producer_of producer)
 bounded_gets (producer ∷ more ∷ rest) = tt
 
-bounded_serve : (name listen : List ℕ) (count : Option ℕ) → Bounded (option_map (Serve name listen) count)
-bounded_serve name listen (Some count) = tt
-bounded_serve name listen None = tt
+bounded_serve : (word : Producing) (name listen : List ℕ) (count : Option ℕ) → Bounded (option_map (producer_command word name listen) count)
+bounded_serve producing.Serve name listen (Some count) = tt
+bounded_serve producing.Lite name listen (Some count) = tt
+bounded_serve word name listen None = tt
 
-bounded_serves : (arguments : List (List ℕ)) → Bounded (serve_of arguments)
+bounded_serves : (word : Producing) (arguments : List (List ℕ)) → Bounded (serve_of word arguments)
 unfolding serve_by
-bounded_serves [] = tt
-bounded_serves (name ∷ []) = tt
-bounded_serves (name ∷ listen ∷ []) = tt
-bounded_serves (name ∷ listen ∷ count ∷ []) = bounded_where (is_name name && is_listen listen)
-    (option_map (Serve name listen) (count_of 1 most_connections count))
-    (λ good. bounded_serve name listen (count_of 1 most_connections count))
-bounded_serves (name ∷ listen ∷ count ∷ more ∷ rest) = tt
+bounded_serves word [] = tt
+bounded_serves word (name ∷ []) = tt
+bounded_serves word (name ∷ listen ∷ []) = tt
+bounded_serves word (name ∷ listen ∷ count ∷ []) = bounded_where (is_name name && is_listen listen)
+    (option_map (producer_command word name listen) (count_of 1 most_connections count))
+    (λ good. bounded_serve word name listen (count_of 1 most_connections count))
+bounded_serves word (name ∷ listen ∷ count ∷ more ∷ rest) = tt
 
 bounded_consume : (name listen : List ℕ) (producer : Option Producer) (count : Option ℕ)
     → nat_le (length listen) 247 ≡ true → Bounded (consume_with name listen producer count)
@@ -97,9 +101,10 @@ unfolding command_with
 bounded_with word arguments =
     bounded_either (is_word word (codes "load")) (load_of arguments) _ (bounded_loads arguments)
     (bounded_either (is_word word (codes "get")) (get_of arguments) _ (bounded_gets arguments)
-    (bounded_either (is_word word (codes "serve")) (serve_of arguments) _ (bounded_serves arguments)
+    (bounded_either (is_word word (codes "serve")) (serve_of producing.Serve arguments) _ (bounded_serves producing.Serve arguments)
+    (bounded_either (is_word word (codes "lite")) (serve_of producing.Lite arguments) _ (bounded_serves producing.Lite arguments)
     (bounded_either (is_word word (codes "consume")) (consume_of arguments) (plain_of word arguments)
-    (bounded_consumes arguments) (bounded_plain word arguments))))
+    (bounded_consumes arguments) (bounded_plain word arguments)))))
 
 bounded_by : (words : List (List ℕ)) → Bounded (command_by words)
 bounded_by [] = tt

@@ -3,6 +3,7 @@ use Rattle.std.proofs.Common.{◌≡◌, ◌≢◌, ℕ, List, [], ◌∷◌, le
 use Rattle.std.specs.Prelude.{◌||◌}
 use Rattle.std.specs.List.{list_any}
 use Rattle.siri_cli.specs.Commands.{load_of, get_of, serve_of, consume_of}
+use Rattle.siri_cli.specs.declared.serve.Producing.{Producing}
 
 -- a test of what elements are mapped to
 pub any_of_map : {X Y : Type 0} (test : Y → Bool) (image : X → Y) (list : List X) → list_any test (map image list) ≡ list_any (λ x. test (image x)) list
@@ -22,12 +23,12 @@ module _ {X : Type 0} (text : X → List ℕ) where
   no_get (a ∷ []) other = absurd (other refl)
   no_get (a ∷ b ∷ rest) other = refl
 
-  pub no_serve : (list : List X) → length list ≢ 3 → serve_of (map text list) ≡ None
-  no_serve [] other = refl
-  no_serve (a ∷ []) other = refl
-  no_serve (a ∷ b ∷ []) other = refl
-  no_serve (a ∷ b ∷ c ∷ []) other = absurd (other refl)
-  no_serve (a ∷ b ∷ c ∷ d ∷ rest) other = refl
+  pub no_serve : (word : Producing) (list : List X) → length list ≢ 3 → serve_of word (map text list) ≡ None
+  no_serve word [] other = refl
+  no_serve word (a ∷ []) other = refl
+  no_serve word (a ∷ b ∷ []) other = refl
+  no_serve word (a ∷ b ∷ c ∷ []) other = absurd (other refl)
+  no_serve word (a ∷ b ∷ c ∷ d ∷ rest) other = refl
 
   pub no_consume : (list : List X) → length list ≢ 4 → consume_of (map text list) ≡ None
   no_consume [] other = refl

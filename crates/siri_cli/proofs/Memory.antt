@@ -4,8 +4,10 @@ use Rattle.std.specs.Prelude.{is_some, option_map, if◌then◌else◌, ◌&&◌
 use Rattle.siri_base.specs.Numbers.{number_of}
 use Rattle.siri_http.specs.declared.address.Address.{Address}
 use Rattle.siri_cli.specs.Arguments.{count_of, is_listen, is_name, producer_of, most_events, most_connections}
-use Rattle.siri_cli.specs.Commands.{HasArguments, consume_by, consume_with, get_by, load_by, load_with, serve_by}
-use Rattle.siri_cli.specs.declared.command.Command.TheVariants.{Get, Serve}
+use Rattle.siri_cli.specs.Commands.{HasArguments, consume_by, consume_with, get_by, load_by, load_with, producer_command, serve_by}
+use Rattle.siri_cli.specs.declared.command.Command.TheVariants.{Get}
+use Rattle.siri_cli.specs.declared.serve.Producing.{Producing}
+use Rattle.siri_cli.specs.declared.serve.Producing.TheVariants as producing
 
 load_some : (seed count : Option ℕ) → is_some (load_with seed count) ≡ true → HasArguments (load_with seed count)
 load_some (Some seed) (Some count) is = tt
@@ -24,20 +26,24 @@ pub some_get : (producer : List ℕ) → is_some (get_by producer) ≡ true → 
 unfolding get_by
 some_get producer is = get_some (producer_of producer) is
 
-serve_some : (name listen : List ℕ) (count : Option ℕ) → is_some (option_map (Serve name listen) count) ≡ true
-    → HasArguments (option_map (Serve name listen) count)
-serve_some name listen (Some count) is = tt
-serve_some name listen None is = cc
+serve_some : (word : Producing) (name listen : List ℕ) (count : Option ℕ)
+    → is_some (option_map (producer_command word name listen) count) ≡ true
+    → HasArguments (option_map (producer_command word name listen) count)
+serve_some producing.Serve name listen (Some count) is = tt
+serve_some producing.Lite name listen (Some count) is = tt
+serve_some word name listen None is = cc
 
-serve_if : (good : Bool) (name listen : List ℕ) (count : Option ℕ)
-    → is_some (if good then option_map (Serve name listen) count else None) ≡ true
-    → HasArguments (if good then option_map (Serve name listen) count else None)
-serve_if true name listen count is = serve_some name listen count is
-serve_if false name listen count is = cc
+serve_if : (good : Bool) (word : Producing) (name listen : List ℕ) (count : Option ℕ)
+    → is_some (if good then option_map (producer_command word name listen) count else None) ≡ true
+    → HasArguments (if good then option_map (producer_command word name listen) count else None)
+serve_if true word name listen count is = serve_some word name listen count is
+serve_if false word name listen count is = cc
 
-pub some_serve : (name listen count : List ℕ) → is_some (serve_by name listen count) ≡ true → HasArguments (serve_by name listen count)
+pub some_serve : (word : Producing) (name listen count : List ℕ) → is_some (serve_by word name listen count) ≡ true
+    → HasArguments (serve_by word name listen count)
 unfolding serve_by
-some_serve name listen count is = serve_if (is_name name && is_listen listen) name listen (count_of 1 most_connections count) is
+some_serve word name listen count is = serve_if (is_name name && is_listen listen) word name listen
+    (count_of 1 most_connections count) is
 
 consume_some : (name listen : List ℕ) (producer : Option Address) (count : Option ℕ)
     → is_some (consume_with name listen producer count) ≡ true → HasArguments (consume_with name listen producer count)

@@ -6,7 +6,9 @@ use Rattle.siri_base.specs.Numbers.{number_of}
 use Rattle.siri_http.specs.declared.address.Address.{Address}
 use Rattle.siri_cli.specs.Arguments.{is_name, is_listen, producer_of, count_of, most_events, most_connections}
 use Rattle.siri_cli.specs.declared.command.Command.{Command}
-use Rattle.siri_cli.specs.declared.command.Command.TheVariants.{Replay, Check, Convert, Load, Get, Serve, Consume}
+use Rattle.siri_cli.specs.declared.command.Command.TheVariants.{Replay, Check, Convert, Load, Get, Serve, Lite, Consume}
+use Rattle.siri_cli.specs.declared.serve.Producing.{Producing}
+use Rattle.siri_cli.specs.declared.serve.Producing.TheVariants as producing
 
 -- the word is that text
 abbrev pub is_word : (word text : List ℕ) → Bool
@@ -49,16 +51,21 @@ abbrev pub get_of : List (List ℕ) → Option Command
 get_of (producer ∷ []) = get_by producer
 get_of arguments = None
 
--- ---- `serve NAME LISTEN COUNT`
+-- ---- `serve NAME LISTEN COUNT`, `lite NAME LISTEN COUNT`
+
+-- the command of a producer, by its word
+abbrev pub producer_command : Producing → (name listen : List ℕ) → ℕ → Command
+producer_command producing.Serve name listen count = Serve name listen count
+producer_command producing.Lite name listen count = Lite name listen count
 
 -- COUNT is 1 to 1,000,000
-unfoldable pub serve_by : (name listen count : List ℕ) → Option Command
-serve_by name listen count =
-    if is_name name && is_listen listen then option_map (Serve name listen) (count_of 1 most_connections count) else None
+unfoldable pub serve_by : Producing → (name listen count : List ℕ) → Option Command
+serve_by word name listen count =
+    if is_name name && is_listen listen then option_map (producer_command word name listen) (count_of 1 most_connections count) else None
 
-abbrev pub serve_of : List (List ℕ) → Option Command
-serve_of (name ∷ listen ∷ count ∷ []) = serve_by name listen count
-serve_of arguments = None
+abbrev pub serve_of : Producing → List (List ℕ) → Option Command
+serve_of word (name ∷ listen ∷ count ∷ []) = serve_by word name listen count
+serve_of word arguments = None
 
 -- ---- `consume NAME LISTEN PRODUCER COUNT`
 
@@ -82,7 +89,8 @@ unfoldable pub command_with : List ℕ → List (List ℕ) → Option Command
 command_with word arguments =
     if is_word word (codes "load") then load_of arguments
     else if is_word word (codes "get") then get_of arguments
-    else if is_word word (codes "serve") then serve_of arguments
+    else if is_word word (codes "serve") then serve_of producing.Serve arguments
+    else if is_word word (codes "lite") then serve_of producing.Lite arguments
     else if is_word word (codes "consume") then consume_of arguments
     else plain_of word arguments
 
@@ -103,5 +111,6 @@ abbrev pub HasArguments : Option Command → Type 0
 HasArguments (Some (Load seed count)) = Unit {0}
 HasArguments (Some (Get producer)) = Unit {0}
 HasArguments (Some (Serve name listen count)) = Unit {0}
+HasArguments (Some (Lite name listen count)) = Unit {0}
 HasArguments (Some (Consume name listen producer count)) = Unit {0}
 HasArguments other = ⊥

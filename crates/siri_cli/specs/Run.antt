@@ -3,7 +3,7 @@ use Rattle.std.specs.Prelude.{Option, Some}
 use Rattle.siri_base.specs.declared.status.Status.{Status}
 use Rattle.siri_base.specs.declared.status.Status.TheVariants as status
 use Rattle.siri_cli.specs.declared.command.Command.{Command}
-use Rattle.siri_cli.specs.declared.command.Command.TheVariants.{Check, Convert, Load, Get, Serve, Consume}
+use Rattle.siri_cli.specs.declared.command.Command.TheVariants.{Check, Convert, Load, Get, Serve, Lite, Consume}
 
 -- the command reads one document
 abbrev pub TakesDocument : Option Command → Type 0
@@ -32,6 +32,7 @@ IsLoad other = ⊥
 abbrev pub IsOnNetwork : Option Command → Type 0
 IsOnNetwork (Some (Get producer)) = Unit {0}
 IsOnNetwork (Some (Serve name listen count)) = Unit {0}
+IsOnNetwork (Some (Lite name listen count)) = Unit {0}
 IsOnNetwork (Some (Consume name listen producer count)) = Unit {0}
 IsOnNetwork other = ⊥
 
@@ -49,17 +50,20 @@ EndsEarly other = ⊥
 abbrev pub ReadsNothing : Option Command → Type 0
 ReadsNothing (Some (Load seed count)) = Unit {0}
 ReadsNothing (Some (Serve name listen count)) = Unit {0}
+ReadsNothing (Some (Lite name listen count)) = Unit {0}
 ReadsNothing other = ⊥
 
 -- it reads its input to the end, where it does its work
 abbrev pub ReadsInput : Option Command → Type 0
 ReadsInput (Some (Load seed count)) = ⊥
 ReadsInput (Some (Serve name listen count)) = ⊥
+ReadsInput (Some (Lite name listen count)) = ⊥
 ReadsInput other = Unit {0}
 
 -- the command has no use for the clock and the keeper of the start number
 abbrev pub UsesNone : Option Command → Type 0
 UsesNone (Some (Serve name listen count)) = ⊥
+UsesNone (Some (Lite name listen count)) = ⊥
 UsesNone (Some (Consume name listen producer count)) = ⊥
 UsesNone other = Unit {0}
 
@@ -67,5 +71,6 @@ UsesNone other = Unit {0}
 abbrev pub UsesNoWire : Option Command → Type 0
 UsesNoWire (Some (Get producer)) = ⊥
 UsesNoWire (Some (Serve name listen count)) = ⊥
+UsesNoWire (Some (Lite name listen count)) = ⊥
 UsesNoWire (Some (Consume name listen producer count)) = ⊥
 UsesNoWire other = Unit {0}

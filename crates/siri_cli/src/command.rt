@@ -7,7 +7,7 @@ ghost use Rattle.siri_cli.specs.Commands.{HasArguments, begins_with_minus, comma
 use crate::consume::consume;
 use crate::get::get;
 use crate::load::load;
-use crate::serve::serve;
+use crate::serve::{Producing, serve};
 use siri_base::{Name, OutOfMemory};
 use siri_http::Address;
 use std::alloc::Global;
@@ -35,6 +35,15 @@ pub enum Command {
     },
     /// Serves connections as a producer.
     Serve {
+        /// The producer's name.
+        name: Name,
+        /// The host and the port that it listens at.
+        listen: Name,
+        /// How many connections it serves, 1 to 1,000,000.
+        count: u64,
+    },
+    /// Serves connections as a producer that answers queries by GET, too.
+    Lite {
         /// The producer's name.
         name: Name,
         /// The host and the port that it listens at.
@@ -94,7 +103,9 @@ impl Command {
         } else if word == "get" {
             get(alloc, arguments)
         } else if word == "serve" {
-            serve(alloc, arguments)
+            serve(alloc, Producing::Serve, arguments)
+        } else if word == "lite" {
+            serve(alloc, Producing::Lite, arguments)
         } else if word == "consume" {
             consume(alloc, arguments)
         } else {

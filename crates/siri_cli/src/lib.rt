@@ -16,21 +16,21 @@
 //!   source ->  wire                <-> get            -> sink
 //!                                      (siri_get)
 //!
-//!              wire, clock, keeper <-> serve          -> sink
+//!              wire, clock, keeper <-> serve, lite    -> sink
 //!                                      (siri_runs)
 //!
 //!   source ->  wire, clock, keeper <-> consume        -> sink
 //!                                      (siri_runs)
 //! ```
 //!
-//! The words are `replay`, `check`, `convert`, `load SEED COUNT`, `get PRODUCER`, `serve NAME LISTEN COUNT` and
-//! `consume NAME LISTEN PRODUCER COUNT`. These are all spellings, whole: no word is left out, none stands before them,
-//! and none begins with `-`. Whether words are one of them is decided here (`is_load`, `is_get`, `is_serve`,
+//! The words are `replay`, `check`, `convert`, `load SEED COUNT`, `get PRODUCER`, `serve NAME LISTEN COUNT`, `lite
+//! NAME LISTEN COUNT` and `consume NAME LISTEN PRODUCER COUNT`. These are all spellings, whole: no word is left out, none
+//! stands before them, and none begins with `-`. Whether words are one of them is decided here (`is_load`, `is_get`, `is_serve`,
 //! `is_consume`), which takes no memory; only then `clap` is handed them, behind `--`, and gives the value of each
 //! argument, of which the command is made.
 //!
-//! Stands on a crate for each command (`siri_replay`, `siri_document`, `siri_load`, `siri_get`; `siri_runs` for two), on
-//! `siri_base` for names, on `siri_http` for hosts, ports and addresses, and on `clap`. It looks into no line and no
+//! Stands on a crate for each command (`siri_replay`, `siri_document`, `siri_load`, `siri_get`; `siri_runs` for three), on
+//! `siri_lite` for what queries by GET ask, on `siri_base` for names, on `siri_http` for hosts, ports and addresses, and on `clap`. It looks into no line and no
 //! document, and knows no socket.
 #![tactic(auto)]
 

@@ -3,7 +3,9 @@
 ghost use Rattle.std.specs.Prelude.{◌≡◌, ◌↔◌, ℕ, List, [], map, string_bytes, Some, None};
 ghost use Rattle.siri_base.specs.Causes.{Rose};
 ghost use Rattle.siri_base.specs.MetFailures.{SinkMeets, SourceMeets, is_read_fault, is_write_fault};
+ghost use Rattle.siri_http.specs.Requests.{post_alone};
 ghost use Rattle.siri_http.specs.declared.address.Address.{Address as Target};
+ghost use Rattle.siri_lite.specs.Asking.{post_or_query};
 ghost use Rattle.siri_lines.specs.Ends.{ReadsAll};
 ghost use Rattle.siri_lines.specs.Pieces.{ReadsNoFurther};
 ghost use Rattle.siri_lines.specs.RunResult.{verdict};
@@ -28,6 +30,8 @@ use crate::command::Command;
 use siri_base::{Clock, Keeper, OutOfMemory, Sink, Source, Status, Wire};
 use siri_document::{Check, Convert, answer_document};
 use siri_get::get;
+use siri_http::PostAlone;
+use siri_lite::PostOrQuery;
 use siri_load::load;
 use siri_replay::replay;
 use siri_runs::{consume, serve};
@@ -36,16 +40,17 @@ use std::alloc::Global;
 /// Does what the words after the program's name say: `replay` reads a script and writes its report, `check` and
 /// `convert` read one document and write what is told of it, `load` plays a large script that is made from a number,
 /// `get` asks a document of a producer as a query by GET and writes what is answered, `serve` is a producer over the
-/// network, and `consume` a consumer. A view that a report tells as `quiet` lists the
-/// items of a direct response at that moment over all observations that were taken since the producer's latest start,
-/// whatever packets were lost, repeated or late, and however often either end restarted.
+/// network, `lite` is one that answers queries by GET, too, and `consume` a consumer. A view that a report tells as
+/// `quiet` lists the items of a direct response at that moment over all observations that were taken since the
+/// producer's latest start, whatever packets were lost, repeated or late, and however often either end restarted.
 ///
 /// `Usage` exactly where the words are no plain spelling of a command. `Refused` where the document of `check` or
 /// `convert` is refused, and where `get` has no body to write of a response. `Script` and `Limit` where a line of a
-/// script, or of what a consumer wants, is refused or passes a limit, each with the number of that line. `ReadFault`, `WriteFault`, `WireFault`, `ClockFault` and
-/// `KeeperFault` only where the source, the sink, the wire, the clock or the keeper failed, the wire to listen or to
-/// accept, and in `get` to dial, to write or to read; `OutOfMemory` wherever memory is asked for, otherwise `Done`. Only
-/// `serve` and `consume` use the clock and the keeper, and only they and `get` the wire.
+/// script, or of what a consumer wants, is refused or passes a limit, each with the number of that line. `ReadFault`,
+/// `WriteFault`, `WireFault`, `ClockFault` and `KeeperFault` only where the source, the sink, the wire, the clock or
+/// the keeper failed, the wire to listen or to accept, and in `get` to dial, to write or to read; `OutOfMemory`
+/// wherever memory is asked for, otherwise `Done`. Only `serve`, `lite` and `consume` use the clock and the keeper, and
+/// only they and `get` the wire.
 #[tactic(auto, using(siri_lines::proofs::Meeting::sink_none, siri_lines::proofs::Meeting::source_none, siri_lines::proofs::Whole::ends_at_once))]
 pub fn run<S: Source, K: Sink, W: Wire, C: Clock, E: Keeper>(
     alloc: Global,
@@ -71,7 +76,12 @@ pub fn run<S: Source, K: Sink, W: Wire, C: Clock, E: Keeper>(
         → GetRun producer.host (S.left source.old) (S.left source.new) (W.tells wire.old) (W.tells wire.new)
         (K.held sink.old) (K.held sink.new) result }
     ensures serve { (name listen : List ℕ) (count : ℕ) → command_of (map string_bytes words.now) ≡ Some (Command.Serve name listen count)
-        → ServeRun name listen count
+        → ServeRun post_alone name listen count
+        (outside_told W.Wire C.Clock E.Keeper wire.old clock.old keeper.old)
+        (outside_told W.Wire C.Clock E.Keeper wire.new clock.new keeper.new)
+        (K.held sink.old) (K.held sink.new) result }
+    ensures lite { (name listen : List ℕ) (count : ℕ) → command_of (map string_bytes words.now) ≡ Some (Command.Lite name listen count)
+        → ServeRun post_or_query name listen count
         (outside_told W.Wire C.Clock E.Keeper wire.old clock.old keeper.old)
         (outside_told W.Wire C.Clock E.Keeper wire.new clock.new keeper.new)
         (K.held sink.old) (K.held sink.new) result }
@@ -84,6 +94,9 @@ pub fn run<S: Source, K: Sink, W: Wire, C: Clock, E: Keeper>(
     // A run over the network does its work whole where there is enough for so many connections and no failure is named
     // for the sink, nor for the source, whatever happens within a connection.
     ensures serve_whole { (name listen : List ℕ) (count : ℕ) → command_of (map string_bytes words.now) ≡ Some (Command.Serve name listen count)
+        → HasEnough count (outside_told W.Wire C.Clock E.Keeper wire.old clock.old keeper.old)
+        → K.fails sink.old ≡ Some [] → EndsWhole result }
+    ensures lite_whole { (name listen : List ℕ) (count : ℕ) → command_of (map string_bytes words.now) ≡ Some (Command.Lite name listen count)
         → HasEnough count (outside_told W.Wire C.Clock E.Keeper wire.old clock.old keeper.old)
         → K.fails sink.old ≡ Some [] → EndsWhole result }
     ensures consume_whole { (name listen : List ℕ) (producer : Target) (count : ℕ) → command_of (map string_bytes words.now) ≡ Some (Command.Consume name listen producer count)
@@ -140,7 +153,14 @@ pub fn run<S: Source, K: Sink, W: Wire, C: Clock, E: Keeper>(
             name,
             listen,
             count,
-        } => serve(alloc, name, &listen, count, sink, wire, clock, keeper),
+        } => serve::<PostAlone, K, W, C, E>(alloc, name, &listen, count, sink, wire, clock, keeper),
+        Command::Lite {
+            name,
+            listen,
+            count,
+        } => serve::<PostOrQuery, K, W, C, E>(
+            alloc, name, &listen, count, sink, wire, clock, keeper,
+        ),
         Command::Consume {
             name,
             listen,
