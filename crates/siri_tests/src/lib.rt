@@ -30,6 +30,8 @@ mod hostile;
 #[cfg(test)]
 mod items;
 #[cfg(test)]
+mod lite;
+#[cfg(test)]
 mod long;
 #[cfg(test)]
 mod network;

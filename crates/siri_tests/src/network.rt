@@ -38,17 +38,17 @@ const MISSING: &str =
 pub const LISTEN: &str = "127.0.0.1:7001";
 
 /// A feed of three visits at a stop, and its acknowledgement.
-const THREE_FED: &[u8] =
+pub const THREE_FED: &[u8] =
     b"POST / HTTP/1.1\r\nContent-Length: 542\r\n\r\n{\"Siri\":{\"ServiceDelivery\":{\"StopMonitoringDelivery\":[{\"MonitoredStopVisit\":[{\"ItemIdentifier\":\"a\",\"MonitoredVehicleJourney\":{\"LineRef\":\"L1\",\"MonitoredCall\":{\"ExpectedDepartureTime\":\"2024-05-01T08:00:00Z\"}},\"MonitoringRef\":\"S1\"},{\"ItemIdentifier\":\"b\",\"MonitoredVehicleJourney\":{\"LineRef\":\"L1\",\"MonitoredCall\":{\"ExpectedDepartureTime\":\"2024-05-01T08:30:00Z\"}},\"MonitoringRef\":\"S1\"},{\"ItemIdentifier\":\"c\",\"MonitoredVehicleJourney\":{\"LineRef\":\"L1\",\"MonitoredCall\":{\"ExpectedDepartureTime\":\"2024-05-01T08:29:59.999Z\"}},\"MonitoringRef\":\"S1\"}]}]}}}";
 
-const THREE_TAKEN: &str =
+pub const THREE_TAKEN: &str =
     "HTTP/1.1 200 OK\r\nContent-Type: application/json\r\nContent-Length: 117\r\nConnection: close\r\n\r\n{\"Siri\":{\"DataReceivedAcknowledgement\":{\"ConsumerRef\":\"p\",\"ResponseTimestamp\":\"2024-05-01T08:00:00Z\",\"Status\":true}}}";
 
 /// A request for those of the next half hour, and the answer: the end of the window isn't in it.
 const HALF_AN_HOUR: &[u8] =
     b"POST / HTTP/1.1\r\nContent-Length: 104\r\n\r\n{\"Siri\":{\"ServiceRequest\":{\"StopMonitoringRequest\":[{\"MonitoringRef\":\"S1\",\"PreviewInterval\":\"PT30M\"}]}}}";
 
-const TWO_SHOWN: &str =
+pub const TWO_SHOWN: &str =
     "HTTP/1.1 200 OK\r\nContent-Type: application/json\r\nContent-Length: 522\r\nConnection: close\r\n\r\n{\"Siri\":{\"ServiceDelivery\":{\"ProducerRef\":\"p\",\"ResponseTimestamp\":\"2024-05-01T08:00:00Z\",\"Status\":true,\"StopMonitoringDelivery\":[{\"MonitoredStopVisit\":[{\"ItemIdentifier\":\"a\",\"MonitoredVehicleJourney\":{\"LineRef\":\"L1\",\"MonitoredCall\":{\"ExpectedDepartureTime\":\"2024-05-01T08:00:00Z\"}},\"MonitoringRef\":\"S1\"},{\"ItemIdentifier\":\"c\",\"MonitoredVehicleJourney\":{\"LineRef\":\"L1\",\"MonitoredCall\":{\"ExpectedDepartureTime\":\"2024-05-01T08:29:59.999Z\"}},\"MonitoringRef\":\"S1\"}],\"ResponseTimestamp\":\"2024-05-01T08:00:00Z\",\"Status\":true}]}}}";
 
 /// COUNT, the moments and the connections to come, and what comes of it.

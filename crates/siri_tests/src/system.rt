@@ -1,7 +1,7 @@
 //! The adapters over TCP, the system's clock and the file of the start number.
 
 use siri_base::{Clock, Keeper, Moment, Name, Wire};
-use siri_ends::{Tally, serve_one};
+use siri_ends::{PostAlone, Tally, serve_one};
 use siri_producer::Producer;
 use siri_system::{FileKeeper, SystemClock, TcpWire};
 use std::fs;
@@ -106,7 +106,7 @@ fn serve_next(rt: &HostRuntime, wire: &mut TcpWire) -> Result<Tally, Fail> {
     let mut tally = Tally::new();
     let mut producer = Producer::new(alloc, Name::new(alloc, "p")?, 1, started)?;
     producer.clock(now);
-    let served = serve_one(alloc, wire, &mut producer, &mut tally);
+    let served = serve_one::<TcpWire, PostAlone>(alloc, wire, &mut producer, &mut tally);
     drop(producer);
     served?;
     Ok(tally)
