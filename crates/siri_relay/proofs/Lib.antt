@@ -1,0 +1,9 @@
+pub mod Chain
+pub mod Goings
+pub mod Held
+pub mod Levels
+pub mod Relays
+pub mod Room
+pub mod Shows
+pub mod Steps
+pub mod ViewKept

@@ -1,0 +1,5 @@
+use Rattle.siri_relay.proofs.Chain.{near_joins}
+use Rattle.siri_relay.proofs.laws.near_adds_up.Goals as goal
+
+pub returns : goal.returns
+returns c = near_joins

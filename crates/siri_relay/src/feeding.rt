@@ -1,0 +1,132 @@
+//! What a producer is fed of a view.
+
+ghost use Rattle.std.specs.Prelude.{◌≡◌, ◌++◌, [], map, IfOk, OnOk, OnErr};
+ghost use Rattle.std.specs.Option.{option_map_or};
+ghost use Rattle.siri_records.specs.Keyed.{InOrder};
+ghost use Rattle.siri_change.specs.Changes.{changes};
+ghost use Rattle.siri_change.specs.Parts.{carried};
+ghost use Rattle.siri_model.specs.History.{Observed, Withdrawn, entries_of};
+ghost use Rattle.siri_relay.specs.Feeds.{feeds_of, has_room, items_fed, removals_fed};
+ghost use Rattle.siri_relay.specs.Goes.{GoesBy, GoesSome};
+
+use siri_base::{Copies, List, OutOfMemory};
+use siri_change::{Change, View, changes};
+use siri_messages::{FunctionalDelivery, ServiceDelivery};
+use siri_producer::Producer;
+use siri_records::{Item, Key};
+use std::alloc::Global;
+
+/// The most items of a view that find room at a producer.
+const MOST_LIVE: usize = 20_000;
+
+/// The two feeds of a view.
+#[derive(Drop)]
+struct Feeds {
+    removals: ServiceDelivery,
+    items: ServiceDelivery,
+}
+
+/// Feeds a producer what is missing of a view, removals first, by what it was fed last, and tells whether the view has
+/// room there. All memory that it takes itself is taken before the first feed; after want of memory in a feed, that one
+/// was taken in part.
+pub(crate) fn feed_view(
+    alloc: Global,
+    producer: &mut Producer,
+    fed: &mut View,
+    view: &View,
+    is_level: bool,
+) -> Result<bool, OutOfMemory>
+    ensures ok { OnOk result (GoesBy producer.old producer.new (feeds_of is_level fed.old view.now)) }
+    ensures room { IfOk result (λ room. room ≡ has_room view.now) }
+    ensures fed { OnOk result (fed.new ≡ view.now) }
+    ensures err { OnErr result (GoesSome producer.old producer.new (feeds_of is_level fed.old view.now)) }
+    ensures unfed { OnErr result (fed.new ≡ fed.old) }
+    ensures order { InOrder view.now }
+{
+    let has_room = view.len() <= MOST_LIVE;
+    let feeds = feeds_of(alloc, fed, view, is_level)?;
+    let copy = view.copy()?;
+    let Feeds { removals, items } = feeds;
+    producer.feed_owned(removals)?;
+    producer.feed_owned(items)?;
+    *fed = copy;
+    Ok(has_room)
+}
+
+/// The same of a view that is held, and of the empty one where none is.
+pub(crate) fn feed_if_held(
+    alloc: Global,
+    producer: &mut Producer,
+    fed: &mut View,
+    view: Option<&View>,
+    is_level: bool,
+) -> Result<bool, OutOfMemory>
+    ensures ok { OnOk result (GoesBy producer.old producer.new (feeds_of is_level fed.old (option_map_or (λ view. view.now) view.entry []))) }
+    ensures room { IfOk result (λ room. room ≡ has_room (option_map_or (λ view. view.now) view.entry [])) }
+    ensures fed { OnOk result (fed.new ≡ option_map_or (λ view. view.now) view.entry []) }
+    ensures err { OnErr result (GoesSome producer.old producer.new (feeds_of is_level fed.old (option_map_or (λ view. view.now) view.entry []))) }
+    ensures unfed { OnErr result (fed.new ≡ fed.old) }
+{
+    match view {
+        Some(view) => feed_view(alloc, producer, fed, view, is_level),
+        None => feed_view(alloc, producer, fed, &View::new(alloc), is_level),
+    }
+}
+
+/// What is missing of a view, as two deliveries.
+fn feeds_of(alloc: Global, fed: &View, view: &View, is_level: bool) -> Result<Feeds, OutOfMemory>
+    ensures removals { IfOk result (λ feeds. entries_of feeds.removals ≡ removals_fed fed.now view.now) }
+    ensures items { IfOk result (λ feeds. entries_of feeds.items ≡ items_fed is_level fed.now view.now) }
+{
+    let list = changes(fed, view)?;
+    let removals = delivery(alloc, List::new(alloc), removals_in(alloc, list.slice())?)?;
+    let items = if is_level {
+        items_in(alloc, list.slice())?
+    } else {
+        items_in(alloc, changes(&View::new(alloc), view)?.slice())?
+    };
+    let items = delivery(alloc, items, List::new(alloc))?;
+    Ok(Feeds { removals, items })
+}
+
+/// A delivery of no round with these entries.
+fn delivery(
+    alloc: Global,
+    items: List<Item>,
+    removals: List<Key>,
+) -> Result<ServiceDelivery, OutOfMemory>
+    ensures { IfOk result (λ delivery. entries_of delivery ≡ map Observed items ++ map Withdrawn removals) }
+{
+    let mut functional = FunctionalDelivery::blank(alloc);
+    functional.items = items;
+    functional.removals = removals;
+    let mut delivery = ServiceDelivery::blank(alloc);
+    delivery.stop_monitoring_delivery.push(functional)?;
+    Ok(delivery)
+}
+
+/// The items of changes, in their order.
+fn items_in(alloc: Global, changes: &[Change]) -> Result<List<Item>, OutOfMemory>
+    ensures { IfOk result (λ items. items ≡ (carried changes.now).items) }
+{
+    let mut items = List::new(alloc);
+    for change in changes {
+        if let Some(item) = &change.item {
+            items.push(item.copy()?)?;
+        }
+    }
+    Ok(items)
+}
+
+/// The keys that changes remove, in their order.
+fn removals_in(alloc: Global, changes: &[Change]) -> Result<List<Key>, OutOfMemory>
+    ensures { IfOk result (λ removals. removals ≡ (carried changes.now).removals) }
+{
+    let mut removals = List::new(alloc);
+    for change in changes {
+        if change.item.is_none() {
+            removals.push(change.key.key().copy()?)?;
+        }
+    }
+    Ok(removals)
+}
