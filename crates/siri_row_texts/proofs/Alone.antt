@@ -22,10 +22,10 @@ use Rattle.siri_row_texts.specs.ItemRows.{functional_of, item_delivery, removal_
 
 -- ---- one entry
 
-no_entry : {A : Type 0} {most : ℕ} {P : A → Type 0} → IsListWithin most P []
+pub no_entry : {A : Type 0} {most : ℕ} {P : A → Type 0} → IsListWithin most P []
 no_entry = record { bound = omega arith; each = tt }
 
-one_entry : {A : Type 0} {P : A → Type 0} (most : ℕ) (x : A) → 1 ≤ most → P x → IsListWithin most P (x ∷ [])
+pub one_entry : {A : Type 0} {P : A → Type 0} (most : ℕ) (x : A) → 1 ≤ most → P x → IsListWithin most P (x ∷ [])
 one_entry most x le is = record { bound = le; each = (is, tt) }
 
 unplaced : IsPlaced no_round

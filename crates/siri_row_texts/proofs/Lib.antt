@@ -1,4 +1,10 @@
-mod Alone
+pub mod Alone
+pub mod Asked
+mod Begun
+mod Bounds
 mod Firsts
 mod Joined
-mod Rows
+pub mod MomentRows
+pub mod PlaceOrder
+pub mod Requests
+pub mod Rows

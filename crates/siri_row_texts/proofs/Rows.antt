@@ -6,7 +6,8 @@ use Rattle.std.specs.Result.{result_ok}
 use Rattle.std.specs.Str.{bytes_eq}
 use Rattle.std.proofs.lemmas.Option.{none-some, same_Some}
 use Rattle.std.proofs.lemmas.Slice.Eq.{bytes_eq-Decides}
-use Rattle.siri_json.specs.Tree.{longest_document}
+use Rattle.siri_json.specs.Canonical.{as_texts}
+use Rattle.siri_json.specs.Tree.{longest_document, tree_of}
 use Rattle.siri_records.specs.declared.item.Item.{Item}
 use Rattle.siri_records.specs.declared.item.Item.TheVariants as item
 use Rattle.siri_records.specs.declared.item.Service.{Service}
@@ -18,13 +19,15 @@ use Rattle.siri_messages.specs.declared.message.Message.{Message}
 use Rattle.siri_messages.specs.declared.message.Message.TheVariants as message
 use Rattle.siri_items.specs.Proper.{IsProper}
 use Rattle.siri_deliveries.specs.Removals.{IsProperRemoval}
-use Rattle.siri_wire.specs.Documents.{message_of}
-use Rattle.siri_wire_laws.proofs.BackDocuments.{canonical_read}
+use Rattle.siri_wire.specs.Canonical.{canonical, written_message}
+use Rattle.siri_wire.specs.Documents.{message_of, root}
+use Rattle.siri_wire_laws.specs.ProperMessages.{IsProper as IsProperMessage}
+use Rattle.siri_wire_laws.proofs.BackDocuments.{canonical_read, message_back, message_text}
 use Rattle.siri_row_texts.specs.ItemRows.{item_delivery, item_text, key_text, removal_delivery}
 use Rattle.siri_row_texts.specs.Reading.{first_of_four, if_written, item_in, item_of_row}
 use Rattle.siri_row_texts.proofs.Alone.{item_alone, key_alone}
 
-itself : (t : List ℕ) → bytes_eq t t ≡ true
+pub itself : (t : List ℕ) → bytes_eq t t ≡ true
 itself t = (bytes_eq-Decides t t).1 refl
 
 -- ---- tests
@@ -94,10 +97,13 @@ key_back (key.Journey l d f j) = refl
 key_back (key.Vehicle v) = refl
 key_back (key.Situation q n) = refl
 
-pub one_text_one_key : (s t : Service) (k j : Key) → IsProperRemoval s k → IsProperRemoval t j
-    → length (key_text k) ≤ longest_document → key_text k ≡ key_text j → k ≡ j
-one_text_one_key s t k j p q le e =
-    let le_j : length (key_text j) ≤ longest_document = subst (λ text. length text ≤ longest_document) e le in
-    let of_k : message_of (key_text k) ≡ Ok (message.ServiceDelivery (removal_delivery k)) = canonical_read (message.ServiceDelivery (removal_delivery k)) (key_alone s k p) le in
-    let of_j : message_of (key_text j) ≡ Ok (message.ServiceDelivery (removal_delivery j)) = canonical_read (message.ServiceDelivery (removal_delivery j)) (key_alone t j q) le_j in
-    same_Some k j (sym (key_back k) ∙ ap (λ r. option_and_then removal_in (result_ok r)) (sym of_k ∙ ap message_of e ∙ of_j) ∙ key_back j)
+-- proper messages with one text are one: it is the text of one tree
+pub one_text_one_message : (m n : Message) → IsProperMessage m → IsProperMessage n → canonical m ≡ canonical n → m ≡ n
+one_text_one_message m n p q e =
+    let tree : as_texts (written_message m) ≡ as_texts (written_message n) = same_Some _ _ (sym (message_text m p) ∙ ap tree_of e ∙ message_text n q) in
+    same_Some m n (ap result_ok (sym (message_back m p) ∙ ap root tree ∙ message_back n q))
+
+pub one_text_one_key : (s t : Service) (k j : Key) → IsProperRemoval s k → IsProperRemoval t j → key_text k ≡ key_text j → k ≡ j
+one_text_one_key s t k j p q e =
+    let same = one_text_one_message (message.ServiceDelivery (removal_delivery k)) (message.ServiceDelivery (removal_delivery j)) (key_alone s k p) (key_alone t j q) e in
+    same_Some k j (sym (key_back k) ∙ ap removal_in same ∙ key_back j)

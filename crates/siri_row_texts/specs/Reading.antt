@@ -1,8 +1,12 @@
 -- Rows read back: a text says what a row with that text would be written of.
-use Rattle.std.specs.Prelude.{ℕ, List, Bool, false, ◌&&◌, nat_lt, if◌then◌else◌, Option, Some, None, slice_get}
+use Rattle.std.specs.Prelude.{ℕ, List, length, Bool, false, ◌&&◌, ◌==◌, nat_le, nat_lt, if◌then◌else◌, Option, Some, None, slice_get}
+use Rattle.std.specs.List.{before_first, after_first}
 use Rattle.std.specs.Option.{option_or, option_and_then, option_eq}
 use Rattle.std.specs.Result.{result_ok}
-use Rattle.std.specs.Str.{bytes_eq}
+use Rattle.std.specs.Str.{bytes_eq, is_utf8}
+use Rattle.siri_base.specs.Numbers.{number_of}
+use Rattle.siri_time.specs.Moment.{moment_of}
+use Rattle.siri_time.specs.Scan.{◌>>=◌}
 use Rattle.siri_records.specs.declared.item.Item.{Item}
 use Rattle.siri_records.specs.Keys.{key_of}
 use Rattle.siri_topic.specs.declared.subscription.Subscription.{Subscription}
@@ -13,12 +17,40 @@ use Rattle.siri_messages.specs.declared.message.Message.{Message}
 use Rattle.siri_messages.specs.declared.message.Message.TheVariants as message
 use Rattle.siri_messages.specs.declared.subscriptions.SubscriptionRequest.{SubscriptionRequest}
 use Rattle.siri_wire.specs.Documents.{message_of}
-use Rattle.siri_row_texts.specs.ItemRows.{item_text, key_text}
+use Rattle.siri_row_texts.specs.declared.moments.Began.{Began}
+use Rattle.siri_row_texts.specs.ItemRows.{item_text, key_text, moment_row}
 use Rattle.siri_row_texts.specs.SubscriptionRows.{request_text, renewal_text}
 
 -- the first of four
 abbrev pub first_of_four : {T : Type 0} → (a b c d : Option T) → Option T
 first_of_four a b c d = option_or (option_or (option_or a b) c) d
+
+-- ---- the moment, the start and the name
+
+abbrev pub is_space : ℕ → Bool
+is_space byte = byte == 32
+
+-- a text is a name: it has 1 to 255 bytes
+abbrev pub name_in : List ℕ → Option (List ℕ)
+name_in text = if nat_le 1 (length text) && nat_le (length text) 255 then Some text else None
+
+-- what was begun, where the start is from 1 on and this is its row
+abbrev pub if_begun : List ℕ → Began → Option Began
+if_begun text began =
+    if nat_le 1 began.start && bytes_eq (moment_row began.moment began.start began.name) text then Some began else None
+
+-- a moment, a start and a name, parted by the first space and by the one that follows it
+abbrev pub parted : List ℕ → Option Began
+parted text = do
+  let rest = after_first is_space text
+  moment ← result_ok (moment_of (before_first is_space text))
+  start ← number_of (before_first is_space rest)
+  name ← name_in (after_first is_space rest)
+  Some (record { moment = moment; start = start; name = name })
+
+-- the moment, the start and the name whose row this is: the text is UTF-8, and is what would be written of them
+unfoldable pub began_of_row : List ℕ → Option Began
+began_of_row text = if is_utf8 text then option_and_then (if_begun text) (parted text) else None
 
 -- ---- items
 

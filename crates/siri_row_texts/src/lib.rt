@@ -20,8 +20,12 @@ mod reading;
 mod subscriptions;
 
 pub use items::{item_text, key_text};
-pub use laws::{item_row_is_read, key_texts_determine_their_keys, read_row_is_written};
-pub use moments::moment_row;
+pub use laws::{
+    each_request_alone_is_proper, item_row_is_read, key_texts_determine_their_keys,
+    moment_row_is_read, places_ascend, read_row_is_written, renewal_row_is_read,
+    request_row_is_read,
+};
+pub use moments::{Began, began_of_row, moment_row};
 pub use places::place_text;
 pub use reading::{item_of_row, renewal_of_row, request_of_row};
 pub use subscriptions::{renewal_text, request_text};
