@@ -2,12 +2,12 @@
 use Rattle.std.proofs.Common.{◌≡◌, ◌≢◌, ◌⊎◌, ℕ, List, [], ◌∷◌, ◌++◌, map, fold, cond, Bool, true, false, ◌||◌, not, Option, None}
 use Rattle.std.proofs.Common.{Some, Result, Ok, Err, refl, ap, sym, ◌∙◌, subst, inl, inr, append-nil}
 use Rattle.std.specs.Prelude.{option_map, IsSome, if◌then◌else◌}
-use Rattle.std.specs.Cmp.{tied_itself, eq_by_cmp_equiv}
+use Rattle.std.specs.List.{AllByRecursion as All}
+use Rattle.std.specs.Cmp.{tied_itself}
 use Rattle.std.specs.Ordering.{is_eq}
 use Rattle.std.specs.declared.cmp.Ordering.{Ordering}
 use Rattle.std.specs.declared.cmp.Ordering.TheVariants.{Less, Equal, Greater}
-use Rattle.std.proofs.lemmas.Map.Entries.{lookup-filter-values, option_filter}
-use Rattle.std.proofs.lemmas.Map.Keys.{IsDistinct-from_sorted}
+use Rattle.std.proofs.lemmas.Map.Entries.{option_filter}
 use Rattle.siri_base.specs.declared.errors.OutsideError.{OutsideError}
 use Rattle.siri_base.specs.declared.errors.OutsideError.TheVariants as outside
 use Rattle.siri_records.specs.declared.item.Item.{Item}
@@ -25,9 +25,12 @@ use Rattle.siri_shelf.specs.declared.rows.Put.{Put}
 use Rattle.siri_shelf.specs.Rows.{RowPlace, Rows, place_cmp, text_at, with_put, with_puts}
 use Rattle.siri_shelf.proofs.Order.{place_total}
 use Rattle.siri_shelf.specs.Shelves.{ShelfState, Writes}
-use Rattle.siri_keeping.specs.Keeping.{AddsOnly, Covers, HasItems, KeyTextsDiffer, Texts, change_to, changes_to, live_after}
+use Rattle.siri_row_texts.specs.ItemRows.{item_text, key_text}
+use Rattle.siri_row_texts.proofs.Rows.{one_text_one_key}
+use Rattle.siri_keeping.specs.Keeping.{AddsOnly, Covers, HasItems, IsProperKey, change_to, changes_to, live_after}
 use Rattle.siri_keeping.specs.Keeping.{live_of, put_to, puts_to}
 use Rattle.siri_keeping.proofs.Found.{place_exact, text_elsewhere, text_there}
+use Rattle.siri_keeping.proofs.LiveItems.{live_at}
 
 -- ---- keys
 
@@ -41,6 +44,9 @@ one_key k j e = key_cmp_exact k j (tied_is (key_cmp k j) e)
 
 same_key : (k j : Key) → k ≡ j → is_eq (key_cmp k j) ≡ true
 same_key k j e = ap (λ x. is_eq (key_cmp k x)) (sym e) ∙ ap is_eq (tied_itself key_cmp_total k)
+
+pub texts_differ : (k j : Key) → IsProperKey k → IsProperKey j → key_text k ≡ key_text j → k ≡ j
+texts_differ k j p q e = one_text_one_key p.0 q.0 k j p.1 q.1 e
 
 -- a key is among these
 abbrev pub is_named : Key → List Key → Bool
@@ -78,103 +84,98 @@ changes_leave live k (j ∷ keys) m s =
 
 -- ---- rows, one put after the other
 
-module _ (texts : Texts) (exact : KeyTextsDiffer texts) (live : Items) where
+module _ (live : Items) where
   abbrev place : Key → RowPlace
-  place k = (1, texts.key_text k)
+  place k = (1, key_text k)
 
   -- the text at a key's place, and what is written of the item of a key
   abbrev row_at : Rows → Key → Option (List ℕ)
-  row_at rows k = text_at rows 1 (texts.key_text k)
+  row_at rows k = text_at rows 1 (key_text k)
 
   abbrev written : Items → Key → Option (List ℕ)
-  written items k = option_map texts.item_text (item_of items k)
+  written items k = option_map item_text (item_of items k)
 
-  differ : (k j : Key) → is_eq (key_cmp k j) ≡ false → place k ≡ place j → ⊥
-  differ k j apart same = cc (same_key k j (exact k j (ap (λ (p : RowPlace). p.1) same)), apart)
+  differ : (k j : Key) → IsProperKey k → IsProperKey j → is_eq (key_cmp k j) ≡ false → place k ≡ place j → ⊥
+  differ k j p q apart same = cc (same_key k j (texts_differ k j p q (ap (λ (at : RowPlace). at.1) same)), apart)
 
-  put_at : (rows : Rows) (k j : Key) (b : Bool) → is_eq (key_cmp k j) ≡ b
-      → row_at (with_put rows (put_to texts live j)) k ≡ cond b (written live j) (row_at rows k)
-  put_at rows k j true e =
-      ap (λ x. row_at (with_put rows (put_to texts live j)) x) (one_key k j e) ∙ text_there (put_to texts live j) rows
-  put_at rows k j false e = text_elsewhere (put_to texts live j) rows (place k) (differ k j e)
+  put_at : (rows : Rows) (k j : Key) → IsProperKey k → IsProperKey j → (b : Bool) → is_eq (key_cmp k j) ≡ b
+      → row_at (with_put rows (put_to live j)) k ≡ cond b (written live j) (row_at rows k)
+  put_at rows k j p q true e =
+      ap (λ x. row_at (with_put rows (put_to live j)) x) (one_key k j e) ∙ text_there (put_to live j) rows
+  put_at rows k j p q false e = text_elsewhere (put_to live j) rows (place k) (differ k j p q e)
 
   rows_at : (rows : Rows) (k j : Key) (keys : List Key) (b c : Bool) → is_eq (key_cmp k j) ≡ b → is_named k keys ≡ c
-      → row_at (with_puts (with_put rows (put_to texts live j)) (puts_to texts live keys)) k
-      ≡ cond c (written live k) (row_at (with_put rows (put_to texts live j)) k)
-      → row_at (with_put rows (put_to texts live j)) k ≡ cond b (written live j) (row_at rows k)
-      → row_at (with_puts rows (puts_to texts live (j ∷ keys))) k ≡ cond (is_named k (j ∷ keys)) (written live k) (row_at rows k)
+      → row_at (with_puts (with_put rows (put_to live j)) (puts_to live keys)) k
+      ≡ cond c (written live k) (row_at (with_put rows (put_to live j)) k)
+      → row_at (with_put rows (put_to live j)) k ≡ cond b (written live j) (row_at rows k)
+      → row_at (with_puts rows (puts_to live (j ∷ keys))) k ≡ cond (is_named k (j ∷ keys)) (written live k) (row_at rows k)
   rows_at rows k j keys true true e n rest one = rw e rest
   rows_at rows k j keys true false e n rest one =
       rw e (rest ∙ one ∙ ap (λ x. written live x) (sym (one_key k j e)))
   rows_at rows k j keys false true e n rest one = rw (e, n) rest
   rows_at rows k j keys false false e n rest one = rw (e, n) (rest ∙ one)
 
-  puts_leave : (k : Key) (keys : List Key) (rows : Rows)
-      → row_at (with_puts rows (puts_to texts live keys)) k ≡ cond (is_named k keys) (written live k) (row_at rows k)
-  puts_leave k [] rows = refl
-  puts_leave k (j ∷ keys) rows =
+  puts_leave : (k : Key) → IsProperKey k → (keys : List Key) → All IsProperKey keys → (rows : Rows)
+      → row_at (with_puts rows (puts_to live keys)) k ≡ cond (is_named k keys) (written live k) (row_at rows k)
+  puts_leave k p [] are rows = refl
+  puts_leave k p (j ∷ keys) are rows =
       rows_at rows k j keys (is_eq (key_cmp k j)) (is_named k keys) refl refl
-      (puts_leave k keys (with_put rows (put_to texts live j))) (put_at rows k j (is_eq (key_cmp k j)) refl)
+      (puts_leave k p keys are.1 (with_put rows (put_to live j))) (put_at rows k j p are.0 (is_eq (key_cmp k j)) refl)
 
   -- a row of table 1 is of a key
   abbrev IsOfKey : List ℕ → Type 0
-  IsOfKey key = (k : Key) × (key ≡ texts.key_text k)
+  IsOfKey key = (k : Key) × IsProperKey k × (key ≡ key_text k)
 
   abbrev AreOfKeys : Rows → Type 0
   AreOfKeys rows = (key : List ℕ) → IsSome (text_at rows 1 key) → IsOfKey key
 
-  decided : (j : Key) (key : List ℕ) (b : Bool) → is_eq (place_cmp (1, key) (place j)) ≡ b → IsOfKey key ⊎ ((1, key) ≡ place j → ⊥)
-  decided j key true e = inl (j, ap (λ (p : RowPlace). p.1) (place_exact (1, key) (place j) (tied_is (place_cmp (1, key) (place j)) e)))
-  decided j key false e =
+  decided : (j : Key) → IsProperKey j → (key : List ℕ) (b : Bool) → is_eq (place_cmp (1, key) (place j)) ≡ b → IsOfKey key ⊎ ((1, key) ≡ place j → ⊥)
+  decided j is key true e = inl (j, is, ap (λ (p : RowPlace). p.1) (place_exact (1, key) (place j) (tied_is (place_cmp (1, key) (place j)) e)))
+  decided j is key false e =
       inr (λ same. cc (ap (λ (p : RowPlace). is_eq (place_cmp p (place j))) same ∙ ap is_eq (tied_itself place_total (place j)), e))
 
-  one_of_keys : (rows : Rows) (j : Key) → AreOfKeys rows → AreOfKeys (with_put rows (put_to texts live j))
-  one_of_keys rows j are key some = elim (decided j key (is_eq (place_cmp (1, key) (place j))) refl) [
+  one_of_keys : (rows : Rows) (j : Key) → IsProperKey j → AreOfKeys rows → AreOfKeys (with_put rows (put_to live j))
+  one_of_keys rows j is are key some = elim (decided j is key (is_eq (place_cmp (1, key) (place j))) refl) [
     | inl of ↦ of
-    | inr apart ↦ are key (subst IsSome (text_elsewhere (put_to texts live j) rows (1, key) apart) some)
+    | inr apart ↦ are key (subst IsSome (text_elsewhere (put_to live j) rows (1, key) apart) some)
   ]
 
-  all_of_keys : (keys : List Key) (rows : Rows) → AreOfKeys rows → AreOfKeys (with_puts rows (puts_to texts live keys))
-  all_of_keys [] rows are = are
-  all_of_keys (j ∷ keys) rows are = all_of_keys keys (with_put rows (put_to texts live j)) (one_of_keys rows j are)
+  all_of_keys : (keys : List Key) → All IsProperKey keys → (rows : Rows) → AreOfKeys rows → AreOfKeys (with_puts rows (puts_to live keys))
+  all_of_keys [] proper rows are = are
+  all_of_keys (j ∷ keys) proper rows are =
+      all_of_keys keys proper.1 (with_put rows (put_to live j)) (one_of_keys rows j proper.0 are)
 
   combined : (m : Items) (k : Key) (b : Bool)
-      → cond b (written live k) (written m k) ≡ option_map texts.item_text (cond b (item_of live k) (item_of m k))
+      → cond b (written live k) (written m k) ≡ option_map item_text (cond b (item_of live k) (item_of m k))
   combined m k true = refl
   combined m k false = refl
 
-  pub each_kept : (rows : Rows) (m : Items) (keys : List Key) → InOrder m
-      → ((k : Key) → row_at rows k ≡ written m k)
-      → (k : Key)
-      → row_at (with_puts rows (puts_to texts live keys)) k ≡ written (apply m (changes_to live keys)) k
-  each_kept rows m keys s each k =
-      puts_leave k keys rows
-      ∙ ap (cond (is_named k keys) (written live k)) (each k)
+  pub each_kept : (rows : Rows) (m : Items) (keys : List Key) → All IsProperKey keys → InOrder m
+      → ((k : Key) → IsProperKey k → row_at rows k ≡ written m k)
+      → (k : Key) → IsProperKey k
+      → row_at (with_puts rows (puts_to live keys)) k ≡ written (apply m (changes_to live keys)) k
+  each_kept rows m keys proper s each k p =
+      puts_leave k p keys proper rows
+      ∙ ap (cond (is_named k keys) (written live k)) (each k p)
       ∙ combined m k (is_named k keys)
-      ∙ ap (option_map texts.item_text) (sym (changes_leave live k keys m s))
+      ∙ ap (option_map item_text) (sym (changes_leave live k keys m s))
 
-pub has_items_after : (texts : Texts) → KeyTextsDiffer texts → (live : Items) (rows : Rows) (mirror : Items) (keys : List Key)
-    → InOrder mirror → HasItems texts rows mirror
-    → HasItems texts (with_puts rows (puts_to texts live keys)) (apply mirror (changes_to live keys))
-has_items_after texts exact live rows mirror keys s has = record {
-  each = each_kept texts exact live rows mirror keys s has.each;
-  only = all_of_keys texts exact live keys rows has.only;
+pub has_items_after : (live : Items) (rows : Rows) (mirror : Items) (keys : List Key) → All IsProperKey keys
+    → InOrder mirror → HasItems rows mirror → HasItems (with_puts rows (puts_to live keys)) (apply mirror (changes_to live keys))
+has_items_after live rows mirror keys proper s has = record {
+  each = each_kept live rows mirror keys proper s has.each;
+  only = all_of_keys live keys proper rows has.only;
 }
 
 -- other tables stay
-pub others_stay : (texts : Texts) (live : Items) (keys : List Key) (rows : Rows) (table : ℕ) (key : List ℕ) → table ≢ 1
-    → text_at (with_puts rows (puts_to texts live keys)) table key ≡ text_at rows table key
-others_stay texts live [] rows table key apart = refl
-others_stay texts live (j ∷ keys) rows table key apart =
-    others_stay texts live keys (with_put rows (put_to texts live j)) table key apart
-    ∙ text_elsewhere (put_to texts live j) rows (table, key) (λ same. apart (ap (λ (p : RowPlace). p.0) same))
+pub others_stay : (live : Items) (keys : List Key) (rows : Rows) (table : ℕ) (key : List ℕ) → table ≢ 1
+    → text_at (with_puts rows (puts_to live keys)) table key ≡ text_at rows table key
+others_stay live [] rows table key apart = refl
+others_stay live (j ∷ keys) rows table key apart =
+    others_stay live keys (with_put rows (put_to live j)) table key apart
+    ∙ text_elsewhere (put_to live j) rows (table, key) (λ same. apart (ap (λ (p : RowPlace). p.0) same))
 
 -- ---- live items
-
-pub live_at : (now : ℕ) (items : Items) (k : Key) → InOrder items
-    → item_of (living now items) k ≡ option_filter (λ i. not (is_dead i now)) (item_of items k)
-live_at now items k s =
-    lookup-filter-values (eq_by_cmp_equiv key_cmp_total) (λ i. not (is_dead i now)) k items (IsDistinct-from_sorted key_cmp _ s)
 
 unnamed_at : (now : ℕ) (items : Items) (k : Key) (e : Entry) (entries : List Entry) (b : Bool) → is_of k e ≡ b
     → is_named k (map entry_key (e ∷ entries)) ≡ false
@@ -226,6 +227,28 @@ module _ (now : ℕ) (items mirror : Items) (entries : List Entry) (s : InOrder 
     has_live = λ k i h. changes_leave after k keys mirror t ∙ live_case k i (is_named k keys) refl h;
     rest_dead = λ k i h. rest_case k i (is_named k keys) refl (sym (changes_leave after k keys mirror t) ∙ h);
   }
+
+-- ---- what was live stays live
+
+stays_live : (live : Items) (k : Key) (i : Item) (had : Option Item) (b : Bool) → item_of live k ≡ Some i → had ≡ Some i
+    → cond b (item_of live k) had ≡ Some i
+stays_live live k i had true e h = e
+stays_live live k i had false e h = h
+
+stays_dead : (now : ℕ) (live : Items) (k : Key) (i : Item) (had : Option Item) (b : Bool) → cond b (item_of live k) had ≡ Some i
+    → (had ≡ Some i → (item_of live k ≡ Some i) ⊎ (is_dead i now ≡ true)) → (item_of live k ≡ Some i) ⊎ (is_dead i now ≡ true)
+stays_dead now live k i had true e rest = inl e
+stays_dead now live k i had false e rest = rest e
+
+-- the puts of any keys, by what is live
+pub covers_still : (now : ℕ) (live mirror : Items) (keys : List Key) → InOrder mirror → Covers now live mirror
+    → Covers now live (apply mirror (changes_to live keys))
+covers_still now live mirror keys s covers = record {
+  has_live =
+      λ k i h. changes_leave live k keys mirror s ∙ stays_live live k i (item_of mirror k) (is_named k keys) h (covers.has_live k i h);
+  rest_dead =
+      λ k i h. stays_dead now live k i (item_of mirror k) (is_named k keys) (sym (changes_leave live k keys mirror s) ∙ h) (covers.rest_dead k i);
+}
 
 -- ---- stops
 
