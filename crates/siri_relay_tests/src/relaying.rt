@@ -93,7 +93,7 @@ fn request(alloc: Global, relay: &mut Relay) -> Result<Message, Fail> {
 }
 
 /// A source that has the visit at 08:10, which came to the board over the relay.
-fn chain(alloc: Global) -> Result<Chain, Fail> {
+fn joined(alloc: Global) -> Result<Chain, Fail> {
     let eight = Moment::new(EIGHT).ok_or("no moment")?;
     let mut source = Producer::new(alloc, Name::new(alloc, "source")?, 1, eight)?;
     feed(alloc, &mut source, "08:10:00")?;
@@ -147,7 +147,7 @@ fn shown(alloc: Global, board: &Consumer) -> Result<Option<i64>, Fail> {
 #[test]
 fn small_changes_end_at_the_relay(rt: HostRuntime) -> Result<(), Fail> {
     let alloc = rt.alloc();
-    let mut chain = chain(alloc)?;
+    let mut chain = joined(alloc)?;
     assert_eq!(rt; shown(alloc, &chain.board)?, Some(TEN_PAST));
     assert_eq!(rt; pass_down(alloc, &mut chain)?, 0);
     feed(alloc, &mut chain.source, "08:11:00")?;
@@ -166,7 +166,7 @@ fn small_changes_end_at_the_relay(rt: HostRuntime) -> Result<(), Fail> {
 fn a_new_start_of_the_source_empties_the_board(rt: HostRuntime) -> Result<(), Fail> {
     let alloc = rt.alloc();
     let eight = Moment::new(EIGHT).ok_or("no moment")?;
-    let mut chain = chain(alloc)?;
+    let mut chain = joined(alloc)?;
     assert_eq!(rt; pass_down(alloc, &mut chain)?, 0);
     let mut other = Relay::new(alloc, Name::new(alloc, "relay")?, None, 1, 1, eight)?;
     let again = Rc::new(alloc, request(alloc, &mut other)?)?;
