@@ -35,16 +35,16 @@ def later(**parts):
 
 
 class Producer:
-    """`siri serve` at a port that stays the same, however often it is started."""
+    """`siri lite`, or another command, at a port that stays the same, however often it is started."""
 
-    def __init__(self, siri, folder, name="AGENCY", **environment):
-        self.siri, self.folder, self.name, self.port, self.process = os.path.abspath(siri), folder, name, free_port(), None
+    def __init__(self, siri, folder, command="lite", **environment):
+        self.siri, self.folder, self.command, self.port, self.process = os.path.abspath(siri), folder, command, free_port(), None
         self.environment = {**os.environ, **environment}
         os.makedirs(folder)
 
     def start(self):
         with open(os.path.join(self.folder, "errors"), "ab") as errors, open(os.path.join(self.folder, "output"), "ab") as output:
-            self.process = subprocess.Popen([self.siri, "serve", self.name, "127.0.0.1:%d" % self.port, "1000000"], cwd=self.folder,
+            self.process = subprocess.Popen([self.siri, self.command, "AGENCY", "127.0.0.1:%d" % self.port, "1000000"], cwd=self.folder,
                                             env=self.environment, stdin=subprocess.DEVNULL, stdout=output, stderr=errors)
         await_port(self.port, self.process)
 
@@ -70,9 +70,10 @@ class Producer:
 
 
 class Nginx:
-    """nginx as examples/deploy/nginx/wurtelim.conf has it, but for the ports, the places of files and the producer's port."""
+    """nginx as examples/deploy/nginx/wurtelim.conf has it, but for the ports, the places of files and the producer's port. With
+    makes_requests, queries.conf stands before the producer."""
 
-    def __init__(self, folder, deploy, pages, producer_port):
+    def __init__(self, folder, deploy, pages, producer_port, makes_requests=False):
         self.folder, self.process = folder, None
         self.answers = os.path.join("/dev/shm" if os.access("/dev/shm", os.W_OK) else folder, "wurtelim-answers-%d" % os.getpid())
         self.public, self.feeds, self.plain = free_port(), free_port(), free_port()
@@ -80,23 +81,30 @@ class Nginx:
             os.makedirs(os.path.join(folder, name))
         shutil.copytree(pages, os.path.join(folder, "www", "board"))
         self.certificates()
-        with open(os.path.join(deploy, "nginx", "wurtelim.conf")) as file:
-            text = file.read()
-        for there, here in (("127.0.0.1:7001", "127.0.0.1:%d" % producer_port), ("/etc/wurtelim/tls", os.path.join(folder, "tls")),
+        door = producer_port
+        if makes_requests:
+            door = free_port()
+            self.copy(deploy, "queries.conf", (("127.0.0.1:7000", "127.0.0.1:%d" % door), ("127.0.0.1:7001", "127.0.0.1:%d" % producer_port)))
+        self.copy(deploy, "wurtelim.conf", (("127.0.0.1:7001", "127.0.0.1:%d" % door), ("/etc/wurtelim/tls", os.path.join(folder, "tls")),
                             ("/var/www/wurtelim", os.path.join(folder, "www")), ("/run/wurtelim-answers", self.answers),
                             ("listen 80;", "listen 127.0.0.1:%d;" % self.plain), ("listen 443 ssl;", "listen 127.0.0.1:%d ssl;" % self.public),
-                            ("listen 8443 ssl;", "listen 127.0.0.1:%d ssl;" % self.feeds)):
-            if there not in text:
-                raise RuntimeError("wurtelim.conf hasn't “%s”" % there)
-            text = text.replace(there, here)
-        text = re.sub(r"^ *listen \[::\].*\n", "", text, flags=re.M)
-        with open(os.path.join(folder, "wurtelim.conf"), "w") as file:
-            file.write(text)
+                            ("listen 8443 ssl;", "listen 127.0.0.1:%d ssl;" % self.feeds)))
         kept = "".join("%s_temp_path %s/temporary/%s;\n" % (name, folder, name) for name in ("client_body", "proxy", "fastcgi", "uwsgi", "scgi"))
         types = "/etc/nginx/mime.types"
         with open(os.path.join(folder, "nginx.conf"), "w") as file:
             file.write("daemon off;\nworker_processes 2;\npid %s/pid;\nerror_log %s/error.log;\nevents { worker_connections 4096; }\nhttp {\n%s"
-                       "access_log %s/access.log;\ninclude %s;\ninclude %s/wurtelim.conf;\n}\n" % (folder, folder, kept, folder, types, folder))
+                       "access_log %s/access.log;\ninclude %s;\ninclude %s/*.conf.copy;\n}\n" % (folder, folder, kept, folder, types, folder))
+
+    def copy(self, deploy, name, changes):
+        """A copy of a configuration, with these changes and without addresses of IPv6."""
+        with open(os.path.join(deploy, "nginx", name)) as file:
+            text = file.read()
+        for there, here in changes:
+            if there not in text:
+                raise RuntimeError("%s hasn't “%s”" % (name, there))
+            text = text.replace(there, here)
+        with open(os.path.join(self.folder, name + ".copy"), "w") as file:
+            file.write(re.sub(r"^ *listen \[::\].*\n", "", text, flags=re.M))
 
     def certificates(self):
         """A certificate of each server, an authority of feeders and a feeder of it, and a feeder of nobody."""
@@ -111,7 +119,7 @@ class Nginx:
 
     def edit(self, there, here):
         """Changes the copy of the configuration that is served, before a start."""
-        path = os.path.join(self.folder, "wurtelim.conf")
+        path = os.path.join(self.folder, "wurtelim.conf.copy")
         with open(path) as file:
             text = file.read()
         if there not in text:

@@ -11,6 +11,7 @@ import sys
 import tempfile
 import threading
 import time
+import urllib.parse
 import zoneinfo
 import datetime
 
@@ -174,7 +175,7 @@ class Board:
     def refuses(self):
         """A question that is refused says so, beside one that isn't; what of the address is wrong is told."""
         self.open("stop=%s&stop=S1&zone=Europe/Paris&every=1" % ("x" * 256))
-        self.wait("/is refused: .*(NotPlain|BadName)/.test(%s)" % STATE, "a refusal isn't told")
+        self.wait("/is refused: .*BadName/.test(%s)" % STATE, "a refusal isn't told")
         self.wait_rows([["10"]], "a stop beside one that is refused", stop=1)
         self.open("stop=S1&zone=Nowhere/At+all&every=0")
         self.wait("%s.includes('“Nowhere/At all” is no time zone') && %s.includes('“every” is a number from 1 to 600')" % (STATE, STATE), "a bad address isn't told")
@@ -191,7 +192,9 @@ class Board:
         self.wait("[...document.querySelectorAll('.situations li')].some((one) => one.textContent === %s)" % json.dumps(HOSTILE), "a hostile disturbance isn't shown as it is")
         self.check(self.browser.run("document.querySelectorAll('#stops script, #stops img, #state img').length") == 0, "a name became an element")
         self.check(self.browser.run("document.querySelectorAll('tbody bdi').length") == 6, "names aren't kept apart from what stands beside them")
-        self.feed(cancelled=["<script>"])
+        self.feed([visit("h", "10", "Harbour", self.now + 1200, stop=HOSTILE)], cancelled=["<script>"])
+        self.open("stop=%s&zone=Europe/Paris&every=1" % urllib.parse.quote(HOSTILE))
+        self.wait_rows([["10", "Harbour", at(self.now + 1200)]], "a board of a stop with a hostile name")
 
     def reads(self):
         """Answers that aren't of the form."""

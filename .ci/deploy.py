@@ -1,6 +1,6 @@
 """What examples/deploy sets up, over real sockets: `deploy.py SIRI EXAMPLES`. nginx with its configuration, but for ports and places of
-files, before the program SIRI: what it answers, what it refuses, whom it cuts off, and what waits. Then the units, by
-systemd-analyze."""
+files, before the program SIRI: what it answers, what it refuses, whom it cuts off, and what waits; then before one that answers no
+query. Then the units, by systemd-analyze."""
 import collections
 import concurrent.futures
 import glob
@@ -15,10 +15,12 @@ import subprocess
 import sys
 import tempfile
 import time
+import urllib.parse
 
 from behind import Nginx, Producer, later
 
 MEMBERS = ("MonitoringRef", "LineRef", "DirectionRef", "OperatorRef", "DestinationRef", "PreviewInterval", "StartTime", "MaximumStopVisits")
+# Names that aren't plain, as they stand in a query.
 NOT_PLAIN = ("S%221", "S1%22,%22LineRef%22:%22L1", "S\"1", "S\\1", "S1\\u0022", "S1}", "S'1", "S$1", "S$uri", "%53", "S+1", "S/1", "S?1", "<b>", "\u00e9", "x" * 256)
 CHECK = '{"Siri":{"CheckStatusRequest":{}}}'
 
@@ -85,7 +87,21 @@ class Deployed:
         self.check(client.getresponse().status == 301, "without TLS nobody is sent to TLS")
 
     def names(self):
-        """A name that isn't plain reaches no producer, whatever member it stands at."""
+        """Whatever name stands in a query, what is answered is what a request with that name as a text gets, and nobody else's."""
+        quoted = [urllib.parse.quote_plus(name, safe="") for name in ('S "1"', "S\\1", "\u05ea\u05d7\u05e0\u05d4 \u00e9", "<b>&=+%", "S1,LineRef:L1")]
+        for number, raw in enumerate((*quoted, *NOT_PLAIN)):
+            name = urllib.parse.unquote_plus(raw)
+            if len(name) < 256:
+                self.producer.feed({"StopMonitoringDelivery": [{"MonitoredStopVisit": [visit(name, "n%d" % number)]}]})
+        for raw in (*quoted, *NOT_PLAIN):
+            asked = {"StopMonitoringRequest": {"MonitoringRef": urllib.parse.unquote_plus(raw)}}
+            status, told = self.producer.post({"Siri": {"ServiceRequest": asked}})
+            answer = self.raw("GET /siri-lite/stop-monitoring.json?MonitoringRef=%s HTTP/1.1\r\nHost: a\r\nConnection: close\r\n\r\n" % raw)
+            items, wanted = (re.findall('"ItemIdentifier":"([^"]*)"', text) for text in (answer, told.decode()))
+            self.check(int(answer.split()[1]) == status and items == wanted and (items or status == 400), "%s is answered %s" % (raw, answer[-300:]))
+
+    def not_plain(self):
+        """Before a producer that answers no query, a name that isn't plain reaches no producer, whatever member it stands at."""
         before = self.accepted()
         for name in NOT_PLAIN:
             for member in MEMBERS:
@@ -313,38 +329,46 @@ def units(siri, deploy, folder, faults):
         lines = [line for line in (told.stdout + told.stderr).splitlines() if "wurtelim" in line]
         if told.returncode or lines:
             faults.append("systemd-analyze of %s: %s %s" % (os.path.basename(path), told.returncode, lines or told.stderr[-500:]))
-    told = subprocess.run(["systemd-analyze", "security", "--offline=yes", "--threshold=15", os.path.join(copies, "wurtelim-serve.service")],
+    told = subprocess.run(["systemd-analyze", "security", "--offline=yes", "--threshold=15", os.path.join(copies, "wurtelim-lite.service")],
                           capture_output=True, text=True, check=False)
     if told.returncode:
-        faults.append("systemd-analyze finds wurtelim-serve.service exposed: %s" % (told.stdout + told.stderr)[-200:])
+        faults.append("systemd-analyze finds wurtelim-lite.service exposed: %s" % (told.stdout + told.stderr)[-200:])
+
+
+def before(siri, examples, folder, command, parts, faults):
+    """nginx before a producer, which answers queries if it is `lite`."""
+    os.mkdir(folder)
+    producer = Producer(siri, os.path.join(folder, "producer"), command, SIRI_LOG="1")
+    nginx = Nginx(os.path.join(folder, "nginx"), os.path.join(examples, "deploy"), os.path.join(examples, "board"), producer.port, command != "lite")
+    told = nginx.test()
+    if told:
+        faults.append("nginx -t: " + told)
+    part = None
+    try:
+        producer.start()
+        nginx.start()
+        deployed = Deployed(producer, nginx, faults)
+        for part in parts:
+            part(deployed)
+    except (OSError, RuntimeError, http.client.HTTPException) as fault:
+        faults.append("%s before %s: %s: %s" % (part and part.__name__, command, type(fault).__name__, fault))
+    finally:
+        nginx.stop()
+        producer.kill()
 
 
 def main(siri, examples):
-    deploy, faults = os.path.join(examples, "deploy"), []
+    faults = []
     with tempfile.TemporaryDirectory() as folder:
         os.chmod(folder, 0o755)
         if shutil.which("openssl") and shutil.which("nginx", path=os.environ["PATH"] + ":/usr/sbin"):
-            producer = Producer(siri, os.path.join(folder, "producer"), SIRI_LOG="1")
-            nginx = Nginx(os.path.join(folder, "nginx"), deploy, os.path.join(examples, "board"), producer.port)
-            told = nginx.test()
-            if told:
-                faults.append("nginx -t: " + told)
-            part = producer.start
-            try:
-                producer.start()
-                nginx.start()
-                deployed = Deployed(producer, nginx, faults)
-                for part in (deployed.public, deployed.names, deployed.no_feeds, deployed.crowd, deployed.queue, deployed.reader, deployed.feeds, deployed.divided, deployed.gone):
-                    part()
-            except (OSError, RuntimeError, http.client.HTTPException) as fault:
-                faults.append("%s: %s: %s" % (part.__name__, type(fault).__name__, fault))
-            finally:
-                nginx.stop()
-                producer.kill()
+            parts = (Deployed.public, Deployed.names, Deployed.no_feeds, Deployed.crowd, Deployed.queue, Deployed.reader, Deployed.feeds, Deployed.divided, Deployed.gone)
+            before(siri, examples, os.path.join(folder, "lite"), "lite", parts, faults)
+            before(siri, examples, os.path.join(folder, "serve"), "serve", (Deployed.public, Deployed.not_plain, Deployed.no_feeds, Deployed.feeds, Deployed.gone), faults)
         else:
             print("deploy: there is no nginx or no openssl (Debian's packages of these names), so the configuration of nginx isn't tested")
         if shutil.which("systemd-analyze"):
-            units(siri, deploy, folder, faults)
+            units(siri, os.path.join(examples, "deploy"), folder, faults)
         else:
             print("deploy: there is no systemd-analyze (Debian's package systemd), so the units aren't tested")
     for fault in faults:

@@ -7,49 +7,22 @@ import http.server
 import json
 import os
 import random
-import re
 import signal
 import subprocess
 import sys
 import tempfile
 import threading
 import time
-import urllib.parse
 
 BOARD = os.path.join(os.path.dirname(os.path.abspath(__file__)), "..", "board")
 TYPES = {".html": "text/html; charset=utf-8", ".css": "text/css", ".js": "text/javascript"}
-# The members that a query may name, of each service in the order of the profile.
-SERVICES = {
-    "stop-monitoring": ("StopMonitoringRequest", ("MonitoringRef", "LineRef", "DirectionRef", "OperatorRef", "DestinationRef", "PreviewInterval",
-                                                  "StartTime", "MaximumStopVisits")),
-    "estimated-timetable": ("EstimatedTimetableRequest", ("PreviewInterval", "OperatorRef")),
-    "vehicle-monitoring": ("VehicleMonitoringRequest", ("VehicleRef", "LineRef", "DirectionRef")),
-    "situation-exchange": ("SituationExchangeRequest", ("LineRef", "StopPointRef", "OperatorRef", "PreviewInterval", "StartTime")),
-}
 
 
-def question_of(target):
-    """The ServiceRequest that a query stands for, of two pairs of a name by the first; None where the path is none."""
-    path, _, query = target.partition("?")
-    found = re.fullmatch(r"/siri-lite/([a-z-]+)\.json", path)
-    if not found or found[1] not in SERVICES:
-        return None
-    pairs = {}
-    for name, value in urllib.parse.parse_qsl(query):
-        pairs.setdefault(name, value)
-    request, members = SERVICES[found[1]]
-    asked = {name: pairs[name] for name in members if name in pairs}
-    line = {name: pairs[name] for name in ("LineRef", "DirectionRef") if name in pairs}
-    if found[1] == "estimated-timetable" and line:
-        asked["Lines"] = {"LineDirection": line}
-    return {"Siri": {"ServiceRequest": {request: asked}}}
-
-
-def post(port, document):
+def ask(port, method, target, document=None):
     """The status, the type and the body that the producer answers."""
     client = http.client.HTTPConnection("127.0.0.1", port, timeout=20)
     try:
-        client.request("POST", "/", json.dumps(document))
+        client.request(method, target, None if document is None else json.dumps(document))
         response = client.getresponse()
         return response.status, response.getheader("Content-Type"), response.read()
     finally:
@@ -61,11 +34,10 @@ class Handler(http.server.BaseHTTPRequestHandler):
     producer, one_at_a_time = 0, threading.Lock()
 
     def do_GET(self):
-        question = question_of(self.path)
-        if question:
+        if self.path.startswith("/siri-lite/"):
             try:
                 with self.one_at_a_time:
-                    self.tell(*post(self.producer, question))
+                    self.tell(*ask(self.producer, "GET", self.path))
             except (OSError, http.client.HTTPException):
                 self.tell(502, "text/plain", b"the producer doesn't answer\n")
             return
@@ -118,7 +90,7 @@ def feed_for_good(port):
     """Departures every two minutes or so; each may get later, a platform changes, some are cancelled or aren't monitored."""
     draw, begun = random.Random(7), time.time()
     late = {}
-    post(port, {"Siri": {"ServiceDelivery": {"SituationExchangeDelivery": {"Situations": {"PtSituationElement": {
+    ask(port, "POST", "/", {"Siri": {"ServiceDelivery": {"SituationExchangeDelivery": {"Situations": {"PtSituationElement": {
         **SITUATION, "ValidityPeriod": [{"StartTime": text_of(begun - 3600)}]}}}}}})
     while True:
         first = int((time.time() - begun) // 130)
@@ -128,7 +100,7 @@ def feed_for_good(port):
             call = {"DepartureStatus": "cancelled"} if number % 11 == 4 else {}
             visits.append(visit(number, begun + 70 + 130 * number, None if number % 7 == 6 else late[number], call=call))
         try:
-            post(port, {"Siri": {"ServiceDelivery": {"StopMonitoringDelivery": {"MonitoredStopVisit": visits}}}})
+            ask(port, "POST", "/", {"Siri": {"ServiceDelivery": {"StopMonitoringDelivery": {"MonitoredStopVisit": visits}}}})
         except (OSError, http.client.HTTPException):
             return
         time.sleep(5)
@@ -140,7 +112,7 @@ def main(siri, port="8000"):
     with http.server.ThreadingHTTPServer(("127.0.0.1", 0), Handler) as free:
         Handler.producer = free.server_port
     with tempfile.TemporaryDirectory() as folder:
-        producer = subprocess.Popen([os.path.abspath(siri), "serve", "TOWN", "127.0.0.1:%d" % Handler.producer, "1000000"], cwd=folder, stdin=subprocess.DEVNULL)
+        producer = subprocess.Popen([os.path.abspath(siri), "lite", "TOWN", "127.0.0.1:%d" % Handler.producer, "1000000"], cwd=folder, stdin=subprocess.DEVNULL)
         try:
             time.sleep(0.5)
             threading.Thread(target=feed_for_good, args=(Handler.producer,), daemon=True).start()
