@@ -136,7 +136,7 @@ fn shown(alloc: Global, board: &Consumer) -> Result<Option<i64>, Fail> {
                 .monitored_vehicle_journey
                 .monitored_call
                 .expected_departure_time
-                .map(|time| time.ms() - EIGHT),
+                .map(|time| time.ms()),
         ),
         _ => Ok(None),
     }
