@@ -46,6 +46,7 @@ pub record ReadsBack (name : List ℕ) (moment start : ℕ) (kept : Items) (held
   pub keyed : All (λ e. e.0 ≡ key_of e.1) kept
   pub proper : All (λ e. IsProperKey e.0) kept
   pub items : All (λ e. item_of_row (key_text e.0) (item_text e.1) ≡ Some e.1) kept
+  pub based : All (λ s. s.base ≤ s.number) helds
   pub requests : All (λ s. request_of_row (request_text s.asked s.base) ≡ Some (message.SubscriptionRequest (request_of s.asked s.base))) helds
   pub renewals : All (λ s. (text : List ℕ) → renewal_text s.asked.subscription s.number s.base ≡ Some text
       → renewal_of_row s.asked.subscription s.base text ≡ Some (message.DataSupplyRequest (renewal_of s.asked.subscription s.number s.base))) helds

@@ -1,7 +1,7 @@
 //! Laws of what a shelf keeps of a producer's items.
 
 ghost use Rattle.std.specs.Prelude.{◌≡◌, ◌≢◌, ◌≤◌, ◌∷◌, [], ℕ, List, length, map, IsSome, Some, Result};
-ghost use Rattle.std.specs.List.{AllByRecursion as All};
+ghost use Rattle.std.specs.List.{AllByRecursion};
 ghost use Rattle.siri_base.specs.declared.errors.OutsideError.{OutsideError};
 ghost use Rattle.siri_records.specs.declared.key.Key.{Key};
 ghost use Rattle.siri_records.specs.Keyed.{InOrder, Items, apply, item_of};
@@ -25,7 +25,7 @@ pub fn key_texts_differ()
 /// and one put for each key that they name it has such rows again, by the items that are live then. No other table
 /// changes.
 pub fn a_feed_is_kept()
-    ensures rows { (rows : Rows) (kept live : Items) (keys : List Key) → All IsProperKey keys → InOrder kept
+    ensures rows { (rows : Rows) (kept live : Items) (keys : List Key) → AllByRecursion IsProperKey keys → InOrder kept
         → HasItems rows kept → HasItems (with_puts rows (puts_to live keys)) (apply kept (changes_to live keys)) }
     ensures covers { (now : ℕ) (items kept : Items) (entries : List Entry) → InOrder items → InOrder kept
         → Covers now (live_of now items) kept

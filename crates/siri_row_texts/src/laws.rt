@@ -4,7 +4,7 @@ ghost use Rattle.std.specs.Prelude.{◌≡◌, ◌≤◌, ℕ, List, length, map
 ghost use Rattle.std.specs.Cmp.Lexicographic.{slice_cmp};
 ghost use Rattle.std.specs.Ordering.{nat_cmp};
 ghost use Rattle.std.specs.List.Sorted.{IsStrictlySortedBy};
-ghost use Rattle.std.specs.List.{AllByRecursion as All, list_all, range_with_len};
+ghost use Rattle.std.specs.List.{AllByRecursion, list_all, range_with_len};
 ghost use Rattle.std.specs.Char.{is_ascii_digit};
 ghost use Rattle.siri_json.specs.Tree.{longest_document};
 ghost use Rattle.siri_records.specs.declared.item.Item.{Item};
@@ -62,7 +62,7 @@ pub fn renewal_row_is_read()
 /// Of a proper SubscriptionRequest the request of each of its subscriptions alone is proper too.
 pub fn each_request_alone_is_proper()
     ensures { (r : SubscriptionRequest) → IsProperMessage (message.SubscriptionRequest r)
-        → All (λ asked. IsProperMessage (message.SubscriptionRequest (request_of asked r.message_identifier))) (asked_in r) }
+        → AllByRecursion (λ asked. IsProperMessage (message.SubscriptionRequest (request_of asked r.message_identifier))) (asked_in r) }
 {}
 
 /// The texts of the places from 1 on, up to the 200 of a whole table, are in order and have 20 digits.
