@@ -8,14 +8,14 @@ use std::alloc::Global;
 pub(crate) type Written = (u8, &'static str, Option<&'static str>);
 
 /// The row of a moment, a start and a name.
-const MOMENT: &str = "2024-05-01T08:00:00Z 1 p";
+pub(crate) const MOMENT: &str = "2024-05-01T08:00:00Z 1 p";
 
 /// The key of a visit's row.
-const VISIT: &str =
+pub(crate) const VISIT: &str =
     r#"{"Siri":{"ServiceDelivery":{"Status":true,"StopMonitoringDelivery":[{"MonitoredStopVisitCancellation":[{"ItemRef":"a","MonitoringRef":"S1"}],"Status":true}]}}}"#;
 
 /// Its text, with a departure at 08:50.
-const DEPARTURE: &str =
+pub(crate) const DEPARTURE: &str =
     r#"{"Siri":{"ServiceDelivery":{"Status":true,"StopMonitoringDelivery":[{"MonitoredStopVisit":[{"ItemIdentifier":"a","MonitoredVehicleJourney":{"LineRef":"L1","MonitoredCall":{"ExpectedDepartureTime":"2024-05-01T08:50:00Z"}},"MonitoringRef":"S1"}],"Status":true}]}}}"#;
 
 /// What is written at first: out of order, one row twice, and one that goes later.
