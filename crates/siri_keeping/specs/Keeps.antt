@@ -1,6 +1,6 @@
 -- What a shelf keeps of a producer's history.
 use Rattle.std.specs.Prelude.{◌≡◌, ◌≤◌, ◌<◌, ⊤, ℕ, List, [], length, true, IsSome, None, Some}
-use Rattle.std.specs.List.{AllByRecursion as All, AllZip, Contains}
+use Rattle.std.specs.List.{AllByRecursion, AllZip, Contains}
 use Rattle.std.specs.List.Sorted.{IsStrictlySortedBy}
 use Rattle.std.specs.Cmp.Lexicographic.{slice_cmp}
 use Rattle.std.specs.Ordering.{nat_cmp}
@@ -25,7 +25,7 @@ IsProperEntry (Observed i) = IsProper i
 IsProperEntry (Withdrawn k) = IsProperKey k
 
 abbrev pub IsProperStep : Step → Type 0
-IsProperStep (Feed entries) = All IsProperEntry entries
+IsProperStep (Feed entries) = AllByRecursion IsProperEntry entries
 IsProperStep (Take m) = IsProperMessage m
 IsProperStep other = ⊤
 
@@ -34,7 +34,7 @@ IsProperStep other = ⊤
 -- tables 2 and 3 have the rows of these subscriptions, in order, and no others
 pub record HasSubscriptions (rows : Rows) (places : List (List ℕ)) (helds : List Held) : Type 0 where
   pub ascend : IsStrictlySortedBy (slice_cmp nat_cmp) places
-  pub digits : All (λ place. is_place place ≡ true) places
+  pub digits : AllByRecursion (λ place. is_place place ≡ true) places
   pub requests : AllZip (λ place s. text_at rows 2 place ≡ Some (request_text s.asked s.base)) places helds
   pub renewals : AllZip (λ place s. text_at rows 3 place ≡ renewal_text s.asked.subscription s.number s.base) places helds
   pub only_requests : (key : List ℕ) → IsSome (text_at rows 2 key) → Contains places key
@@ -43,12 +43,12 @@ pub record HasSubscriptions (rows : Rows) (places : List (List ℕ)) (helds : Li
 -- each row is read as what it was written of
 pub record ReadsBack (name : List ℕ) (moment start : ℕ) (kept : Items) (helds : List Held) : Type 0 where
   pub began : began_of_row (moment_row moment start name) ≡ Some (record { moment = moment; start = start; name = name })
-  pub keyed : All (λ e. e.0 ≡ key_of e.1) kept
-  pub proper : All (λ e. IsProperKey e.0) kept
-  pub items : All (λ e. item_of_row (key_text e.0) (item_text e.1) ≡ Some e.1) kept
-  pub based : All (λ s. s.base ≤ s.number) helds
-  pub requests : All (λ s. request_of_row (request_text s.asked s.base) ≡ Some (message.SubscriptionRequest (request_of s.asked s.base))) helds
-  pub renewals : All (λ s. (text : List ℕ) → renewal_text s.asked.subscription s.number s.base ≡ Some text
+  pub keyed : AllByRecursion (λ e. e.0 ≡ key_of e.1) kept
+  pub proper : AllByRecursion (λ e. IsProperKey e.0) kept
+  pub items : AllByRecursion (λ e. item_of_row (key_text e.0) (item_text e.1) ≡ Some e.1) kept
+  pub based : AllByRecursion (λ s. s.base ≤ s.number) helds
+  pub requests : AllByRecursion (λ s. request_of_row (request_text s.asked s.base) ≡ Some (message.SubscriptionRequest (request_of s.asked s.base))) helds
+  pub renewals : AllByRecursion (λ s. (text : List ℕ) → renewal_text s.asked.subscription s.number s.base ≡ Some text
       → renewal_of_row s.asked.subscription s.base text ≡ Some (message.DataSupplyRequest (renewal_of s.asked.subscription s.number s.base))) helds
 
 -- A shelf keeps these of a producer of this name: its moment and start; its live items, and besides only dead ones, at most
@@ -69,4 +69,4 @@ pub record Keeps (name : List ℕ) (rows : Rows) (h : History) : Type 0 where
   pub kept : Items
   pub places : List (List ℕ)
   pub these : KeepsThese name (now_of h) (start_of h) (living (now_of h) (current h)) kept places (helds_of (table_of h)) rows
-  pub proper : All IsProperStep h
+  pub proper : AllByRecursion IsProperStep h
