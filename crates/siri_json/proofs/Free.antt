@@ -1,6 +1,6 @@
 -- In the value of a quoted text no number stands.
 use Rattle.std.proofs.Common.{◌≡◌, ℕ, zero, suc, Bool, true, false, List, [], ◌∷◌, length, Option, Some, None, option_and_then, inl, inr}
-use Rattle.std.proofs.Common.{◌⊎◌, refl, sym, ap, ◌∙◌, subst}
+use Rattle.std.proofs.Common.{◌⊎◌, sym, ap, subst}
 use Rattle.std.proofs.lemmas.Bool.{false≢true}
 use Rattle.std.specs.Prelude.{⊤}
 use Rattle.json.specs.Token.{Token, begin_object, end_object, begin_array, end_array, key, string, number, boolean, null, bad}
@@ -13,20 +13,8 @@ use Rattle.serde_json.specs.Read.{max_depth}
 use Rattle.siri_json.specs.Shown.{whole}
 use Rattle.siri_json.proofs.NumberFree.{IsFree, ItemsAreFree, MembersAreFree}
 use Rattle.siri_json.proofs.Clean.{Clean, quoted_is_clean}
-
--- a fault comes next
-abbrev Fails : List Token → Type 0
-Fails [] = ⊥
-Fails (begin_object ∷ ts) = ⊥
-Fails (end_object ∷ ts) = ⊥
-Fails (begin_array ∷ ts) = ⊥
-Fails (end_array ∷ ts) = ⊥
-Fails (key s ∷ ts) = ⊥
-Fails (string s ∷ ts) = ⊥
-Fails (number s ∷ ts) = ⊥
-Fails (boolean b ∷ ts) = ⊥
-Fails (null ∷ ts) = ⊥
-Fails (bad ∷ ts) = ⊤
+use Rattle.siri_json.proofs.Faults.{Refuses, refuses_items, refuses_members, refuses_value}
+use Rattle.siri_json.proofs.Punctuated.{Fails}
 
 -- each number stands before a fault
 abbrev Numberless : List Token → Type 0
@@ -100,10 +88,6 @@ Gives Q (Some p) = (Q p.0 × Numberless p.1) ⊎ Fails p.1
 abbrev Keeps : {A : Type 0} → (A → Type 0) → Parse A → Type 0
 Keeps Q p = (ts : List Token) → Numberless ts → Gives Q (p ts)
 
--- at a fault nothing is read
-abbrev Refuses : {A : Type 0} → Parse A → Type 0
-Refuses p = (ts : List Token) → Fails ts → p ts ≡ None
-
 mapped : {A B : Type 0} (P : A → Type 0) (Q : B → Type 0) (f : A → B) → ((a : A) → P a → Q (f a))
     → (o : Option (A × List Token)) → Gives P o → Gives Q (parse_map f o)
 mapped P Q f g None h = tt
@@ -153,53 +137,7 @@ naming (boolean v ∷ ts) h = tt
 naming (null ∷ ts) h = tt
 naming (bad ∷ ts) h = tt
 
-no_end : (ts : List Token) → Fails ts → after_end_array ts ≡ None
-no_end [] h = absurd h
-no_end (begin_object ∷ ts) h = absurd h
-no_end (end_object ∷ ts) h = absurd h
-no_end (begin_array ∷ ts) h = absurd h
-no_end (end_array ∷ ts) h = absurd h
-no_end (key s ∷ ts) h = absurd h
-no_end (string s ∷ ts) h = absurd h
-no_end (number s ∷ ts) h = absurd h
-no_end (boolean v ∷ ts) h = absurd h
-no_end (null ∷ ts) h = absurd h
-no_end (bad ∷ ts) h = refl
-
-no_key : (ts : List Token) → Fails ts → read_key ts ≡ None
-no_key [] h = absurd h
-no_key (begin_object ∷ ts) h = absurd h
-no_key (end_object ∷ ts) h = absurd h
-no_key (begin_array ∷ ts) h = absurd h
-no_key (end_array ∷ ts) h = absurd h
-no_key (key s ∷ ts) h = absurd h
-no_key (string s ∷ ts) h = absurd h
-no_key (number s ∷ ts) h = absurd h
-no_key (boolean v ∷ ts) h = absurd h
-no_key (null ∷ ts) h = absurd h
-no_key (bad ∷ ts) h = refl
-
-no_value : (a : Parse Items) (o : Parse Members) (ts : List Token) → Fails ts → value_with a o ts ≡ None
-no_value a o [] h = absurd h
-no_value a o (begin_object ∷ ts) h = absurd h
-no_value a o (end_object ∷ ts) h = absurd h
-no_value a o (begin_array ∷ ts) h = absurd h
-no_value a o (end_array ∷ ts) h = absurd h
-no_value a o (key s ∷ ts) h = absurd h
-no_value a o (string s ∷ ts) h = absurd h
-no_value a o (number s ∷ ts) h = absurd h
-no_value a o (boolean v ∷ ts) h = absurd h
-no_value a o (null ∷ ts) h = absurd h
-no_value a o (bad ∷ ts) h = refl
-
 module _ (p : Parse Json) (keeps : Keeps IsFree p) (refuses : Refuses p) where
-  Refuses-items : (n : ℕ) → Refuses (items p n)
-  unfolding items
-  Refuses-items zero ts h = refl
-  Refuses-items (suc n) ts h =
-      ap (items_step p (items p n) ts) (no_end ts h) ∙ ap
-      (option_and_then (λ (q : Json × List Token). parse_map (json.item q.0) (items p n q.1))) (refuses ts h)
-
   item_turn : (more : Parse Items) → Keeps ItemsAreFree more → Refuses more → (ts : List Token) → Numberless ts
       → (o : Option (List Token)) → Rest o → Gives ItemsAreFree (items_step p more ts o)
   item_turn more again never ts h (Some r) q = inl (tt, q)
@@ -208,12 +146,8 @@ module _ (p : Parse Json) (keeps : Keeps IsFree p) (refuses : Refuses p) where
   Keeps-items : (n : ℕ) → Keeps ItemsAreFree (items p n)
   unfolding items
   Keeps-items zero ts h = tt
-  Keeps-items (suc n) ts h = item_turn (items p n) (Keeps-items n) (Refuses-items n) ts h (after_end_array ts) (closing ts h)
-
-  Refuses-members : (n : ℕ) → Refuses (members p n)
-  unfolding members
-  Refuses-members zero ts h = refl
-  Refuses-members (suc n) ts h = ap (option_and_then (λ (q : Option (List ℕ) × List Token). members_step p (members p n) q.0 q.1)) (no_key ts h)
+  Keeps-items (suc n) ts h =
+      item_turn (items p n) (Keeps-items n) (refuses_items p refuses n) ts h (after_end_array ts) (closing ts h)
 
   member_turn : (more : Parse Members) → Keeps MembersAreFree more → Refuses more → (o : Option (Option (List ℕ) × List Token)) → Named o
       → Gives MembersAreFree (option_and_then (λ q. members_step p more q.0 q.1) o)
@@ -224,7 +158,8 @@ module _ (p : Parse Json) (keeps : Keeps IsFree p) (refuses : Refuses p) where
   Keeps-members : (n : ℕ) → Keeps MembersAreFree (members p n)
   unfolding members
   Keeps-members zero ts h = tt
-  Keeps-members (suc n) ts h = member_turn (members p n) (Keeps-members n) (Refuses-members n) (read_key ts) (naming ts h)
+  Keeps-members (suc n) ts h =
+      member_turn (members p n) (Keeps-members n) (refuses_members p refuses n) (read_key ts) (naming ts h)
 
 Keeps-value_with : (a : Parse Items) (o : Parse Members) → Keeps ItemsAreFree a → Keeps MembersAreFree o → Keeps IsFree (value_with a o)
 Keeps-value_with a o p q [] h = tt
@@ -239,18 +174,13 @@ Keeps-value_with a o p q (boolean v ∷ ts) h = inl (tt, h)
 Keeps-value_with a o p q (null ∷ ts) h = inl (tt, h)
 Keeps-value_with a o p q (bad ∷ ts) h = tt
 
-Refuses-value : (depth : ℕ) → Refuses (value depth)
-unfolding value
-Refuses-value zero ts h = no_value (λ ts. None) (λ ts. None) ts h
-Refuses-value (suc d) ts h = no_value (λ ts. items (value d) (length ts) ts) (λ ts. members (value d) (length ts) ts) ts h
-
 Keeps-value : (depth : ℕ) → Keeps IsFree (value depth)
 unfolding value
 Keeps-value zero = Keeps-value_with (λ ts. None) (λ ts. None) (λ ts h. tt) (λ ts h. tt)
 Keeps-value (suc d) =
     Keeps-value_with (λ ts. items (value d) (length ts) ts) (λ ts. members (value d) (length ts) ts)
-    (λ ts. Keeps-items (value d) (Keeps-value d) (Refuses-value d) (length ts) ts)
-    (λ ts. Keeps-members (value d) (Keeps-value d) (Refuses-value d) (length ts) ts)
+    (λ ts. Keeps-items (value d) (Keeps-value d) (refuses_value d) (length ts) ts)
+    (λ ts. Keeps-members (value d) (Keeps-value d) (refuses_value d) (length ts) ts)
 
 abbrev IfFound : Option Json → Type 0
 IfFound None = ⊤

@@ -63,9 +63,6 @@ unfolding quoted_from after_number
 step n name hn hq later [] = refl
 step n name hn hq later (y ∷ ys) = step_at n y name ys (is_run_byte y) (y == 34) refl refl hn hq later
 
-no_end : (y : ℕ) → is_run_byte y ≡ true → (is_operator y || is_space y) ≡ false
-no_end = run_no_stop
-
 end_run : (b : Bool) (y : ℕ) (run rest : List ℕ) → is_run_byte y ≡ true → ends_word (cond b (34 ∷ ((y ∷ run) ++ 34 ∷ [])) (y ∷ run) ++ rest) ≡ false
 end_run true y run rest r = refl
 end_run false y run rest r = run_no_stop y r

@@ -1,11 +1,11 @@
 -- A line feed behind the compact text of an object is passed over.
-use Rattle.std.proofs.Common.{◌≡◌, ℕ, ◌≤◌, Bool, true, false, cond, ◌&&◌, List, [], ◌∷◌, ◌++◌, Some, refl, sym, ap, ap₂, ◌∙◌, append_assoc}
-use Rattle.std.proofs.Common.{append-nil, option_and_then}
+use Rattle.std.proofs.Common.{◌≡◌, ℕ, ◌≤◌, Bool, true, false, cond, ◌&&◌, List, [], ◌∷◌, ◌++◌, Some, option_map}
+use Rattle.std.proofs.Common.{refl, sym, ap, ap₂, ◌∙◌, append_assoc, append-nil}
 use Rattle.std.specs.Prelude.{IsUtf8}
 use Rattle.std.proofs.lemmas.Str.{IsUtf8-append}
 use Rattle.json.specs.Json as json
 use Rattle.json.specs.Token.{Token, begin_object, end_object, begin_array, end_array, key, string, number, boolean, null, bad}
-use Rattle.json.specs.Word.{after_number, ends_word, word}
+use Rattle.json.specs.Word.{ends_word, word}
 use Rattle.json.specs.Lex.{Lexeme, token, comma, colon, string_token, lex, between, fresh, punctuate, tokens}
 use Rattle.json.specs.Print.{escape, quoted as string_text, token_text, begins, ends, separator, print_from, print, IsPrintable, ArePrintable}
 use Rattle.json.specs.Tree.{json_tokens}
@@ -14,16 +14,16 @@ use Rattle.json.proofs.Printed.Numbers.{lex-number, in_word-ended}
 use Rattle.json.proofs.Printed.Utf8.{IsUtf8-are_ascii}
 use Rattle.json.proofs.Printed.Trees.{ArePrintable-json_tokens}
 use Rattle.serde_json.specs.Data.{Data, object, Members, depth}
-use Rattle.serde_json.specs.Read.{max_depth, of_json, read}
+use Rattle.serde_json.specs.Read.{max_depth}
 use Rattle.serde_json.specs.Written.{outline, compact_text}
 use Rattle.serde_json.proofs.Texts.{print-outline}
 use Rattle.siri_json.specs.Canonical.{IsCanonical, as_texts}
-use Rattle.siri_json.specs.Quoted.{quoted_from, quoted}
-use Rattle.siri_json.specs.Tree.{json_of, tree_of}
-use Rattle.siri_json.proofs.AsTexts.{quoted-object, canonical_as_texts, depth-as_texts}
-use Rattle.siri_json.proofs.Back.{has_numbers, read-compact_text}
+use Rattle.siri_json.specs.Shown.{data_of, whole}
+use Rattle.siri_json.specs.Tree.{tree_of}
+use Rattle.siri_json.proofs.Back.{has_numbers, data_of-outline, tokens_say}
 use Rattle.siri_json.proofs.CompactText.{IsUtf8-compact_text}
-use Rattle.siri_json.proofs.Texts.{json_is}
+use Rattle.siri_json.proofs.Direct.{tree_of_is}
+use Rattle.siri_json.proofs.Texts.{said_is}
 
 -- the byte of a line feed
 feed : List ℕ
@@ -117,19 +117,13 @@ tokens_feed d h =
     let same = lex_feed false (json_tokens (outline d)) (ArePrintable-json_tokens (outline d) (has_numbers d h)) in
     ap (λ t. tokens (t ++ feed)) (sym text) ∙ (ap (punctuate fresh) same ∙ (ap tokens (append-nil _) ∙ ap tokens text))
 
-quoted_feed : quoted (10 ∷ []) ≡ 10 ∷ []
-unfolding quoted_from after_number
-quoted_feed = refl
-
 -- the compact text of an object and a line feed, read as a document, are the tree with texts for its numbers
 pub tree_of-line : (ms : Members) → IsCanonical (object ms) → depth (object ms) ≤ max_depth
     → tree_of (compact_text (object ms) ++ 10 ∷ []) ≡ Some (as_texts (object ms))
 unfolding feed
 tree_of-line ms h shallow =
-    let new = as_texts (object ms) in
-    let canonical = canonical_as_texts (object ms) h in
-    let utf8 : IsUtf8 (compact_text new ++ 10 ∷ []) = IsUtf8-append _ _ (IsUtf8-compact_text new canonical) (IsUtf8-are_ascii _ refl) in
-    let is : read (compact_text new ++ 10 ∷ []) ≡ Some new =
-    ap (λ ts. option_and_then of_json (option_and_then (λ p. json.if_last p.0 p.1) (json.value max_depth ts)))
-    (tokens_feed new canonical) ∙ read-compact_text new canonical (rw (depth-as_texts (object ms)) shallow) in
-    ap json_of (quoted-object ms h (10 ∷ []) ∙ ap (λ t. compact_text new ++ t) quoted_feed) ∙ json_is (compact_text new ++ 10 ∷ []) new utf8 is
+    let d = object ms in
+    let text = compact_text d ++ 10 ∷ [] in
+    let utf8 : IsUtf8 text = IsUtf8-append _ _ (IsUtf8-compact_text d h) (IsUtf8-are_ascii _ refl) in
+    let is = ap (λ ts. whole (json.value max_depth ts)) (tokens_feed d h) ∙ tokens_say d h shallow in
+    tree_of_is text ∙ (ap (option_map data_of) (said_is text (outline d) utf8 is) ∙ ap Some (data_of-outline d h))

@@ -1,17 +1,17 @@
 -- The tree of a document has UTF-8 texts, since the document that is read is UTF-8: a text begins and ends beside a quote, and
 -- an escape stands for a character.
 use Rattle.std.proofs.Common.{◌≡◌, ℕ, zero, suc, ◌+◌, ◌<◌, ◌≤◌, Bool, true, false, cond, ◌&&◌, ◌||◌, ◌==◌, nat_lt, nat_le, List, [], ◌∷◌}
-use Rattle.std.proofs.Common.{◌++◌, length, take, drop, get_or, Option, Some, None, option_map, option_and_then, Ordering, Less, Equal}
-use Rattle.std.proofs.Common.{Greater, nat_cmp, inl, inr, refl, sym, ap, ◌∙◌, subst, arith, append_assoc, append-nil, length-append}
+use Rattle.std.proofs.Common.{◌++◌, length, Option, Some, None, option_map, option_and_then, Ordering, Less, Equal}
+use Rattle.std.proofs.Common.{Greater, nat_cmp, inl, inr, refl, sym, ◌∙◌, subst, arith, append_assoc, append-nil}
 use Rattle.std.specs.Prelude.{IfSome, IsUtf8, ⊤}
 use Rattle.std.specs.Char.{digit_value, is_digit, encode_utf8, IsScalar}
 use Rattle.std.specs.Cmp.Lexicographic.{slice_cmp}
 use Rattle.std.specs.List.{AllByRecursion}
 use Rattle.std.specs.Ordering.{match_ordering}
-use Rattle.std.specs.Str.{is_utf8, IsCharBoundary}
+use Rattle.std.specs.Str.{is_utf8}
 use Rattle.std.proofs.lemmas.Bool.{and_parts, cases_lt, ltb-true, lt-ltb, le-ltb, le-leb, leb-true, eqb-true, true≢false}
-use Rattle.std.proofs.lemmas.Str.{IsUtf8-append, IsUtf8-encode, IsUtf8-take, IsUtf8-drop, IsUtf8-past_char, IsUtf8-from_ascii}
-use Rattle.std.proofs.lemmas.Str.{IsUtf8-from_is_utf8, IsCharBoundary-before_ascii, encode_ascii}
+use Rattle.std.proofs.lemmas.Str.{IsUtf8-append, IsUtf8-encode, IsUtf8-from_ascii}
+use Rattle.std.proofs.lemmas.Str.{IsUtf8-from_is_utf8}
 use Rattle.std.proofs.lemmas.Str.Ascii.{IsAscii-nil, IsAscii-cons}
 use Rattle.json.specs.Token.{Token}
 use Rattle.json.specs.Text.{code_unit, short_escape, is_high_surrogate, is_low_surrogate, surrogate_pair, Within, plain, after_backslash}
@@ -26,6 +26,7 @@ use Rattle.serde_json.specs.Data.{Data, number, array, object, item, Members, no
 use Rattle.serde_json.specs.Read.{number_of, of_json, of_items, of_members, max_depth, read}
 use Rattle.siri_json.specs.Quoted.{quoted}
 use Rattle.siri_json.specs.Tree.{json_of, tree_of}
+use Rattle.siri_json.proofs.Utf8.{cut, past}
 use Rattle.siri_json.specs.TextsOfTrees.{TextsAreUtf8, ItemTextsAreUtf8, MemberTextsAreUtf8, DocumentTextsAreUtf8}
 
 -- ---- what may be absent
@@ -51,33 +52,6 @@ anything (Some a) = tt
 
 one_byte : (x : ℕ) → x < 128 → IsUtf8 (x ∷ [])
 one_byte x low = IsUtf8-from_ascii (x ∷ []) (IsAscii-cons x [] low IsAscii-nil)
-
-past_ascii : (x : ℕ) (xs : List ℕ) → x < 128 → IsUtf8 (x ∷ xs) → IsUtf8 xs
-past_ascii x xs low u = IsUtf8-past_char (x ∷ xs) xs x u (ap (λ (l : List ℕ). l ++ xs) (sym (encode_ascii x low)))
-
-here : (p xs : List ℕ) (x : ℕ) → get_or (p ++ x ∷ xs) (length p) 0 ≡ x
-here [] xs x = refl
-here (y ∷ p) xs x = here p xs x
-
-taken : (p ys : List ℕ) → take (length p) (p ++ ys) ≡ p
-taken [] ys = refl
-taken (y ∷ p) ys = ap (λ (l : List ℕ). y ∷ l) (taken p ys)
-
-dropped : (p ys : List ℕ) → drop (length p) (p ++ ys) ≡ ys
-dropped [] ys = refl
-dropped (y ∷ p) ys = dropped p ys
-
-boundary : (p xs : List ℕ) (x : ℕ) → x < 128 → IsCharBoundary (p ++ x ∷ xs) (length p)
-boundary p xs x low =
-    let long : length (p ++ x ∷ xs) ≡ length p + suc (length xs) = length-append p (x ∷ xs) in
-    let byte : get_or (p ++ x ∷ xs) (length p) 0 ≡ x = here p xs x in
-    IsCharBoundary-before_ascii (p ++ x ∷ xs) (length p) (omega (arith, long)) (omega (arith, byte, low))
-
-cut_before : (p xs : List ℕ) (x : ℕ) → x < 128 → IsUtf8 (p ++ x ∷ xs) → IsUtf8 p
-cut_before p xs x low u = subst IsUtf8 (taken p (x ∷ xs)) (IsUtf8-take (p ++ x ∷ xs) (length p) u (boundary p xs x low))
-
-cut_after : (p xs : List ℕ) (x : ℕ) → x < 128 → IsUtf8 (p ++ x ∷ xs) → IsUtf8 xs
-cut_after p xs x low u = past_ascii x xs low (subst IsUtf8 (dropped p (x ∷ xs)) (IsUtf8-drop (p ++ x ∷ xs) (length p) u (boundary p xs x low)))
 
 moved_on : (p xs : List ℕ) (x : ℕ) → IsUtf8 (p ++ x ∷ xs) → IsUtf8 ((p ++ x ∷ []) ++ xs)
 moved_on p xs x u = subst IsUtf8 (sym (append_assoc p (x ∷ []) xs)) u
@@ -204,25 +178,26 @@ content_is : (w : Within) (xs : List ℕ) → IsContent w xs
 unfolding content
 content_is plain [] = λ p u. tt
 content_is plain (x ∷ xs) = λ p u.
-    both (λ s. IsUtf8 (p ++ s)) (x == 34) (Some []) _ (λ q. subst IsUtf8 (sym (append-nil p)) (cut_before p xs x (low_byte x 34 (omega arith) q) u))
+    both (λ s. IsUtf8 (p ++ s)) (x == 34) (Some []) _
+    (λ q. subst IsUtf8 (sym (append-nil p)) (cut p xs x (low_byte x 34 (omega arith) q) u).0)
     (λ q. both (λ s. IsUtf8 (p ++ s)) (x == 92) (content after_backslash xs) _
-    (λ b. joined p (content after_backslash xs) (cut_before p xs x (low_byte x 92 (omega arith) b) u)
-    (content_is after_backslash xs (cut_after p xs x (low_byte x 92 (omega arith) b) u)))
+    (λ b. joined p (content after_backslash xs) (cut p xs x (low_byte x 92 (omega arith) b) u).0
+    (content_is after_backslash xs (past x xs (low_byte x 92 (omega arith) b) (cut p xs x (low_byte x 92 (omega arith) b) u).1)))
     (λ b. both (λ s. IsUtf8 (p ++ s)) (nat_lt x 32) None _ (λ l. tt)
     (λ l. after_one p x (content plain xs) (content_is plain xs (p ++ x ∷ []) (moved_on p xs x u)))))
 content_is after_backslash [] = λ u. tt
 content_is after_backslash (x ∷ xs) = λ u.
-    both IsUtf8 (x == 117) (content after_u xs) _ (λ e. content_is after_u xs (past_ascii x xs (low_byte x 117 (omega arith) e) u))
+    both IsUtf8 (x == 117) (content after_u xs) _ (λ e. content_is after_u xs (past x xs (low_byte x 117 (omega arith) e) u))
     (λ e. and_then_is (AreLow x) IsUtf8 _ (short_escape x) (short_is x)
     (λ c low. ahead (c ∷ []) (content plain xs) (one_byte c low.1)
-    (content_is plain xs [] (past_ascii x xs low.0 u))))
+    (content_is plain xs [] (past x xs low.0 u))))
 content_is after_u [] = λ u. tt
 content_is after_u (a ∷ []) = λ u. tt
 content_is after_u (a ∷ b ∷ []) = λ u. tt
 content_is after_u (a ∷ b ∷ c ∷ []) = λ u. tt
 content_is after_u (a ∷ b ∷ c ∷ d ∷ xs) = λ u.
     and_then_is (IsUnit a b c d) IsUtf8 _ (code_unit a b c d) (unit_is a b c d) (λ unit is.
-    let rest = past_ascii d xs is.2.1 (past_ascii c (d ∷ xs) is.2.0 (past_ascii b (c ∷ d ∷ xs) is.1.1 (past_ascii a (b ∷ c ∷ d ∷ xs) is.1.0 u))) in
+    let rest = past d xs is.2.1 (past c (d ∷ xs) is.2.0 (past b (c ∷ d ∷ xs) is.1.1 (past a (b ∷ c ∷ d ∷ xs) is.1.0 u))) in
     both IsUtf8 (is_high_surrogate unit) (content (after_high unit) xs) _ (λ h. content_is (after_high unit) xs h rest)
     (λ h. both IsUtf8 (is_low_surrogate unit) None _ (λ l. tt)
     (λ l. ahead (encode_utf8 unit) (content plain xs) (IsUtf8-encode unit (unit_scalar unit is.0 h l))
@@ -236,10 +211,10 @@ content_is (after_high h) (s ∷ t ∷ a ∷ b ∷ c ∷ []) = λ high u. tt
 content_is (after_high h) (s ∷ t ∷ a ∷ b ∷ c ∷ d ∷ xs) = λ high u.
     both IsUtf8 ((s == 92) && (t == 117)) _ None (λ e.
     let p = and_parts (s == 92) (t == 117) e in
-    let unit = past_ascii t (a ∷ b ∷ c ∷ d ∷ xs) (low_byte t 117 (omega arith) p.1)
-    (past_ascii s (t ∷ a ∷ b ∷ c ∷ d ∷ xs) (low_byte s 92 (omega arith) p.0) u) in
+    let unit = past t (a ∷ b ∷ c ∷ d ∷ xs) (low_byte t 117 (omega arith) p.1)
+    (past s (t ∷ a ∷ b ∷ c ∷ d ∷ xs) (low_byte s 92 (omega arith) p.0) u) in
     and_then_is (IsUnit a b c d) IsUtf8 _ (code_unit a b c d) (unit_is a b c d) (λ l is.
-    let rest = past_ascii d xs is.2.1 (past_ascii c (d ∷ xs) is.2.0 (past_ascii b (c ∷ d ∷ xs) is.1.1 (past_ascii a (b ∷ c ∷ d ∷ xs) is.1.0 unit))) in
+    let rest = past d xs is.2.1 (past c (d ∷ xs) is.2.0 (past b (c ∷ d ∷ xs) is.1.1 (past a (b ∷ c ∷ d ∷ xs) is.1.0 unit))) in
     both IsUtf8 (is_low_surrogate l) _ None (λ low. ahead (encode_utf8 (surrogate_pair h l)) (content plain xs)
     (IsUtf8-encode (surrogate_pair h l) (pair_scalar h l high low)) (content_is plain xs [] rest)) (λ low. tt)))
     (λ e. tt)
@@ -333,7 +308,9 @@ unfolding lex
 lex_is m p [] u = tt
 lex_is m p (x ∷ xs) u =
     byte_is m (class x) x xs (λ next. lex next xs)
-    (class_is _ (x == 34) (x == 92) (is_operator x) (is_space x) (λ e. content_is plain xs [] (cut_after p xs x (low_byte x 34 (omega arith) e) u)))
+    (class_is _ (x == 34) (x == 92) (is_operator x) (is_space x)
+    (λ e. content_is plain xs [] (past x xs (low_byte x 34 (omega arith) e)
+    (cut p xs x (low_byte x 34 (omega arith) e) u).1)))
     (λ next. lex_is next (p ++ x ∷ []) xs (moved_on p xs x u))
 
 allowed_is : (b : Bool) (t : Token) (k : Place → List Token) (next : Place) → TokenIs t → ((q : Place) → TokensAre (k q)) → TokensAre (if_allowed b t k next)

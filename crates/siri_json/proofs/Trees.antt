@@ -8,6 +8,7 @@ use Rattle.json.specs.Json.{Json, Items, Members, Parse, parse_map, after_end_ar
 use Rattle.json.proofs.Grammar.{left, skip_value-shorter, read_key-shorter}
 use Rattle.serde_json.specs.Data.{Data, object as data_object, array as data_array, Members as DataMembers, no_members, item as data_item, put}
 use Rattle.siri_json.specs.Shown.{data_of, items_data, members_data, whole}
+use Rattle.siri_json.proofs.Faults.{Refuses, refuses_items, refuses_members, refuses_value}
 use Rattle.siri_json.proofs.Punctuated.{Fails, Halts, Matches}
 
 -- nothing was read, or a fault comes next
@@ -43,10 +44,6 @@ mapped R S f g k None p (inr h) = absurd h
 mapped R S f g k (Some a) None (inr h) = absurd h
 mapped R S f g k (Some a) (Some b) (inr h) = inr (k a.0 b.0 h.0, h.1)
 
--- at a fault nothing is read
-abbrev Refuses : {A : Type 0} → Parse A → Type 0
-Refuses p = (ts : List Token) → Fails ts → p ts ≡ None
-
 none_stops : {A : Type 0} (o : Option (A × List Token)) → o ≡ None → StopsO o
 none_stops o e = subst StopsO (sym e) tt
 
@@ -68,45 +65,6 @@ then_rel S f g k more again x y (Some q) (Some r) later (inr h) =
     mapped S S (f q.0) (g r.0) (λ a b s. k q.0 r.0 a b h.0 s) (more q.1) (again r.1) (later q r refl refl h.1)
 
 -- ---- one step of each part
-
-no_end : (ts : List Token) → Fails ts → after_end_array ts ≡ None
-no_end [] h = absurd h
-no_end (begin_object ∷ ts) h = absurd h
-no_end (end_object ∷ ts) h = absurd h
-no_end (begin_array ∷ ts) h = absurd h
-no_end (end_array ∷ ts) h = absurd h
-no_end (key s ∷ ts) h = absurd h
-no_end (string s ∷ ts) h = absurd h
-no_end (number s ∷ ts) h = absurd h
-no_end (boolean v ∷ ts) h = absurd h
-no_end (null ∷ ts) h = absurd h
-no_end (bad ∷ ts) h = refl
-
-no_key : (ts : List Token) → Fails ts → read_key ts ≡ None
-no_key [] h = absurd h
-no_key (begin_object ∷ ts) h = absurd h
-no_key (end_object ∷ ts) h = absurd h
-no_key (begin_array ∷ ts) h = absurd h
-no_key (end_array ∷ ts) h = absurd h
-no_key (key s ∷ ts) h = absurd h
-no_key (string s ∷ ts) h = absurd h
-no_key (number s ∷ ts) h = absurd h
-no_key (boolean v ∷ ts) h = absurd h
-no_key (null ∷ ts) h = absurd h
-no_key (bad ∷ ts) h = refl
-
-no_value : (a : Parse Items) (o : Parse Members) (ts : List Token) → Fails ts → value_with a o ts ≡ None
-no_value a o [] h = absurd h
-no_value a o (begin_object ∷ ts) h = absurd h
-no_value a o (end_object ∷ ts) h = absurd h
-no_value a o (begin_array ∷ ts) h = absurd h
-no_value a o (end_array ∷ ts) h = absurd h
-no_value a o (key s ∷ ts) h = absurd h
-no_value a o (string s ∷ ts) h = absurd h
-no_value a o (number s ∷ ts) h = absurd h
-no_value a o (boolean v ∷ ts) h = absurd h
-no_value a o (null ∷ ts) h = absurd h
-no_value a o (bad ∷ ts) h = refl
 
 halted_value : (a : Parse Items) (o : Parse Members) (ts : List Token) → Halts ts → StopsO (value_with a o ts)
 halted_value a o [] h = absurd h
@@ -215,17 +173,6 @@ Shorter : Parse Json → Type 0
 Shorter p = (ts : List Token) (q : Json × List Token) → p ts ≡ Some q → length q.1 < length ts
 
 module _ (p : Parse Json) (never : Refuses p) (shorter : Shorter p) (rel : (ts us : List Token) → Matches ts us → Rel RJ (p ts) (p us)) where
-  refuses_items : (n : ℕ) → Refuses (items p n)
-  unfolding items
-  refuses_items zero ts h = refl
-  refuses_items (suc n) ts h =
-      ap (items_step p (items p n) ts) (no_end ts h) ∙ ap (option_and_then (λ (q : Json × List Token). parse_map (json.item q.0) (items p n q.1))) (never ts h)
-
-  refuses_members : (n : ℕ) → Refuses (members p n)
-  unfolding members
-  refuses_members zero ts h = refl
-  refuses_members (suc n) ts h = ap (option_and_then (λ (q : Option (List ℕ) × List Token). members_step p (members p n) q.0 q.1)) (no_key ts h)
-
   item_turn : (more again : Parse Items) → Refuses more → Refuses again → (ts us : List Token)
       → ((q r : Json × List Token) → p ts ≡ Some q → p us ≡ Some r → Matches q.1 r.1 → Rel RI (more q.1) (again r.1))
       → Rel RJ (p ts) (p us) → (o e : Option (List Token)) → Ends o e → Rel RI (items_step p more ts o) (items_step p again us e)
@@ -277,7 +224,7 @@ module _ (p : Parse Json) (never : Refuses p) (shorter : Shorter p) (rel : (ts u
   items_rel zero m (t ∷ ts) (u ∷ us) e x y h = absurd (omega arith)
   items_rel (suc n) zero (t ∷ ts) (u ∷ us) e x y h = absurd (omega arith)
   items_rel (suc n) (suc m) (t ∷ ts) (u ∷ us) e x y h =
-      item_turn (items p n) (items p m) (refuses_items n) (refuses_items m) (t ∷ ts) (u ∷ us)
+      item_turn (items p n) (items p m) (refuses_items p never n) (refuses_items p never m) (t ∷ ts) (u ∷ us)
       (λ q r is it k. let less = shorter (t ∷ ts) q is in let fewer = shorter (u ∷ us) r it in
       items_rel n m q.1 r.1 e (omega (arith, less)) (omega (arith, fewer)) k)
       (rel (t ∷ ts) (u ∷ us) h) (after_end_array (t ∷ ts)) (after_end_array (u ∷ us)) (ends (t ∷ ts) (u ∷ us) h)
@@ -290,7 +237,8 @@ module _ (p : Parse Json) (never : Refuses p) (shorter : Shorter p) (rel : (ts u
   members_rel zero m (t ∷ ts) (u ∷ us) x y h = absurd (omega arith)
   members_rel (suc n) zero (t ∷ ts) (u ∷ us) x y h = absurd (omega arith)
   members_rel (suc n) (suc m) (t ∷ ts) (u ∷ us) x y h =
-      member_turn (members p n) (members p m) (refuses_members n) (refuses_members m) (read_key (t ∷ ts)) (read_key (u ∷ us)) (keys (t ∷ ts) (u ∷ us) h)
+      member_turn (members p n) (members p m) (refuses_members p never n) (refuses_members p never m)
+      (read_key (t ∷ ts)) (read_key (u ∷ us)) (keys (t ∷ ts) (u ∷ us) h)
       (λ k vs ws a b q r is it j.
       let less = shorter vs q is in let fewer = shorter ws r it in let once = read_key-shorter (t ∷ ts) k vs a in
       let again = read_key-shorter (u ∷ us) k ws b in
@@ -322,11 +270,6 @@ module _ (a b : Parse Items) (o e : Parse Members) (lists : (ts us : List Token)
       subst (λ (v : Token). Rel RJ (value_with a o (v ∷ ts)) (value_with b e (u ∷ us))) (sym r.1)
       (subst (λ (v : Token). Rel RJ (Some (json.number r.0, ts)) (value_with b e (v ∷ us))) (sym r.2) (inr (refl, h)))
 
-value_refuses : (d : ℕ) → Refuses (value d)
-unfolding value
-value_refuses zero ts h = no_value (λ ts. None) (λ ts. None) ts h
-value_refuses (suc d) ts h = no_value (λ ts. items (value d) (length ts) ts) (λ ts. members (value d) (length ts) ts) ts h
-
 value_shorter : (d : ℕ) → Shorter (value d)
 unfolding Shorter
 value_shorter d ts q e = skip_value-shorter d ts q.1 (ap left e)
@@ -342,8 +285,10 @@ values zero = value_rel (λ ts. None) (λ ts. None) (λ ts. None) (λ ts. None) 
 values (suc d) =
     value_rel (λ ts. items (value d) (length ts) ts) (λ ts. items (value d) (length ts) ts)
     (λ ts. members (value d) (length ts) ts) (λ ts. members (value d) (length ts) ts)
-    (λ ts us h. items_rel (value d) (value_refuses d) (value_shorter d) (values d) (length ts) (length us) ts us (value_empty d) (omega arith) (omega arith) h)
-    (λ ts us h. members_rel (value d) (value_refuses d) (value_shorter d) (values d) (length ts) (length us) ts us (omega arith) (omega arith) h)
+    (λ ts us h. items_rel (value d) (refuses_value d) (value_shorter d) (values d) (length ts) (length us) ts us
+    (value_empty d) (omega arith) (omega arith) h)
+    (λ ts us h. members_rel (value d) (refuses_value d) (value_shorter d) (values d) (length ts) (length us) ts us
+    (omega arith) (omega arith) h)
 
 -- ---- the whole
 

@@ -1,6 +1,7 @@
 -- A text is UTF-8 exactly where its quoted text is.
 use Rattle.std.proofs.Common.{◌≡◌, ℕ, ◌<◌, Bool, true, false, cond, not, ◌&&◌, ◌==◌, List, [], ◌∷◌, ◌++◌, length, take, drop, get_or, refl}
 use Rattle.std.proofs.Common.{sym, ap, subst, arith, append_assoc}
+use Rattle.std.proofs.Math.Seq.{take-append_seam, drop-append_seam, get_or-append_seam}
 use Rattle.std.specs.Prelude.{⊤, IsUtf8}
 use Rattle.std.specs.Str.{is_utf8}
 use Rattle.std.proofs.lemmas.Str.{IsUtf8-append, IsUtf8-past_char, IsUtf8-take, IsUtf8-drop, IsUtf8-from_ascii, IsCharBoundary-before_ascii}
@@ -8,6 +9,7 @@ use Rattle.std.proofs.lemmas.Str.{encode_ascii, is_utf8-from_IsUtf8, IsUtf8-from
 use Rattle.std.proofs.lemmas.Str.Ascii.{IsAscii-cons, IsAscii-nil}
 use Rattle.json.specs.Word.{after_number}
 use Rattle.siri_json.specs.Quoted.{is_run_byte, is_number, is_before_colon, run_text, outside, inside, after_inside, after_outside, quoted_from, quoted}
+use Rattle.siri_json.proofs.Pieces.{run_byte}
 use Rattle.siri_json.proofs.Words.{AllRun, AllRun-nil, AllRun-push, AllRun-first}
 use Rattle.siri_json.proofs.Clean.{at_end}
 
@@ -16,31 +18,19 @@ Iff A B = (A → B) × (B → A)
 
 -- ---- a text may be cut before and after ASCII
 
-front_is : (a r : List ℕ) → take (length a) (a ++ r) ≡ a
-front_is [] r = refl
-front_is (x ∷ a) r = ap (λ (t : List ℕ). x ∷ t) (front_is a r)
-
-back_is : (a r : List ℕ) → drop (length a) (a ++ r) ≡ r
-back_is [] r = refl
-back_is (x ∷ a) r = back_is a r
-
-byte_is : (a r : List ℕ) (x : ℕ) → get_or (a ++ x ∷ r) (length a) 0 ≡ x
-byte_is [] r x = refl
-byte_is (y ∷ a) r x = byte_is a r x
-
 longer : (a r : List ℕ) (x : ℕ) → length a < length (a ++ x ∷ r)
 longer [] r x = omega arith
 longer (y ∷ a) r x = let more = longer a r x in omega arith
 
-cut : (a r : List ℕ) (x : ℕ) → x < 128 → IsUtf8 (a ++ x ∷ r) → IsUtf8 a × IsUtf8 (x ∷ r)
+pub cut : (a r : List ℕ) (x : ℕ) → x < 128 → IsUtf8 (a ++ x ∷ r) → IsUtf8 a × IsUtf8 (x ∷ r)
 cut a r x small u =
-    let low : get_or (a ++ x ∷ r) (length a) 0 < 128 = rw (byte_is a r x) small in
+    let low : get_or (a ++ x ∷ r) (length a) 0 < 128 = rw (get_or-append_seam a x r 0) small in
     let boundary = IsCharBoundary-before_ascii (a ++ x ∷ r) (length a) (longer a r x) low in (
-      subst IsUtf8 (front_is a (x ∷ r)) (IsUtf8-take (a ++ x ∷ r) (length a) u boundary),
-      subst IsUtf8 (back_is a (x ∷ r)) (IsUtf8-drop (a ++ x ∷ r) (length a) u boundary),
+      subst IsUtf8 (take-append_seam a (x ∷ r)) (IsUtf8-take (a ++ x ∷ r) (length a) u boundary),
+      subst IsUtf8 (drop-append_seam a (x ∷ r)) (IsUtf8-drop (a ++ x ∷ r) (length a) u boundary),
     )
 
-past : (x : ℕ) (r : List ℕ) → x < 128 → IsUtf8 (x ∷ r) → IsUtf8 r
+pub past : (x : ℕ) (r : List ℕ) → x < 128 → IsUtf8 (x ∷ r) → IsUtf8 r
 past x r small u = IsUtf8-past_char (x ∷ r) r x u (ap (λ (t : List ℕ). t ++ r) (sym (encode_ascii x small)))
 
 before : (x : ℕ) (r : List ℕ) → x < 128 → IsUtf8 r → IsUtf8 (x ∷ r)
@@ -68,13 +58,10 @@ strip a s r x h = (
   λ p. IsUtf8-append a (x ∷ (s ++ r)) p.0 (before x (s ++ r) h.0 (before_all s r h.1 p.1)),
 )
 
-run_small : (x : ℕ) → is_run_byte x ≡ true → x < 128
-run_small x h = grind arith
-
 all_small : (run : List ℕ) → AllRun run → AllSmall run
 unfolding AllSmall
 all_small [] h = tt
-all_small (x ∷ run) h = let both = AllRun-first x run h in (run_small x both.0, all_small run both.1)
+all_small (x ∷ run) h = let both = AllRun-first x run h in (run_byte x both.0, all_small run both.1)
 
 small_push : (s : List ℕ) (x : ℕ) → AllSmall s → x < 128 → AllSmall (s ++ x ∷ [])
 unfolding AllSmall
