@@ -1,6 +1,7 @@
 //! The row of a producer's moment, its start and its name.
 
-ghost use Rattle.std.specs.Prelude.{◌≡◌, IfOk};
+ghost use Rattle.std.specs.Prelude.{◌≡◌, ◌≤◌, Some, IfOk, OnOk};
+ghost use Rattle.siri_tables.specs.Proper.{IsNumber};
 ghost use Rattle.siri_row_texts.specs.ItemRows.{moment_row};
 ghost use Rattle.siri_row_texts.specs.Reading.{began_of_row, if_begun, parted};
 
@@ -25,7 +26,9 @@ pub fn moment_row(
     start: u64,
     name: &Name,
 ) -> Result<List<u8>, OutOfMemory>
-    ensures { IfOk result (λ text. text ≡ moment_row moment start name.now) }
+    ensures text { IfOk result (λ text. text ≡ moment_row moment start name.now) }
+    ensures read { OnOk result (1 ≤ start → IsNumber start
+        → began_of_row (moment_row moment start name.now) ≡ Some (record { moment = moment; start = start; name = name.now })) }
 {
     let mut written = [0u8; 24];
     let count = write_moment(moment, &mut written);
