@@ -4,16 +4,16 @@ ghost use Rattle.std.specs.Prelude.{◌≡◌, ◌++◌, [], map, IfOk, OnOk, On
 ghost use Rattle.std.specs.Option.{option_map_or};
 ghost use Rattle.siri_records.specs.Keyed.{InOrder};
 ghost use Rattle.siri_change.specs.Changes.{changes};
-ghost use Rattle.siri_change.specs.Parts.{carried};
 ghost use Rattle.siri_model.specs.History.{Observed, Withdrawn, entries_of};
 ghost use Rattle.siri_relay.specs.Feeds.{feeds_of, has_room, items_fed, removals_fed};
 ghost use Rattle.siri_relay.specs.Goes.{GoesBy, GoesSome};
 
 use siri_base::{Copies, List, OutOfMemory};
-use siri_change::{Change, View, changes};
+use siri_change::{View, changes};
 use siri_messages::{FunctionalDelivery, ServiceDelivery};
 use siri_producer::Producer;
 use siri_records::{Item, Key};
+use siri_replies::{items_in, removals_in};
 use std::alloc::Global;
 
 /// The most items of a view that find room at a producer.
@@ -103,30 +103,4 @@ fn delivery(
     let mut delivery = ServiceDelivery::blank(alloc);
     delivery.stop_monitoring_delivery.push(functional)?;
     Ok(delivery)
-}
-
-/// The items of changes, in their order.
-fn items_in(alloc: Global, changes: &[Change]) -> Result<List<Item>, OutOfMemory>
-    ensures { IfOk result (λ items. items ≡ (carried changes.now).items) }
-{
-    let mut items = List::new(alloc);
-    for change in changes {
-        if let Some(item) = &change.item {
-            items.push(item.copy()?)?;
-        }
-    }
-    Ok(items)
-}
-
-/// The keys that changes remove, in their order.
-fn removals_in(alloc: Global, changes: &[Change]) -> Result<List<Key>, OutOfMemory>
-    ensures { IfOk result (λ removals. removals ≡ (carried changes.now).removals) }
-{
-    let mut removals = List::new(alloc);
-    for change in changes {
-        if change.item.is_none() {
-            removals.push(change.key.key().copy()?)?;
-        }
-    }
-    Ok(removals)
 }

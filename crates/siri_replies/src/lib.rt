@@ -6,6 +6,7 @@
 //!     what became of each end of one   -> ended_status, unknown_status    -> termination_response
 //!
 //!     a part of a round                -> part_delivery, part_notification
+//!     what changes carry               -> items_in, removals_in
 //!     a part that isn't supplied       -> refused_supply
 //!     a request for all data           -> all_data_response
 //!
@@ -28,7 +29,9 @@ mod responses;
 mod statuses;
 
 pub use number::number_text;
-pub use parts::{all_data_response, part_delivery, part_notification, refused_supply};
+pub use parts::{
+    all_data_response, items_in, part_delivery, part_notification, refused_supply, removals_in,
+};
 pub use refusal::Refusal;
 pub use responses::{
     accepted_status, ended_status, refused_status, subscription_response, termination_response,

@@ -94,8 +94,8 @@ fn part_functional(
     })
 }
 
-/// The items of changes, in their order.
-fn items_in(alloc: Global, changes: &[Change]) -> Result<List<Item>, OutOfMemory>
+/// Copies of the items of changes, in the order of the changes.
+pub fn items_in(alloc: Global, changes: &[Change]) -> Result<List<Item>, OutOfMemory>
     ensures { IfOk result (λ items. items ≡ (carried changes.now).items) }
 {
     let mut items = List::new(alloc);
@@ -107,8 +107,8 @@ fn items_in(alloc: Global, changes: &[Change]) -> Result<List<Item>, OutOfMemory
     Ok(items)
 }
 
-/// The keys that changes remove, in their order.
-fn removals_in(alloc: Global, changes: &[Change]) -> Result<List<Key>, OutOfMemory>
+/// Copies of the keys that changes remove, in the order of the changes.
+pub fn removals_in(alloc: Global, changes: &[Change]) -> Result<List<Key>, OutOfMemory>
     ensures { IfOk result (λ removals. removals ≡ (carried changes.now).removals) }
 {
     let mut removals = List::new(alloc);
