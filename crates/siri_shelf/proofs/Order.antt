@@ -1,5 +1,5 @@
 -- Rows stay in order.
-use Rattle.std.proofs.Common.{◌≡◌, ℕ, List, [], ◌∷◌, ◌++◌, map, Bool, true, false, Option, None, Some, refl, ap, ◌∙◌}
+use Rattle.std.proofs.Common.{◌≡◌, ◌<◌, ℕ, List, [], ◌∷◌, ◌++◌, map, Bool, true, false, Option, None, Some, refl, ap, ◌∙◌}
 use Rattle.std.specs.List.{filter, AllByRecursion}
 use Rattle.std.specs.List.Sorted.{IsStrictlySortedBy}
 use Rattle.std.specs.Cmp.{IsTotalOrder}
@@ -9,7 +9,7 @@ use Rattle.std.specs.declared.cmp.Ordering.TheVariants.{Less, Equal, Greater}
 use Rattle.std.proofs.lemmas.Cmp.{nat_cmp_total, nat_list_cmp_total, on_total, then_total}
 use Rattle.siri_shelf.specs.declared.rows.Put.{Put}
 use Rattle.siri_shelf.specs.declared.rows.StoredRow.{StoredRow}
-use Rattle.siri_shelf.specs.Rows.{RowPlace, Rows, InOrder, place_cmp, place_of, placed_by}
+use Rattle.siri_shelf.specs.Rows.{HasByteTables, RowPlace, Rows, InOrder, place_cmp, place_of, placed, placed_by}
 use Rattle.siri_shelf.specs.Rows.{is_before, is_behind, with_put, with_puts}
 
 -- all rows of these stand before a place, or behind it
@@ -122,6 +122,13 @@ order_put rows put s =
 pub order_puts : (rows : Rows) (list : List Put) → InOrder rows → InOrder (with_puts rows list)
 order_puts rows [] s = s
 order_puts rows (put ∷ list) s = order_puts (with_put rows put) list (order_put rows put s)
+
+-- a put of a table that a byte names
+pub tables_put : (rows : Rows) (put : Put) → HasByteTables rows → HasByteTables (placed put) → HasByteTables (with_put rows put)
+tables_put rows put has own =
+    let P : RowPlace → Type 0 = λ place. place.0 < 256 in
+    let behind = all_two P (placed put) (filter (is_behind put) rows) own (all_kept (is_behind put) P rows has) in
+    all_two P (filter (is_before put) rows) (placed put ++ filter (is_behind put) rows) (all_kept (is_before put) P rows has) behind
 
 pub order_none : InOrder []
 unfolding IsStrictlySortedBy

@@ -1,6 +1,6 @@
 -- Rows of tables: a finite map from a table and a key to a text, as its rows in order of table and key.
-use Rattle.std.specs.Prelude.{ℕ, List, [], ◌∷◌, ◌++◌, map, find, fold, Bool, true, false, ◌&&◌, ◌==◌, Option, None, Some, option_map}
-use Rattle.std.specs.List.{filter}
+use Rattle.std.specs.Prelude.{ℕ, ◌<◌, List, [], ◌∷◌, ◌++◌, map, find, fold, Bool, true, false, ◌&&◌, ◌==◌, Option, None, Some, option_map}
+use Rattle.std.specs.List.{AllByRecursion, filter}
 use Rattle.std.specs.List.Sorted.{IsStrictlySortedBy}
 use Rattle.std.specs.Cmp.Lexicographic.{slice_cmp}
 use Rattle.std.specs.Ordering.{nat_cmp, ordering_then, is_eq, is_lt, is_gt}
@@ -26,6 +26,10 @@ place_of row = (row.table, row.key)
 -- each row is after the one before it, so each table and key stands once
 abbrev pub InOrder : Rows → Type 0
 InOrder rows = IsStrictlySortedBy place_cmp (map place_of rows)
+
+-- each row is of a table that a byte names
+abbrev pub HasByteTables : Rows → Type 0
+HasByteTables rows = AllByRecursion (λ place. place.0 < 256) (map place_of rows)
 
 -- the text at a table and a key, where there is one
 abbrev pub text_at : Rows → ℕ → List ℕ → Option (List ℕ)

@@ -5,7 +5,7 @@ use Rattle.siri_base.specs.declared.errors.OutsideError.{OutsideError}
 use Rattle.siri_base.specs.declared.errors.OutsideError.TheVariants as outside
 use Rattle.siri_shelf.specs.declared.rows.Put.{Put}
 use Rattle.siri_shelf.specs.declared.rows.Row.{Row}
-use Rattle.siri_shelf.specs.Rows.{InOrder, Rows, next_row, with_puts}
+use Rattle.siri_shelf.specs.Rows.{HasByteTables, InOrder, Rows, next_row, with_puts}
 
 -- What it tells: its rows, and its trail: the rows that a stop may have left at some moment since it was opened, the
 -- present ones last.
@@ -26,7 +26,7 @@ abbrev pub key_after : Option (Bor (List ℕ)) → Option (List ℕ)
 key_after after = option_map (λ key. key.now) after
 
 abbrev pub GivesNext : ℕ → Option (List ℕ) → ShelfState → Result (Option Row) OutsideError → Type 0
-GivesNext table after old (Ok row) = InOrder old.rows × (row ≡ next_row table after old.rows)
+GivesNext table after old (Ok row) = InOrder old.rows × HasByteTables old.rows × (row ≡ next_row table after old.rows)
 GivesNext table after old (Err error) = Unit {0}
 
 -- nothing changes, and the row is the next one

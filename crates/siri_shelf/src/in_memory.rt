@@ -46,7 +46,7 @@ impl Drop for InMemoryShelf<'_> {
 }
 
 impl<'a> Model for InMemoryShelf<'a> {
-    ghost use Rattle.siri_shelf.specs.Rows.{InOrder};
+    ghost use Rattle.siri_shelf.specs.Rows.{HasByteTables, InOrder};
     ghost use Rattle.siri_shelf.specs.InMemory.{InMemory};
 
     ghost Value = { InMemory };
@@ -60,7 +60,7 @@ impl<'a> Model for InMemoryShelf<'a> {
       faults = s.faults;
     } };
 
-    ghost invariant = { λ s. InOrder s.rows };
+    ghost invariant = { λ s. InOrder s.rows × HasByteTables s.rows };
 }
 
 impl<'a> InMemoryShelf<'a> {

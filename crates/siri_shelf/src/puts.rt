@@ -2,7 +2,7 @@
 
 ghost use Rattle.std.specs.Prelude.{◌≡◌, ◌++◌, IfOk, OnOk};
 ghost use Rattle.std.specs.List.{filter};
-ghost use Rattle.siri_shelf.specs.Rows.{is_before, is_behind, one_if, place_cmp, place_of, placed, with_put, with_puts};
+ghost use Rattle.siri_shelf.specs.Rows.{HasByteTables, is_before, is_behind, one_if, place_cmp, place_of, placed, with_put, with_puts};
 
 use crate::{Put, StoredRow};
 use siri_base::{Copies, List, OutOfMemory};
@@ -61,11 +61,13 @@ fn append_behind(
 
 /// Puts the row that a put makes, where it makes one, at the end of others.
 fn append_put(into: &mut Vec<StoredRow>, put: &Put) -> Result<(), OutOfMemory>
-    ensures { OnOk result (into.new.items ≡ into.old.items ++ placed put.now) }
+    ensures row { OnOk result (into.new.items ≡ into.old.items ++ placed put.now) }
+    ensures table { OnOk result (HasByteTables (placed put.now)) }
 {
+    let table = put.table;
     if let Some(text) = &put.text {
         into.push(StoredRow {
-            table: put.table,
+            table,
             key: put.key.copy()?,
             text: text.copy()?,
         })?;
@@ -74,9 +76,10 @@ fn append_put(into: &mut Vec<StoredRow>, put: &Put) -> Result<(), OutOfMemory>
 }
 
 /// The rows after a put.
-#[tactic(auto, using(crate::proofs::Parts::three_parts))]
+#[tactic(auto, using(crate::proofs::Parts::three_parts, crate::proofs::Order::tables_put))]
 fn after_put(alloc: Global, rows: &[StoredRow], put: &Put) -> Result<List<StoredRow>, OutOfMemory>
-    ensures { IfOk result (λ after. after ≡ with_put rows.now put.now) }
+    ensures rows { IfOk result (λ after. after ≡ with_put rows.now put.now) }
+    ensures tables { HasByteTables rows.now → IfOk result HasByteTables }
 {
     let mut after = Vec::new(alloc);
     append_before(&mut after, rows, put)?;
@@ -91,7 +94,8 @@ pub(crate) fn after_puts(
     rows: List<StoredRow>,
     list: &[Put],
 ) -> Result<List<StoredRow>, OutOfMemory>
-    ensures { IfOk result (λ after. after ≡ with_puts rows list.now) }
+    ensures rows { IfOk result (λ after. after ≡ with_puts rows list.now) }
+    ensures tables { HasByteTables rows → IfOk result HasByteTables }
 {
     let mut after = rows;
     for put in list {
