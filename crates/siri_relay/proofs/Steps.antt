@@ -15,7 +15,7 @@ use Rattle.siri_relay.proofs.ViewKept.{AppliesNothing}
 use Rattle.siri_relay.specs.declared.answers.RelayAnswer.TheVariants as answer
 use Rattle.siri_relay.specs.Feeds.{feeds_of, has_room}
 use Rattle.siri_relay.specs.Goes.{GoesBy, GoesSome}
-use Rattle.siri_relay.specs.Relaying.{KnownRelay, applied_steps, catch_up_steps, consumer_after, down_steps, is_up, take_steps, up_steps, view_after, view_of}
+use Rattle.siri_relay.specs.Relaying.{KnownRelay, applied_steps, catch_up_steps, consumer_after, down_steps, is_up, take_steps, up_steps, upper_of, view_after, view_of}
 use Rattle.siri_relay.specs.Taken.{AnswersFor}
 use Rattle.siri_relay.proofs.Goings.{goes_none, goes_then, some_first, some_later}
 
@@ -40,11 +40,11 @@ caught_up r p = record r { producer = p; fed = view_of r; level = has_room (view
 abbrev pub heard_steps : KnownRelay → Message → List Step
 heard_steps r m = applied_steps (seen_of r.consumer m).outcome (view_of r) (view_after r m)
 
-chosen_up : (r : KnownRelay) (m : Message) → is_up m ≡ true → up_steps r m ≡ take_steps r m
-chosen_up r m up = ap (λ (b : Bool). if b then up_steps r m else down_steps r m) (sym up)
+chosen_up : (r : KnownRelay) (m : Message) → is_up m ≡ true → up_steps (upper_of r) m ≡ take_steps r m
+chosen_up r m up = ap (λ (b : Bool). if b then up_steps (upper_of r) m else down_steps (upper_of r) m) (sym up)
 
-chosen_down : (r : KnownRelay) (m : Message) → is_up m ≡ false → down_steps r m ≡ take_steps r m
-chosen_down r m down = ap (λ (b : Bool). if b then up_steps r m else down_steps r m) (sym down)
+chosen_down : (r : KnownRelay) (m : Message) → is_up m ≡ false → down_steps (upper_of r) m ≡ take_steps r m
+chosen_down r m down = ap (λ (b : Bool). if b then up_steps (upper_of r) m else down_steps (upper_of r) m) (sym down)
 
 pub up_goes : (r mid : KnownRelay) (new : Known) (m : Message) → is_up m ≡ true → mid ≡ caught_up r mid.producer
     → GoesBy r.producer mid.producer (catch_up_steps r) → GoesBy mid.producer new (heard_steps mid m)

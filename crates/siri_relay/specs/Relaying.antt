@@ -52,35 +52,64 @@ is_up (message.CheckStatusRequest m) = false
 is_up (message.CheckStatusResponse m) = true
 is_up (message.HeartbeatNotification m) = true
 
--- ---- the steps of its producer
+-- ---- what it has beside its producer
+
+-- its consumer, the identifier of its upstream subscription once it asked for one, the view that the producer was fed last, and
+-- whether the producer has all that it is to have of the consumer's view
+pub record UpperSide : Type 0 where
+  pub consumer : Consuming
+  pub upstream : Option (List ℕ)
+  pub fed : Items
+  pub level : Bool
+
+abbrev pub upper_of : KnownRelay → UpperSide
+upper_of r = record { consumer = r.consumer; upstream = r.upstream; fed = r.fed; level = r.level }
+
+-- the view of the upstream subscription there
+abbrev pub view_there : UpperSide → Items
+view_there u = view_in u.upstream u.consumer
+
+-- ---- the steps of its producer, by what it has beside it
 
 -- what is missing is fed before anything else
-abbrev pub catch_up_steps : KnownRelay → List Step
-catch_up_steps r = if r.level then [] else feeds_of false r.fed (view_of r)
+abbrev pub missing_steps : UpperSide → List Step
+missing_steps u = if u.level then [] else feeds_of false u.fed (view_there u)
 
 -- at a moment
-abbrev pub clock_steps : KnownRelay → (now : ℕ) → List Step
-clock_steps r now = catch_up_steps r ++ Clock now ∷ []
+abbrev pub moment_steps : UpperSide → (now : ℕ) → List Step
+moment_steps u now = missing_steps u ++ Clock now ∷ []
 
 -- where a round was applied to the view, its changes are fed
 abbrev pub applied_steps : Outcome → (before after : Items) → List Step
 applied_steps (outcome.Applied round) before after = feeds_of (has_room before) before after
 applied_steps other before after = []
 
--- the view after a message
-abbrev pub view_after : KnownRelay → Message → Items
-view_after r m = view_in r.upstream (after_message r.consumer m)
-
 -- at a message for the consumer
-abbrev pub up_steps : KnownRelay → Message → List Step
-up_steps r m = catch_up_steps r ++ applied_steps (seen_of r.consumer m).outcome (view_of r) (view_after r m)
+abbrev pub up_steps : UpperSide → Message → List Step
+up_steps u m = missing_steps u
+    ++ applied_steps (seen_of u.consumer m).outcome (view_there u) (view_in u.upstream (after_message u.consumer m))
 
 -- at a message for the producer
-abbrev pub down_steps : KnownRelay → Message → List Step
-down_steps r m = catch_up_steps r ++ Take m ∷ []
+abbrev pub down_steps : UpperSide → Message → List Step
+down_steps u m = missing_steps u ++ Take m ∷ []
+
+-- at a message
+abbrev pub message_steps : UpperSide → Message → List Step
+message_steps u m = if is_up m then up_steps u m else down_steps u m
+
+-- the same of a whole relay: what it is missing, a moment, a message, and the view after a message
+
+abbrev pub catch_up_steps : KnownRelay → List Step
+catch_up_steps r = missing_steps (upper_of r)
+
+abbrev pub clock_steps : KnownRelay → (now : ℕ) → List Step
+clock_steps r now = moment_steps (upper_of r) now
 
 abbrev pub take_steps : KnownRelay → Message → List Step
-take_steps r m = if is_up m then up_steps r m else down_steps r m
+take_steps r m = message_steps (upper_of r) m
+
+abbrev pub view_after : KnownRelay → Message → Items
+view_after r m = view_in r.upstream (after_message r.consumer m)
 
 -- ---- its consumer
 
@@ -91,3 +120,17 @@ new_consumer name address first now = clocked (record { name = name; address = a
 -- it takes what is for it
 abbrev pub consumer_after : Consuming → Message → Consuming
 consumer_after c m = if is_up m then after_message c m else c
+
+-- ---- what it has beside its producer after a call
+
+-- this consumer, of whose view the producer was fed all; it is level where that has room
+abbrev pub all_fed : Option (List ℕ) → Consuming → UpperSide
+all_fed upstream c = record { consumer = c; upstream = upstream; fed = view_in upstream c; level = has_room (view_in upstream c) }
+
+-- after a moment
+abbrev pub upper_clocked : UpperSide → (now : ℕ) → UpperSide
+upper_clocked u now = all_fed u.upstream (clocked u.consumer now)
+
+-- after a message
+abbrev pub upper_after : UpperSide → Message → UpperSide
+upper_after u m = all_fed u.upstream (consumer_after u.consumer m)

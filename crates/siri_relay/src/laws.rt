@@ -31,9 +31,9 @@ pub fn a_level_relay_shows_its_view()
         → ShowsView h subscriber identifier number view }
 {}
 
-/// A law: where the view, in order of key as each is, moreover meets the direct response of its source with one slack, as it does where the
-/// upstream subscription is quiet there, each item that the subscriber acknowledged is near, with the sum of the two
-/// slacks, to the source's current item of its key.
+/// A law: where the view, in order of key as each is, moreover meets the direct response of its source with one slack, as it
+/// does where the upstream subscription is quiet there, each item that the subscriber acknowledged is near, with the sum of
+/// the two slacks, to the source's current item of its key.
 pub fn items_are_near_the_source()
     ensures { (p q : ℕ) (source : History) (asked : Asked) (view acknowledged : Items) (now : ℕ) (topic : Topic)
         → InOrder view → Meets (pos p) view (direct_of source asked) → Meets (pos q) acknowledged (direct_to now view topic)

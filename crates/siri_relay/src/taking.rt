@@ -11,7 +11,7 @@ ghost use Rattle.siri_relay.specs.Taken.{AnswersFor};
 ghost use Rattle.siri_view.specs.Consuming.{after_message, seen_of};
 
 use crate::{Relay, RelayAnswer};
-use siri_base::OutOfMemory;
+use siri_base::{Copies, OutOfMemory};
 use siri_messages::Message;
 use siri_producer::Answer;
 use siri_view::{Outcome, Seen};
@@ -23,6 +23,8 @@ impl Relay {
     ///
     /// After want of memory the producer was fed some of what is missing or of the changes, and the message may have
     /// been taken by the consumer, whose replies are lost.
+    ///
+    /// A message that is lent is copied first, so that its items can be kept; `take_owned` takes one that is handed over.
     pub fn take(&mut self, message: &Message) -> Result<RelayAnswer, OutOfMemory>
         ensures producer { OnOk result (GoesBy self.old.producer self.new.producer (take_steps self.old message.now)) }
         ensures consumer { OnOk result (self.new.consumer ≡ consumer_after self.old.consumer message.now) }
@@ -33,8 +35,23 @@ impl Relay {
         ensures same { OnErr result ((self.new.consumer ≡ self.old.consumer) ⊎ (self.new.consumer ≡ consumer_after self.old.consumer message.now)) }
         ensures upstream { self.new.upstream ≡ self.old.upstream }
     {
+        let message = message.copy()?;
+        self.take_owned(message)
+    }
+
+    /// As `take`, of a message that is handed over: the items of a part are kept and none is copied.
+    pub fn take_owned(&mut self, message: Message) -> Result<RelayAnswer, OutOfMemory>
+        ensures producer { OnOk result (GoesBy self.old.producer self.new.producer (take_steps self.old message)) }
+        ensures consumer { OnOk result (self.new.consumer ≡ consumer_after self.old.consumer message) }
+        ensures answer { IfOk result (AnswersFor self.old message) }
+        ensures level { OnOk result (self.new.level ≡ has_room (view_of self.new)) }
+        ensures fed { OnOk result (self.new.fed ≡ view_of self.new) }
+        ensures behind { OnErr result (GoesSome self.old.producer self.new.producer (take_steps self.old message)) }
+        ensures same { OnErr result ((self.new.consumer ≡ self.old.consumer) ⊎ (self.new.consumer ≡ consumer_after self.old.consumer message)) }
+        ensures upstream { self.new.upstream ≡ self.old.upstream }
+    {
         self.catch_up()?;
-        if is_up(message) {
+        if is_up(&message) {
             Ok(RelayAnswer::Up(self.take_up(message)?))
         } else {
             Ok(RelayAnswer::Down(self.take_down(message)?))
@@ -42,20 +59,20 @@ impl Relay {
     }
 
     /// The consumer takes a message, and the changes of a round that it applied are fed.
-    fn take_up(&mut self, message: &Message) -> Result<Seen, OutOfMemory>
-        requires up { is_up message.now ≡ true }
+    fn take_up(&mut self, message: Message) -> Result<Seen, OutOfMemory>
+        requires up { is_up message ≡ true }
         requires fed { self.old.fed ≡ view_of self.old }
         requires level { self.old.level ≡ has_room (view_of self.old) }
-        ensures seen { IfOk result (λ seen. seen ≡ seen_of self.old.consumer message.now) }
-        ensures producer { OnOk result (GoesBy self.old.producer self.new.producer (applied_steps (seen_of self.old.consumer message.now).outcome (view_of self.old) (view_after self.old message.now))) }
-        ensures consumer { OnOk result (self.new.consumer ≡ after_message self.old.consumer message.now) }
+        ensures seen { IfOk result (λ seen. seen ≡ seen_of self.old.consumer message) }
+        ensures producer { OnOk result (GoesBy self.old.producer self.new.producer (applied_steps (seen_of self.old.consumer message).outcome (view_of self.old) (view_after self.old message))) }
+        ensures consumer { OnOk result (self.new.consumer ≡ after_message self.old.consumer message) }
         ensures level { OnOk result (self.new.level ≡ has_room (view_of self.new)) }
         ensures fed { OnOk result (self.new.fed ≡ view_of self.new) }
-        ensures behind { OnErr result (GoesSome self.old.producer self.new.producer (applied_steps (seen_of self.old.consumer message.now).outcome (view_of self.old) (view_after self.old message.now))) }
-        ensures same { OnErr result ((self.new.consumer ≡ self.old.consumer) ⊎ (self.new.consumer ≡ after_message self.old.consumer message.now)) }
+        ensures behind { OnErr result (GoesSome self.old.producer self.new.producer (applied_steps (seen_of self.old.consumer message).outcome (view_of self.old) (view_after self.old message))) }
+        ensures same { OnErr result ((self.new.consumer ≡ self.old.consumer) ⊎ (self.new.consumer ≡ after_message self.old.consumer message)) }
         ensures upstream { self.new.upstream ≡ self.old.upstream }
     {
-        let seen = self.consumer.take(message)?;
+        let seen = self.consumer.take_owned(message)?;
         if let Outcome::Applied { round: _ } = seen.outcome {
             let was_level = self.is_level;
             self.is_level = false;
@@ -72,14 +89,14 @@ impl Relay {
     }
 
     /// The producer takes a message.
-    fn take_down(&mut self, message: &Message) -> Result<Answer, OutOfMemory>
-        requires { is_up message.now ≡ false }
-        ensures answer { IfOk result (AnswerFor self.old.producer message.now) }
-        ensures ok { OnOk result (GoesBy self.old.producer self.new.producer (Take message.now ∷ [])) }
+    fn take_down(&mut self, message: Message) -> Result<Answer, OutOfMemory>
+        requires { is_up message ≡ false }
+        ensures answer { IfOk result (AnswerFor self.old.producer message) }
+        ensures ok { OnOk result (GoesBy self.old.producer self.new.producer (Take message ∷ [])) }
         ensures err { OnErr result (GoesBy self.old.producer self.new.producer []) }
         ensures rest { self.new ≡ record self.old { producer = self.new.producer } }
     {
-        self.producer.take(message)
+        self.producer.take_owned(message)
     }
 }
 
