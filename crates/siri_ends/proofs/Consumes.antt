@@ -27,10 +27,10 @@ took old new asked list reply is made sends = record {
 }
 
 -- a message that was answered was taken
-pub heard : (old new : Consuming) (message : Message) (more : List Message) → new ≡ after_message old message
+pub heard : (old new : Consuming) (sent message : Message) (more : List Message) → new ≡ after_message old message
     → more ≡ (seen_of old message).replies
-    → Hears kept stands (λ nothing. consuming) (Some message) more old new
-heard old new message more is replies = record {
+    → Hears kept stands (λ nothing. consuming) sent (Some message) more old new
+heard old new sent message more is replies = record {
   keeps = refl;
   stands_for = λ s so. ap (λ c. after_message c message) so ∙ sym is;
   more_are = λ s so. replies ∙ ap (λ c. (seen_of c message).replies) (sym so);

@@ -16,7 +16,7 @@ module _ {State M : Type 0} (Posts : Posting M) (manner : Manner State M) where
   -- a message that was sent is the first of those that are
   one_sent : (less : ℕ) (first : M) (rest : List M) (outcome : Sent) (now next end : At State)
       → SendsOne Posts manner first outcome now next
-      → InTurn Posts manner less (rest ++ brings_of manner (message_answered outcome) now.state) next end
+      → InTurn Posts manner less (rest ++ brings_of manner first (message_answered outcome) now.state) next end
       → InTurn Posts manner (suc less) (first ∷ rest) now end
   unfolding InTurn
   one_sent less first rest outcome now next end sent p = (outcome, next, sent, p)
@@ -32,8 +32,8 @@ module _ {State M : Type 0} (Posts : Posting M) (manner : Manner State M) where
 
   first_sent : (less : ℕ) (first : M) (rest : List M) (outcome : Sent) (s : State) (wire next now : Option WireState)
       → Posts first (Some outcome) wire next
-      → FirstInTurn Posts manner less (rest ++ brings_of manner (message_answered outcome) s)
-      (after_hearing manner (message_answered outcome) s) next now
+      → FirstInTurn Posts manner less (rest ++ brings_of manner first (message_answered outcome) s)
+      (after_hearing manner first (message_answered outcome) s) next now
       → FirstInTurn Posts manner (suc less) (first ∷ rest) s wire now
   unfolding FirstInTurn
   first_sent less first rest outcome s wire next now sent p = inr (outcome, next, sent, p)
@@ -56,8 +56,8 @@ module _ {State M : Type 0} (Posts : Posting M) (manner : Manner State M) where
           whole.0,
           now,
           whole.1,
-          none_begun less (rest ++ brings_of manner (message_answered whole.0) s)
-              (after_hearing manner (message_answered whole.0) s) now,
+          none_begun less (rest ++ brings_of manner first (message_answered whole.0) s)
+              (after_hearing manner first (message_answered whole.0) s) now,
         )
 
 -- ---- by whatever state an end stood for
@@ -89,13 +89,13 @@ module _ {Own Kept State M : Type 0} (kept : Own → Kept) (stands : Own → Sta
         let own = manner (kept start.state) in
         let answered = message_answered sent.outcome in
         let same : manner (kept now.state) ≡ own = ap manner c.keeps in
-        let further = after_hearing own answered after in
-        let brought : later ≡ rest ++ brings_of own answered after =
-        joined ∙ ap (λ m. rest ++ m) (sent.hears.more_are after before.1 ∙ ap (λ k. brings_of k answered after) same) in
+        let further = after_hearing own first answered after in
+        let brought : later ≡ rest ++ brings_of own first answered after =
+        joined ∙ ap (λ m. rest ++ m) (sent.hears.more_are after before.1 ∙ ap (λ k. brings_of k first answered after) same) in
         let one_is : SendsOne Posts own first sent.outcome (stood_for now after) (stood_for next further) =
         record { told = sent.told; cause = sent.cause; state = refl; tally = sent.tally } in (
           further,
-          subst (λ k. stands next.state (after_hearing k answered after)) same (sent.hears.stands_for after before.1),
+          subst (λ k. stands next.state (after_hearing k first answered after)) same (sent.hears.stands_for after before.1),
           (λ end p. before.2 end
               (subst (λ l. InTurn Posts own l queue (stood_for now after) end) (sym one)
               (subst (λ q. InTurn Posts own (suc less) q (stood_for now after) end) (sym front)

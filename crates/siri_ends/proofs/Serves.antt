@@ -12,6 +12,6 @@ pub acknowledges_nothing : (known : Known) → Acknowledges known known None []
 acknowledges_nothing known = record { name = refl; stands = λ h s. s; outs_are = λ h s. refl }
 
 -- so a message is heard
-pub heard : (old new : Known) (message : Message) (outs : List Out) → Acknowledges old new (acknowledging message) outs
-    → Hears (λ known. known.responder.name) StandsFor serving (Some message) outs old new
-heard old new message outs a = record { keeps = a.name; stands_for = a.stands; more_are = a.outs_are }
+pub heard : (old new : Known) (sent : Out) (message : Message) (outs : List Out) → Acknowledges old new (acknowledging message) outs
+    → Hears (λ known. known.responder.name) StandsFor serving sent (Some message) outs old new
+heard old new sent message outs a = record { keeps = a.name; stands_for = a.stands; more_are = a.outs_are }

@@ -57,8 +57,8 @@ consuming = record {
   responds = λ consumer asked. responding (consumer_reply consumer) asked;
   after = λ consumer asked. after_taking consumer (message_asked asked);
   sends = λ consumer asked. further_of (replies_to consumer (message_asked asked));
-  hears = λ consumer message. after_message consumer message;
-  replies = λ consumer message. (seen_of consumer message).replies;
+  hears = λ consumer sent message. after_message consumer message;
+  replies = λ consumer sent message. (seen_of consumer message).replies;
 }
 
 -- messages are sent up

@@ -19,7 +19,7 @@ pub record SendsOne {State M : Type 0} (Posts : Posting M) (manner : Manner Stat
     : Type 0 where
   pub told : Posts message (Some outcome) at.wire next.wire
   pub cause : HasSentCause at.faults next.faults (Some outcome)
-  pub state : next.state ≡ after_hearing manner (message_answered outcome) at.state
+  pub state : next.state ≡ after_hearing manner message (message_answered outcome) at.state
   pub tally : next.tally ≡ tally_after outcome at.tally
 
 -- They are sent in their order, and what an answer brings joins the end. Of more than so many the rest are unsent.
@@ -28,7 +28,7 @@ InTurn Posts manner zero list at end = end ≡ record at { tally = with_unsent (
 InTurn Posts manner (suc limit) [] at end = end ≡ at
 InTurn Posts manner (suc limit) (first ∷ rest) at end =
     (outcome : Sent) × (next : At _) × SendsOne Posts manner first outcome at next
-    × InTurn Posts manner limit (rest ++ brings_of manner (message_answered outcome) at.state) next end
+    × InTurn Posts manner limit (rest ++ brings_of manner first (message_answered outcome) at.state) next end
 
 -- Where memory was wanting, the first of them were sent, and of the next one the first steps were made.
 unfoldable pub FirstInTurn : {State M : Type 0} → Posting M → Manner State M → (limit : ℕ) → List M → State
@@ -38,8 +38,8 @@ FirstInTurn Posts manner (suc limit) [] state before now = now ≡ before
 FirstInTurn Posts manner (suc limit) (first ∷ rest) state before now =
     Posts first None before now
     ⊎ ((outcome : Sent) × (next : Option WireState) × Posts first (Some outcome) before next
-    × FirstInTurn Posts manner limit (rest ++ brings_of manner (message_answered outcome) state)
-    (after_hearing manner (message_answered outcome) state) next now)
+    × FirstInTurn Posts manner limit (rest ++ brings_of manner first (message_answered outcome) state)
+    (after_hearing manner first (message_answered outcome) state) next now)
 
 -- the most messages that one turn sends
 abbrev pub most_sends : ℕ

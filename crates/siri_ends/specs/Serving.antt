@@ -62,8 +62,8 @@ serving name = record {
   responds = λ h asked. response_to name h asked;
   after = λ h asked. h ++ turn_steps (message_asked asked);
   sends = λ h asked. sends name (h ++ taking (message_asked asked));
-  hears = λ h message. after_acknowledging (acknowledging message) h;
-  replies = λ h message. settled_by name (acknowledging message) h;
+  hears = λ h sent message. after_acknowledging (acknowledging message) h;
+  replies = λ h sent message. settled_by name (acknowledging message) h;
 }
 
 -- a connection is answered, whose request asks so where it is whole, and what was settled is sent out

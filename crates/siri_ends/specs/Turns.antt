@@ -1,4 +1,4 @@
--- Inner words: cited by private functions alone. What a part of a turn does.
+-- What a part of a turn does.
 use Rattle.std.specs.Prelude.{◌≡◌, ⊤, true, List, ◌++◌, Option, None, Some, Result}
 use Rattle.siri_http.specs.Texts.{is_written}
 use Rattle.siri_tables.specs.Refusals.{Refusal}

@@ -22,7 +22,7 @@ use std::alloc::Global;
 
 /// What a connection brings.
 #[derive(Drop)]
-pub(crate) enum Brought {
+pub enum Brought {
     /// A POST whose body is a document.
     Message(Message),
     /// A request that is refused, for its head, its method or its body: its answer.
@@ -42,9 +42,10 @@ fn brought_in(alloc: Global, document: &[u8]) -> Result<Brought, OutOfMemory>
     }
 }
 
-/// What a connection brings that asks this.
+/// What a connection brings that asks this: the message of a POST whose body is a document, the answer to a request that is
+/// refused, or nothing, where the request didn't come whole.
 #[tactic(auto, unfolding(crate::specs::Responses::responding, crate::specs::Responses::message_asked))]
-pub(crate) fn brought_by(alloc: Global, asked: &Asked) -> Result<Brought, OutOfMemory>
+pub fn brought_by(alloc: Global, asked: &Asked) -> Result<Brought, OutOfMemory>
     ensures { IfOk result (λ brought. turn.Brings asked.now brought) }
 {
     match asked {
@@ -111,8 +112,9 @@ pub(crate) fn drop_connection<W: Wire>(wire: &mut W, tally: &mut Tally)
     tally.count_dropped();
 }
 
-/// Writes the response, where there is one, and hangs up.
-pub(crate) fn finish<W: Wire>(
+/// Writes the response, where there is one, hangs up, and counts the connection. After want of memory a front of it was
+/// written.
+pub fn finish<W: Wire>(
     alloc: Global,
     wire: &mut W,
     response: &Option<Response>,

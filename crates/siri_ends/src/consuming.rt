@@ -29,8 +29,9 @@ fn take_message(consumer: &mut Consumer, message: Message) -> Result<List<Messag
     Ok(consumer.take_owned(message)?.replies)
 }
 
-/// The first reply is the answer, and the further ones are to be sent up.
-fn split(
+/// What a connection is answered with these replies to its message, and what is to be sent then: the first of them, and the
+/// further ones. Without a reply the answer has an empty body.
+pub fn split_replies(
     alloc: Global,
     replies: List<Message>,
 ) -> Result<(Option<Response>, List<Message>), OutOfMemory>
@@ -67,7 +68,7 @@ fn reply_to(
     match brought_by(alloc, asked)? {
         Brought::Message(message) => {
             let replies = take_message(consumer, message)?;
-            split(alloc, replies)
+            split_replies(alloc, replies)
         }
         Brought::Refused(response) => Ok((Some(response), List::new(alloc))),
         Brought::Nothing => Ok((None, List::new(alloc))),
@@ -129,7 +130,12 @@ impl Taker for Consumer {
     }
 
     #[tactic(auto, using(crate::proofs::Consumes::heard))]
-    fn hear(&mut self, _alloc: Global, message: Message) -> Result<List<Message>, OutOfMemory> {
+    fn hear(
+        &mut self,
+        _alloc: Global,
+        _sent: &Message,
+        message: Message,
+    ) -> Result<List<Message>, OutOfMemory> {
         let replies = take_message(self, message)?;
         Ok(replies)
     }

@@ -12,7 +12,8 @@
 //!   hears         an acknowledgement, which is taken and settled      each message, whose replies are sent
 //! ```
 //!
-//! Both are one turn over the trait [`Taker`], which is stated and proved once.
+//! Both are one turn over the trait [`Taker`], which is stated and proved once; a relay is one in a crate above. What an end
+//! hears may depend on what it sent.
 //!
 //! What a producer holds is not copied for an answer: the items of a direct response and the changes of a supplied part are
 //! written from what the producer lends after it settled. The length stands before them, in the head: a short text is
@@ -39,11 +40,12 @@ mod sink;
 mod taker;
 mod turning;
 
-pub use consuming::{consume_one, send_up};
+pub use answering::{Brought, brought_by, finish};
+pub use consuming::{consume_one, send_up, split_replies};
 pub use reply::Reply;
-pub use response::Response;
+pub use response::{Response, replying};
 pub use sending::send_all;
 pub use serving::serve_one;
 pub use siri_http::{PostAlone, Tally};
 pub use taker::Taker;
-pub use turning::answer_asked;
+pub use turning::{answer_asked, take_turn};

@@ -64,8 +64,8 @@ fn reply_body(alloc: Global, reply: Option<&Message>) -> Result<List<u8>, OutOfM
     }
 }
 
-/// The answer to a message with this reply.
-pub(crate) fn replying(alloc: Global, reply: Option<&Message>) -> Result<Response, OutOfMemory>
+/// The answer to a message with this reply, or without one: status 200 and its document, or an empty body.
+pub fn replying(alloc: Global, reply: Option<&Message>) -> Result<Response, OutOfMemory>
     ensures response { IfOk result (λ response. response ≡ replying (option_map (λ message. message.now) reply.entry)) }
     ensures written { IfOk result (λ response. is_written response.status ≡ true) }
 {

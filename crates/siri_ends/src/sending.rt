@@ -25,16 +25,17 @@ fn append_all<M: Drop>(queue: &mut VecDeque<M>, more: List<M>) -> Result<(), Out
     Ok(queue.append(&mut more)?)
 }
 
-/// Hears the message of a document that was answered, where it is one.
+/// Hears the message of a document that was answered to one that was sent, where it is one.
 fn hear_document<T: Taker>(
     alloc: Global,
     taker: &mut T,
+    sent: &T::Message,
     document: &[u8],
 ) -> Result<List<T::Message>, OutOfMemory>
-    ensures { IfOk result (λ more. Hears T.kept T.stands T.manner (message_in (message_of document.now)) more taker.old taker.new) }
+    ensures { IfOk result (λ more. Hears T.kept T.stands T.manner sent.now (message_in (message_of document.now)) more taker.old taker.new) }
 {
     match decode(alloc, document) {
-        Ok(message) => taker.hear(alloc, message),
+        Ok(message) => taker.hear(alloc, sent, message),
         Err(DecodeError::Refused(_)) => Ok(List::new(alloc)),
         Err(DecodeError::OutOfMemory) => Err(OutOfMemory),
     }
@@ -55,7 +56,7 @@ fn send_one<W: Wire, T: Taker>(
 {
     match T::post(alloc, wire, message, target)? {
         Sent::Accepted(body) => {
-            let more = hear_document(alloc, taker, body.slice())?;
+            let more = hear_document(alloc, taker, message, body.slice())?;
             Ok(more)
         }
         Sent::Refused | Sent::Failed => {

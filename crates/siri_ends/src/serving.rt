@@ -129,7 +129,12 @@ impl Taker for Producer {
     }
 
     #[tactic(auto, using(crate::proofs::Serves::heard))]
-    fn hear(&mut self, alloc: Global, message: Message) -> Result<List<Out>, OutOfMemory> {
+    fn hear(
+        &mut self,
+        alloc: Global,
+        _sent: &Out,
+        message: Message,
+    ) -> Result<List<Out>, OutOfMemory> {
         let outs = hear_message(alloc, self, &message);
         drop(message);
         let outs = outs?;

@@ -84,9 +84,14 @@ pub trait Taker {
         ensures told { posts target.now message.now (outcome result) (W.tells wire.old) (W.tells wire.new) }
         ensures cause { HasSentCause (W.faults wire.old) (W.faults wire.new) (outcome result) };
 
-    /// Hears a message that was answered, and gives what is to be sent then.
-    fn hear(&mut self, alloc: Global, message: Message) -> Result<List<Self::Message>, OutOfMemory>
-        ensures { IfOk result (λ more. Hears kept stands manner (Some message) more self.old self.new) };
+    /// Hears a message that was answered to one that it sent, and gives what is to be sent then.
+    fn hear(
+        &mut self,
+        alloc: Global,
+        sent: &Self::Message,
+        message: Message,
+    ) -> Result<List<Self::Message>, OutOfMemory>
+        ensures { IfOk result (λ more. Hears kept stands manner sent.now (Some message) more self.old self.new) };
 
     /// Of an exchange the first steps may be none.
     ghost none_posted: { (target : Self.Target) (message : Self.Message) (wire : Option WireState) → posts target message None wire wire };

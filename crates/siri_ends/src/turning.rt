@@ -34,8 +34,8 @@ pub fn answer_asked<W: Wire, T: Taker>(
 }
 
 /// Answers the connection that was accepted, whose request is read and asks what [`Asking`] says, and sends what comes
-/// of it.
-pub(crate) fn take_turn<W: Wire, A: Asking, T: Taker>(
+/// of it. After want of memory the first steps of that were made.
+pub fn take_turn<W: Wire, A: Asking, T: Taker>(
     alloc: Global,
     wire: &mut W,
     target: &T::Target,

@@ -32,7 +32,7 @@ module _ {State M : Type 0} (Posts : Posting M) (manner : Manner State M) where
   sends_later zero list at end is = omega (arith, ap (λ (a : At State). a.faults) is)
   sends_later (suc limit) [] at end is = omega (arith, ap (λ (a : At State). a.faults) is)
   sends_later (suc limit) (message ∷ rest) at end some =
-      omega (arith, some.2.cause.later, sends_later limit (rest ++ brings_of manner (message_answered some.0) at.state) some.1 end some.3)
+      omega (arith, some.2.cause.later, sends_later limit (rest ++ brings_of manner message (message_answered some.0) at.state) some.1 end some.3)
 
   pub turn_later : (asks : Meaning) (at end : At State) → TakesTurn asks Posts manner at end → at.faults ≤ end.faults
   turn_later asks at end turn =
@@ -51,7 +51,7 @@ module _ {State M : Type 0} (Posts : Posting M) (manner : Manner State M) where
     sends_only zero n list at end has is = subst (λ (a : At State). IsSomeAnd a.wire (HasConnections n)) (sym is) has
     sends_only (suc limit) n [] at end has is = subst (λ (a : At State). IsSomeAnd a.wire (HasConnections n)) (sym is) has
     sends_only (suc limit) n (message ∷ rest) at end has some =
-        sends_only limit n (rest ++ brings_of manner (message_answered some.0) at.state) some.1 end
+        sends_only limit n (rest ++ brings_of manner message (message_answered some.0) at.state) some.1 end
         (posts_only message some.0 n at.wire some.1.wire has some.2.told) some.3
 
     pub turn_only : (asks : Meaning) (n : ℕ) (at end : At State) → IsSomeAnd at.wire (HasAccepted n)
