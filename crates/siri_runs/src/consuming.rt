@@ -25,6 +25,7 @@ use crate::turns::run_turns;
 use asking::ask_all;
 use client::{Client, Consumed};
 use opening::{Opened, open};
+pub use opening::own_address;
 pub use reading::read_wanted;
 use siri_base::{Clock, Keeper, Name, OutOfMemory, OutsideError, Sink, Source, Status, Wire};
 use siri_ends::Tally;

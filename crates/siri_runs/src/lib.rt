@@ -30,6 +30,6 @@ mod serving;
 mod summary;
 mod turns;
 
-pub use consuming::{consume, read_wanted, write_views};
+pub use consuming::{consume, own_address, read_wanted, write_views};
 pub use network_error::NetworkError;
 pub use serving::serve;

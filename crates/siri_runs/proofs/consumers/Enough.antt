@@ -28,6 +28,7 @@ use Rattle.siri_runs.specs.consumers.Consumption.{Asks, Consumes, Consumption, S
 use Rattle.siri_runs.specs.consumers.Opening.{FailsToOpen, opened}
 use Rattle.siri_runs.specs.consumers.Reading.{EndsReading, StopsAt, TellsWanted}
 use Rattle.siri_runs.specs.consumers.Runs.{ConsumesNot}
+use Rattle.siri_runs.specs.consumers.Wanting.{most_wanted}
 
 -- ---- answering a connection takes none of those that are still to come
 
@@ -52,7 +53,7 @@ asked_with target list consumer n from to has asks = record {
 
 -- ---- what ends a run
 
-reading_whole : (name : Name) (input left : Bytes) (end : Status) → TellsWanted name input → StopsAt name input left end
+reading_whole : (name : Name) (input left : Bytes) (end : Status) → TellsWanted name input → StopsAt most_wanted name input left end
     → EndsReading end → (end ≡ status.ReadFault → ⊥) → EndsWhole end
 reading_whole name None left end wanted stops ends read = absurd wanted
 reading_whole name (Some input) left (status.Script n why) wanted stops ends read = absurd (cc (wanted, ap is_ok stops))

@@ -12,11 +12,12 @@ use Rattle.siri_runs.specs.Calls.{Call, Fails, Outside}
 use Rattle.siri_runs.specs.Errors.{clock_error, keeper_error, status_of, wire_error}
 use Rattle.siri_runs.specs.declared.network_error.NetworkError.{NetworkError}
 use Rattle.siri_runs.specs.consumers.Reading.{EndsReading, StopsAt, Wants}
+use Rattle.siri_runs.specs.consumers.Wanting.{most_wanted}
 
 -- it opened with the number of its start, what its lines want, and a moment
 pub record Opens (name listen : List ℕ) (input : Bytes) (start : ℕ) (list : List Wanted) (moment : ℕ) (from to : Outside) : Type 0 where
   pub raises : Call RaisesNumber (Ok start) from.keeper to.keeper
-  pub wants : Wants name input list
+  pub wants : Wants most_wanted name input list
   pub tells : Call GivesMoment (Ok moment) from.clock to.clock
   pub listens : Call (Listens listen) (Ok (tt {0})) from.wire to.wire
 
@@ -37,11 +38,11 @@ pub record FailsToRaise (end : Status) (from to : Outside) : Type 0 where
   pub raises : Fails RaisesNumber keeper_error error from.keeper to.keeper
   pub rest : to ≡ record from { keeper = to.keeper }
 
--- the number was raised, and its lines ended the run
-pub record FailsToRead (name : List ℕ) (input left : Bytes) (end : Status) (from to : Outside) : Type 0 where
+-- the number was raised, and its lines, of at most so many, ended the run
+pub record FailsToRead (most : ℕ) (name : List ℕ) (input left : Bytes) (end : Status) (from to : Outside) : Type 0 where
   pub start : ℕ
   pub raises : Call RaisesNumber (Ok start) from.keeper to.keeper
-  pub stops : StopsAt name input left end
+  pub stops : StopsAt most name input left end
   pub ends : EndsReading end
   pub rest : to ≡ record from { keeper = to.keeper }
 
@@ -52,7 +53,7 @@ pub record FailsToTell (name : List ℕ) (input : Bytes) (end : Status) (from to
   pub start : ℕ
   pub raises : Call RaisesNumber (Ok start) from.keeper to.keeper
   pub list : List Wanted
-  pub wants : Wants name input list
+  pub wants : Wants most_wanted name input list
   pub tells : Fails GivesMoment clock_error error from.clock to.clock
   pub rest : to ≡ record from { keeper = to.keeper; clock = to.clock }
 
@@ -63,7 +64,7 @@ pub record FailsToListen (name listen : List ℕ) (input : Bytes) (end : Status)
   pub start : ℕ
   pub raises : Call RaisesNumber (Ok start) from.keeper to.keeper
   pub list : List Wanted
-  pub wants : Wants name input list
+  pub wants : Wants most_wanted name input list
   pub moment : ℕ
   pub tells : Call GivesMoment (Ok moment) from.clock to.clock
   pub listens : Fails {T = Unit {0}} (Listens listen) wire_error error from.wire to.wire
@@ -79,7 +80,7 @@ pub record HasNoConsumer (name listen : List ℕ) (input : Bytes) (end : Status)
 abbrev pub FailsToOpen : (name listen : List ℕ) → (input left : Bytes) → Status → Outside → Outside → Type 0
 FailsToOpen name listen input left end from to =
     FailsToRaise end from to
-    ⊎ (FailsToRead name input left end from to
+    ⊎ (FailsToRead most_wanted name input left end from to
     ⊎ (FailsToTell name input end from to
     ⊎ (FailsToListen name listen input end from to
     ⊎ HasNoConsumer name listen input end from to)))

@@ -7,41 +7,41 @@ use Rattle.siri_life.specs.Named.{Name}
 use Rattle.siri_lines.specs.Ends.{Bytes, AreWholeLines, HasNoBreak, IsRead}
 use Rattle.siri_lines.specs.Stands.{IsInput}
 use Rattle.siri_wire.specs.declared.wanted.Wanted.{Wanted}
-use Rattle.siri_runs.specs.consumers.Wanting.{all_wanted}
+use Rattle.siri_runs.specs.consumers.Wanting.{all_wanted, most_wanted}
 
--- this is all that the bytes want which were read; where the source told its bytes, they are these
-pub record Wants (subscriber : Name) (input : Bytes) (list : List Wanted) : Type 0 where
+-- this is all that the bytes want which were read, of at most so many lines; where the source told its bytes, they are these
+pub record Wants (most : ℕ) (subscriber : Name) (input : Bytes) (list : List Wanted) : Type 0 where
   pub bytes : List ℕ
   pub read : IsInput input bytes
-  pub are : all_wanted subscriber bytes ≡ Ok list
+  pub are : all_wanted most subscriber bytes ≡ Ok list
 
 -- the source tells its text, and this is all good: at most 200 lines within the limits, each the text of a wanted subscription,
 -- empty, or a comment
 abbrev pub TellsWanted : Name → Bytes → Type 0
-TellsWanted subscriber input = IsSomeAnd input (λ bytes. IsOk (all_wanted subscriber bytes))
+TellsWanted subscriber input = IsSomeAnd input (λ bytes. IsOk (all_wanted most_wanted subscriber bytes))
 
 -- the source failed: each line that was read whole before is good. Of the last line some bytes were read, and no line feed.
-pub record WantsWhole (subscriber : Name) (input : List ℕ) (left : Bytes) : Type 0 where
+pub record WantsWhole (most : ℕ) (subscriber : Name) (input : List ℕ) (left : Bytes) : Type 0 where
   pub whole : List ℕ
   pub begun : List ℕ
   pub read : IsRead input (whole ++ begun) left
   pub lines : AreWholeLines whole
   pub last : HasNoBreak begun
   pub wanted : List Wanted
-  pub are : all_wanted subscriber whole ≡ Ok wanted
+  pub are : all_wanted most subscriber whole ≡ Ok wanted
 
 -- why an input gives nothing: its first line that isn't taken, or a fault of the source. Want of memory is free.
-abbrev pub Stops : Name → List ℕ → Bytes → Status → Type 0
-Stops subscriber input left (status.Script n why) = all_wanted subscriber input ≡ Err (status.Script n why)
-Stops subscriber input left (status.Limit n) = all_wanted subscriber input ≡ Err (status.Limit n)
-Stops subscriber input left status.ReadFault = WantsWhole subscriber input left
-Stops subscriber input left status.OutOfMemory = Unit {0}
-Stops subscriber input left other = ⊥
+abbrev pub Stops : (most : ℕ) → Name → List ℕ → Bytes → Status → Type 0
+Stops most subscriber input left (status.Script n why) = all_wanted most subscriber input ≡ Err (status.Script n why)
+Stops most subscriber input left (status.Limit n) = all_wanted most subscriber input ≡ Err (status.Limit n)
+Stops most subscriber input left status.ReadFault = WantsWhole most subscriber input left
+Stops most subscriber input left status.OutOfMemory = Unit {0}
+Stops most subscriber input left other = ⊥
 
 -- the same of a source that told its bytes
-abbrev pub StopsAt : Name → Bytes → Bytes → Status → Type 0
-StopsAt subscriber None left end = Unit {0}
-StopsAt subscriber (Some input) left end = Stops subscriber input left end
+abbrev pub StopsAt : (most : ℕ) → Name → Bytes → Bytes → Status → Type 0
+StopsAt most subscriber None left end = Unit {0}
+StopsAt most subscriber (Some input) left end = Stops most subscriber input left end
 
 -- the source ended it
 abbrev pub has_failed_to_read : {T : Type 0} → Result T Status → Bool

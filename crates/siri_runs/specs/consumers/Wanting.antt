@@ -40,13 +40,13 @@ by_said n asking (Err why) = RunEnds (status.Script n why)
 abbrev pub event : Events Asking
 event n asking line = by_said n asking (line_said asking.subscriber line)
 
--- the most lines, and so the most subscriptions, that a run asks for
+-- the most lines of `consume`, and so the most subscriptions, that a run asks for
 abbrev pub most_wanted : ℕ
 most_wanted = 200
 
 -- the same of at most so many lines: a line's length is tested first, then its number, then what it says
-abbrev pub brings : Events Asking
-brings = verdict most_wanted event
+abbrev pub brings : (most : ℕ) → Events Asking
+brings most = verdict most event
 
 -- ---- all lines
 
@@ -55,10 +55,10 @@ abbrev pub after_line : Verdict Asking → (Asking → Result Asking Status) →
 after_line (Goes text asking) later = later asking
 after_line (RunEnds status) later = Err status
 
--- what is wanted after these lines, from line n on, or how the first of them that isn't taken ends the run
-abbrev pub asking_after : ℕ → Asking → List (List ℕ) → Result Asking Status
-asking_after n asking [] = Ok asking
-asking_after n asking (line ∷ rest) = after_line (brings n asking line) (λ after. asking_after (n + 1) after rest)
+-- what is wanted after these lines, from line n on, of at most so many, or how the first of them that isn't taken ends the run
+abbrev pub asking_after : (most n : ℕ) → Asking → List (List ℕ) → Result Asking Status
+asking_after most n asking [] = Ok asking
+asking_after most n asking (line ∷ rest) = after_line (brings most n asking line) (λ after. asking_after most (n + 1) after rest)
 
 abbrev pub wanted_by : Result Asking Status → Result (List Wanted) Status
 wanted_by (Ok asking) = Ok asking.wanted
@@ -68,6 +68,6 @@ wanted_by (Err status) = Err status
 abbrev pub nothing_wanted : Name → Asking
 nothing_wanted subscriber = record { subscriber = subscriber; wanted = [] }
 
--- all that the lines of a text want in a subscriber's name, in their order
-unfoldable pub all_wanted : Name → List ℕ → Result (List Wanted) Status
-all_wanted subscriber bytes = wanted_by (asking_after 1 (nothing_wanted subscriber) (lines bytes))
+-- all that the lines of a text want in a subscriber's name, in their order, where there may be at most so many
+unfoldable pub all_wanted : (most : ℕ) → Name → List ℕ → Result (List Wanted) Status
+all_wanted most subscriber bytes = wanted_by (asking_after most 1 (nothing_wanted subscriber) (lines bytes))

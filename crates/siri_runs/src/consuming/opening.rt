@@ -22,6 +22,9 @@ use std::alloc::Global;
 /// How many numbers a consumer may use in one run: the next run's begin after them.
 const NUMBERS_OF_A_START: u64 = 1_000_000;
 
+/// The most lines that there may be.
+const MOST_WANTED: u64 = 200;
+
 /// A consumer, and what it is to ask for.
 #[derive(Drop)]
 pub(crate) struct Opened {
@@ -54,7 +57,7 @@ pub(crate) fn open<S: Source, W: Wire, C: Clock, E: Keeper>(
     ensures pieces { ReadsNoFurther (verdict most_wanted event) (nothing_wanted name) (S.left source.old) (S.left source.new) }
 {
     let start = raise(keeper)?;
-    let wanted = read_wanted(alloc, source, &name)?;
+    let wanted = read_wanted(alloc, MOST_WANTED, source, &name)?;
     let moment = now(clock)?;
     listen(wire, address)?;
     match consumer_of(alloc, name, address, start, moment) {
@@ -82,8 +85,8 @@ fn consumer_of(
     Ok(consumer)
 }
 
-/// `http://HOST:PORT/`
-fn own_address(alloc: Global, address: &Name) -> Result<Name, OutOfMemory>
+/// Where an end that listens at `HOST:PORT` is reached: `http://HOST:PORT/`.
+pub fn own_address(alloc: Global, address: &Name) -> Result<Name, OutOfMemory>
     requires { length address.now ≤ 247 }
     ensures { IfOk result (λ own. own ≡ own_address address.now) }
 {

@@ -8,12 +8,12 @@ use Rattle.siri_runs.proofs.consuming.reading.read_wanted.Goals as goal
 pub returns-in-Done-clause-wanted : goal.returns-in-Done-clause-wanted
 returns-in-Done-clause-wanted g c =
     let all = c.read_lines.ensures.stands c.in-Done.is (nothing_wanted c.args.subscriber.now) c.new-taken.ensures in
-    wants_is Fits c.args.subscriber.now _ c.read_lines.new.taker c.into_wanted.result all (c.into_wanted.ensures all.world all.stands)
+    wants_is Fits c.args.most c.args.subscriber.now _ c.read_lines.new.taker c.into_wanted.result all (c.into_wanted.ensures all.world all.stands)
 
 pub returns-in-Done-clause-at_most : goal.returns-in-Done-clause-at_most
 returns-in-Done-clause-at_most g c =
     let all = c.read_lines.ensures.stands c.in-Done.is (nothing_wanted c.args.subscriber.now) c.new-taken.ensures in
-    wants_few Fits c.args.subscriber.now _ c.read_lines.new.taker c.into_wanted.result all (c.into_wanted.ensures all.world all.stands)
+    wants_few Fits c.args.most c.args.subscriber.now _ c.read_lines.new.taker c.into_wanted.result all (c.into_wanted.ensures all.world all.stands)
 
 pub returns : goal.returns
 returns g c =
@@ -22,7 +22,7 @@ returns g c =
       wanted = tt;
       at_most = tt;
       all = tt;
-      stops = stops_at _ _ _ _ _ _ c.in_default.not-Done not_write c.read_lines.ensures.ends
+      stops = stops_at _ _ _ _ _ _ _ c.in_default.not-Done not_write c.read_lines.ensures.ends
           (c.read_lines.ensures.report (nothing_wanted c.args.subscriber.now) c.new-taken.ensures);
       read = λ e. let fault : c.read_lines.result ≡ status.ReadFault = cc in c.read_lines.ensures.read fault;
       pieces = c.read_lines.ensures.pieces (nothing_wanted c.args.subscriber.now) c.new-taken.ensures;
