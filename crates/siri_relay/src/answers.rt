@@ -10,20 +10,12 @@ use siri_view::{AskError, Seen};
 use thiserror::Error;
 
 /// What became of a message that a relay took.
+#[derive(Drop)]
 pub enum RelayAnswer {
     /// It came from the source's side: what it was to the consumer, and the replies to it.
     Up(Seen),
     /// It came from a subscriber's side: what the producer answers to it.
     Down(Answer),
-}
-
-impl Drop for RelayAnswer {
-    fn drop(self) {
-        match self {
-            RelayAnswer::Up(_) => {}
-            RelayAnswer::Down(_) => {}
-        }
-    }
 }
 
 /// Why a relay doesn't subscribe to its source. It is as it was.
