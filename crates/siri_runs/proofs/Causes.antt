@@ -6,7 +6,7 @@ use Rattle.siri_base.specs.declared.errors.OutsideError.{OutsideError}
 use Rattle.siri_base.specs.declared.errors.OutsideError.TheVariants as outside
 use Rattle.siri_runs.specs.Calls.{Outside, Told}
 use Rattle.siri_runs.specs.Errors.{clock_error, keeper_error, wire_error}
-use Rattle.siri_runs.specs.Turns.{Running, Turn, TurnFails, Turns, TurnsFail}
+use Rattle.siri_runs.specs.Turns.{NeverRefuses, Running, StopsForMemory, Turn, TurnFails, Turns, TurnsFail}
 use Rattle.siri_runs.specs.declared.network_error.NetworkError.{NetworkError}
 use Rattle.siri_runs.specs.declared.network_error.NetworkError.TheVariants as error
 
@@ -56,6 +56,18 @@ pub no_keeper_of_clock : (failure : OutsideError) → error.KeeperFault ≡ cloc
 no_keeper_of_clock outside.Failed is = cc is
 no_keeper_of_clock outside.OutOfMemory is = cc is
 
+pub no_shelf_of_wire : (failure : OutsideError) → error.ShelfFault ≡ wire_error failure → ⊥
+no_shelf_of_wire outside.Failed is = cc is
+no_shelf_of_wire outside.OutOfMemory is = cc is
+
+pub no_shelf_of_clock : (failure : OutsideError) → error.ShelfFault ≡ clock_error failure → ⊥
+no_shelf_of_clock outside.Failed is = cc is
+no_shelf_of_clock outside.OutOfMemory is = cc is
+
+pub no_shelf_of_keeper : (failure : OutsideError) → error.ShelfFault ≡ keeper_error failure → ⊥
+no_shelf_of_keeper outside.Failed is = cc is
+no_shelf_of_keeper outside.OutOfMemory is = cc is
+
 -- ---- over turns
 
 -- counts that never fall, and a keeper that wasn't called
@@ -92,57 +104,82 @@ turns_later given Answers later (suc count) from to some =
       keeper = last.keeper ∙ before.keeper;
     }
 
--- ---- turns that a fault ended
+-- ---- turns that an error ended
 
-turn_wire_rose : {State : Type 0} (given : ℕ → State → State) (Stops : State → Told WireState → Told WireState → Type 0)
-    (from : Running State) (to : Outside) → TurnFails given Stops error.WireFault from to
-    → Rose from.outside.wire.faults to.wire.faults
-turn_wire_rose given Stops from to (inl accept) = wire_failed accept.accepts.failure from.outside.wire.faults
-    to.wire.faults accept.accepts.error_is accept.accepts.call.cause
-turn_wire_rose given Stops from to (inr (inl tell)) = absurd (no_wire_of_clock tell.tells.failure tell.tells.error_is)
-turn_wire_rose given Stops from to (inr (inr stop)) = absurd (cc stop.error_is)
+-- an end ends a run by these errors alone
+pub record EndsBy {State : Type 0} (Own : NetworkError → Type 0) (Refuses : NetworkError → State → Type 0)
+    (Stops : NetworkError → State → Told WireState → Told WireState → Type 0) : Type 0 where
+  pub refuses : (e : NetworkError) (state : State) → Refuses e state → Own e
+  pub stops : (e : NetworkError) (state : State) (before after : Told WireState) → Stops e state before after → Own e
 
-turn_clock_rose : {State : Type 0} (given : ℕ → State → State)
-    (Stops : State → Told WireState → Told WireState → Type 0) (from : Running State) (to : Outside)
-    → TurnFails given Stops error.ClockFault from to → Rose from.outside.clock.faults to.clock.faults
-turn_clock_rose given Stops from to (inl accept) = absurd (no_clock_of_wire accept.accepts.failure accept.accepts.error_is)
-turn_clock_rose given Stops from to (inr (inl tell)) =
-    clock_failed tell.tells.failure from.outside.clock.faults to.clock.faults tell.tells.error_is tell.tells.call.cause
-turn_clock_rose given Stops from to (inr (inr stop)) = absurd (cc stop.error_is)
+-- by want of memory alone
+abbrev pub IsMemory : NetworkError → Type 0
+IsMemory e = e ≡ error.OutOfMemory
 
-turn_keeper_not : {State : Type 0} (given : ℕ → State → State)
-    (Stops : State → Told WireState → Told WireState → Type 0) (from : Running State) (to : Outside)
-    → TurnFails given Stops error.KeeperFault from to → ⊥
-turn_keeper_not given Stops from to (inl accept) = no_keeper_of_wire accept.accepts.failure accept.accepts.error_is
-turn_keeper_not given Stops from to (inr (inl tell)) = no_keeper_of_clock tell.tells.failure tell.tells.error_is
-turn_keeper_not given Stops from to (inr (inr stop)) = absurd (cc stop.error_is)
+pub ends_for_memory : {State : Type 0} (Stops : State → Told WireState → Told WireState → Type 0)
+    → EndsBy IsMemory NeverRefuses (StopsForMemory Stops)
+ends_for_memory Stops = record { refuses = λ e state never. absurd never; stops = λ e state before after stops. stops.0 }
 
--- the turns of a run that are made, and the one that ends it
-abbrev pub AnyTurnsFail : {State : Type 0} → (given : ℕ → State → State)
-    → (Answers : State → Told WireState → State → Told WireState → Type 0)
-    → (Stops : State → Told WireState → Told WireState → Type 0) → ℕ → NetworkError → Running State → Outside → Type 0
-AnyTurnsFail given Answers Stops count error from to = TurnsFail (Turn given Answers) (TurnFails given Stops) count error from to
+module _ {State : Type 0} (given : ℕ → State → State) (Refuses : NetworkError → State → Type 0)
+    (Stops : NetworkError → State → Told WireState → Told WireState → Type 0) (Own : NetworkError → Type 0)
+    (own : EndsBy Own Refuses Stops) where
+  turn_wire_rose : (Own error.WireFault → ⊥) → (from : Running State) (to : Outside)
+      → TurnFails given Refuses Stops error.WireFault from to → Rose from.outside.wire.faults to.wire.faults
+  turn_wire_rose not from to (inl accept) = wire_failed accept.accepts.failure from.outside.wire.faults
+      to.wire.faults accept.accepts.error_is accept.accepts.call.cause
+  turn_wire_rose not from to (inr (inl tell)) = absurd (no_wire_of_clock tell.tells.failure tell.tells.error_is)
+  turn_wire_rose not from to (inr (inr (inl give))) = absurd (not (own.refuses error.WireFault from.state give.refuses))
+  turn_wire_rose not from to (inr (inr (inr stop))) =
+      absurd (not (own.stops error.WireFault (given stop.moment from.state) stop.wire to.wire stop.stops))
 
-pub turns_wire_rose : {State : Type 0} (given : ℕ → State → State)
-    (Answers : State → Told WireState → State → Told WireState → Type 0)
-    (Stops : State → Told WireState → Told WireState → Type 0) → AnswersLater Answers
-    → (count : ℕ) (from : Running State) (to : Outside) → AnyTurnsFail given Answers Stops count error.WireFault from to
-    → Rose from.outside.wire.faults to.wire.faults
-turns_wire_rose given Answers Stops later count from to fails =
-    let before : Later from.outside fails.last.outside = turns_later given Answers later fails.made from fails.last fails.turns in
-    rose_since from.outside.wire.faults fails.last.outside.wire.faults to.wire.faults before.wire (turn_wire_rose given Stops fails.last to fails.ends)
+  turn_clock_rose : (Own error.ClockFault → ⊥) → (from : Running State) (to : Outside)
+      → TurnFails given Refuses Stops error.ClockFault from to → Rose from.outside.clock.faults to.clock.faults
+  turn_clock_rose not from to (inl accept) = absurd (no_clock_of_wire accept.accepts.failure accept.accepts.error_is)
+  turn_clock_rose not from to (inr (inl tell)) =
+      clock_failed tell.tells.failure from.outside.clock.faults to.clock.faults tell.tells.error_is tell.tells.call.cause
+  turn_clock_rose not from to (inr (inr (inl give))) = absurd (not (own.refuses error.ClockFault from.state give.refuses))
+  turn_clock_rose not from to (inr (inr (inr stop))) =
+      absurd (not (own.stops error.ClockFault (given stop.moment from.state) stop.wire to.wire stop.stops))
 
-pub turns_clock_rose : {State : Type 0} (given : ℕ → State → State)
-    (Answers : State → Told WireState → State → Told WireState → Type 0)
-    (Stops : State → Told WireState → Told WireState → Type 0) → AnswersLater Answers
-    → (count : ℕ) (from : Running State) (to : Outside) → AnyTurnsFail given Answers Stops count error.ClockFault from
-    to → Rose from.outside.clock.faults to.clock.faults
-turns_clock_rose given Answers Stops later count from to fails =
-    let before : Later from.outside fails.last.outside = turns_later given Answers later fails.made from fails.last fails.turns in
-    rose_since from.outside.clock.faults fails.last.outside.clock.faults to.clock.faults before.clock (turn_clock_rose given Stops fails.last to fails.ends)
+  turn_keeper_not : (Own error.KeeperFault → ⊥) → (from : Running State) (to : Outside)
+      → TurnFails given Refuses Stops error.KeeperFault from to → ⊥
+  turn_keeper_not not from to (inl accept) = no_keeper_of_wire accept.accepts.failure accept.accepts.error_is
+  turn_keeper_not not from to (inr (inl tell)) = no_keeper_of_clock tell.tells.failure tell.tells.error_is
+  turn_keeper_not not from to (inr (inr (inl give))) = not (own.refuses error.KeeperFault from.state give.refuses)
+  turn_keeper_not not from to (inr (inr (inr stop))) =
+      not (own.stops error.KeeperFault (given stop.moment from.state) stop.wire to.wire stop.stops)
 
-pub turns_keeper_not : {State : Type 0} (given : ℕ → State → State)
-    (Answers : State → Told WireState → State → Told WireState → Type 0)
-    (Stops : State → Told WireState → Told WireState → Type 0) (count : ℕ) (from : Running State) (to : Outside)
-    → AnyTurnsFail given Answers Stops count error.KeeperFault from to → ⊥
-turns_keeper_not given Answers Stops count from to fails = turn_keeper_not given Stops fails.last to fails.ends
+  turn_shelf_not : (Own error.ShelfFault → ⊥) → (from : Running State) (to : Outside)
+      → TurnFails given Refuses Stops error.ShelfFault from to → ⊥
+  turn_shelf_not not from to (inl accept) = no_shelf_of_wire accept.accepts.failure accept.accepts.error_is
+  turn_shelf_not not from to (inr (inl tell)) = no_shelf_of_clock tell.tells.failure tell.tells.error_is
+  turn_shelf_not not from to (inr (inr (inl give))) = not (own.refuses error.ShelfFault from.state give.refuses)
+  turn_shelf_not not from to (inr (inr (inr stop))) =
+      not (own.stops error.ShelfFault (given stop.moment from.state) stop.wire to.wire stop.stops)
+
+  -- the turns of a run that are made, and the one that ends it
+  module _ (Answers : State → Told WireState → State → Told WireState → Type 0) (count : ℕ) where
+    abbrev pub AnyTurnsFail : NetworkError → Running State → Outside → Type 0
+    AnyTurnsFail e from to = TurnsFail (Turn given Answers) (TurnFails given Refuses Stops) count e from to
+
+    pub turns_wire_rose : AnswersLater Answers → (Own error.WireFault → ⊥) → (from : Running State) (to : Outside)
+        → AnyTurnsFail error.WireFault from to → Rose from.outside.wire.faults to.wire.faults
+    turns_wire_rose later not from to fails =
+        let before : Later from.outside fails.last.outside = turns_later given Answers later fails.made from fails.last fails.turns in
+        rose_since from.outside.wire.faults fails.last.outside.wire.faults to.wire.faults before.wire
+        (turn_wire_rose not fails.last to fails.ends)
+
+    pub turns_clock_rose : AnswersLater Answers → (Own error.ClockFault → ⊥) → (from : Running State) (to : Outside)
+        → AnyTurnsFail error.ClockFault from to → Rose from.outside.clock.faults to.clock.faults
+    turns_clock_rose later not from to fails =
+        let before : Later from.outside fails.last.outside = turns_later given Answers later fails.made from fails.last fails.turns in
+        rose_since from.outside.clock.faults fails.last.outside.clock.faults to.clock.faults before.clock
+        (turn_clock_rose not fails.last to fails.ends)
+
+    pub turns_keeper_not : (Own error.KeeperFault → ⊥) → (from : Running State) (to : Outside)
+        → AnyTurnsFail error.KeeperFault from to → ⊥
+    turns_keeper_not not from to fails = turn_keeper_not not fails.last to fails.ends
+
+    pub turns_shelf_not : (Own error.ShelfFault → ⊥) → (from : Running State) (to : Outside)
+        → AnyTurnsFail error.ShelfFault from to → ⊥
+    turns_shelf_not not from to fails = turn_shelf_not not fails.last to fails.ends

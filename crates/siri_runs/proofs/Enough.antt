@@ -15,7 +15,7 @@ use Rattle.siri_runs.specs.Errors.{clock_error, keeper_error, status_of, wire_er
 use Rattle.siri_runs.specs.Turns.{Running, Turn, TurnFails, Turns}
 use Rattle.siri_runs.specs.declared.network_error.NetworkError.{NetworkError}
 use Rattle.siri_runs.specs.declared.network_error.NetworkError.TheVariants as error
-use Rattle.siri_runs.proofs.Causes.{AnyTurnsFail}
+use Rattle.siri_runs.proofs.Causes.{AnyTurnsFail, EndsBy}
 
 -- ---- failures that are named
 
@@ -178,23 +178,26 @@ turns_leave given Answers only (suc made) n all from to is has turns =
     let more : all ≡ made + (n + 1) = omega (arith, is) in
     turn_leaves given Answers only n turns.0 to (turns_leave given Answers only made (n + 1) all from turns.0 more has turns.1) turns.2
 
-turn_fails : {State : Type 0} (given : ℕ → State → State) (Stops : State → Told WireState → Told WireState → Type 0)
-    (n : ℕ) (e : NetworkError) (from : Running State) (to : Outside)
-    → HasTurns (n + 1) from.outside → TurnFails given Stops e from to → e ≡ error.OutOfMemory
-turn_fails given Stops n e from to has (inl accept) = fails_to_accept n e from.outside.wire to.wire has.connections accept.accepts
-turn_fails given Stops n e from to has (inr (inl tell)) = fails_to_tell n e from.outside.clock to.clock has.moments tell.tells
-turn_fails given Stops n e from to has (inr (inr stop)) = stop.error_is
+module _ {State : Type 0} (given : ℕ → State → State) (Refuses : NetworkError → State → Type 0)
+    (Stops : NetworkError → State → Told WireState → Told WireState → Type 0) (Own : NetworkError → Type 0)
+    (own : EndsBy Own Refuses Stops) (memory : Own error.OutOfMemory) where
+  turn_fails : (n : ℕ) (e : NetworkError) (from : Running State) (to : Outside)
+      → HasTurns (n + 1) from.outside → TurnFails given Refuses Stops e from to → Own e
+  turn_fails n e from to has (inl accept) =
+      subst Own (sym (fails_to_accept n e from.outside.wire to.wire has.connections accept.accepts)) memory
+  turn_fails n e from to has (inr (inl tell)) =
+      subst Own (sym (fails_to_tell n e from.outside.clock to.clock has.moments tell.tells)) memory
+  turn_fails n e from to has (inr (inr (inl give))) = own.refuses e from.state give.refuses
+  turn_fails n e from to has (inr (inr (inr stop))) = own.stops e (given stop.moment from.state) stop.wire to.wire stop.stops
 
--- a run that has enough for its turns ends in them for want of memory alone
-pub turns_fail : {State : Type 0} (given : ℕ → State → State)
-    (Answers : State → Told WireState → State → Told WireState → Type 0)
-    (Stops : State → Told WireState → Told WireState → Type 0) → AnswersOnly Answers
-    → (count : ℕ) (e : NetworkError) (from : Running State) (to : Outside) → HasTurns count from.outside
-    → AnyTurnsFail given Answers Stops count e from to → e ≡ error.OutOfMemory
-turns_fail given Answers Stops only count e from to has fails =
-    let left : ℕ = count - fails.made - 1 in
-    let all : count ≡ fails.made + (left + 1) = omega (arith, fails.fewer) in
-    turn_fails given Stops left e fails.last to (turns_leave given Answers only fails.made (left + 1) count from fails.last all has fails.turns) fails.ends
+  -- a run that has enough for its turns ends in them by its end's own errors alone
+  pub turns_fail : (Answers : State → Told WireState → State → Told WireState → Type 0) → AnswersOnly Answers
+      → (count : ℕ) (e : NetworkError) (from : Running State) (to : Outside) → HasTurns count from.outside
+      → AnyTurnsFail given Refuses Stops Own own Answers count e from to → Own e
+  turns_fail Answers only count e from to has fails =
+      let left : ℕ = count - fails.made - 1 in
+      let all : count ≡ fails.made + (left + 1) = omega (arith, fails.fewer) in
+      turn_fails left e fails.last to (turns_leave given Answers only fails.made (left + 1) count from fails.last all has fails.turns) fails.ends
 
 -- such a run ends so
 pub ends_wanting : (e : NetworkError) (end : Status) → end ≡ status_of e → e ≡ error.OutOfMemory → EndsWhole end

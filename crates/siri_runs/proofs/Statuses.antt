@@ -13,6 +13,7 @@ pub no_read_fault : (e : NetworkError) → is_read_fault (status_of e) ≡ false
 no_read_fault error.WireFault = refl
 no_read_fault error.ClockFault = refl
 no_read_fault error.KeeperFault = refl
+no_read_fault error.ShelfFault = refl
 no_read_fault error.OutOfMemory = refl
 
 -- no sink ended it
@@ -20,6 +21,7 @@ pub no_write_fault : (e : NetworkError) → is_write_fault (status_of e) ≡ fal
 no_write_fault error.WireFault = refl
 no_write_fault error.ClockFault = refl
 no_write_fault error.KeeperFault = refl
+no_write_fault error.ShelfFault = refl
 no_write_fault error.OutOfMemory = refl
 
 -- which error a status is of
@@ -28,18 +30,21 @@ pub wire_is : (e : NetworkError) → status.WireFault ≡ status_of e → e ≡ 
 wire_is error.WireFault is = refl
 wire_is error.ClockFault is = absurd (cc is)
 wire_is error.KeeperFault is = absurd (cc is)
+wire_is error.ShelfFault is = absurd (cc is)
 wire_is error.OutOfMemory is = absurd (cc is)
 
 pub clock_is : (e : NetworkError) → status.ClockFault ≡ status_of e → e ≡ error.ClockFault
 clock_is error.WireFault is = absurd (cc is)
 clock_is error.ClockFault is = refl
 clock_is error.KeeperFault is = absurd (cc is)
+clock_is error.ShelfFault is = absurd (cc is)
 clock_is error.OutOfMemory is = absurd (cc is)
 
 pub keeper_is : (e : NetworkError) → status.KeeperFault ≡ status_of e → e ≡ error.KeeperFault
 keeper_is error.WireFault is = absurd (cc is)
 keeper_is error.ClockFault is = absurd (cc is)
 keeper_is error.KeeperFault is = refl
+keeper_is error.ShelfFault is = absurd (cc is)
 keeper_is error.OutOfMemory is = absurd (cc is)
 
 -- ---- a run by its status

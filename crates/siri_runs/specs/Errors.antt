@@ -26,4 +26,5 @@ abbrev pub status_of : NetworkError → Status
 status_of error.WireFault = status.WireFault
 status_of error.ClockFault = status.ClockFault
 status_of error.KeeperFault = status.KeeperFault
+status_of error.ShelfFault = status.ShelfFault
 status_of error.OutOfMemory = status.OutOfMemory

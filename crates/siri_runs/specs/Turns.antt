@@ -44,21 +44,40 @@ pub record FailsToTell (error : NetworkError) (from to : Outside) : Type 0 where
   pub tells : Fails GivesMoment clock_error error from.clock to.clock
   pub keeper : to.keeper ≡ from.keeper
 
--- there was no memory to answer the connection to its end: the first steps of that were made
+-- a connection was accepted and the clock told a moment, which the end can't be given
+pub record FailsToGive {State : Type 0} (Refuses : NetworkError → State → Type 0) (error : NetworkError)
+    (from : Running State) (to : Outside) : Type 0 where
+  pub moment : ℕ
+  pub accepts : Call Accepts (Ok (tt {0})) from.outside.wire to.wire
+  pub tells : Call GivesMoment (Ok moment) from.outside.clock to.clock
+  pub refuses : Refuses error from.state
+  pub keeper : to.keeper ≡ from.outside.keeper
+
+-- it was given it, and answered the connection in part
 pub record StopsAnswering {State : Type 0} (given : ℕ → State → State)
-    (Stops : State → Told WireState → Told WireState → Type 0) (error : NetworkError) (from : Running State)
-    (to : Outside) : Type 0 where
-  pub error_is : error ≡ errors.OutOfMemory
+    (Stops : NetworkError → State → Told WireState → Told WireState → Type 0) (error : NetworkError)
+    (from : Running State) (to : Outside) : Type 0 where
   pub wire : Told WireState
   pub moment : ℕ
   pub accepts : Call Accepts (Ok (tt {0})) from.outside.wire wire
   pub tells : Call GivesMoment (Ok moment) from.outside.clock to.clock
-  pub stops : Stops (given moment from.state) wire to.wire
+  pub stops : Stops error (given moment from.state) wire to.wire
   pub keeper : to.keeper ≡ from.outside.keeper
 
-abbrev pub TurnFails : {State : Type 0} → (given : ℕ → State → State)
-    → (Stops : State → Told WireState → Told WireState → Type 0) → NetworkError → Running State → Outside → Type 0
-TurnFails given Stops error from to = FailsToAccept error from.outside to ⊎ (FailsToTell error from.outside to ⊎ StopsAnswering given Stops error from to)
+abbrev pub TurnFails : {State : Type 0} → (given : ℕ → State → State) → (Refuses : NetworkError → State → Type 0)
+    → (Stops : NetworkError → State → Told WireState → Told WireState → Type 0) → NetworkError → Running State → Outside → Type 0
+TurnFails given Refuses Stops error from to =
+    FailsToAccept error from.outside to
+    ⊎ (FailsToTell error from.outside to ⊎ (FailsToGive Refuses error from to ⊎ StopsAnswering given Stops error from to))
+
+-- an end that can be given any moment
+abbrev pub NeverRefuses : {State : Type 0} → NetworkError → State → Type 0
+NeverRefuses error state = ⊥
+
+-- an end that answers in part for want of memory alone
+abbrev pub StopsForMemory : {State : Type 0} → (State → Told WireState → Told WireState → Type 0)
+    → NetworkError → State → Told WireState → Told WireState → Type 0
+StopsForMemory Stops error state before after = (error ≡ errors.OutOfMemory) × Stops state before after
 
 -- of so many turns some were made, and the next one ended the run
 pub record TurnsFail {State : Type 0} (Does : Running State → Running State → Type 0)

@@ -1,16 +1,17 @@
 //! The calls of the outside that end a run where they fail.
 
-ghost use Rattle.std.specs.Prelude.{◌≤◌, IfOk, OnOk};
+ghost use Rattle.std.specs.Prelude.{◌≤◌, IfOk, IsErrOf, OnOk};
 ghost use Rattle.siri_base.specs.OutsideCalls.{GivesMoment, RaisesNumber};
 ghost use Rattle.siri_base.specs.Wires.{Accepts, Listens};
 ghost use Rattle.siri_runs.specs.Calls.{Comes, told_by};
 ghost use Rattle.siri_runs.specs.Errors.{clock_error, keeper_error, wire_error};
+ghost use Rattle.siri_runs.specs.declared.network_error.NetworkError.TheVariants as error;
 
 use crate::NetworkError;
 use siri_base::{Clock, Keeper, Moment, Name, Wire};
 
 /// The next start number, from 1 to 99,999,999,999. `KeeperFault` only where the keeper's count of faults rose.
-pub(crate) fn raise<E: Keeper>(keeper: &mut E) -> Result<u64, NetworkError>
+pub fn raise<E: Keeper>(keeper: &mut E) -> Result<u64, NetworkError>
     ensures call { Comes RaisesNumber keeper_error result (told_by (E.tells keeper.old) (E.faults keeper.old)) (told_by (E.tells keeper.new) (E.faults keeper.new)) }
     ensures range { IfOk result (λ number. (1 ≤ number) × (number ≤ 99999999999)) }
 {
@@ -21,7 +22,7 @@ pub(crate) fn raise<E: Keeper>(keeper: &mut E) -> Result<u64, NetworkError>
 }
 
 /// Listens at `HOST:PORT`. `WireFault` only where the wire's count of faults rose.
-pub(crate) fn listen<W: Wire>(wire: &mut W, address: &Name) -> Result<(), NetworkError>
+pub fn listen<W: Wire>(wire: &mut W, address: &Name) -> Result<(), NetworkError>
     ensures { Comes (Listens address.now) wire_error result (told_by (W.tells wire.old) (W.faults wire.old)) (told_by (W.tells wire.new) (W.faults wire.new)) }
 {
     match wire.listen(address) {
@@ -33,6 +34,7 @@ pub(crate) fn listen<W: Wire>(wire: &mut W, address: &Name) -> Result<(), Networ
 /// Waits for a connection. `WireFault` only where the wire's count of faults rose.
 pub(crate) fn accept<W: Wire>(wire: &mut W) -> Result<(), NetworkError>
     ensures call { Comes Accepts wire_error result (told_by (W.tells wire.old) (W.faults wire.old)) (told_by (W.tells wire.new) (W.faults wire.new)) }
+    ensures no_shelf { ¬ IsErrOf result error.ShelfFault }
     ensures open { OnOk result (W.is_open wire.new) }
 {
     match wire.accept() {
@@ -42,8 +44,9 @@ pub(crate) fn accept<W: Wire>(wire: &mut W) -> Result<(), NetworkError>
 }
 
 /// The next moment. `ClockFault` only where the clock's count of faults rose.
-pub(crate) fn now<C: Clock>(clock: &mut C) -> Result<Moment, NetworkError>
-    ensures { Comes GivesMoment clock_error result (told_by (C.tells clock.old) (C.faults clock.old)) (told_by (C.tells clock.new) (C.faults clock.new)) }
+pub fn now<C: Clock>(clock: &mut C) -> Result<Moment, NetworkError>
+    ensures call { Comes GivesMoment clock_error result (told_by (C.tells clock.old) (C.faults clock.old)) (told_by (C.tells clock.new) (C.faults clock.new)) }
+    ensures no_shelf { ¬ IsErrOf result error.ShelfFault }
 {
     match clock.now() {
         Ok(moment) => Ok(moment),

@@ -134,6 +134,6 @@ fn consume_all<S: Source, W: Wire, C: Clock, E: Keeper>(
         Err(OutOfMemory) => return Err(Status::OutOfMemory),
     }
     let mut client = Client::new(alloc, producer, Consumed { consumer, tally });
-    run_turns(count, wire, clock, &mut client)?;
+    run_turns(count, wire, clock, &mut client, &mut ())?;
     Ok(client.consumed())
 }

@@ -16,6 +16,9 @@
 //! consumer's state, turn after turn. A call of the outside that fails ends a run with a `NetworkError`, which is a
 //! status.
 //!
+//! A run of another end, also of one that a shelf stands beside, is made of the same parts: it opens by `raise`, `listen`
+//! and `now`, answers by `run_turns` over its own [`End`], and ends by `write_summary`.
+//!
 //! Stands on `siri_ends` for a turn of a `siri_producer` or of a consumer (`siri_view`), on `siri_lines` and
 //! `siri_script` for lines and for the texts of views and items, on `siri_wire` and `siri_messages` for what is wanted,
 //! and on `siri_base`, `siri_http`, `siri_topic` and `siri_change` for what these speak of. It knows no socket and no
@@ -30,6 +33,10 @@ mod serving;
 mod summary;
 mod turns;
 
+pub use calls::{listen, now, raise};
 pub use consuming::{consume, own_address, read_wanted, write_views};
+pub use end::End;
 pub use network_error::NetworkError;
 pub use serving::serve;
+pub use summary::write_summary;
+pub use turns::run_turns;

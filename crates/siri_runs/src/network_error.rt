@@ -1,8 +1,8 @@
 //! Why a run over the network ends before its connections are served.
 
-ghost use Rattle.std.specs.Prelude.{◌≡◌};
+ghost use Rattle.std.specs.Prelude.{◌≡◌, ◌≢◌};
 ghost use Rattle.siri_runs.specs.Errors.{keeper_error, status_of, wire_error};
-ghost use Rattle.siri_runs.specs.declared.network_error.NetworkError.TheVariants as error;
+ghost use Rattle.siri_runs.specs.declared.network_error.NetworkError.TheVariants as variant;
 
 use siri_base::{OutOfMemory, OutsideError, Status};
 
@@ -15,6 +15,8 @@ pub enum NetworkError {
     ClockFault,
     /// The keeper of the start number failed.
     KeeperFault,
+    /// The shelf failed.
+    ShelfFault,
     /// There was no memory.
     OutOfMemory,
 }
@@ -22,7 +24,8 @@ pub enum NetworkError {
 impl NetworkError {
     /// What a wire that failed to listen or to accept ends a run with.
     pub fn of_wire(error: OutsideError) -> NetworkError
-        ensures { result ≡ wire_error error }
+        ensures value { result ≡ wire_error error }
+        ensures no_shelf { result ≢ variant.ShelfFault }
     {
         match error {
             OutsideError::Failed => NetworkError::WireFault,
@@ -42,7 +45,7 @@ impl NetworkError {
 }
 
 impl From<OutOfMemory> for NetworkError {
-    ghost from_gives = { λ _ e. e ≡ error.OutOfMemory };
+    ghost from_gives = { λ _ e. e ≡ variant.OutOfMemory };
 
     fn from(_: OutOfMemory) -> Self {
         NetworkError::OutOfMemory
@@ -57,6 +60,7 @@ impl From<NetworkError> for Status {
             NetworkError::WireFault => Status::WireFault,
             NetworkError::ClockFault => Status::ClockFault,
             NetworkError::KeeperFault => Status::KeeperFault,
+            NetworkError::ShelfFault => Status::ShelfFault,
             NetworkError::OutOfMemory => Status::OutOfMemory,
         }
     }

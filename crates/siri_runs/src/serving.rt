@@ -81,6 +81,6 @@ fn serve_all<A: Asking, W: Wire, C: Clock, E: Keeper>(
 {
     let producer = open(alloc, name, address, wire, clock, keeper)?;
     let mut server: Server<A> = Server::new(alloc, producer);
-    run_turns(count, wire, clock, &mut server)?;
+    run_turns(count, wire, clock, &mut server, &mut ())?;
     Ok(server.tally())
 }

@@ -14,7 +14,7 @@ use std::alloc::Global;
 
 /// Writes `served N refused R dropped D unsent U` and a line feed.
 #[tactic(auto, using(siri_lines::proofs::Meeting::sink_none))]
-pub(crate) fn write_summary<K: Sink>(
+pub fn write_summary<K: Sink>(
     alloc: Global,
     tally: &Tally,
     sink: &mut K,

@@ -18,11 +18,13 @@ use Rattle.siri_ends.specs.Consuming.{PostsUp, consuming}
 use Rattle.siri_ends.specs.InTurn.{most_sends}
 use Rattle.siri_runs.specs.Calls.{Outside}
 use Rattle.siri_runs.specs.Enough.{EndsWhole, HasConnections, HasEnough, HasMoments}
-use Rattle.siri_runs.specs.Turns.{Running}
+use Rattle.siri_runs.specs.Turns.{NeverRefuses, Running}
 use Rattle.siri_runs.specs.declared.network_error.NetworkError.TheVariants as error
 use Rattle.siri_runs.proofs.Enough.{AnswersOnly, HasTurns, ends_wanting, fails_to_listen, fails_to_raise, fails_to_tell}
 use Rattle.siri_runs.proofs.Enough.{opened_with, turns_fail}
+use Rattle.siri_runs.proofs.Causes.{IsMemory}
 use Rattle.siri_runs.proofs.Exchanges.{post_only}
+use Rattle.siri_runs.proofs.consumers.Causes.{consuming_ends}
 use Rattle.siri_runs.proofs.TurnsTaken.{sends_only, turn_only}
 use Rattle.siri_runs.specs.consumers.Consumption.{Asks, Consumes, Consumption, StopsConsuming, Target, asking, end_at, given, requests}
 use Rattle.siri_runs.specs.consumers.Opening.{FailsToOpen, opened}
@@ -92,5 +94,5 @@ ends_whole name listen target count input left from to end (inr (inl ask)) has w
 ends_whole name listen target count input left from to end (inr (inr turn)) has wanted read =
     let open_ = opened_with count turn.moment listen from turn.open_ has turn.opens.listens turn.opens.tells in
     let asked = asked_with target turn.list (opened name listen turn.start turn.moment) count turn.open_ turn.asked open_ turn.asks in
-    ends_wanting turn.error end turn.end_is (turns_fail given (Consumes target) (StopsConsuming target)
-    (consumed_only target) count turn.error turn.asked to asked turn.fails)
+    ends_wanting turn.error end turn.end_is (turns_fail given NeverRefuses (StopsConsuming target) IsMemory
+    (consuming_ends target) refl (Consumes target) (consumed_only target) count turn.error turn.asked to asked turn.fails)

@@ -1,5 +1,5 @@
 -- A run, whole.
-use Rattle.std.proofs.Common.{◌≡◌, ◌⊎◌, ℕ, List, ◌++◌, refl, sym, subst, append_assoc, inl, inr, None, Some, Result, Ok, Err}
+use Rattle.std.proofs.Common.{◌≡◌, ◌⊎◌, ℕ, List, ◌++◌, refl, sym, ◌∙◌, subst, append_assoc, inl, inr, None, Some, Result, Ok, Err}
 use Rattle.std.specs.Prelude.{OnErr}
 use Rattle.std.specs.Io.KnownBytes.{Appends}
 use Rattle.std.proofs.KnownBytes.{Appends-trans}
@@ -17,16 +17,17 @@ use Rattle.siri_view.specs.Consuming.{Consuming}
 use Rattle.siri_wire.specs.declared.wanted.Wanted.{Wanted}
 use Rattle.siri_runs.specs.Calls.{Outside, Told, outside_of}
 use Rattle.siri_runs.specs.Errors.{status_of}
-use Rattle.siri_runs.specs.Turns.{running}
+use Rattle.siri_runs.specs.Turns.{NeverRefuses, running}
 use Rattle.siri_runs.specs.declared.network_error.NetworkError.{NetworkError}
 use Rattle.siri_runs.specs.declared.network_error.NetworkError.TheVariants as error
-use Rattle.siri_runs.specs.consumers.Consumption.{Asks, ConsumesTurns, EndsInTurns, Target, after_asking, requests}
+use Rattle.siri_runs.specs.consumers.Consumption.{Asks, Consumes, ConsumesTurns, EndsInTurns, StopsConsuming, Target, after_asking, given, requests}
 use Rattle.siri_runs.specs.consumers.Opening.{opened}
 use Rattle.siri_runs.specs.consumers.Reading.{EndsReading}
 use Rattle.siri_runs.specs.consumers.Runs.{ConsumeRun, ConsumesAll, ConsumesNot}
 use Rattle.siri_runs.specs.consumers.inner.Steps.{OpensConsumer}
 use Rattle.siri_runs.proofs.consumers.Made.{state_of}
-use Rattle.siri_runs.proofs.consumers.Causes.{clock_rose, keeper_rose, wire_rose}
+use Rattle.siri_runs.proofs.consumers.Causes.{clock_rose, consuming_ends, keeper_rose, wire_rose}
+use Rattle.siri_runs.proofs.Causes.{IsMemory, no_shelf_of_clock, no_shelf_of_keeper, no_shelf_of_wire, turns_shelf_not}
 
 -- what was asked, as the run has it
 asks_all : (target : Target) (list : List Wanted) (first begun later : Consuming) (none tally : Tally)
@@ -149,17 +150,20 @@ on_err_with (Err error) follows p = follows p
 
 -- ---- by the status
 
--- a run that ends early ends with neither of these
+-- a run that ends early ends with none of these: no work was done, and no sink or shelf failed
 abbrev IsEarly : Status → Type 0
 IsEarly status.Done = ⊥
 IsEarly status.WriteFault = ⊥
+IsEarly status.ShelfFault = ⊥
+IsEarly (status.BadShelf why) = ⊥
 IsEarly other = Unit {0}
 
-error_early : (e : NetworkError) → IsEarly (status_of e)
-error_early error.WireFault = tt
-error_early error.ClockFault = tt
-error_early error.KeeperFault = tt
-error_early error.OutOfMemory = tt
+error_early : (e : NetworkError) → (error.ShelfFault ≡ e → ⊥) → IsEarly (status_of e)
+error_early error.WireFault not = tt
+error_early error.ClockFault not = tt
+error_early error.KeeperFault not = tt
+error_early error.ShelfFault not = absurd (not refl)
+error_early error.OutOfMemory not = tt
 
 reading_early : (end : Status) → EndsReading end → IsEarly end
 reading_early status.Done ends = ends
@@ -173,24 +177,26 @@ reading_early status.OutOfMemory ends = tt
 reading_early status.WriteFault ends = ends
 reading_early status.ClockFault ends = tt
 reading_early status.KeeperFault ends = tt
-reading_early status.ShelfFault ends = tt
-reading_early (status.BadShelf shelf) ends = tt
+reading_early status.ShelfFault ends = ends
+reading_early (status.BadShelf why) ends = ends
 
-by_error : (e : NetworkError) (end : Status) → end ≡ status_of e → IsEarly end
-by_error e end is = subst IsEarly (sym is) (error_early e)
+by_error : (e : NetworkError) (end : Status) → end ≡ status_of e → (error.ShelfFault ≡ e → ⊥) → IsEarly end
+by_error e end is not = subst IsEarly (sym is) (error_early e not)
 
 no_memory : (end : Status) → end ≡ status.OutOfMemory → IsEarly end
 no_memory end is = subst IsEarly (sym is) tt
 
 early : (name listen : List ℕ) (target : Target) (count : ℕ) (input left : Bytes) (end : Status) (from to : Outside)
     → ConsumesNot name listen target count input left end from to → IsEarly end
-early name listen target count input left end from to (inl (inl raise)) = by_error raise.error end raise.end_is
+early name listen target count input left end from to (inl (inl raise)) = by_error raise.error end raise.end_is (λ is. no_shelf_of_keeper raise.raises.failure (is ∙ raise.raises.error_is))
 early name listen target count input left end from to (inl (inr (inl read))) = reading_early end read.ends
-early name listen target count input left end from to (inl (inr (inr (inl tell)))) = by_error tell.error end tell.end_is
-early name listen target count input left end from to (inl (inr (inr (inr (inl fails))))) = by_error fails.error end fails.end_is
+early name listen target count input left end from to (inl (inr (inr (inl tell)))) = by_error tell.error end tell.end_is (λ is. no_shelf_of_clock tell.tells.failure (is ∙ tell.tells.error_is))
+early name listen target count input left end from to (inl (inr (inr (inr (inl fails))))) = by_error fails.error end fails.end_is (λ is. no_shelf_of_wire fails.listens.failure (is ∙ fails.listens.error_is))
 early name listen target count input left end from to (inl (inr (inr (inr (inr none))))) = no_memory end none.end_is
 early name listen target count input left end from to (inr (inl ask)) = no_memory end ask.end_is
 early name listen target count input left end from to (inr (inr turn)) = by_error turn.error end turn.end_is
+    (λ is. turns_shelf_not given NeverRefuses (StopsConsuming target) IsMemory (consuming_ends target) (Consumes target) count
+    (λ memory. cc memory) turn.asked to (subst (λ e. EndsInTurns target count e turn.asked to) (sym is) turn.fails))
 
 -- it ended before every connection was answered
 pub run_ended : (name listen : List ℕ) (target : Target) (count : ℕ) (input left : Bytes) (from to : Outside)
@@ -208,8 +214,10 @@ run_ended name listen target count input left from to held (status.Limit n) ends
 run_ended name listen target count input left from to held status.WireFault ends = (ends, refl)
 run_ended name listen target count input left from to held status.ClockFault ends = (ends, refl)
 run_ended name listen target count input left from to held status.KeeperFault ends = (ends, refl)
-run_ended name listen target count input left from to held status.ShelfFault ends = (ends, refl)
-run_ended name listen target count input left from to held (status.BadShelf shelf) ends = (ends, refl)
+run_ended name listen target count input left from to held status.ShelfFault ends =
+    early name listen target count input left status.ShelfFault from to ends
+run_ended name listen target count input left from to held (status.BadShelf why) ends =
+    early name listen target count input left (status.BadShelf why) from to ends
 
 -- when each fault comes
 

@@ -1,6 +1,6 @@
 -- Where the outside has enough for so many connections, a run of `serve` that ends before every connection was served ends for
 -- want of memory.
-use Rattle.std.proofs.Common.{◌≡◌, ℕ, List, inl, inr}
+use Rattle.std.proofs.Common.{◌≡◌, ℕ, List, refl, inl, inr}
 use Rattle.siri_base.specs.declared.status.Status.{Status}
 use Rattle.siri_http.specs.Requests.{Meaning}
 use Rattle.siri_http.specs.declared.asked.Asked.{Asked}
@@ -13,6 +13,9 @@ use Rattle.siri_runs.specs.declared.network_error.NetworkError.TheVariants as er
 use Rattle.siri_runs.proofs.Enough.{AnswersOnly, ends_wanting, fails_to_listen, fails_to_raise, fails_to_tell, opened_with, turns_fail}
 use Rattle.siri_runs.proofs.Exchanges.{post_to_only}
 use Rattle.siri_runs.proofs.TurnsTaken.{turn_only}
+use Rattle.siri_runs.specs.Turns.{NeverRefuses}
+use Rattle.siri_runs.proofs.Causes.{IsMemory}
+use Rattle.siri_runs.proofs.producers.Causes.{serving_ends}
 use Rattle.siri_runs.specs.producers.Opening.{FailsToOpen, opened}
 use Rattle.siri_runs.specs.producers.Runs.{ServesNot}
 use Rattle.siri_runs.specs.producers.Serving.{Serves, StopsServing, end_at, given}
@@ -37,7 +40,8 @@ run_wanting : (asks : Meaning) (name listen : List ℕ) (count : ℕ) (e : Netwo
     → ServesNot asks name listen count e from to → e ≡ error.OutOfMemory
 run_wanting asks name listen count e from to has (inl opening) = opening_wanting listen count e from to has opening
 run_wanting asks name listen count e from to has (inr turn) =
-    turns_fail given (Serves asks name) (StopsServing asks name) (served_only asks name) count e (opened turn.start turn.moment turn.open_) to
+    turns_fail given NeverRefuses (StopsServing asks name) IsMemory (serving_ends asks name) refl (Serves asks name)
+    (served_only asks name) count e (opened turn.start turn.moment turn.open_) to
     (opened_with count turn.moment listen from turn.open_ has turn.opens.listens turn.opens.tells) turn.fails
 
 -- the status that it ends with

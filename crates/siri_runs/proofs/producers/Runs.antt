@@ -24,7 +24,7 @@ use Rattle.siri_runs.specs.Turns.{running}
 use Rattle.siri_runs.specs.producers.Serving.{EndsInTurns, Serves, Serving, ServesTurns}
 use Rattle.siri_runs.specs.producers.Steps.{OpensProducer, Stands}
 use Rattle.siri_runs.proofs.Statuses.{clock_is, keeper_is, wire_is}
-use Rattle.siri_runs.proofs.producers.Causes.{clock_rose, keeper_rose, wire_rose}
+use Rattle.siri_runs.proofs.producers.Causes.{clock_rose, keeper_rose, shelf_not, wire_rose}
 
 -- a connection was served, by whatever history the producer stood for
 pub serves_on : (asks : Meaning) (old new : Known) (was is : Tally) (before after : Told WireState)
@@ -45,22 +45,22 @@ module _ {Server : Type 0} (producer_in : Server → Known) (tally_in : Server �
   abbrev name_of : Server → List ℕ
   name_of server = (producer_in server).responder.name
 
-  abbrev stands : Server → Serving → Type 0
-  stands server state = Stands (producer_in server) (tally_in server) state
+  abbrev stands : Server → Unit {0} → Serving → Type 0
+  stands server nothing state = Stands (producer_in server) (tally_in server) state
 
   -- a server of a producer that has counted nothing yet
   begins : (producer : Known) (first : Server) (state : Serving) → producer_in first ≡ producer → tally_in first ≡ state.tally
-      → StandsFor producer state.history → stands first state
+      → StandsFor producer state.history → stands first tt state
   begins producer first state own is begun =
       record { history = subst (λ k. StandsFor k state.history) (sym own) begun; tally_is = is }
 
   -- it opened, and every connection was served
   pub all_served : (asks : Meaning) (name listen : List ℕ) (count : ℕ) (producer : Known) (first last : Server)
-      (from open_ to : Outside) → producer_in first ≡ producer → tally_in first ≡ nothing_yet
+      (was is : Unit {0}) (from open_ to : Outside) → producer_in first ≡ producer → tally_in first ≡ nothing_yet
       → OpensProducer name listen producer from open_
-      → Goes name_of stands (λ name. ServesTurns asks name count) first last open_ to
+      → Goes name_of stands (λ name. ServesTurns asks name count) first was last is open_ to
       → ServesAll asks name listen count (tally_in last) from to
-  all_served asks name listen count producer first last from open_ to own is opens goes =
+  all_served asks name listen count producer first last was after from open_ to own is opens goes =
       let state = (opened opens.start opens.moment open_).state in
       let one = goes.goes state (begins producer first state own is opens.stands) in
       record {
@@ -76,11 +76,11 @@ module _ {Server : Type 0} (producer_in : Server → Known) (tally_in : Server �
 
   -- it opened, and a turn ended it
   pub turn_ended : (asks : Meaning) (name listen : List ℕ) (count : ℕ) (e : NetworkError) (producer : Known)
-      (first : Server) (from open_ to : Outside) → producer_in first ≡ producer → tally_in first ≡ nothing_yet
+      (first : Server) (was : Unit {0}) (from open_ to : Outside) → producer_in first ≡ producer → tally_in first ≡ nothing_yet
       → OpensProducer name listen producer from open_
-      → Ends name_of stands (λ name. EndsInTurns asks name count e) first open_ to
+      → Ends name_of stands (λ name. EndsInTurns asks name count e) first was open_ to
       → ServesNot asks name listen count e from to
-  turn_ended asks name listen count e producer first from open_ to own is opens ends =
+  turn_ended asks name listen count e producer first was from open_ to own is opens ends =
       let state = (opened opens.start opens.moment open_).state in
       inr (record {
         start = opens.start;
@@ -98,6 +98,7 @@ ended_by : (asks : Meaning) (name listen : List ℕ) (count : ℕ) (from to : Ou
 ended_by asks name listen count from to held error.WireFault ends = (ends, refl)
 ended_by asks name listen count from to held error.ClockFault ends = (ends, refl)
 ended_by asks name listen count from to held error.KeeperFault ends = (ends, refl)
+ended_by asks name listen count from to held error.ShelfFault ends = shelf_not asks name listen count from to ends
 ended_by asks name listen count from to held error.OutOfMemory ends = inr (ends, refl)
 
 -- it ended before every connection was served

@@ -10,7 +10,7 @@ use Rattle.siri_wire.specs.declared.wanted.Wanted.{Wanted}
 use Rattle.siri_ends.specs.At.{At, at_of}
 use Rattle.siri_ends.specs.Consuming.{ConsumesOne, ConsumesSome, FirstSendsUp, SendsUp}
 use Rattle.siri_runs.specs.Calls.{Outside, Told}
-use Rattle.siri_runs.specs.Turns.{Running, Turn, TurnFails, Turns, TurnsFail}
+use Rattle.siri_runs.specs.Turns.{NeverRefuses, Running, StopsForMemory, Turn, TurnFails, Turns, TurnsFail}
 use Rattle.siri_runs.specs.declared.network_error.NetworkError.{NetworkError}
 
 -- the consumer, and what was counted
@@ -66,9 +66,10 @@ pub record AsksSome (target : Target) (list : List Wanted) (consumer : Consuming
 abbrev pub Consumes : Target → Consumption → Told WireState → Consumption → Told WireState → Type 0
 Consumes target from before to after = ConsumesOne target.0 target.1 (end_at from before) (end_at to after)
 
--- the first steps of that were made
-abbrev pub StopsConsuming : Target → Consumption → Told WireState → Told WireState → Type 0
-StopsConsuming target from before after = ConsumesSome target.0 target.1 (end_at from before) after.tells
+-- for want of memory the first steps of that were made
+abbrev pub StopsConsuming : Target → NetworkError → Consumption → Told WireState → Told WireState → Type 0
+StopsConsuming target error from before after =
+    StopsForMemory (λ state old new. ConsumesSome target.0 target.1 (end_at state old) new.tells) error from before after
 
 abbrev pub ConsumesTurn : Target → Running Consumption → Running Consumption → Type 0
 ConsumesTurn target from to = Turn given (Consumes target) from to
@@ -78,7 +79,7 @@ ConsumesTurns target count from to = Turns (ConsumesTurn target) count from to
 
 -- a turn that ended the run
 abbrev pub EndsAtTurn : Target → NetworkError → Running Consumption → Outside → Type 0
-EndsAtTurn target error from to = TurnFails given (StopsConsuming target) error from to
+EndsAtTurn target error from to = TurnFails given NeverRefuses (StopsConsuming target) error from to
 
 abbrev pub EndsInTurns : Target → ℕ → NetworkError → Running Consumption → Outside → Type 0
 EndsInTurns target count error from to = TurnsFail (ConsumesTurn target) (EndsAtTurn target) count error from to

@@ -79,6 +79,8 @@ ConsumeRun name listen target count input left from to old new status.Done = Tel
 ConsumeRun name listen target count input left from to old new status.WriteFault = Tells AppendsFront name listen target count input from to old new
 ConsumeRun name listen target count input left from to old new status.OutOfMemory =
     Tells AppendsFront name listen target count input from to old new ⊎ EndsUnwritten name listen target count input left status.OutOfMemory from to old new
+ConsumeRun name listen target count input left from to old new status.ShelfFault = ⊥
+ConsumeRun name listen target count input left from to old new (status.BadShelf why) = ⊥
 ConsumeRun name listen target count input left from to old new end = EndsUnwritten name listen target count input left end from to old new
 
 -- the statuses of a run in which nothing was written

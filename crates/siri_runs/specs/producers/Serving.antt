@@ -8,7 +8,7 @@ use Rattle.siri_model.specs.History.{Clock, History}
 use Rattle.siri_ends.specs.At.{At, at_of}
 use Rattle.siri_ends.specs.Serving.{ServesOne, ServesSome}
 use Rattle.siri_runs.specs.Calls.{Outside, Told}
-use Rattle.siri_runs.specs.Turns.{Running, Turn, TurnFails, Turns, TurnsFail}
+use Rattle.siri_runs.specs.Turns.{NeverRefuses, Running, StopsForMemory, Turn, TurnFails, Turns, TurnsFail}
 use Rattle.siri_runs.specs.declared.network_error.NetworkError.{NetworkError}
 
 -- the producer's history, and what was counted
@@ -28,9 +28,10 @@ end_at serving wire = at_of serving.history serving.tally wire.tells wire.faults
 abbrev pub Serves : (asks : Meaning) → (name : List ℕ) → Serving → Told WireState → Serving → Told WireState → Type 0
 Serves asks name from before to after = ServesOne asks name (end_at from before) (end_at to after)
 
--- it is served in part: of its answer the first steps were made, or its answer and the first sends
-abbrev pub StopsServing : (asks : Meaning) → (name : List ℕ) → Serving → Told WireState → Told WireState → Type 0
-StopsServing asks name from before after = ServesSome asks name (end_at from before) after.tells
+-- for want of memory it is served in part: of its answer the first steps were made, or its answer and the first sends
+abbrev pub StopsServing : (asks : Meaning) → (name : List ℕ) → NetworkError → Serving → Told WireState → Told WireState → Type 0
+StopsServing asks name error from before after =
+    StopsForMemory (λ state old new. ServesSome asks name (end_at state old) new.tells) error from before after
 
 -- ---- its turns
 
@@ -42,7 +43,7 @@ ServesTurns asks name count from to = Turns (ServesTurn asks name) count from to
 
 -- a turn that ended the run
 abbrev pub EndsAtTurn : (asks : Meaning) → (name : List ℕ) → NetworkError → Running Serving → Outside → Type 0
-EndsAtTurn asks name error from to = TurnFails given (StopsServing asks name) error from to
+EndsAtTurn asks name error from to = TurnFails given NeverRefuses (StopsServing asks name) error from to
 
 abbrev pub EndsInTurns : (asks : Meaning) → (name : List ℕ) → ℕ → NetworkError → Running Serving → Outside → Type 0
 EndsInTurns asks name count error from to = TurnsFail (ServesTurn asks name) (EndsAtTurn asks name) count error from to

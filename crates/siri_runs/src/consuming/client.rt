@@ -1,10 +1,12 @@
 //! A consumer that answers connections.
 
 ghost use Rattle.std.specs.Prelude.{◌≡◌};
+ghost use Rattle.siri_runs.specs.Turns.{NeverRefuses};
 ghost use Rattle.siri_runs.specs.consumers.Consumption as consumption;
 
+use crate::NetworkError;
 use crate::end::End;
-use siri_base::{Moment, OutOfMemory, Wire};
+use siri_base::{Moment, Wire};
 use siri_ends::{Tally, consume_one};
 use siri_http::Address;
 use siri_view::Consumer;
@@ -47,25 +49,34 @@ impl<'a> Client<'a> {
 }
 
 impl<'a> End for Client<'a> {
+    type Beside = ();
+
+    ghost is_ready = { λ _ _. Unit {0} };
+
     ghost Kept = { consumption.Target };
 
     ghost kept = { λ client. (client.producer.now.host, client.producer.now.path) };
 
     ghost State = { consumption.Consumption };
 
-    ghost stands = { λ client state. state ≡ record { consumer = client.consumed.consumer; tally = client.consumed.tally } };
+    ghost stands = { λ client _ state. state ≡ record { consumer = client.consumed.consumer; tally = client.consumed.tally } };
 
     ghost given = { consumption.given };
+
+    ghost Refuses = { NeverRefuses };
 
     ghost Answers = { consumption.Consumes };
 
     ghost Stops = { consumption.StopsConsuming };
 
-    fn clock(&mut self, now: Moment) {
+    ghost faults = { λ _. 0 };
+
+    fn clock(&mut self, _beside: &mut (), now: Moment) -> Result<(), NetworkError> {
         self.consumed.consumer.clock(now);
+        Ok(())
     }
 
-    fn answer<W: Wire>(&mut self, wire: &mut W) -> Result<(), OutOfMemory> {
+    fn answer<W: Wire>(&mut self, _beside: &mut (), wire: &mut W) -> Result<(), NetworkError> {
         let consumed = &mut self.consumed;
         consume_one(
             self.alloc,
@@ -73,6 +84,7 @@ impl<'a> End for Client<'a> {
             self.producer,
             &mut consumed.consumer,
             &mut consumed.tally,
-        )
+        )?;
+        Ok(())
     }
 }

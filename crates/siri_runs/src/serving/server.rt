@@ -2,11 +2,13 @@
 
 ghost use Rattle.std.specs.Prelude.{◌≡◌, ℕ, List};
 ghost use Rattle.siri_http.specs.Tallies.{nothing_yet};
+ghost use Rattle.siri_runs.specs.Turns.{NeverRefuses};
 ghost use Rattle.siri_runs.specs.producers.Serving as serving;
 ghost use Rattle.siri_runs.specs.producers.Steps.{Stands};
 
+use crate::NetworkError;
 use crate::end::End;
-use siri_base::{Moment, OutOfMemory, Wire};
+use siri_base::{Moment, Wire};
 use siri_ends::serve_one;
 use siri_http::{Asking, Tally};
 use siri_producer::Producer;
@@ -45,25 +47,35 @@ impl<A: Asking> Server<A> {
 }
 
 impl<A: Asking> End for Server<A> {
+    type Beside = ();
+
+    ghost is_ready = { λ _ _. Unit {0} };
+
     ghost Kept = { List ℕ };
 
     ghost kept = { λ server. server.producer.responder.name };
 
     ghost State = { serving.Serving };
 
-    ghost stands = { λ server state. Stands server.producer server.tally state };
+    ghost stands = { λ server _ state. Stands server.producer server.tally state };
 
     ghost given = { serving.given };
+
+    ghost Refuses = { NeverRefuses };
 
     ghost Answers = { serving.Serves A.asks };
 
     ghost Stops = { serving.StopsServing A.asks };
 
-    fn clock(&mut self, now: Moment) {
+    ghost faults = { λ _. 0 };
+
+    fn clock(&mut self, _beside: &mut (), now: Moment) -> Result<(), NetworkError> {
         self.producer.clock(now);
+        Ok(())
     }
 
-    fn answer<W: Wire>(&mut self, wire: &mut W) -> Result<(), OutOfMemory> {
-        serve_one::<W, A>(self.alloc, wire, &mut self.producer, &mut self.tally)
+    fn answer<W: Wire>(&mut self, _beside: &mut (), wire: &mut W) -> Result<(), NetworkError> {
+        serve_one::<W, A>(self.alloc, wire, &mut self.producer, &mut self.tally)?;
+        Ok(())
     }
 }

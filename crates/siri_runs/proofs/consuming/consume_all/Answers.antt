@@ -11,11 +11,11 @@ pub returns-in_err-run_turns-clause-err : goal.returns-in_err-run_turns-clause-e
 returns-in_err-run_turns-clause-err g c =
     let p = err_from_is_err_and c.from_residual-in_err-run_turns.result c.from_residual-in_err-run_turns.ensures.1 in
     rw p.1 (turn_ended _ _ _ _ _ _ _ _ _ _ _ _ _ _ _ _ _ _ p.0 c.new-tally.ensures p.2 c.in_ok-consumer.ensures.ok
-    c.in-Ok.ensures.ok (turns_ended _ _ _ _ c.new-client.result _ _ c.new-client.ensures.producer
+    c.in-Ok.ensures.ok (turns_ended _ _ _ _ c.new-client.result _ _ _ c.new-client.ensures.producer
     c.new-client.ensures.consumed (c.in_err-run_turns.ensures.err _)))
 
 pub returns-clause-ok : goal.returns-clause-ok
 returns-clause-ok g c = rw c.consumed.ensures
     (all_consumed _ _ _ _ _ _ _ _ _ _ _ _ _ _ _ _ _ _ c.new-tally.ensures c.in_ok-consumer.ensures.ok c.in-Ok.ensures.ok
-    (turns_made _ _ _ c.new-client.result c.run_turns.new.end _ _ c.new-client.ensures.producer
+    (turns_made _ _ _ c.new-client.result c.run_turns.new.end _ _ _ _ c.new-client.ensures.producer
     c.new-client.ensures.consumed (c.in_ok-run_turns.ensures.ok _)))
