@@ -151,7 +151,7 @@ on_err_with (Err error) follows p = follows p
 -- ---- by the status
 
 -- a run that ends early ends with none of these: no work was done, and no sink or shelf failed
-abbrev IsEarly : Status → Type 0
+abbrev pub IsEarly : Status → Type 0
 IsEarly status.Done = ⊥
 IsEarly status.WriteFault = ⊥
 IsEarly status.ShelfFault = ⊥
@@ -165,7 +165,7 @@ error_early error.KeeperFault not = tt
 error_early error.ShelfFault not = absurd (not refl)
 error_early error.OutOfMemory not = tt
 
-reading_early : (end : Status) → EndsReading end → IsEarly end
+pub reading_early : (end : Status) → EndsReading end → IsEarly end
 reading_early status.Done ends = ends
 reading_early status.Refused ends = tt
 reading_early status.Usage ends = tt
@@ -180,10 +180,10 @@ reading_early status.KeeperFault ends = tt
 reading_early status.ShelfFault ends = ends
 reading_early (status.BadShelf why) ends = ends
 
-by_error : (e : NetworkError) (end : Status) → end ≡ status_of e → (error.ShelfFault ≡ e → ⊥) → IsEarly end
+pub by_error : (e : NetworkError) (end : Status) → end ≡ status_of e → (error.ShelfFault ≡ e → ⊥) → IsEarly end
 by_error e end is not = subst IsEarly (sym is) (error_early e not)
 
-no_memory : (end : Status) → end ≡ status.OutOfMemory → IsEarly end
+pub no_memory : (end : Status) → end ≡ status.OutOfMemory → IsEarly end
 no_memory end is = subst IsEarly (sym is) tt
 
 early : (name listen : List ℕ) (target : Target) (count : ℕ) (input left : Bytes) (end : Status) (from to : Outside)
@@ -251,7 +251,7 @@ keeper_fault name listen target count input left from to end ends is =
     (subst (λ e. ConsumesNot name listen target count input left e from to) is ends)
 
 -- nothing is said of what is left where the work wasn't done
-reads_unless : (left : Bytes) (end : Status) → (end ≡ status.Done → ⊥) → ReadsAll left end
+pub reads_unless : (left : Bytes) (end : Status) → (end ≡ status.Done → ⊥) → ReadsAll left end
 reads_unless None end not = tt
 reads_unless (Some left) status.Done not = absurd (not refl)
 reads_unless (Some left) status.Refused not = tt

@@ -1,6 +1,5 @@
-use Rattle.std.proofs.lemmas.Result.{on_ok_weaker}
 use Rattle.siri_runs.proofs.producers.Runs.{serves_on}
 use Rattle.siri_runs.proofs.serving.server.ServerEnd.answer.Goals as goal
 
 pub returns-clause-ok : goal.returns-clause-ok
-returns-clause-ok g c = on_ok_weaker c.serve_one.result (λ goes. serves_on _ _ _ _ _ _ _ goes) c.serve_one.ensures.ok
+returns-clause-ok g c = serves_on _ _ _ _ _ _ _ c.in_ok-serve_one.ensures.ok
