@@ -23,6 +23,7 @@ siri get PRODUCER < DOCUMENT
 siri serve NAME HOST:PORT COUNT
 siri lite NAME HOST:PORT COUNT
 siri consume NAME HOST:PORT PRODUCER COUNT < SUBSCRIPTIONS
+siri relay NAME HOST:PORT UPSTREAM COUNT < SUBSCRIPTION
 ";
 
 fn main(rt: HostRuntime) -> ExitCode {

@@ -4,7 +4,8 @@ use Rattle.siri_http.specs.Addresses.{address_of, is_host_with_port}
 use Rattle.siri_base.specs.Numbers.{number_of}
 use Rattle.siri_cli.specs.Arguments.{is_listen, producer_of, count_of}
 use Rattle.siri_cli.specs.Commands.{load_by, get_by, serve_by, consume_by, command_with, command_of}
-use Rattle.siri_cli.specs.declared.command.Command.TheVariants.{Replay, Check, Convert, Load, Get, Serve, Lite, Consume}
+use Rattle.siri_cli.specs.declared.command.Command.TheVariants.{Replay, Check, Convert, Load, Get, Serve, Lite, Consume, Relay}
+use Rattle.siri_cli.specs.declared.consume.Consuming.TheVariants as consuming
 use Rattle.siri_cli.specs.declared.serve.Producing.TheVariants as producing
 
 -- ---- words of one command
@@ -143,16 +144,25 @@ a_consume : command_of (codes "consume" ∷ codes "board" ∷ codes "localhost:8
 unfolding command_of command_with consume_by producer_of address_of count_of is_host_with_port number_of
 a_consume = refl
 
-the_port_left_out : consume_by (codes "board") (codes "localhost:8081") (codes "http://producer.example") (codes "12")
+a_relay : command_of (codes "relay" ∷ codes "hub" ∷ codes "localhost:8081" ∷ codes "http://localhost:8080/siri" ∷ codes "12" ∷ [])
+    ≡ Some (Relay (codes "hub") (codes "localhost:8081") (record { host = codes "localhost:8080"; path = codes "/siri" }) 12)
+unfolding command_of command_with consume_by producer_of address_of count_of is_host_with_port number_of
+a_relay = refl
+
+a_relay_without_source : command_of (codes "relay" ∷ codes "hub" ∷ codes "localhost:8081" ∷ codes "12" ∷ []) ≡ None
+unfolding command_of command_with
+a_relay_without_source = refl
+
+the_port_left_out : consume_by consuming.Consume (codes "board") (codes "localhost:8081") (codes "http://producer.example") (codes "12")
     ≡ Some (Consume (codes "board") (codes "localhost:8081") (record { host = codes "producer.example:80"; path = codes "/" }) 12)
 unfolding consume_by producer_of address_of count_of is_host_with_port number_of
 the_port_left_out = refl
 
-a_producer_without_scheme : consume_by (codes "board") (codes "localhost:8081") (codes "localhost:8080") (codes "12") ≡ None
+a_producer_without_scheme : consume_by consuming.Consume (codes "board") (codes "localhost:8081") (codes "localhost:8080") (codes "12") ≡ None
 unfolding consume_by producer_of address_of count_of is_host_with_port number_of
 a_producer_without_scheme = refl
 
-a_consume_by_none : consume_by (codes "board") (codes "localhost:8081") (codes "http://localhost:8080") (codes "0") ≡ None
+a_consume_by_none : consume_by consuming.Consume (codes "board") (codes "localhost:8081") (codes "http://localhost:8080") (codes "0") ≡ None
 unfolding consume_by producer_of address_of count_of is_host_with_port number_of
 a_consume_by_none = refl
 

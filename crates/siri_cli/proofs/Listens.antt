@@ -8,15 +8,18 @@ use Rattle.siri_base.specs.Numbers.{number_of}
 use Rattle.siri_http.specs.declared.address.Address.{Address as Producer}
 use Rattle.siri_cli.specs.Arguments.{count_of, is_listen, is_name, producer_of, most_events, most_connections}
 use Rattle.siri_cli.specs.Commands.{begins_with_minus, command_by, command_named, command_of, command_with, consume_by, consume_of}
-use Rattle.siri_cli.specs.Commands.{consume_with, get_by, get_of, is_word, load_by, load_of, load_with, plain_of, producer_command, serve_by}
+use Rattle.siri_cli.specs.Commands.{consume_with, consumer_command, get_by, get_of, is_word, load_by, load_of, load_with, plain_of, producer_command, serve_by}
 use Rattle.siri_cli.specs.Commands.{serve_of}
 use Rattle.siri_cli.specs.declared.command.Command.{Command}
-use Rattle.siri_cli.specs.declared.command.Command.TheVariants.{Replay, Check, Convert, Get, Consume}
+use Rattle.siri_cli.specs.declared.command.Command.TheVariants.{Replay, Check, Convert, Get, Consume, Relay}
+use Rattle.siri_cli.specs.declared.consume.Consuming.{Consuming}
+use Rattle.siri_cli.specs.declared.consume.Consuming.TheVariants as consuming
 use Rattle.siri_cli.specs.declared.serve.Producing.{Producing}
 use Rattle.siri_cli.specs.declared.serve.Producing.TheVariants as producing
 
 abbrev Bounded : Option Command → Type 0
 Bounded (Some (Consume name listen producer count)) = nat_le (length listen) 247 ≡ true
+Bounded (Some (Relay name listen upstream count)) = nat_le (length listen) 247 ≡ true
 Bounded other = Unit {0}
 
 bounded_where : (good : Bool) (command : Option Command) → (good ≡ true → Bounded command) → Bounded (if good then command else None)
@@ -60,27 +63,28 @@ bounded_serves word (name ∷ listen ∷ count ∷ []) = bounded_where (is_name 
     (λ good. bounded_serve word name listen (count_of 1 most_connections count))
 bounded_serves word (name ∷ listen ∷ count ∷ more ∷ rest) = tt
 
-bounded_consume : (name listen : List ℕ) (producer : Option Producer) (count : Option ℕ)
-    → nat_le (length listen) 247 ≡ true → Bounded (consume_with name listen producer count)
-bounded_consume name listen (Some producer) (Some count) short = short
-bounded_consume name listen (Some producer) None short = tt
-bounded_consume name listen None count short = tt
+bounded_consume : (word : Consuming) (name listen : List ℕ) (producer : Option Producer) (count : Option ℕ)
+    → nat_le (length listen) 247 ≡ true → Bounded (consume_with word name listen producer count)
+bounded_consume consuming.Consume name listen (Some producer) (Some count) short = short
+bounded_consume consuming.Relay name listen (Some producer) (Some count) short = short
+bounded_consume word name listen (Some producer) None short = tt
+bounded_consume word name listen None count short = tt
 
 short_listen : (name listen : List ℕ) → is_name name && is_listen listen ≡ true → nat_le (length listen) 247 ≡ true
 short_listen name listen good =
     (and_parts (nat_le (length listen) 247) (is_host_with_port listen)
     (and_parts (nat_le 1 (length listen)) (nat_le (length listen) 247 && is_host_with_port listen) (and_parts (is_name name) (is_listen listen) good).1).1).0
 
-bounded_consumes : (arguments : List (List ℕ)) → Bounded (consume_of arguments)
+bounded_consumes : (word : Consuming) (arguments : List (List ℕ)) → Bounded (consume_of word arguments)
 unfolding consume_by
-bounded_consumes [] = tt
-bounded_consumes (name ∷ []) = tt
-bounded_consumes (name ∷ listen ∷ []) = tt
-bounded_consumes (name ∷ listen ∷ producer ∷ []) = tt
-bounded_consumes (name ∷ listen ∷ producer ∷ count ∷ []) =
-    bounded_where (is_name name && is_listen listen) (consume_with name listen (producer_of producer) (count_of 1 most_connections count))
-    (λ good. bounded_consume name listen (producer_of producer) (count_of 1 most_connections count) (short_listen name listen good))
-bounded_consumes (name ∷ listen ∷ producer ∷ count ∷ more ∷ rest) = tt
+bounded_consumes word [] = tt
+bounded_consumes word (name ∷ []) = tt
+bounded_consumes word (name ∷ listen ∷ []) = tt
+bounded_consumes word (name ∷ listen ∷ producer ∷ []) = tt
+bounded_consumes word (name ∷ listen ∷ producer ∷ count ∷ []) =
+    bounded_where (is_name name && is_listen listen) (consume_with word name listen (producer_of producer) (count_of 1 most_connections count))
+    (λ good. bounded_consume word name listen (producer_of producer) (count_of 1 most_connections count) (short_listen name listen good))
+bounded_consumes word (name ∷ listen ∷ producer ∷ count ∷ more ∷ rest) = tt
 
 bounded_either : (test : Bool) (one other : Option Command) → Bounded one → Bounded other → Bounded (if test then one else other)
 bounded_either true one other is is' = is
@@ -103,8 +107,9 @@ bounded_with word arguments =
     (bounded_either (is_word word (codes "get")) (get_of arguments) _ (bounded_gets arguments)
     (bounded_either (is_word word (codes "serve")) (serve_of producing.Serve arguments) _ (bounded_serves producing.Serve arguments)
     (bounded_either (is_word word (codes "lite")) (serve_of producing.Lite arguments) _ (bounded_serves producing.Lite arguments)
-    (bounded_either (is_word word (codes "consume")) (consume_of arguments) (plain_of word arguments)
-    (bounded_consumes arguments) (bounded_plain word arguments)))))
+    (bounded_either (is_word word (codes "consume")) (consume_of consuming.Consume arguments) _ (bounded_consumes consuming.Consume arguments)
+    (bounded_either (is_word word (codes "relay")) (consume_of consuming.Relay arguments) (plain_of word arguments)
+    (bounded_consumes consuming.Relay arguments) (bounded_plain word arguments))))))
 
 bounded_by : (words : List (List ℕ)) → Bounded (command_by words)
 bounded_by [] = tt
@@ -117,3 +122,7 @@ bounded words = bounded_either (list_any begins_with_minus words) None (command_
 pub listen_bound : (words : List (List ℕ)) (name listen : List ℕ) (producer : Producer) (count : ℕ)
     → Some (Consume name listen producer count) ≡ command_of words → length listen ≤ 247
 listen_bound words name listen producer count is = leb-true (length listen) 247 (subst Bounded (sym is) (bounded words))
+
+pub relay_bound : (words : List (List ℕ)) (name listen : List ℕ) (upstream : Producer) (count : ℕ)
+    → Some (Relay name listen upstream count) ≡ command_of words → length listen ≤ 247
+relay_bound words name listen upstream count is = leb-true (length listen) 247 (subst Bounded (sym is) (bounded words))

@@ -3,6 +3,7 @@ use Rattle.std.proofs.Common.{◌≡◌, ◌≢◌, ℕ, List, [], ◌∷◌, le
 use Rattle.std.specs.Prelude.{◌||◌}
 use Rattle.std.specs.List.{list_any}
 use Rattle.siri_cli.specs.Commands.{load_of, get_of, serve_of, consume_of}
+use Rattle.siri_cli.specs.declared.consume.Consuming.{Consuming}
 use Rattle.siri_cli.specs.declared.serve.Producing.{Producing}
 
 -- a test of what elements are mapped to
@@ -30,10 +31,10 @@ module _ {X : Type 0} (text : X → List ℕ) where
   no_serve word (a ∷ b ∷ c ∷ []) other = absurd (other refl)
   no_serve word (a ∷ b ∷ c ∷ d ∷ rest) other = refl
 
-  pub no_consume : (list : List X) → length list ≢ 4 → consume_of (map text list) ≡ None
-  no_consume [] other = refl
-  no_consume (a ∷ []) other = refl
-  no_consume (a ∷ b ∷ []) other = refl
-  no_consume (a ∷ b ∷ c ∷ []) other = refl
-  no_consume (a ∷ b ∷ c ∷ d ∷ []) other = absurd (other refl)
-  no_consume (a ∷ b ∷ c ∷ d ∷ e ∷ rest) other = refl
+  pub no_consume : (word : Consuming) (list : List X) → length list ≢ 4 → consume_of word (map text list) ≡ None
+  no_consume word [] other = refl
+  no_consume word (a ∷ []) other = refl
+  no_consume word (a ∷ b ∷ []) other = refl
+  no_consume word (a ∷ b ∷ c ∷ []) other = refl
+  no_consume word (a ∷ b ∷ c ∷ d ∷ []) other = absurd (other refl)
+  no_consume word (a ∷ b ∷ c ∷ d ∷ e ∷ rest) other = refl

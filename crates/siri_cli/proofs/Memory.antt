@@ -6,6 +6,8 @@ use Rattle.siri_http.specs.declared.address.Address.{Address}
 use Rattle.siri_cli.specs.Arguments.{count_of, is_listen, is_name, producer_of, most_events, most_connections}
 use Rattle.siri_cli.specs.Commands.{HasArguments, consume_by, consume_with, get_by, load_by, load_with, producer_command, serve_by}
 use Rattle.siri_cli.specs.declared.command.Command.TheVariants.{Get}
+use Rattle.siri_cli.specs.declared.consume.Consuming.{Consuming}
+use Rattle.siri_cli.specs.declared.consume.Consuming.TheVariants as consuming
 use Rattle.siri_cli.specs.declared.serve.Producing.{Producing}
 use Rattle.siri_cli.specs.declared.serve.Producing.TheVariants as producing
 
@@ -45,20 +47,21 @@ unfolding serve_by
 some_serve word name listen count is = serve_if (is_name name && is_listen listen) word name listen
     (count_of 1 most_connections count) is
 
-consume_some : (name listen : List ℕ) (producer : Option Address) (count : Option ℕ)
-    → is_some (consume_with name listen producer count) ≡ true → HasArguments (consume_with name listen producer count)
-consume_some name listen (Some producer) (Some count) is = tt
-consume_some name listen (Some producer) None is = cc
-consume_some name listen None count is = cc
+consume_some : (word : Consuming) (name listen : List ℕ) (producer : Option Address) (count : Option ℕ)
+    → is_some (consume_with word name listen producer count) ≡ true → HasArguments (consume_with word name listen producer count)
+consume_some consuming.Consume name listen (Some producer) (Some count) is = tt
+consume_some consuming.Relay name listen (Some producer) (Some count) is = tt
+consume_some word name listen (Some producer) None is = cc
+consume_some word name listen None count is = cc
 
-consume_if : (good : Bool) (name listen : List ℕ) (producer : Option Address) (count : Option ℕ)
-    → is_some (if good then consume_with name listen producer count else None) ≡ true
-    → HasArguments (if good then consume_with name listen producer count else None)
-consume_if true name listen producer count is = consume_some name listen producer count is
-consume_if false name listen producer count is = cc
+consume_if : (good : Bool) (word : Consuming) (name listen : List ℕ) (producer : Option Address) (count : Option ℕ)
+    → is_some (if good then consume_with word name listen producer count else None) ≡ true
+    → HasArguments (if good then consume_with word name listen producer count else None)
+consume_if true word name listen producer count is = consume_some word name listen producer count is
+consume_if false word name listen producer count is = cc
 
-pub some_consume : (name listen producer count : List ℕ) → is_some (consume_by name listen producer count) ≡ true
-    → HasArguments (consume_by name listen producer count)
+pub some_consume : (word : Consuming) (name listen producer count : List ℕ)
+    → is_some (consume_by word name listen producer count) ≡ true → HasArguments (consume_by word name listen producer count)
 unfolding consume_by
-some_consume name listen producer count is = consume_if (is_name name && is_listen listen) name listen
+some_consume word name listen producer count is = consume_if (is_name name && is_listen listen) word name listen
     (producer_of producer) (count_of 1 most_connections count) is

@@ -6,7 +6,9 @@ use Rattle.siri_base.specs.Numbers.{number_of}
 use Rattle.siri_http.specs.declared.address.Address.{Address}
 use Rattle.siri_cli.specs.Arguments.{is_name, is_listen, producer_of, count_of, most_events, most_connections}
 use Rattle.siri_cli.specs.declared.command.Command.{Command}
-use Rattle.siri_cli.specs.declared.command.Command.TheVariants.{Replay, Check, Convert, Load, Get, Serve, Lite, Consume}
+use Rattle.siri_cli.specs.declared.command.Command.TheVariants.{Replay, Check, Convert, Load, Get, Serve, Lite, Consume, Relay}
+use Rattle.siri_cli.specs.declared.consume.Consuming.{Consuming}
+use Rattle.siri_cli.specs.declared.consume.Consuming.TheVariants as consuming
 use Rattle.siri_cli.specs.declared.serve.Producing.{Producing}
 use Rattle.siri_cli.specs.declared.serve.Producing.TheVariants as producing
 
@@ -67,20 +69,25 @@ abbrev pub serve_of : Producing → List (List ℕ) → Option Command
 serve_of word (name ∷ listen ∷ count ∷ []) = serve_by word name listen count
 serve_of word arguments = None
 
--- ---- `consume NAME LISTEN PRODUCER COUNT`
+-- ---- `consume NAME LISTEN PRODUCER COUNT`, `relay NAME LISTEN UPSTREAM COUNT`
 
-abbrev pub consume_with : (name listen : List ℕ) → Option Address → Option ℕ → Option Command
-consume_with name listen (Some producer) (Some count) = Some (Consume name listen producer count)
-consume_with name listen producer count = None
+-- the command of a consumer, by its word
+abbrev pub consumer_command : Consuming → (name listen : List ℕ) → Address → ℕ → Command
+consumer_command consuming.Consume name listen producer count = Consume name listen producer count
+consumer_command consuming.Relay name listen upstream count = Relay name listen upstream count
+
+abbrev pub consume_with : Consuming → (name listen : List ℕ) → Option Address → Option ℕ → Option Command
+consume_with word name listen (Some producer) (Some count) = Some (consumer_command word name listen producer count)
+consume_with word name listen producer count = None
 
 -- COUNT is 1 to 1,000,000
-unfoldable pub consume_by : (name listen producer count : List ℕ) → Option Command
-consume_by name listen producer count =
-    if is_name name && is_listen listen then consume_with name listen (producer_of producer) (count_of 1 most_connections count) else None
+unfoldable pub consume_by : Consuming → (name listen producer count : List ℕ) → Option Command
+consume_by word name listen producer count =
+    if is_name name && is_listen listen then consume_with word name listen (producer_of producer) (count_of 1 most_connections count) else None
 
-abbrev pub consume_of : List (List ℕ) → Option Command
-consume_of (name ∷ listen ∷ producer ∷ count ∷ []) = consume_by name listen producer count
-consume_of arguments = None
+abbrev pub consume_of : Consuming → List (List ℕ) → Option Command
+consume_of word (name ∷ listen ∷ producer ∷ count ∷ []) = consume_by word name listen producer count
+consume_of word arguments = None
 
 -- ---- all words
 
@@ -91,7 +98,8 @@ command_with word arguments =
     else if is_word word (codes "get") then get_of arguments
     else if is_word word (codes "serve") then serve_of producing.Serve arguments
     else if is_word word (codes "lite") then serve_of producing.Lite arguments
-    else if is_word word (codes "consume") then consume_of arguments
+    else if is_word word (codes "consume") then consume_of consuming.Consume arguments
+    else if is_word word (codes "relay") then consume_of consuming.Relay arguments
     else plain_of word arguments
 
 abbrev pub command_by : List (List ℕ) → Option Command
@@ -113,4 +121,5 @@ HasArguments (Some (Get producer)) = Unit {0}
 HasArguments (Some (Serve name listen count)) = Unit {0}
 HasArguments (Some (Lite name listen count)) = Unit {0}
 HasArguments (Some (Consume name listen producer count)) = Unit {0}
+HasArguments (Some (Relay name listen upstream count)) = Unit {0}
 HasArguments other = ⊥

@@ -3,7 +3,7 @@ use Rattle.std.specs.Prelude.{Option, Some}
 use Rattle.siri_base.specs.declared.status.Status.{Status}
 use Rattle.siri_base.specs.declared.status.Status.TheVariants as status
 use Rattle.siri_cli.specs.declared.command.Command.{Command}
-use Rattle.siri_cli.specs.declared.command.Command.TheVariants.{Check, Convert, Load, Get, Serve, Lite, Consume}
+use Rattle.siri_cli.specs.declared.command.Command.TheVariants.{Check, Convert, Load, Get, Serve, Lite, Consume, Relay}
 
 -- the command reads one document
 abbrev pub TakesDocument : Option Command → Type 0
@@ -34,6 +34,7 @@ IsOnNetwork (Some (Get producer)) = Unit {0}
 IsOnNetwork (Some (Serve name listen count)) = Unit {0}
 IsOnNetwork (Some (Lite name listen count)) = Unit {0}
 IsOnNetwork (Some (Consume name listen producer count)) = Unit {0}
+IsOnNetwork (Some (Relay name listen upstream count)) = Unit {0}
 IsOnNetwork other = ⊥
 
 -- the statuses of such a command that ended before anything was told
@@ -65,6 +66,7 @@ abbrev pub UsesNone : Option Command → Type 0
 UsesNone (Some (Serve name listen count)) = ⊥
 UsesNone (Some (Lite name listen count)) = ⊥
 UsesNone (Some (Consume name listen producer count)) = ⊥
+UsesNone (Some (Relay name listen upstream count)) = ⊥
 UsesNone other = Unit {0}
 
 -- the command has no use for the wire
@@ -73,4 +75,5 @@ UsesNoWire (Some (Get producer)) = ⊥
 UsesNoWire (Some (Serve name listen count)) = ⊥
 UsesNoWire (Some (Lite name listen count)) = ⊥
 UsesNoWire (Some (Consume name listen producer count)) = ⊥
+UsesNoWire (Some (Relay name listen upstream count)) = ⊥
 UsesNoWire other = Unit {0}

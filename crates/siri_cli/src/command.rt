@@ -4,7 +4,7 @@ ghost use Rattle.std.specs.Prelude.{◌≡◌, map, string_bytes, None, Ok, IfOk
 ghost use Rattle.std.specs.List.{list_any};
 ghost use Rattle.siri_cli.specs.Commands.{HasArguments, begins_with_minus, command_by, command_named, command_of, command_with, plain_of};
 
-use crate::consume::consume;
+use crate::consume::{Consuming, consume};
 use crate::get::get;
 use crate::load::load;
 use crate::serve::{Producing, serve};
@@ -62,6 +62,17 @@ pub enum Command {
         /// How many connections it serves, 1 to 1,000,000.
         count: u64,
     },
+    /// Serves connections as a relay of one source.
+    Relay {
+        /// The relay's name.
+        name: Name,
+        /// The host and the port that it listens at.
+        listen: Name,
+        /// The source's address.
+        upstream: Address,
+        /// How many connections it serves, 1 to 1,000,000.
+        count: u64,
+    },
 }
 
 impl Command {
@@ -107,7 +118,9 @@ impl Command {
         } else if word == "lite" {
             serve(alloc, Producing::Lite, arguments)
         } else if word == "consume" {
-            consume(alloc, arguments)
+            consume(alloc, Consuming::Consume, arguments)
+        } else if word == "relay" {
+            consume(alloc, Consuming::Relay, arguments)
         } else {
             Ok(Command::plain(word, arguments))
         }

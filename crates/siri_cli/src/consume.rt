@@ -1,7 +1,7 @@
-//! `consume NAME LISTEN PRODUCER COUNT`.
+//! `consume NAME LISTEN PRODUCER COUNT` and `relay NAME LISTEN UPSTREAM COUNT`.
 
 ghost use Rattle.std.specs.Prelude.{◌≡◌, map, string_bytes, true, is_some, None, Some, Ok, IfOk, OnErr};
-ghost use Rattle.siri_cli.specs.Commands.{HasArguments, consume_by, consume_of};
+ghost use Rattle.siri_cli.specs.Commands.{HasArguments, consume_by, consume_of, consumer_command};
 ghost use Rattle.siri_cli.specs.inner.Values.{IsOf, consume_app};
 
 use crate::Command;
@@ -10,19 +10,34 @@ use crate::arguments::{
 };
 use crate::values::{matches_of, value};
 use clap::Arg;
-use siri_base::OutOfMemory;
+use siri_base::{Name, OutOfMemory};
+use siri_http::Address;
 use std::alloc::{AllocError, Global};
 
-/// The command of the arguments of `consume`, or `None` exactly where they are none, which takes no memory.
+/// The words of the two commands of a consumer, whose arguments have one form.
+#[derive(Clone, Copy, Debug, PartialEq, Eq)]
+pub(crate) enum Consuming {
+    /// `consume`.
+    Consume,
+    /// `relay`, of which the source is the producer.
+    Relay,
+}
+
+/// The command of the arguments of `consume` or `relay`, or `None` exactly where they are none, which takes no memory.
 #[tactic(auto, using(crate::proofs::Lists::no_consume))]
-pub(crate) fn consume(alloc: Global, arguments: &[String]) -> Result<Option<Command>, OutOfMemory>
-    ensures value { IfOk result (λ command. command ≡ consume_of (map string_bytes arguments.now)) }
-    ensures none { consume_of (map string_bytes arguments.now) ≡ None → result ≡ Ok None }
-    ensures memory { OnErr result (HasArguments (consume_of (map string_bytes arguments.now))) }
+pub(crate) fn consume(
+    alloc: Global,
+    word: Consuming,
+    arguments: &[String],
+) -> Result<Option<Command>, OutOfMemory>
+    ensures value { IfOk result (λ command. command ≡ consume_of word (map string_bytes arguments.now)) }
+    ensures none { consume_of word (map string_bytes arguments.now) ≡ None → result ≡ Ok None }
+    ensures memory { OnErr result (HasArguments (consume_of word (map string_bytes arguments.now))) }
 {
     match arguments {
         [name, listen, producer, count] => consume_by(
             alloc,
+            word,
             name.as_str(),
             listen.as_str(),
             producer.as_str(),
@@ -32,21 +47,22 @@ pub(crate) fn consume(alloc: Global, arguments: &[String]) -> Result<Option<Comm
     }
 }
 
-/// The command of the four arguments of `consume`, or `None` exactly where one isn't of its form.
+/// The command of the four arguments, or `None` exactly where one isn't of its form.
 #[tactic(auto, using(crate::proofs::Memory::some_consume))]
 fn consume_by(
     alloc: Global,
+    word: Consuming,
     name: &str,
     listen: &str,
     producer: &str,
     count: &str,
 ) -> Result<Option<Command>, OutOfMemory>
-    ensures value { IfOk result (λ command. command ≡ consume_by name.now listen.now producer.now count.now) }
-    ensures none { consume_by name.now listen.now producer.now count.now ≡ None → result ≡ Ok None }
-    ensures memory { OnErr result (HasArguments (consume_by name.now listen.now producer.now count.now)) }
+    ensures value { IfOk result (λ command. command ≡ consume_by word name.now listen.now producer.now count.now) }
+    ensures none { consume_by word name.now listen.now producer.now count.now ≡ None → result ≡ Ok None }
+    ensures memory { OnErr result (HasArguments (consume_by word name.now listen.now producer.now count.now)) }
 {
-    if is_consume(name, listen, producer, count) {
-        Ok(Some(read_consume(alloc, name, listen, producer, count)?))
+    if is_consume(word, name, listen, producer, count) {
+        Ok(Some(read_consume(alloc, word, name, listen, producer, count)?))
     } else {
         Ok(None)
     }
@@ -54,8 +70,8 @@ fn consume_by(
 
 /// Whether these are a NAME, a LISTEN, a PRODUCER, and a COUNT from 1 to 1,000,000.
 #[tactic(auto, unfolding(crate::specs::Commands::consume_by))]
-fn is_consume(name: &str, listen: &str, producer: &str, count: &str) -> bool
-    ensures { result ≡ is_some (consume_by name.now listen.now producer.now count.now) }
+fn is_consume(word: Consuming, name: &str, listen: &str, producer: &str, count: &str) -> bool
+    ensures { result ≡ is_some (consume_by word name.now listen.now producer.now count.now) }
 {
     is_name(name)
         && is_listen(listen)
@@ -63,7 +79,7 @@ fn is_consume(name: &str, listen: &str, producer: &str, count: &str) -> bool
         && count_of(count, 1, MOST_CONNECTIONS).is_some()
 }
 
-/// The arguments of `consume`, as clap reads them.
+/// The arguments of `consume` and `relay`, as clap reads them: it is told of one command, whose name is not asked for.
 fn consume_command<'a>(alloc: Global) -> Result<clap::Command<'a>, AllocError>
     ensures { IfOk result (IsOf consume_app) }
 {
@@ -75,21 +91,23 @@ fn consume_command<'a>(alloc: Global) -> Result<clap::Command<'a>, AllocError>
         .arg(Arg::new(alloc, "COUNT"))
 }
 
-/// The command of words that are the arguments of `consume`.
+/// The command of words that are the arguments.
 fn read_consume(
     alloc: Global,
+    word: Consuming,
     name: &str,
     listen: &str,
     producer: &str,
     count: &str,
 ) -> Result<Command, OutOfMemory>
-    requires { is_some (consume_by name.now listen.now producer.now count.now) ≡ true }
-    ensures { IfOk result (λ command. consume_by name.now listen.now producer.now count.now ≡ Some command) }
+    requires { is_some (consume_by word name.now listen.now producer.now count.now) ≡ true }
+    ensures { IfOk result (λ command. consume_by word name.now listen.now producer.now count.now ≡ Some command) }
 {
     let words = ["consume", "--", name, listen, producer, count];
     let matches = matches_of(consume_command(alloc)?, &words)?;
     consume_with(
         alloc,
+        word,
         value(&matches, "NAME"),
         value(&matches, "LISTEN"),
         value(&matches, "PRODUCER"),
@@ -101,21 +119,46 @@ fn read_consume(
 #[tactic(auto, unfolding(crate::specs::Commands::consume_by))]
 fn consume_with(
     alloc: Global,
+    word: Consuming,
     name: &str,
     listen: &str,
     producer: &str,
     count: &str,
 ) -> Result<Command, OutOfMemory>
-    requires { is_some (consume_by name.now listen.now producer.now count.now) ≡ true }
-    ensures { IfOk result (λ command. consume_by name.now listen.now producer.now count.now ≡ Some command) }
+    requires { is_some (consume_by word name.now listen.now producer.now count.now) ≡ true }
+    ensures { IfOk result (λ command. consume_by word name.now listen.now producer.now count.now ≡ Some command) }
 {
     let Some(count) = count_of(count, 1, MOST_CONNECTIONS) else {
         unreachable!()
     };
-    Ok(Command::Consume {
-        name: name_of(alloc, name)?,
-        listen: name_of(alloc, listen)?,
-        producer: producer_of(alloc, producer)?,
-        count,
-    })
+    let name = name_of(alloc, name)?;
+    let listen = name_of(alloc, listen)?;
+    let producer = producer_of(alloc, producer)?;
+    Ok(consumer_command(word, name, listen, producer, count))
+}
+
+/// The command of a word with these arguments.
+fn consumer_command(
+    word: Consuming,
+    name: Name,
+    listen: Name,
+    producer: Address,
+    count: u64,
+) -> Command
+    ensures { result ≡ consumer_command word name listen producer count }
+{
+    match word {
+        Consuming::Consume => Command::Consume {
+            name,
+            listen,
+            producer,
+            count,
+        },
+        Consuming::Relay => Command::Relay {
+            name,
+            listen,
+            upstream: producer,
+            count,
+        },
+    }
 }

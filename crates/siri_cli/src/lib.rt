@@ -21,15 +21,18 @@
 //!
 //!   source ->  wire, clock, keeper <-> consume        -> sink
 //!                                      (siri_runs)
+//!
+//!   source ->  wire, clock, keeper <-> relay          -> sink
+//!                                      (siri_relay_run)
 //! ```
 //!
 //! The words are `replay`, `check`, `convert`, `load SEED COUNT`, `get PRODUCER`, `serve NAME LISTEN COUNT`, `lite
-//! NAME LISTEN COUNT` and `consume NAME LISTEN PRODUCER COUNT`. These are all spellings, whole: no word is left out, none
+//! NAME LISTEN COUNT`, `consume NAME LISTEN PRODUCER COUNT` and `relay NAME LISTEN UPSTREAM COUNT`. These are all spellings, whole: no word is left out, none
 //! stands before them, and none begins with `-`. Whether words are one of them is decided here (`is_load`, `is_get`, `is_serve`,
 //! `is_consume`), which takes no memory; only then `clap` is handed them, behind `--`, and gives the value of each
 //! argument, of which the command is made.
 //!
-//! Stands on a crate for each command (`siri_replay`, `siri_document`, `siri_load`, `siri_get`; `siri_runs` for three), on
+//! Stands on a crate for each command (`siri_replay`, `siri_document`, `siri_load`, `siri_get`, `siri_relay_run`; `siri_runs` for three), on
 //! `siri_lite` for what queries by GET ask, on `siri_base` for names, on `siri_http` for hosts, ports and addresses, and on `clap`. It looks into no line and no
 //! document, and knows no socket.
 #![tactic(auto)]

@@ -24,6 +24,7 @@ ghost use Rattle.siri_runs.specs.producers.Runs.{ServeRun};
 ghost use Rattle.siri_runs.specs.consumers.Reading.{TellsWanted};
 ghost use Rattle.siri_runs.specs.consumers.Wanting.{event as wanted, nothing_wanted, most_wanted};
 ghost use Rattle.siri_runs.specs.consumers.Runs.{ConsumeRun};
+ghost use Rattle.siri_relay_run.specs.Runs.{RelayRun, TellsOne};
 ghost use Rattle.siri_cli.specs.Commands.{command_of};
 
 use crate::command::Command;
@@ -33,6 +34,7 @@ use siri_get::get;
 use siri_http::PostAlone;
 use siri_lite::PostOrQuery;
 use siri_load::load;
+use siri_relay_run::relay;
 use siri_replay::replay;
 use siri_runs::{consume, serve};
 use std::alloc::Global;
@@ -40,17 +42,18 @@ use std::alloc::Global;
 /// Does what the words after the program's name say: `replay` reads a script and writes its report, `check` and
 /// `convert` read one document and write what is told of it, `load` plays a large script that is made from a number,
 /// `get` asks a document of a producer as a query by GET and writes what is answered, `serve` is a producer over the
-/// network, `lite` is one that answers queries by GET, too, and `consume` a consumer. A view that a report tells as
+/// network, `lite` is one that answers queries by GET, too, `consume` a consumer, and `relay` a consumer whose view a producer
+/// serves on. A view that a report tells as
 /// `quiet` lists the items of a direct response at that moment over all observations that were taken since the
 /// producer's latest start, whatever packets were lost, repeated or late, and however often either end restarted.
 ///
 /// `Usage` exactly where the words are no plain spelling of a command. `Refused` where the document of `check` or
 /// `convert` is refused, and where `get` has no body to write of a response. `Script` and `Limit` where a line of a
-/// script, or of what a consumer wants, is refused or passes a limit, each with the number of that line. `ReadFault`,
+/// script, or of what a consumer or a relay wants, is refused or passes a limit, each with the number of that line. `ReadFault`,
 /// `WriteFault`, `WireFault`, `ClockFault` and `KeeperFault` only where the source, the sink, the wire, the clock or
 /// the keeper failed, the wire to listen or to accept, and in `get` to dial, to write or to read; `OutOfMemory`
-/// wherever memory is asked for, otherwise `Done`. Only `serve`, `lite` and `consume` use the clock and the keeper, and
-/// only they and `get` the wire.
+/// wherever memory is asked for, otherwise `Done`. Only `serve`, `lite`, `consume` and `relay` use the clock and
+/// the keeper, and only they and `get` the wire.
 #[tactic(auto, using(siri_lines::proofs::Meeting::sink_none, siri_lines::proofs::Meeting::source_none, siri_lines::proofs::Whole::ends_at_once))]
 pub fn run<S: Source, K: Sink, W: Wire, C: Clock, E: Keeper>(
     alloc: Global,
@@ -90,6 +93,11 @@ pub fn run<S: Source, K: Sink, W: Wire, C: Clock, E: Keeper>(
         (outside_told W.Wire C.Clock E.Keeper wire.old clock.old keeper.old)
         (outside_told W.Wire C.Clock E.Keeper wire.new clock.new keeper.new)
         (K.held sink.old) (K.held sink.new) result }
+    ensures relay { (name listen : List ℕ) (upstream : Target) (count : ℕ) → command_of (map string_bytes words.now) ≡ Some (Command.Relay name listen upstream count)
+        → RelayRun name listen (upstream.host, upstream.path) count (S.left source.old) (S.left source.new)
+        (outside_told W.Wire C.Clock E.Keeper wire.old clock.old keeper.old)
+        (outside_told W.Wire C.Clock E.Keeper wire.new clock.new keeper.new)
+        (K.held sink.old) (K.held sink.new) result }
 
     // A run over the network does its work whole where there is enough for so many connections and no failure is named
     // for the sink, nor for the source, whatever happens within a connection.
@@ -103,6 +111,10 @@ pub fn run<S: Source, K: Sink, W: Wire, C: Clock, E: Keeper>(
         → HasEnough count (outside_told W.Wire C.Clock E.Keeper wire.old clock.old keeper.old)
         → TellsWanted name (S.left source.old)
         → S.fails source.old ≡ Some [] → K.fails sink.old ≡ Some [] → EndsWhole result }
+    ensures relay_whole { (name listen : List ℕ) (upstream : Target) (count : ℕ) → command_of (map string_bytes words.now) ≡ Some (Command.Relay name listen upstream count)
+        → HasEnough count (outside_told W.Wire C.Clock E.Keeper wire.old clock.old keeper.old)
+        → TellsOne name (S.left source.old)
+        → S.fails source.old ≡ Some [] → K.fails sink.old ≡ Some [] → EndsWhole result }
 
     // A failure that is named of the source or of the sink, and met, ends the run there: nothing is read or written
     // after it. Nor is anything read of a script, or of what a consumer wants, beyond the piece in which the end of a
@@ -112,6 +124,8 @@ pub fn run<S: Source, K: Sink, W: Wire, C: Clock, E: Keeper>(
     ensures pieces { command_of (map string_bytes words.now) ≡ Some Command.Replay → ReadsNoFurther brings [] (S.left source.old) (S.left source.new) }
     ensures wanted_pieces { (name listen : List ℕ) (producer : Target) (count : ℕ) → command_of (map string_bytes words.now) ≡ Some (Command.Consume name listen producer count)
         → ReadsNoFurther (verdict most_wanted wanted) (nothing_wanted name) (S.left source.old) (S.left source.new) }
+    ensures upstream_pieces { (name listen : List ℕ) (upstream : Target) (count : ℕ) → command_of (map string_bytes words.now) ≡ Some (Command.Relay name listen upstream count)
+        → ReadsNoFurther (verdict 1 wanted) (nothing_wanted name) (S.left source.old) (S.left source.new) }
 
     // What was read, and where nothing was done.
     ensures all { ReadsInput (command_of (map string_bytes words.now)) → ReadsAll (S.left source.new) result }
@@ -168,6 +182,14 @@ pub fn run<S: Source, K: Sink, W: Wire, C: Clock, E: Keeper>(
             count,
         } => consume(
             alloc, name, &listen, &producer, count, source, sink, wire, clock, keeper,
+        ),
+        Command::Relay {
+            name,
+            listen,
+            upstream,
+            count,
+        } => relay(
+            alloc, name, &listen, &upstream, count, source, sink, wire, clock, keeper,
         ),
     }
 }
