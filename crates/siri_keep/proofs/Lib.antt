@@ -1,0 +1,15 @@
+pub mod Told
+pub mod Left
+pub mod Fronts
+pub mod Steps
+pub mod Alls
+pub mod Cleaned
+pub mod Clocked
+pub mod Messages
+pub mod Fed
+pub mod Written
+pub mod Making
+pub mod Named
+pub mod Started
+pub mod Placed
+pub mod Longs

@@ -1,0 +1,16 @@
+use Rattle.std.proofs.Common.{[], ◌∷◌, Ok}
+use Rattle.siri_model.specs.History.{Take}
+use Rattle.siri_keep.proofs.Fronts.{told_fronts, told_goes}
+use Rattle.siri_keep.proofs.kept.Kept.take_short.Goals as goal
+
+pub returns-in-Ok-write-clause-ok : goal.returns-in-Ok-write-clause-ok
+returns-in-Ok-write-clause-ok g c = told_goes c.args.self.now c.plan_take.new.self c.write.new.self (Take c.args.message.now ∷ [])
+    c.in-Ok.planned.puts c.in-Ok.ensures.ok c.write.ensures.rest (Ok c.in-Ok-write.field-0) _ _ c.in-Ok-write.ensures.told
+
+pub returns-in-Ok-write-clause-trail : goal.returns-in-Ok-write-clause-trail
+returns-in-Ok-write-clause-trail g c = told_fronts c.args.self.now c.plan_take.new.self c.write.new.self (Take c.args.message.now ∷ [])
+    c.in-Ok.planned.puts c.in-Ok.ensures.ok c.write.ensures.rest c.write.result _ _ c.write.ensures.told
+
+pub returns-in-Err-write-clause-trail : goal.returns-in-Err-write-clause-trail
+returns-in-Err-write-clause-trail g c = told_fronts c.args.self.now c.plan_take.new.self c.write.new.self (Take c.args.message.now ∷ [])
+    c.in-Ok.planned.puts c.in-Ok.ensures.ok c.write.ensures.rest c.write.result _ _ c.write.ensures.told

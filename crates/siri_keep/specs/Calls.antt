@@ -1,0 +1,93 @@
+-- What the calls of a producer over a shelf do.
+use Rattle.std.specs.Prelude.{◌≡◌, ◌≢◌, ◌<◌, ◌≤◌, ⊤, ℕ, List, ◌++◌, map, take, Bool, true, false, Result, Ok, Err, IsErrOf}
+use Rattle.std.specs.List.{AllByRecursion as All}
+use Rattle.siri_base.specs.Causes.{Rose}
+use Rattle.siri_model.specs.Held.{held_of}
+use Rattle.siri_model.specs.History.{History}
+use Rattle.siri_producer.specs.Known.{StandsFor}
+use Rattle.siri_shelf.specs.Rows.{Rows}
+use Rattle.siri_shelf.specs.Shelves.{ShelfState}
+use Rattle.siri_keeping.specs.Keeping.{AddsOnly}
+use Rattle.siri_keeping.specs.Keeps.{IsProperStep, Keeps, KeepsThese}
+use Rattle.siri_keeping.specs.Opening.{Kept as SaysKept, Nothing, Said, WhatIsKept, reopened, said}
+use Rattle.siri_keep.specs.declared.errors.KeepError.{KeepError}
+use Rattle.siri_keep.specs.declared.errors.KeepError.TheVariants as errors
+use Rattle.siri_keep.specs.declared.kept.Kept.{Kept}
+
+-- a shelf is as the calls of a producer left it
+abbrev pub Left : Kept → Rows → Type 0
+Left kept rows =
+    KeepsThese kept.producer.responder.name kept.producer.responder.moment kept.producer.responder.start kept.producer.responder.held
+    kept.mirror kept.places (map held_of kept.producer.table) rows
+
+-- the shelf is as a producer left it, which stands for a history of proper steps
+pub record Holds (kept : Kept) (rows : Rows) (h : History) : Type 0 where
+  pub left : Left kept rows
+  pub stands : StandsFor kept.producer h
+  pub proper : All IsProperStep h
+
+-- Whatever history the producer stood for before a call over the shelf that it left, it stands for that history and these steps
+-- after it, and the shelf, as it leaves it, keeps that one.
+pub record GoesOnAs (old new : Kept) (steps : History) (before after : Rows) (h : History) : Type 0 where
+  pub holds : Holds new after (h ++ steps)
+  pub keeps : Keeps old.producer.responder.name after (h ++ steps)
+
+abbrev pub GoesOnKept : Kept → Kept → History → Rows → Rows → Type 0
+GoesOnKept old new steps before after = (h : History) → Holds old before h → GoesOnAs old new steps before after h
+
+-- rows keep a history with some first of these steps after it
+abbrev pub KeepsFront : (name : List ℕ) → History → History → Rows → Type 0
+KeepsFront name h steps rows = (n : ℕ) × Keeps name rows (h ++ take n steps)
+
+-- Whatever happens, each of the rows that a stop may have left since a call began, and the present ones, keep the history with
+-- some first of its steps after it.
+abbrev pub AddsFronts : Kept → History → ShelfState → ShelfState → Type 0
+AddsFronts old steps before after =
+    (h : History) → Holds old before.rows h
+    → AddsOnly (λ rows. Keeps old.producer.responder.name rows h) (KeepsFront old.producer.responder.name h steps) before after
+
+-- it is closed from now on where it was, and where this call failed or found no memory, and nowhere else
+abbrev pub ClosesBy : {T : Type 0} → Bool → Bool → Result T KeepError → Type 0
+ClosesBy old new (Ok value) = (old ≡ false) × (new ≡ false)
+ClosesBy old new (Err errors.ShelfFault) = (old ≡ false) × (new ≡ true)
+ClosesBy old new (Err errors.OutOfMemory) = (old ≡ false) × (new ≡ true)
+ClosesBy old new (Err errors.Closed) = (old ≡ true) × (new ≡ true)
+ClosesBy old new (Err errors.RowTooLong) = (old ≡ false) × (new ≡ false)
+ClosesBy old new (Err other) = ⊥
+
+-- the count of faults never falls, and it has risen where the shelf failed
+pub record HasKeepCause {T : Type 0} (before now : ℕ) (result : Result T KeepError) : Type 0 where
+  pub later : before ≤ now
+  pub failed : IsErrOf result errors.ShelfFault → Rose before now
+
+-- ---- opening
+
+-- what rows say is of this name and of an earlier start
+abbrev pub IsEarlier : (name : List ℕ) → (start : ℕ) → Said → Type 0
+IsEarlier name start Nothing = ⊤
+IsEarlier name start (SaysKept k) = (k.began.name ≡ name) × (k.began.start < start)
+
+-- rows were read and written anew: the producer stands for the history that they make, and they keep it
+pub record Reopens (name : List ℕ) (start now : ℕ) (kept : Kept) (before after : Rows) : Type 0 where
+  pub what : Said
+  pub says : said before ≡ Ok what
+  pub earlier : IsEarlier name start what
+  pub holds : Holds kept after (reopened start now what)
+  pub keeps : Keeps name after (reopened start now what)
+  pub is_open : kept.is_closed ≡ false
+
+-- why rows aren't opened, in this order
+abbrev pub RefusesToOpen : (name : List ℕ) → (start : ℕ) → KeepError → Rows → Type 0
+RefusesToOpen name start (errors.BadRow table key) rows = said rows ≡ Err (table, key)
+RefusesToOpen name start errors.OtherName rows = (k : WhatIsKept) × (said rows ≡ Ok (SaysKept k)) × (k.began.name ≢ name)
+RefusesToOpen name start (errors.OldStart kept) rows =
+    (k : WhatIsKept) × (said rows ≡ Ok (SaysKept k)) × (k.began.name ≡ name) × (kept ≡ k.began.start) × (start ≤ kept)
+RefusesToOpen name start errors.ShelfFault rows = ⊤
+RefusesToOpen name start errors.OutOfMemory rows = ⊤
+RefusesToOpen name start other rows = ⊥
+
+-- each of the rows that a stop may have left are as they were, or keep the history that they make
+abbrev pub AddsReopened : (name : List ℕ) → (start now : ℕ) → ShelfState → ShelfState → Type 0
+AddsReopened name start now before after =
+    AddsOnly (λ rows. rows ≡ before.rows)
+    (λ rows. (what : Said) × (said before.rows ≡ Ok what) × Keeps name rows (reopened start now what)) before after

@@ -1,0 +1,4 @@
+-- In order of reading: what calls write; what they do.
+pub mod Puts
+pub mod Calls
+pub mod Planning

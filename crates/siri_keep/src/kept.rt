@@ -1,0 +1,190 @@
+//! A producer over a shelf.
+
+ghost use Rattle.std.specs.Prelude.{◌≡◌, ◌∷◌, [], false, true, IfOk, OnOk, OnErr, IsErrOf, MatchBool};
+ghost use Rattle.siri_base.specs.OutsideCalls.{WhereTold};
+ghost use Rattle.siri_model.specs.History.{History, Clock, Take, Settle};
+ghost use Rattle.siri_producer.specs.Known.{AnswerFor, SameButReads, SendsFor};
+ghost use Rattle.siri_shelf.specs.Rows.{Rows};
+ghost use Rattle.siri_wire_laws.specs.ProperMessages.{IsProper};
+ghost use Rattle.siri_keep.specs.declared.errors.KeepError.TheVariants as error;
+ghost use Rattle.siri_keep.specs.Calls.{AddsFronts, ClosesBy, GoesOnKept, HasKeepCause};
+ghost use Rattle.siri_keep.specs.Planning.{WritesAll};
+ghost use Rattle.siri_keep.specs.Puts.{has_long_row};
+
+use crate::KeepError;
+use crate::rows::has_long_row;
+use crate::writing::write_all;
+use siri_base::{List, Moment, OutOfMemory};
+use siri_messages::Message;
+use siri_producer::{Answer, Out, Producer};
+use siri_records::KeyedItems;
+use siri_shelf::{Put, Shelf};
+use std::alloc::Global;
+
+/// A producer over a shelf, which knows the rows that are there: each call of it is handed the shelf as the call before
+/// it left it.
+pub struct Kept {
+    pub(crate) alloc: Global,
+    pub(crate) producer: Producer,
+    /// The items of the rows of table 1, shared with the producer where they are live.
+    pub(crate) mirror: KeyedItems,
+    /// The keys of the rows of table 2, in the order of the producer's subscriptions.
+    pub(crate) places: List<List<u8>>,
+    pub(crate) is_closed: bool,
+}
+
+impl Drop for Kept {
+    fn drop(self) {
+        let Kept {
+            alloc: _,
+            producer: _,
+            mirror: _,
+            places: _,
+            is_closed: _,
+        } = self;
+    }
+}
+
+impl Kept {
+    /// The producer.
+    pub fn producer(&self) -> &Producer
+        ensures { result.now ≡ self.now.producer }
+    {
+        &self.producer
+    }
+
+    /// Writes what a call has planned. Where that fails it is closed.
+    fn write<B: Shelf>(&mut self, shelf: &mut B, puts: &List<Put>) -> Result<(), KeepError>
+        requires there { B.is_open shelf.old }
+        requires open { self.old.is_closed ≡ false }
+        ensures open { B.is_open shelf.new }
+        ensures told { WhereTold (B.tells shelf.old) (B.tells shelf.new) (λ old new. WritesAll puts.now old new result) }
+        ensures rest { self.new ≡ record self.old { is_closed = self.new.is_closed } }
+        ensures too_long { ¬ IsErrOf result error.RowTooLong }
+        ensures closes { ClosesBy self.old.is_closed self.new.is_closed result }
+        ensures cause { HasKeepCause (B.faults shelf.old) (B.faults shelf.new) result }
+    {
+        let written = write_all(shelf, puts);
+        self.is_closed = written.is_err();
+        written
+    }
+
+    /// Its moment becomes the later one: dead items leave, and subscriptions whose termination time has come. The row of
+    /// the moment is written, and those of the subscriptions where fewer are held. Refused as `Closed` exactly where an
+    /// earlier call failed or found no memory; `ShelfFault` only where the shelf's count of faults rose.
+    pub fn clock<B: Shelf>(&mut self, shelf: &mut B, now: Moment) -> Result<(), KeepError>
+        requires { B.is_open shelf.old }
+        ensures open { B.is_open shelf.new }
+        ensures ok { OnOk result (WhereTold (B.tells shelf.old) (B.tells shelf.new) (λ old new. GoesOnKept self.old self.new (Clock now ∷ []) old.rows new.rows)) }
+        ensures trail { WhereTold (B.tells shelf.old) (B.tells shelf.new) (AddsFronts self.old (Clock now ∷ [])) }
+        ensures closes { ClosesBy self.old.is_closed self.new.is_closed result }
+        ensures cause { HasKeepCause (B.faults shelf.old) (B.faults shelf.new) result }
+    {
+        if self.is_closed {
+            return Err(KeepError::Closed);
+        }
+        match self.plan_clock(now) {
+            Ok(puts) => self.write(shelf, &puts),
+            Err(OutOfMemory) => {
+                self.is_closed = true;
+                Err(KeepError::OutOfMemory)
+            }
+        }
+    }
+
+    /// Takes a message, and answers what became of it, with the reply; what is kept of it is written before. Refused as
+    /// `Closed` exactly where an earlier call failed or found no memory, and then as `RowTooLong` exactly where the row
+    /// of one of its items or subscriptions would have more than 8,388,608 bytes, unless memory is wanting; then nothing
+    /// changes. `ShelfFault` only where the shelf's count of faults rose.
+    pub fn take<B: Shelf>(&mut self, shelf: &mut B, message: &Message) -> Result<Answer, KeepError>
+        requires there { B.is_open shelf.old }
+        requires proper { IsProper message.now }
+        ensures open { B.is_open shelf.new }
+        ensures ok { OnOk result (WhereTold (B.tells shelf.old) (B.tells shelf.new) (λ old new. GoesOnKept self.old self.new (Take message.now ∷ []) old.rows new.rows)) }
+        ensures answer { IfOk result (AnswerFor self.old.producer message.now) }
+        ensures trail { WhereTold (B.tells shelf.old) (B.tells shelf.new) (AddsFronts self.old (Take message.now ∷ [])) }
+        ensures too_long { IsErrOf result error.RowTooLong → has_long_row message.now ≡ true }
+        ensures short { OnOk result (has_long_row message.now ≡ false) }
+        ensures refused { IsErrOf result error.RowTooLong → (self.new ≡ self.old) × (shelf.new ≡ shelf.old) }
+        ensures closes { ClosesBy self.old.is_closed self.new.is_closed result }
+        ensures cause { HasKeepCause (B.faults shelf.old) (B.faults shelf.new) result }
+    {
+        if self.is_closed {
+            return Err(KeepError::Closed);
+        }
+        match has_long_row(self.alloc, message) {
+            Ok(false) => self.take_short(shelf, message),
+            Ok(true) => Err(KeepError::RowTooLong),
+            Err(OutOfMemory) => {
+                self.is_closed = true;
+                Err(KeepError::OutOfMemory)
+            }
+        }
+    }
+
+    /// A message whose rows can be written.
+    fn take_short<B: Shelf>(
+        &mut self,
+        shelf: &mut B,
+        message: &Message,
+    ) -> Result<Answer, KeepError>
+        requires there { B.is_open shelf.old }
+        requires open { self.old.is_closed ≡ false }
+        requires proper { IsProper message.now }
+        requires short { has_long_row message.now ≡ false }
+        ensures open { B.is_open shelf.new }
+        ensures ok { OnOk result (WhereTold (B.tells shelf.old) (B.tells shelf.new) (λ old new. GoesOnKept self.old self.new (Take message.now ∷ []) old.rows new.rows)) }
+        ensures answer { IfOk result (AnswerFor self.old.producer message.now) }
+        ensures trail { WhereTold (B.tells shelf.old) (B.tells shelf.new) (AddsFronts self.old (Take message.now ∷ [])) }
+        ensures too_long { ¬ IsErrOf result error.RowTooLong }
+        ensures closes { ClosesBy self.old.is_closed self.new.is_closed result }
+        ensures cause { HasKeepCause (B.faults shelf.old) (B.faults shelf.new) result }
+    {
+        match self.plan_take(message) {
+            Ok(planned) => match self.write(shelf, &planned.puts) {
+                Ok(()) => Ok(planned.answer),
+                Err(error) => Err(error),
+            },
+            Err(OutOfMemory) => {
+                self.is_closed = true;
+                Err(KeepError::OutOfMemory)
+            }
+        }
+    }
+
+    /// Removes the rows of dead items. Refused as `clock` is.
+    pub fn clean<B: Shelf>(&mut self, shelf: &mut B) -> Result<(), KeepError>
+        requires { B.is_open shelf.old }
+        ensures open { B.is_open shelf.new }
+        ensures ok { OnOk result (WhereTold (B.tells shelf.old) (B.tells shelf.new) (λ old new. GoesOnKept self.old self.new [] old.rows new.rows)) }
+        ensures trail { WhereTold (B.tells shelf.old) (B.tells shelf.new) (AddsFronts self.old []) }
+        ensures closes { ClosesBy self.old.is_closed self.new.is_closed result }
+        ensures cause { HasKeepCause (B.faults shelf.old) (B.faults shelf.new) result }
+    {
+        if self.is_closed {
+            return Err(KeepError::Closed);
+        }
+        match self.plan_clean() {
+            Ok(puts) => self.write(shelf, &puts),
+            Err(OutOfMemory) => {
+                self.is_closed = true;
+                Err(KeepError::OutOfMemory)
+            }
+        }
+    }
+
+    /// The end of an event: what is due is sent, as by the producer's own `settle`. Nothing is sent by one that is
+    /// closed. No row changes.
+    pub fn settle(&mut self) -> Result<List<Out>, OutOfMemory>
+        ensures ok { self.old.is_closed ≡ false → OnOk result ((rows : Rows) → GoesOnKept self.old self.new (Settle ∷ []) rows rows) }
+        ensures sends { self.old.is_closed ≡ false → IfOk result (SendsFor self.old.producer) }
+        ensures closed { self.old.is_closed ≡ true → IfOk result (λ outs. outs ≡ []) × (self.new ≡ self.old) }
+        ensures err { OnErr result (SameButReads self.old.producer self.new.producer) }
+        ensures rest { self.new ≡ record self.old { producer = self.new.producer } }
+    {
+        if self.is_closed {
+            return Ok(List::new(self.alloc));
+        }
+        self.producer.settle()
+    }
+}

@@ -1,0 +1,23 @@
+//! A producer that keeps what it was fed and whom it serves on a shelf, so that both outlast a run.
+//!
+//! ```text
+//!     a later moment -> clock ---+
+//!     a message      -> take  ---+--> one write of the rows that change ---> and then the answer
+//!     dead items     -> clean ---+
+//! ```
+//!
+//! What a shelf keeps is written before it is answered, in one write: so a stop at any moment leaves rows that keep the
+//! history of all that was answered, or that and the step that was stopped.
+//!
+//! Stands on `siri_producer`, on `siri_row_texts` for the texts of rows, and on `siri_shelf`. It knows no wire.
+#![tactic(auto)]
+
+mod errors;
+mod kept;
+mod keys;
+mod plans;
+mod rows;
+mod writing;
+
+pub use errors::KeepError;
+pub use kept::Kept;

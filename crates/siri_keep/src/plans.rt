@@ -1,0 +1,289 @@
+//! What is written of a call: puts that make of the rows what they are to be, and what is known of the rows after them.
+
+ghost use Rattle.std.specs.Prelude.{◌≡◌, ◌≤◌, ◌++◌, ◌∷◌, [], false, length, map, option_map, flat_map, zip, IfOk, OnOk};
+ghost use Rattle.std.specs.Map.{keys_of};
+ghost use Rattle.siri_wire_laws.specs.ProperMessages.{IsProper};
+ghost use Rattle.siri_records.specs.Keyed.{dead_of, item_of};
+ghost use Rattle.siri_model.specs.Held.{held_of};
+ghost use Rattle.siri_messages.specs.Rounds.{has_round};
+ghost use Rattle.siri_messages.specs.declared.message.Message.TheVariants as messages;
+ghost use Rattle.siri_model.specs.History.{Clock, Take, entries_fed};
+ghost use Rattle.siri_subs.specs.Table.{most_subscriptions};
+ghost use Rattle.siri_producer.specs.Holding.{subscribed_of};
+ghost use Rattle.siri_producer.specs.Known.{AnswerFor, SameButReads};
+ghost use Rattle.siri_row_texts.specs.ItemRows.{item_text};
+ghost use Rattle.siri_keeping.specs.Keeping.{kept_at, moment_put, places_to, removed_at, subscription_puts};
+ghost use Rattle.siri_keep.specs.Puts.{changes_rows, has_long_row};
+ghost use Rattle.siri_keep.specs.Planning.{Plans, PutsKeys, ReadsMoment};
+
+use crate::Kept;
+use crate::keys::{dead_keys, named_keys};
+use siri_base::{Copies, List, Moment, OutOfMemory};
+use siri_messages::{Message, ServiceDelivery};
+use siri_producer::{Answer, Producer, Subscribed};
+use siri_records::{Change, Item, Key, SharedKey};
+use siri_row_texts::{item_text, key_text, moment_row, place_text, renewal_text, request_text};
+use siri_shelf::Put;
+use std::alloc::Global;
+use std::rc::Rc;
+
+/// The most rows of items, those of dead ones among them.
+const MOST_ROWS: usize = 100_000;
+
+/// An answer, and what is to be written before it is given.
+#[derive(Drop)]
+pub(crate) struct Planned {
+    pub(crate) answer: Answer,
+    pub(crate) puts: List<Put>,
+}
+
+/// Puts that a row has a text, or is no more.
+fn append_put(
+    into: &mut List<Put>,
+    table: u8,
+    key: &List<u8>,
+    text: Option<List<u8>>,
+) -> Result<(), OutOfMemory>
+    ensures { OnOk result (into.new ≡ into.old ++ record { table = table; key = key.now; text = text } ∷ []) }
+{
+    let key = key.copy()?;
+    into.push(Put { table, key, text })
+}
+
+/// Puts that a subscription has no rows at some places any more.
+fn append_removed(into: &mut List<Put>, places: &[List<u8>]) -> Result<(), OutOfMemory>
+    ensures { OnOk result (into.new ≡ into.old ++ flat_map removed_at places.now) }
+{
+    for place in places {
+        append_put(into, 2, place, None)?;
+        append_put(into, 3, place, None)?;
+    }
+    Ok(())
+}
+
+/// Puts that a subscription has its rows at a place.
+fn append_kept(
+    alloc: Global,
+    into: &mut List<Put>,
+    place: &List<u8>,
+    row: &Subscribed<'_>,
+) -> Result<(), OutOfMemory>
+    ensures { OnOk result (into.new ≡ into.old ++ kept_at (place.now, subscribed_of row.now)) }
+{
+    let request = request_text(alloc, row.wanted, row.base, row.address, row.beat)?;
+    append_put(into, 2, place, Some(request))?;
+    let renewal = renewal_text(alloc, row.wanted, row.number, row.base)?;
+    append_put(into, 3, place, renewal)
+}
+
+/// Puts that the subscriptions of a producer have their rows at the places from 1 on, and gives these.
+fn append_subscriptions(
+    alloc: Global,
+    into: &mut List<Put>,
+    producer: &Producer,
+) -> Result<List<List<u8>>, OutOfMemory>
+    ensures puts { OnOk result (into.new ≡ into.old ++ flat_map kept_at (zip (places_to (length producer.now.table)) (map held_of producer.now.table))) }
+    ensures places { IfOk result (λ places. places ≡ places_to (length producer.now.table)) }
+    ensures few { length producer.now.table ≤ most_subscriptions }
+{
+    let mut places = List::new(alloc);
+    for at in 0..producer.subscriptions() {
+        let Some(row) = producer.subscription(at) else {
+            break;
+        };
+        let place = place_text(alloc, at as u64 + 1)?;
+        append_kept(alloc, into, &place, &row)?;
+        places.push(place)?;
+    }
+    Ok(places)
+}
+
+/// The live item of a key, shared.
+fn live_item(producer: &mut Producer, key: &Key) -> Result<Option<Rc<Item>>, OutOfMemory>
+    ensures item { IfOk result (λ item. option_map (λ i. i.value) item ≡ item_of producer.old.responder.held key.now) }
+    ensures rest { SameButReads producer.old producer.new }
+{
+    match producer.look(key) {
+        Some(item) => Ok(Some(item.clone()?)),
+        None => Ok(None),
+    }
+}
+
+/// The text of an item's row.
+fn text_of(alloc: Global, item: &Option<Rc<Item>>) -> Result<Option<List<u8>>, OutOfMemory>
+    ensures { IfOk result (λ text. text ≡ option_map (λ i. item_text i.value) item.now) }
+{
+    match item {
+        Some(item) => Ok(Some(item_text(alloc, item)?)),
+        None => Ok(None),
+    }
+}
+
+impl Kept {
+    /// Puts the row of the producer's moment.
+    fn put_moment(&self, puts: &mut List<Put>) -> Result<(), OutOfMemory>
+        ensures puts { OnOk result (puts.new ≡ puts.old ++ moment_put self.now.producer.responder.moment self.now.producer.responder.start self.now.producer.responder.name ∷ []) }
+        ensures read { OnOk result (ReadsMoment self.now.producer.responder.moment self.now.producer.responder.start self.now.producer.responder.name) }
+    {
+        let producer = &self.producer;
+        let text = moment_row(
+            self.alloc,
+            producer.now(),
+            producer.start(),
+            producer.name(),
+        )?;
+        puts.push(Put {
+            table: 0,
+            key: List::new(self.alloc),
+            text: Some(text),
+        })
+    }
+
+    /// Puts all rows of subscriptions: those that are there are removed, and the producer's have theirs from place 1 on.
+    fn put_subscriptions(&mut self, puts: &mut List<Put>) -> Result<(), OutOfMemory>
+        ensures puts { OnOk result (puts.new ≡ puts.old ++ subscription_puts self.old.places (map held_of self.old.producer.table)) }
+        ensures kept { OnOk result (self.new ≡ record self.old { places = places_to (length self.old.producer.table) }) }
+        ensures few { OnOk result (length self.old.producer.table ≤ most_subscriptions) }
+        ensures open { self.new.is_closed ≡ self.old.is_closed }
+    {
+        append_removed(puts, self.places.slice())?;
+        self.places = append_subscriptions(self.alloc, puts, &self.producer)?;
+        Ok(())
+    }
+
+    /// Puts the row of a key's live item, or none, and keeps the item or nothing of it.
+    fn put_key(&mut self, key: &SharedKey, puts: &mut List<Put>) -> Result<(), OutOfMemory>
+        ensures ok { OnOk result (PutsKeys self.old self.new puts.old puts.new (key.now ∷ [])) }
+        ensures open { self.new.is_closed ≡ self.old.is_closed }
+    {
+        let item = live_item(&mut self.producer, key.key())?;
+        let text = text_of(self.alloc, &item)?;
+        let place = key_text(self.alloc, key.key())?;
+        puts.push(Put {
+            table: 1,
+            key: place,
+            text,
+        })?;
+        let key = key.copy()?;
+        self.mirror.change(Change { key, item })
+    }
+
+    /// The same of some keys, one after the other.
+    fn put_keys(&mut self, keys: &[SharedKey], puts: &mut List<Put>) -> Result<(), OutOfMemory>
+        ensures ok { OnOk result (PutsKeys self.old self.new puts.old puts.new keys.now) }
+        ensures open { self.new.is_closed ≡ self.old.is_closed }
+    {
+        for key in keys {
+            self.put_key(key, puts)?;
+        }
+        Ok(())
+    }
+
+    /// Puts that dead items have no row any more, and keeps nothing of them.
+    fn put_dead(&mut self, puts: &mut List<Put>) -> Result<(), OutOfMemory>
+        ensures ok { OnOk result (PutsKeys self.old self.new puts.old puts.new (keys_of (dead_of self.old.producer.responder.moment self.old.mirror))) }
+        ensures open { self.new.is_closed ≡ self.old.is_closed }
+    {
+        let keys = dead_keys(self.alloc, &self.mirror, self.producer.now())?;
+        self.put_keys(keys.slice(), puts)
+    }
+
+    /// What a later moment changes: the row of the moment, and the subscriptions where fewer are held.
+    pub(crate) fn plan_clock(&mut self, now: Moment) -> Result<List<Put>, OutOfMemory>
+        ensures ok { IfOk result (Plans self.old self.new (Clock now ∷ [])) }
+        ensures open { self.new.is_closed ≡ self.old.is_closed }
+    {
+        let before = self.producer.subscriptions();
+        self.producer.clock(now);
+        let mut puts = List::new(self.alloc);
+        self.put_moment(&mut puts)?;
+        if self.producer.subscriptions() < before {
+            self.put_subscriptions(&mut puts)?;
+        }
+        Ok(puts)
+    }
+
+    /// What is removed where the dead items leave.
+    pub(crate) fn plan_clean(&mut self) -> Result<List<Put>, OutOfMemory>
+        ensures ok { IfOk result (Plans self.old self.new []) }
+        ensures open { self.new.is_closed ≡ self.old.is_closed }
+    {
+        let mut puts = List::new(self.alloc);
+        self.put_dead(&mut puts)?;
+        Ok(puts)
+    }
+
+    /// A feed: the rows of the keys that it names. Where table 1 would have too many rows, those of dead items leave.
+    fn plan_feed(
+        &mut self,
+        message: &Message,
+        delivery: &ServiceDelivery,
+    ) -> Result<Planned, OutOfMemory>
+        requires of { message.now ≡ messages.ServiceDelivery delivery.now }
+        requires fed { has_round delivery.now ≡ false }
+        requires proper { IsProper message.now }
+        requires short { has_long_row message.now ≡ false }
+        ensures ok { IfOk result (λ planned. Plans self.old self.new (Take message.now ∷ []) planned.puts) }
+        ensures answer { IfOk result (λ planned. AnswerFor self.old.producer message.now planned.answer) }
+        ensures open { self.new.is_closed ≡ self.old.is_closed }
+    {
+        let answer = self.producer.take(message)?;
+        let mut puts = List::new(self.alloc);
+        let keys = named_keys(self.alloc, delivery)?;
+        self.put_keys(keys.slice(), &mut puts)?;
+        if self.mirror.len() > MOST_ROWS {
+            self.put_dead(&mut puts)?;
+        }
+        Ok(Planned { answer, puts })
+    }
+
+    /// A message about subscriptions: all their rows.
+    fn plan_subscriptions(&mut self, message: &Message) -> Result<Planned, OutOfMemory>
+        requires fed { entries_fed message.now ≡ [] }
+        requires proper { IsProper message.now }
+        requires short { has_long_row message.now ≡ false }
+        ensures ok { IfOk result (λ planned. Plans self.old self.new (Take message.now ∷ []) planned.puts) }
+        ensures answer { IfOk result (λ planned. AnswerFor self.old.producer message.now planned.answer) }
+        ensures open { self.new.is_closed ≡ self.old.is_closed }
+    {
+        let answer = self.producer.take(message)?;
+        let mut puts = List::new(self.alloc);
+        self.put_subscriptions(&mut puts)?;
+        Ok(Planned { answer, puts })
+    }
+
+    /// Any other message, which changes no row.
+    fn plan_nothing(&mut self, message: &Message) -> Result<Planned, OutOfMemory>
+        requires proper { IsProper message.now }
+        requires rowless { changes_rows message.now ≡ false }
+        ensures ok { IfOk result (λ planned. Plans self.old self.new (Take message.now ∷ []) planned.puts) }
+        ensures answer { IfOk result (λ planned. AnswerFor self.old.producer message.now planned.answer) }
+        ensures open { self.new.is_closed ≡ self.old.is_closed }
+    {
+        let answer = self.producer.take(message)?;
+        let puts = List::new(self.alloc);
+        Ok(Planned { answer, puts })
+    }
+
+    /// What a message changes.
+    pub(crate) fn plan_take(&mut self, message: &Message) -> Result<Planned, OutOfMemory>
+        requires proper { IsProper message.now }
+        requires short { has_long_row message.now ≡ false }
+        ensures ok { IfOk result (λ planned. Plans self.old self.new (Take message.now ∷ []) planned.puts) }
+        ensures answer { IfOk result (λ planned. AnswerFor self.old.producer message.now planned.answer) }
+        ensures open { self.new.is_closed ≡ self.old.is_closed }
+    {
+        match message {
+            Message::ServiceDelivery(delivery) if !delivery.has_round() => {
+                self.plan_feed(message, delivery)
+            }
+            Message::SubscriptionRequest(_) | Message::TerminateSubscriptionRequest(_) => {
+                self.plan_subscriptions(message)
+            }
+            Message::DataSupplyRequest(request) if request.all_data => {
+                self.plan_subscriptions(message)
+            }
+            _ => self.plan_nothing(message),
+        }
+    }
+}
