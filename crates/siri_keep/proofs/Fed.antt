@@ -3,7 +3,6 @@ use Rattle.std.proofs.Common.{◌≡◌, ◌⊎◌, ℕ, List, [], ◌∷◌, �
 use Rattle.std.specs.List.{AllByRecursion as All, list_any}
 use Rattle.std.proofs.lemmas.Bool.{or_parts}
 use Rattle.siri_records.specs.declared.item.Item.{Item}
-use Rattle.siri_records.specs.declared.item.Item.TheVariants as item
 use Rattle.siri_records.specs.declared.item.Service.{Service}
 use Rattle.siri_records.specs.declared.item.Service.TheVariants as service
 use Rattle.siri_records.specs.declared.key.Key.{Key}
@@ -11,7 +10,6 @@ use Rattle.siri_records.specs.Keyed.{InOrder, Items, item_of}
 use Rattle.siri_records.specs.Keys.{key_of}
 use Rattle.siri_records.specs.Order.{key_cmp}
 use Rattle.siri_records.proofs.KeyLists.{one_key}
-use Rattle.siri_items.specs.Proper.{IsProper}
 use Rattle.siri_deliveries.specs.Removals.{IsProperRemoval}
 use Rattle.siri_deliveries.specs.Deliveries.{IsProperDelivery, IsProperOf}
 use Rattle.siri_messages.specs.Rounds.{functional_deliveries}
@@ -28,6 +26,7 @@ use Rattle.siri_row_texts.specs.Reading.{item_of_row}
 use Rattle.siri_row_texts.proofs.Rows.{item_row_read}
 use Rattle.siri_wire_laws.specs.ProperMessages.{IsProper as IsProperMessage}
 use Rattle.siri_keeping.specs.Keeping.{IsProperKey}
+use Rattle.siri_keeping.proofs.ReadProper.{key_is_proper}
 use Rattle.siri_keep.specs.Puts.{has_long_row, is_long}
 use Rattle.siri_keep.proofs.Messages.{short_at}
 
@@ -53,12 +52,6 @@ all_flat P f (x ∷ xs) all = all_appended P (f x) (flat_map f xs) all.0 (all_fl
 abbrev pub ReadsEntry : Entry → Type 0
 ReadsEntry (Observed i) = ReadsItem (key_of i, i)
 ReadsEntry (Withdrawn k) = IsProperKey k
-
-pub key_is_proper : (i : Item) → IsProper i → IsProperKey (key_of i)
-key_is_proper (item.Visit v) p = (service.Stop, (p.1.1.0, p.1.0))
-key_is_proper (item.Journey j) p = (service.Timetable, (p.0.1.0, p.0.1.1.0, p.0.1.1.1.0.0, p.0.1.1.1.0.1))
-key_is_proper (item.Vehicle v) p = (service.Vehicle, p.1.1.1.0.1.1.1.1.0)
-key_is_proper (item.Situation s) p = (service.Situation, (p.1.0, p.1.1.0))
 
 reads_items : (s : Service) (items : List Item) → All (IsProperOf s) items → list_any (λ i. is_long (item_text i)) items ≡ false
     → All ReadsEntry (map Observed items)

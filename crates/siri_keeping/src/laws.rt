@@ -3,7 +3,9 @@
 ghost use Rattle.std.specs.Prelude.{◌≡◌, ◌≢◌, ◌≤◌, ◌∷◌, [], ℕ, List, length, map, IsSome, Some, Result};
 ghost use Rattle.std.specs.List.{AllByRecursion};
 ghost use Rattle.siri_base.specs.declared.errors.OutsideError.{OutsideError};
+ghost use Rattle.siri_records.specs.declared.item.Item.{Item};
 ghost use Rattle.siri_records.specs.declared.key.Key.{Key};
+ghost use Rattle.siri_records.specs.Keys.{key_of};
 ghost use Rattle.siri_records.specs.Keyed.{InOrder, Items, apply, item_of};
 ghost use Rattle.siri_model.specs.History.{Entry};
 ghost use Rattle.siri_model.specs.Last.{entry_key};
@@ -11,6 +13,11 @@ ghost use Rattle.siri_shelf.specs.Rows.{Rows, text_at, with_puts};
 ghost use Rattle.siri_shelf.specs.declared.rows.Put.{Put};
 ghost use Rattle.siri_shelf.specs.Shelves.{ShelfState, Writes};
 ghost use Rattle.siri_model.specs.Held.{Held};
+ghost use Rattle.siri_topic.specs.declared.subscription.Subscription.{Subscription};
+ghost use Rattle.siri_messages.specs.declared.message.Message.{Message};
+ghost use Rattle.siri_items.specs.Proper.{IsProper};
+ghost use Rattle.siri_wire_laws.specs.ProperMessages.{IsProper as IsProperMessage};
+ghost use Rattle.siri_row_texts.specs.Reading.{item_of_row, renewal_of_row, request_of_row};
 ghost use Rattle.siri_row_texts.specs.ItemRows.{key_text, moment_row};
 ghost use Rattle.siri_keeping.specs.Keeping.{AddsOnly, Covers, HasItems, IsProperKey, changes_to, live_after, live_of, moment_put, places_to, puts_to, subscription_puts};
 ghost use Rattle.siri_keeping.specs.Keeps.{HasSubscriptions};
@@ -68,4 +75,11 @@ pub fn the_moment_is_written()
 /// A law: items in order of key that have the same item of each key are the same.
 pub fn items_are_known_by_their_keys()
     ensures { (xs ys : Items) → InOrder xs → InOrder ys → ((k : Key) → item_of xs k ≡ item_of ys k) → xs ≡ ys }
+{}
+
+/// A law: what is read of rows is proper, and so is the key of an item that is read.
+pub fn read_rows_are_proper()
+    ensures items { (key text : List ℕ) (i : Item) → item_of_row key text ≡ Some i → IsProper i × IsProperKey (key_of i) }
+    ensures requests { (text : List ℕ) (m : Message) → request_of_row text ≡ Some m → IsProperMessage m }
+    ensures renewals { (s : Subscription) (base : ℕ) (text : List ℕ) (m : Message) → renewal_of_row s base text ≡ Some m → IsProperMessage m }
 {}

@@ -13,5 +13,6 @@ mod laws;
 pub use held_laws::{subscriptions_expire, subscriptions_stay};
 pub use laws::{
     a_feed_is_kept, a_stop_leaves_a_front, items_are_known_by_their_keys, key_texts_differ,
-    live_items_stay_covered, subscriptions_are_written_whole, the_moment_is_written,
+    live_items_stay_covered, read_rows_are_proper, subscriptions_are_written_whole,
+    the_moment_is_written,
 };
