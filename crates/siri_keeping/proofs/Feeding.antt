@@ -1,10 +1,7 @@
 -- A feed of items that nothing is held before: where they are those of some kept items that aren't dead, these are current.
-use Rattle.std.proofs.Common.{◌≡◌, ◌≤◌, ◌<◌, ℕ, ◌+◌, List, [], ◌∷◌, length, map, fold, filter, cond, Bool, true, false, ◌&&◌, ◌||◌, not, nat_le, Option, None, Some, refl, ap, sym, ◌∙◌, subst, arith}
+use Rattle.std.proofs.Common.{◌≡◌, ◌≤◌, ◌<◌, ℕ, ◌+◌, List, [], ◌∷◌, length, map, fold, filter, cond, Bool, true, false, ◌&&◌, ◌||◌, not, nat_le, Option, None, Some, refl, ap, sym, ◌∙◌, arith}
 use Rattle.std.specs.List.{AllByRecursion as All}
-use Rattle.std.specs.List.Sorted.{IsStrictlySortedBy}
 use Rattle.std.specs.Ordering.{is_eq}
-use Rattle.std.specs.declared.cmp.Ordering.{Ordering}
-use Rattle.std.specs.declared.cmp.Ordering.TheVariants.{Less, Equal, Greater}
 use Rattle.std.proofs.lemmas.Bool.Decides.{nat_tests}
 use Rattle.std.proofs.lemmas.List.Filters.{length-filter_both}
 use Rattle.std.proofs.lemmas.Map.Entries.{option_filter}
@@ -15,10 +12,11 @@ use Rattle.siri_records.specs.Keyed.{InOrder, Items, item_of, living, most_live,
 use Rattle.siri_records.specs.Keys.{key_of}
 use Rattle.siri_records.specs.Order.{key_cmp, key_cmp_total}
 use Rattle.siri_records.proofs.Order.{key_cmp_exact}
-use Rattle.siri_model.specs.History.{Entry, Observed, after_entry, is_live, is_refused}
+use Rattle.siri_model.specs.History.{Observed, after_entry, is_live, is_refused}
 use Rattle.siri_model_laws.proofs.Current.{length_inserted, lookup_inserted}
 use Rattle.siri_model_laws.proofs.Entries.{sorted_inserted, sorted_passing}
 use Rattle.siri_model_laws.proofs.InOrder.{in_order_all, none_in_order}
+use Rattle.siri_keeping.proofs.Found.{tied_is}
 use Rattle.siri_keeping.proofs.LiveItems.{alive, live_at}
 use Rattle.siri_keeping.proofs.SameItems.{same_items}
 
@@ -30,7 +28,7 @@ with_one items i = with_item items (key_of i, i)
 one_longer : (items : Items) (i : Item) → InOrder items → length (with_one items i) ≤ length items + 1
 one_longer items i s = omega (arith, length_inserted key_cmp_total key_cmp_exact (key_of i) i items s)
 
-few_passing : {X : Type 0} (p : X → Bool) (xs : List X) → length (filter p xs) ≤ length xs
+pub few_passing : {X : Type 0} (p : X → Bool) (xs : List X) → length (filter p xs) ≤ length xs
 few_passing p xs = omega (arith, length-filter_both p (λ x. not (p x)) (λ x. refl) xs)
 
 below_most : (count : ℕ) → count < 20000 → nat_le most_live count ≡ false
@@ -78,11 +76,6 @@ latest_none k (i ∷ es) held none = none_at (latest_none k es held) (is_eq (key
     none_at : (has k es ≡ false → latest k held es ≡ held) → (b : Bool) → is_eq (key_cmp k (key_of i)) ≡ b → (b || has k es) ≡ false → latest k (cond b (Some i) held) es ≡ held
     none_at rest true is none = cc none
     none_at rest false is none = rest none
-
-tied_is : (o : Ordering) → is_eq o ≡ true → o ≡ Equal
-tied_is Equal e = refl
-tied_is Less e = cc
-tied_is Greater e = cc
 
 record IsFound (k : Key) (P : Item → Type 0) (found : Option Item) : Type 0 where
   item : Item

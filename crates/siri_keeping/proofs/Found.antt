@@ -1,5 +1,5 @@
 -- What is found at a place after puts.
-use Rattle.std.proofs.Common.{◌≡◌, ◌≢◌, ℕ, List, [], ◌∷◌, ◌++◌, Bool, true, false, Option, None, Some, refl, ap, sym, ◌∙◌, subst, find}
+use Rattle.std.proofs.Common.{◌≡◌, ℕ, List, [], ◌∷◌, ◌++◌, Bool, true, false, Option, None, Some, refl, ap, sym, ◌∙◌, subst, find}
 use Rattle.std.specs.Prelude.{option_map}
 use Rattle.std.specs.List.{filter}
 use Rattle.std.specs.Cmp.{tied_itself}
@@ -20,7 +20,7 @@ ties Equal p e = (refl, e)
 ties Less p e = cc
 ties Greater p e = cc
 
-tied_is : (o : Ordering) → is_eq o ≡ true → o ≡ Equal
+pub tied_is : (o : Ordering) → is_eq o ≡ true → o ≡ Equal
 tied_is Equal e = refl
 tied_is Less e = cc
 tied_is Greater e = cc

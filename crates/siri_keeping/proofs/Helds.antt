@@ -1,7 +1,6 @@
 -- What is held of subscriptions beside their rounds, step by step.
 use Rattle.std.proofs.Common.{◌≡◌, ℕ, max, List, [], ◌∷◌, ◌++◌, map, Bool, true, false, not, cond, Option, Some, None, refl, sym, ap, ◌∙◌}
-use Rattle.std.specs.Prelude.{◌&&◌, ◌==◌, nat_le, if◌then◌else◌}
-use Rattle.std.specs.List.{filter, fold}
+use Rattle.std.specs.Prelude.{nat_le}
 use Rattle.std.proofs.lemmas.List.Sums.{fold-append}
 use Rattle.siri_records.specs.Keyed.{Items}
 use Rattle.siri_messages.specs.declared.message.Message.{Message}

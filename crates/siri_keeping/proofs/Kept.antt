@@ -1,20 +1,19 @@
 -- What is kept after a feed.
-use Rattle.std.proofs.Common.{◌≡◌, ◌≢◌, ◌⊎◌, ℕ, List, [], ◌∷◌, ◌++◌, map, fold, cond, Bool, true, false, ◌||◌, not, Option, None}
+use Rattle.std.proofs.Common.{◌≡◌, ◌≢◌, ◌⊎◌, ℕ, List, [], ◌∷◌, map, fold, cond, Bool, true, false, ◌||◌, not, Option, None}
 use Rattle.std.proofs.Common.{Some, Result, Ok, Err, refl, ap, sym, ◌∙◌, subst, inl, inr, append-nil}
-use Rattle.std.specs.Prelude.{option_map, IsSome, if◌then◌else◌}
+use Rattle.std.specs.Prelude.{option_map, IsSome}
 use Rattle.std.specs.List.{AllByRecursion as All}
 use Rattle.std.specs.Cmp.{tied_itself}
 use Rattle.std.specs.Ordering.{is_eq}
-use Rattle.std.specs.declared.cmp.Ordering.{Ordering}
-use Rattle.std.specs.declared.cmp.Ordering.TheVariants.{Less, Equal, Greater}
 use Rattle.std.proofs.lemmas.Map.Entries.{option_filter}
 use Rattle.siri_base.specs.declared.errors.OutsideError.{OutsideError}
 use Rattle.siri_base.specs.declared.errors.OutsideError.TheVariants as outside
 use Rattle.siri_records.specs.declared.item.Item.{Item}
 use Rattle.siri_records.specs.declared.key.Key.{Key}
 use Rattle.siri_records.specs.Ends.{is_dead}
-use Rattle.siri_records.specs.Keyed.{InOrder, Items, after_change, apply, item_of, living}
+use Rattle.siri_records.specs.Keyed.{InOrder, Items, after_change, apply, item_of}
 use Rattle.siri_records.specs.Order.{key_cmp, key_cmp_total}
+use Rattle.siri_records.proofs.KeyLists.{one_key}
 use Rattle.siri_records.proofs.Order.{key_cmp_exact}
 use Rattle.siri_model.specs.History.{Entry, after_entry}
 use Rattle.siri_model.specs.Last.{after_one, entry_key, is_of}
@@ -29,18 +28,10 @@ use Rattle.siri_row_texts.specs.ItemRows.{item_text, key_text}
 use Rattle.siri_row_texts.proofs.Rows.{one_text_one_key}
 use Rattle.siri_keeping.specs.Keeping.{AddsOnly, Covers, HasItems, IsProperKey, change_to, changes_to, live_after}
 use Rattle.siri_keeping.specs.Keeping.{live_of, put_to, puts_to}
-use Rattle.siri_keeping.proofs.Found.{place_exact, text_elsewhere, text_there}
+use Rattle.siri_keeping.proofs.Found.{place_exact, text_elsewhere, text_there, tied_is}
 use Rattle.siri_keeping.proofs.LiveItems.{live_at}
 
 -- ---- keys
-
-tied_is : (o : Ordering) → is_eq o ≡ true → o ≡ Equal
-tied_is Equal e = refl
-tied_is Less e = cc
-tied_is Greater e = cc
-
-one_key : (k j : Key) → is_eq (key_cmp k j) ≡ true → k ≡ j
-one_key k j e = key_cmp_exact k j (tied_is (key_cmp k j) e)
 
 same_key : (k j : Key) → k ≡ j → is_eq (key_cmp k j) ≡ true
 same_key k j e = ap (λ x. is_eq (key_cmp k x)) (sym e) ∙ ap is_eq (tied_itself key_cmp_total k)

@@ -1,5 +1,5 @@
 -- The rows of two tables that are written whole: what was there goes, and each of some places gets its two rows.
-use Rattle.std.proofs.Common.{◌≡◌, ◌≢◌, ◌⊎◌, ◌<◌, ◌≤◌, ℕ, zero, suc, List, [], ◌∷◌, ◌++◌, length, fold, Bool, true, false, Option, None, Some, refl, ap, sym, ◌∙◌, subst, inl, inr, arith, append_assoc}
+use Rattle.std.proofs.Common.{◌≡◌, ◌≢◌, ◌⊎◌, ℕ, zero, suc, List, [], ◌∷◌, length, Bool, true, false, Option, None, Some, refl, ap, sym, ◌∙◌, subst, inl, inr, arith}
 use Rattle.std.specs.Prelude.{IsSome}
 use Rattle.std.specs.Cmp.{tied_itself}
 use Rattle.std.specs.Cmp.Lexicographic.{slice_cmp}
@@ -9,7 +9,6 @@ use Rattle.std.specs.Ordering.{is_eq, nat_cmp}
 use Rattle.std.specs.declared.cmp.Ordering.{Ordering}
 use Rattle.std.specs.declared.cmp.Ordering.TheVariants.{Less, Equal, Greater}
 use Rattle.std.proofs.lemmas.Cmp.{nat_list_cmp_total}
-use Rattle.std.proofs.lemmas.List.Sums.{fold-append}
 use Rattle.siri_shelf.specs.declared.rows.Put.{Put}
 use Rattle.siri_shelf.specs.Rows.{RowPlace, Rows, place_cmp, text_at, with_put, with_puts}
 use Rattle.siri_shelf.proofs.Order.{place_total}
@@ -55,10 +54,10 @@ here x xs = (0, omega arith, refl)
 later : {X : Type 0} (x y : X) (xs : List X) → Contains xs y → Contains (x ∷ xs) y
 later x y xs (k, below, is) = (suc k, omega arith, is)
 
-none_in : {X : Type 0} (y : X) → Contains [] y → ⊥
+pub none_in : {X : Type 0} (y : X) → Contains [] y → ⊥
 none_in y (k, below, is) = omega arith
 
-first_or : {X : Type 0} (x y : X) (xs : List X) → Contains (x ∷ xs) y → (x ≡ y) ⊎ Contains xs y
+pub first_or : {X : Type 0} (x y : X) (xs : List X) → Contains (x ∷ xs) y → (x ≡ y) ⊎ Contains xs y
 first_or x y xs (zero, below, is) = inl is
 first_or x y xs (suc k, below, is) = inr (k, omega arith, is)
 
@@ -70,7 +69,7 @@ IsTwoOrThree table = (table ≡ 2) ⊎ (table ≡ 3)
 abbrev removed_at : List ℕ → List Put
 removed_at place = record { table = 2; key = place; text = None } ∷ record { table = 3; key = place; text = None } ∷ []
 
-nothing_there : (o : Option (List ℕ)) → (IsSome o → ⊥) → o ≡ None
+pub nothing_there : (o : Option (List ℕ)) → (IsSome o → ⊥) → o ≡ None
 nothing_there None never = refl
 nothing_there (Some x) never = absurd (never refl)
 

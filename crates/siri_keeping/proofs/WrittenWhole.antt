@@ -1,7 +1,7 @@
 -- All subscriptions are written at the places from 1 on, and the moment at its own.
-use Rattle.std.proofs.Common.{◌≡◌, ◌≢◌, ◌⊎◌, ◌≤◌, ◌<◌, ℕ, zero, suc, ◌+◌, List, [], ◌∷◌, ◌++◌, length, map, fold, true, Option, None, Some, refl, ap, sym, ◌∙◌, subst, inl, inr, arith}
-use Rattle.std.specs.Prelude.{◌==◌, IsSome}
-use Rattle.std.specs.List.{AllByRecursion as All, AllZip, Contains, flat_map, range_with_len, zip}
+use Rattle.std.proofs.Common.{◌≡◌, ◌≢◌, ◌⊎◌, ◌≤◌, ◌<◌, ℕ, zero, suc, ◌+◌, List, [], ◌∷◌, length, map, true, Option, None, Some, refl, ap, sym, ◌∙◌, subst, inl, inr, arith}
+use Rattle.std.specs.Prelude.{IsSome}
+use Rattle.std.specs.List.{AllByRecursion as All, Contains, flat_map, range_with_len, zip}
 use Rattle.std.proofs.lemmas.List.{length-map}
 use Rattle.std.proofs.lemmas.List.FromFn.{length-range_with_len}
 use Rattle.std.proofs.lemmas.List.Sums.{fold-append}
@@ -14,7 +14,7 @@ use Rattle.siri_shelf.specs.Rows.{RowPlace, Rows, text_at, with_put, with_puts}
 use Rattle.siri_keeping.specs.Keeping.{is_place, kept_at, moment_put, places_to, removed_at, subscription_puts}
 use Rattle.siri_keeping.specs.Keeps.{HasSubscriptions}
 use Rattle.siri_keeping.proofs.Found.{text_elsewhere, text_there}
-use Rattle.siri_keeping.proofs.Written.{all_gone, at, only_there, put_is, renewals_there, requests_there, spared_stay}
+use Rattle.siri_keeping.proofs.Written.{all_gone, at, only_there, renewals_there, requests_there}
 
 -- ---- places
 
