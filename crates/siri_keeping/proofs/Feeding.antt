@@ -22,10 +22,10 @@ use Rattle.siri_keeping.proofs.SameItems.{same_items}
 
 -- ---- none is refused
 
-abbrev with_one : Items → Item → Items
+abbrev pub with_one : Items → Item → Items
 with_one items i = with_item items (key_of i, i)
 
-one_longer : (items : Items) (i : Item) → InOrder items → length (with_one items i) ≤ length items + 1
+pub one_longer : (items : Items) (i : Item) → InOrder items → length (with_one items i) ≤ length items + 1
 one_longer items i s = omega (arith, length_inserted key_cmp_total key_cmp_exact (key_of i) i items s)
 
 pub few_passing : {X : Type 0} (p : X → Bool) (xs : List X) → length (filter p xs) ≤ length xs
@@ -57,10 +57,10 @@ all_taken now (i ∷ es) items s few =
 
 -- ---- what a key has then
 
-abbrev latest : Key → Option Item → List Item → Option Item
+abbrev pub latest : Key → Option Item → List Item → Option Item
 latest k held es = fold (λ o i. cond (is_eq (key_cmp k (key_of i))) (Some i) o) held es
 
-looked_up : (k : Key) (es : List Item) (items : Items) → item_of (fold with_one items es) k ≡ latest k (item_of items k) es
+pub looked_up : (k : Key) (es : List Item) (items : Items) → item_of (fold with_one items es) k ≡ latest k (item_of items k) es
 looked_up k [] items = refl
 looked_up k (i ∷ es) items =
     looked_up k es (with_one items i) ∙ ap (λ o. latest k o es) (lookup_inserted key_cmp_total key_cmp_exact k (key_of i) i items)
@@ -69,7 +69,7 @@ abbrev pub has : Key → List Item → Bool
 has k [] = false
 has k (i ∷ es) = is_eq (key_cmp k (key_of i)) || has k es
 
-latest_none : (k : Key) (es : List Item) (held : Option Item) → has k es ≡ false → latest k held es ≡ held
+pub latest_none : (k : Key) (es : List Item) (held : Option Item) → has k es ≡ false → latest k held es ≡ held
 latest_none k [] held none = refl
 latest_none k (i ∷ es) held none = none_at (latest_none k es held) (is_eq (key_cmp k (key_of i))) refl none
   where

@@ -6,20 +6,14 @@ use Rattle.std.specs.Cmp.Lexicographic.{slice_cmp}
 use Rattle.std.specs.List.{AllByRecursion as All, AllZip, Contains, flat_map, zip}
 use Rattle.std.specs.List.Sorted.{IsStrictlySortedBy}
 use Rattle.std.specs.Ordering.{is_eq, nat_cmp}
-use Rattle.std.specs.declared.cmp.Ordering.{Ordering}
-use Rattle.std.specs.declared.cmp.Ordering.TheVariants.{Less, Equal, Greater}
+use Rattle.std.specs.declared.cmp.Ordering.TheVariants.{Less}
 use Rattle.std.proofs.lemmas.Cmp.{nat_list_cmp_total}
 use Rattle.siri_shelf.specs.declared.rows.Put.{Put}
 use Rattle.siri_shelf.specs.Rows.{RowPlace, Rows, place_cmp, text_at, with_put, with_puts}
 use Rattle.siri_shelf.proofs.Order.{place_total}
-use Rattle.siri_keeping.proofs.Found.{place_exact, text_elsewhere, text_there}
+use Rattle.siri_keeping.proofs.Found.{place_exact, text_elsewhere, text_there, tied_is}
 
 -- ---- places
-
-tied_is : (o : Ordering) → is_eq o ≡ true → o ≡ Equal
-tied_is Equal e = refl
-tied_is Less e = cc
-tied_is Greater e = cc
 
 abbrev pub at : ℕ → List ℕ → RowPlace
 at table key = (table, key)
@@ -48,10 +42,10 @@ spared_stay table key (put ∷ puts) rows spared =
 
 -- ---- elements
 
-here : {X : Type 0} (x : X) (xs : List X) → Contains (x ∷ xs) x
+pub here : {X : Type 0} (x : X) (xs : List X) → Contains (x ∷ xs) x
 here x xs = (0, omega arith, refl)
 
-later : {X : Type 0} (x y : X) (xs : List X) → Contains xs y → Contains (x ∷ xs) y
+pub later : {X : Type 0} (x y : X) (xs : List X) → Contains xs y → Contains (x ∷ xs) y
 later x y xs (k, below, is) = (suc k, omega arith, is)
 
 pub none_in : {X : Type 0} (y : X) → Contains [] y → ⊥

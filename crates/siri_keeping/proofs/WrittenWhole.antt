@@ -36,7 +36,12 @@ request s = request_text s.asked s.base
 abbrev renewal : Held → Option (List ℕ)
 renewal s = renewal_text s.asked.subscription s.number s.base
 
-module _ (rows : Rows) (places : List (List ℕ)) (old helds : List Held) (has : HasSubscriptions rows places old) (few : length helds ≤ 200) where
+-- a table has no rows but at these places
+abbrev pub HasOnly : Rows → List (List ℕ) → ℕ → Type 0
+HasOnly rows places table = (key : List ℕ) → IsSome (text_at rows table key) → Contains places key
+
+module _ (rows : Rows) (places : List (List ℕ)) (helds : List Held) (requests : HasOnly rows places 2) (renewals : HasOnly rows places 3)
+    (few : length helds ≤ 200) where
   abbrev cleared : Rows
   cleared = with_puts rows (flat_map removed_at places)
 
@@ -52,7 +57,7 @@ module _ (rows : Rows) (places : List (List ℕ)) (old helds : List Held) (has :
   filled_is : filled ≡ written
   filled_is = sym (fold-append with_put rows (flat_map removed_at places) (flat_map kept_at (zip new_places helds)))
 
-  only_at : (table : ℕ) → (table ≡ 2) ⊎ (table ≡ 3) → ((key : List ℕ) → IsSome (text_at rows table key) → Contains places key)
+  only_at : (table : ℕ) → (table ≡ 2) ⊎ (table ≡ 3) → HasOnly rows places table
       → (key : List ℕ) → IsSome (text_at filled table key) → Contains new_places key
   only_at table of only key some = elim (only_there request renewal new_places helds cleared table key some) [
     | inl among ↦ among
@@ -65,12 +70,17 @@ module _ (rows : Rows) (places : List (List ℕ)) (old helds : List Held) (has :
     digits = places_are 1 (length helds) (omega arith);
     requests = requests_there request renewal new_places helds cleared (places_ascend (length helds) few) (places_long (length helds));
     renewals = renewals_there request renewal new_places helds cleared (places_ascend (length helds) few) (places_long (length helds));
-    only_requests = only_at 2 (inl refl) has.only_requests;
-    only_renewals = only_at 3 (inr refl) has.only_renewals;
+    only_requests = only_at 2 (inl refl) requests;
+    only_renewals = only_at 3 (inr refl) renewals;
   }
 
-  pub written_has : HasSubscriptions written new_places helds
-  written_has = subst (λ r. HasSubscriptions r new_places helds) filled_is filled_has
+  -- whatever rows were at the places before
+  pub written_over : HasSubscriptions written new_places helds
+  written_over = subst (λ r. HasSubscriptions r new_places helds) filled_is filled_has
+
+pub written_has : (rows : Rows) (places : List (List ℕ)) (old helds : List Held) → HasSubscriptions rows places old → length helds ≤ 200
+    → HasSubscriptions (with_puts rows (subscription_puts places helds)) (places_to (length helds)) helds
+written_has rows places old helds has few = written_over rows places helds has.only_requests has.only_renewals few
 
 -- ---- other tables
 
