@@ -1,4 +1,10 @@
 pub mod Told
+pub mod FirstAsked
+pub mod Ahead
+pub mod BadRows
+pub mod TakenRows
+pub mod Beginnings
+pub mod ReadOn
 pub mod Left
 pub mod Fronts
 pub mod Steps

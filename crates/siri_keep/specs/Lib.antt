@@ -1,4 +1,6 @@
--- In order of reading: what calls write; what they do.
+-- In order of reading: what calls write; what they do; what is read at opening.
 pub mod Puts
 pub mod Calls
+pub mod Walking
 pub mod Planning
+pub mod RowByRow

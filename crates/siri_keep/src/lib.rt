@@ -12,11 +12,15 @@
 //! Stands on `siri_producer`, on `siri_row_texts` for the texts of rows, and on `siri_shelf`. It knows no wire.
 #![tactic(auto)]
 
+mod by_service;
 mod errors;
 mod kept;
+mod kept_requests;
 mod keys;
+mod opening;
 mod plans;
 mod rows;
+mod rows_read;
 mod writing;
 
 pub use errors::KeepError;
