@@ -1,7 +1,7 @@
 -- Inner words: cited by private functions alone.
 -- What rows come to, one after the other in order of table and key.
 use Rattle.std.specs.Prelude.{◌≡◌, ◌⊎◌, ◌<◌, ◌≤◌, ⊤, ℕ, ◌+◌, List, [], ◌∷◌, ◌++◌, length, map, find, Bool, true, false, ◌&&◌, ◌||◌, ◌==◌, not, nat_lt, if◌then◌else◌, Option, None, Some, option_map, Result, Ok, Err}
-use Rattle.std.specs.List.{AllByRecursion as All, filter, filter_map, list_any}
+use Rattle.std.specs.List.{AllByRecursion, filter, filter_map, list_any}
 use Rattle.std.specs.Option.{option_and_then, option_map_or}
 use Rattle.std.specs.Str.{bytes_eq}
 use Rattle.siri_base.specs.OutsideCalls.{WhereTold}
@@ -154,8 +154,8 @@ pub record Reached (table : ℕ) (after : Option (List ℕ)) (rows : Rows) (read
   pub ordered : InOrder rows
   pub bytes : HasByteTables rows
   pub begun : 0 < length prior
-  pub passed : All (IsPassed table after) prior
-  pub coming : All (IsComing table after) rest
+  pub passed : AllByRecursion (IsPassed table after) prior
+  pub coming : AllByRecursion (IsComing table after) rest
   pub done : Taken rows prior read
 
 -- ---- what calls answer
