@@ -140,7 +140,8 @@ fn read_next<B: Shelf>(
     Ok(Some(row.key.copy()?))
 }
 
-/// Reads the rows of a table with keys above one, where one is given: all of them, or those before the first bad one.
+/// Reads the rows of a table with keys above one, where one is given: all of them, or those before the first bad one. More
+/// rows than a `u64` counts have no memory.
 fn read_table<B: Shelf>(
     shelf: &mut B,
     table: u8,
