@@ -19,3 +19,10 @@ pub mod Named
 pub mod Started
 pub mod Placed
 pub mod Longs
+pub mod SaidRows
+pub mod SaidItems
+pub mod Counted
+pub mod SaidRequests
+pub mod Opened
+pub mod Reopened
+pub mod OpenCalls

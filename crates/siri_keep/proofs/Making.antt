@@ -112,11 +112,11 @@ dead_proper now kept all = all_mapped IsProperKey (λ (e : Key × Item). e.0) (d
 
 -- ---- a message that feeds nothing
 
-taken_nothing : (state : State) (m : Message) → entries_fed m ≡ [] → after_step state (Take m) ≡ state
+pub taken_nothing : (state : State) (m : Message) → entries_fed m ≡ [] → after_step state (Take m) ≡ state
 unfolding after_step
 taken_nothing state m none = rw none refl
 
-rows_of_message : (state : State) (m : Message) (rows : List (Row KeptLife))
+pub rows_of_message : (state : State) (m : Message) (rows : List (Row KeptLife))
     → rows_after state (Take m) rows ≡ rows_taken state.start state.now m rows
 unfolding rows_after
 rows_of_message state m rows = refl

@@ -51,7 +51,7 @@ subscriptions_stay rows after places helds two three has = record {
 
 -- ---- the row of the moment
 
-key_empty : (key : List ℕ) → ((key ≡ [] → ⊥) → key ≡ []) → key ≡ []
+pub key_empty : (key : List ℕ) → ((key ≡ [] → ⊥) → key ≡ []) → key ≡ []
 key_empty [] f = refl
 key_empty (b ∷ key) f = f (λ e. cc)
 
@@ -152,7 +152,7 @@ module _ (name : List ℕ) (m s : ℕ) (live kept : Items) (places : List (List 
       }
 
 -- a later moment
-passed : (p : Item → Bool) (o : Option Item) (i : Item) → option_filter p o ≡ Some i → (o ≡ Some i) × (p i ≡ true)
+pub passed : (p : Item → Bool) (o : Option Item) (i : Item) → option_filter p o ≡ Some i → (o ≡ Some i) × (p i ≡ true)
 passed p None i at = cc
 passed p (Some j) i at = by (p j) refl at
   where
@@ -160,11 +160,11 @@ passed p (Some j) i at = by (p j) refl at
     by true is at = (at, cc)
     by false is at = cc
 
-dead_or : (i : Item) (now : ℕ) (b : Bool) → is_dead i now ≡ b → (is_dead i now ≡ true) ⊎ (not (is_dead i now) ≡ true)
+pub dead_or : (i : Item) (now : ℕ) (b : Bool) → is_dead i now ≡ b → (is_dead i now ≡ true) ⊎ (not (is_dead i now) ≡ true)
 dead_or i now true is = inl is
 dead_or i now false is = inr (ap not is)
 
-passes : (now : ℕ) (i : Item) → not (is_dead i now) ≡ true → option_filter (λ i. not (is_dead i now)) (Some i) ≡ Some i
+pub passes : (now : ℕ) (i : Item) → not (is_dead i now) ≡ true → option_filter (λ i. not (is_dead i now)) (Some i) ≡ Some i
 passes now i alive = rw alive refl
 
 pub covers_clocked : (m later : ℕ) (live kept : Items) → InOrder live → ((i : Item) → is_dead i m ≡ true → is_dead i later ≡ true)

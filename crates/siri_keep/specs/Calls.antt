@@ -1,6 +1,6 @@
 -- What the calls of a producer over a shelf do.
 use Rattle.std.specs.Prelude.{◌≡◌, ◌≢◌, ◌<◌, ◌≤◌, ⊤, ℕ, List, ◌++◌, map, take, Bool, true, false, Result, Ok, Err, IsErrOf}
-use Rattle.std.specs.List.{AllByRecursion as All}
+use Rattle.std.specs.List.{AllByRecursion}
 use Rattle.siri_base.specs.Causes.{Rose}
 use Rattle.siri_model.specs.Held.{held_of}
 use Rattle.siri_model.specs.History.{History}
@@ -24,7 +24,7 @@ Left kept rows =
 pub record Holds (kept : Kept) (rows : Rows) (h : History) : Type 0 where
   pub left : Left kept rows
   pub stands : StandsFor kept.producer h
-  pub proper : All IsProperStep h
+  pub proper : AllByRecursion IsProperStep h
 
 -- Whatever history the producer stood for before a call over the shelf that it left, it stands for that history and these steps
 -- after it, and the shelf, as it leaves it, keeps that one.
@@ -74,6 +74,12 @@ pub record Reopens (name : List ℕ) (start now : ℕ) (kept : Kept) (before aft
   pub earlier : IsEarlier name start what
   pub holds : Holds kept after (reopened start now what)
   pub keeps : Keeps name after (reopened start now what)
+  pub is_open : kept.is_closed ≡ false
+
+-- whatever shelf it was opened over: it has this name, stands for some history, and isn't closed
+pub record IsBegun (name : List ℕ) (kept : Kept) : Type 0 where
+  pub name_is : kept.producer.responder.name ≡ name
+  pub stands : (h : History) × StandsFor kept.producer h
   pub is_open : kept.is_closed ≡ false
 
 -- why rows aren't opened, in this order

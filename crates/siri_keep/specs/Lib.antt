@@ -2,5 +2,6 @@
 pub mod Puts
 pub mod Calls
 pub mod Walking
+-- Inner words: cited by private functions alone.
 pub mod Planning
 pub mod RowByRow

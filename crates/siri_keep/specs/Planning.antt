@@ -1,22 +1,26 @@
 -- Inner words: cited by private functions alone.
 -- What is planned before it is written.
-use Rattle.std.specs.Prelude.{◌≡◌, ◌≤◌, ℕ, List, Some, [], ◌∷◌, ◌++◌, map, Result, OnOk}
+use Rattle.std.specs.Prelude.{◌≡◌, ◌≤◌, ℕ, List, Some, ◌∷◌, ◌++◌, length, map, false, Result, Ok, OnOk}
 use Rattle.siri_model.specs.Held.{held_of}
 use Rattle.siri_model.specs.History.{History}
-use Rattle.siri_producer.specs.Known.{SameButReads}
+use Rattle.siri_producer.specs.Known.{Known, SameButReads, StandsFor}
 use Rattle.siri_records.specs.declared.key.Key.{Key}
-use Rattle.siri_records.specs.Keyed.{Items, apply, dead_of}
-use Rattle.std.specs.Map.{keys_of}
+use Rattle.siri_records.specs.Keyed.{Items, apply}
 use Rattle.siri_tables.specs.Proper.{IsNumber}
 use Rattle.siri_row_texts.specs.ItemRows.{moment_row}
 use Rattle.siri_row_texts.specs.Reading.{began_of_row}
 use Rattle.siri_shelf.specs.declared.rows.Put.{Put}
 use Rattle.siri_shelf.specs.Rows.{Rows, with_puts}
 use Rattle.siri_shelf.specs.Shelves.{ShelfState}
-use Rattle.siri_keeping.specs.Keeping.{AddsOnly, changes_to, puts_to}
+use Rattle.siri_keeping.specs.Keeping.{AddsOnly, changes_to, moment_put, places_to, puts_to, subscription_puts}
+use Rattle.siri_keeping.specs.Opening.{Kept as SaysKept, Said, WhatIsKept, reopened, said}
+use Rattle.siri_subs.specs.Table.{most_subscriptions}
 use Rattle.siri_keep.specs.declared.errors.KeepError.{KeepError}
 use Rattle.siri_keep.specs.declared.kept.Kept.{Kept}
-use Rattle.siri_keep.specs.Calls.{Holds}
+use Rattle.siri_keep.specs.declared.opening.WhatIsRead.{WhatIsRead}
+use Rattle.siri_keep.specs.declared.reopening.Opened.{Opened}
+use Rattle.siri_keep.specs.Calls.{Holds, IsEarlier}
+use Rattle.siri_keep.specs.Walking.{IsRead}
 
 -- puts were written, all of them or none
 pub record WritesAll {T : Type 0} (puts : List Put) (old new : ShelfState) (result : Result T KeepError) : Type 0 where
@@ -41,3 +45,40 @@ pub record PutsKeys (old new : Kept) (before after : List Put) (keys : List Key)
   pub producer : SameButReads old.producer new.producer
   pub places : new.places ≡ old.places
   pub is_closed : new.is_closed ≡ old.is_closed
+
+-- ---- opening
+
+-- whatever history a producer stood for before, it stands for that history and these steps after it
+abbrev pub GoesOnBy : Known → Known → History → Type 0
+GoesOnBy old new steps = (h : History) → StandsFor old h → StandsFor new (h ++ steps)
+
+-- a producer begins over rows of these items and these places: the row of its moment is put, and all rows of its subscriptions
+pub record Begins (producer : Known) (mirror : Items) (places : List (List ℕ)) (opened : Opened) : Type 0 where
+  pub puts : opened.puts
+      ≡ moment_put producer.responder.moment producer.responder.start producer.responder.name
+      ∷ subscription_puts places (map held_of producer.table)
+  pub read : ReadsMoment producer.responder.moment producer.responder.start producer.responder.name
+  pub few : length producer.table ≤ most_subscriptions
+  pub producer_is : opened.kept.producer ≡ producer
+  pub mirror_is : opened.kept.mirror ≡ mirror
+  pub places_are : opened.kept.places ≡ places_to (length producer.table)
+  pub is_open : opened.kept.is_closed ≡ false
+
+-- with its puts made, rows keep a history of a producer of this name, which stands for it
+pub record Opens (name : List ℕ) (h : History) (rows : Rows) (opened : Opened) : Type 0 where
+  pub name_is : opened.kept.producer.responder.name ≡ name
+  pub holds : Holds opened.kept (with_puts rows opened.puts) h
+  pub is_open : opened.kept.is_closed ≡ false
+
+-- the same of the history that rows make, whatever rows these are that were read
+abbrev pub OpensRead : (name : List ℕ) → (start now : ℕ) → WhatIsRead → Opened → Type 0
+OpensRead name start now read opened =
+    (rows : Rows) (what : WhatIsKept) → said rows ≡ Ok (SaysKept what) → IsRead rows what read
+    → Opens name (reopened start now (SaysKept what)) rows opened
+
+-- what rows say is of this name and of an earlier start, and with the puts made they keep the history that they make
+pub record PlansOpening (name : List ℕ) (start now : ℕ) (rows : Rows) (opened : Opened) : Type 0 where
+  pub what : Said
+  pub says : said rows ≡ Ok what
+  pub earlier : IsEarlier name start what
+  pub opens : Opens name (reopened start now what) rows opened

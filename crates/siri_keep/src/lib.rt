@@ -1,15 +1,23 @@
 //! A producer that keeps what it was fed and whom it serves on a shelf, so that both outlast a run.
 //!
 //! ```text
+//!     rows           -> open  --> a producer of what they say, and one write
+//!
 //!     a later moment -> clock ---+
 //!     a message      -> take  ---+--> one write of the rows that change ---> and then the answer
 //!     dead items     -> clean ---+
 //! ```
 //!
 //! What a shelf keeps is written before it is answered, in one write: so a stop at any moment leaves rows that keep the
-//! history of all that was answered, or that and the step that was stopped.
+//! history of all that was answered, or that and the step that was stopped. Who is opened over such rows stands for a
+//! history of its own: its start, the kept moment, a feed of the items that weren't dead then, the requests of the
+//! subscriptions. It goes on as the other would.
 //!
-//! Stands on `siri_producer`, on `siri_row_texts` for the texts of rows, and on `siri_shelf`. It knows no wire.
+//! Rows are read through `Shelf::next` alone, table by table. No row is guessed at: one that this crate wouldn't have
+//! written, byte by byte, is told as bad.
+//!
+//! Stands on `siri_producer`, on `siri_row_texts` for the texts of rows, and on `siri_shelf`. It knows no wire, and
+//! opens no file.
 #![tactic(auto)]
 
 mod by_service;
@@ -19,6 +27,7 @@ mod kept_requests;
 mod keys;
 mod opening;
 mod plans;
+mod reopening;
 mod rows;
 mod rows_read;
 mod writing;

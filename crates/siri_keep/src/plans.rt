@@ -121,7 +121,7 @@ fn text_of(alloc: Global, item: &Option<Rc<Item>>) -> Result<Option<List<u8>>, O
 
 impl Kept {
     /// Puts the row of the producer's moment.
-    fn put_moment(&self, puts: &mut List<Put>) -> Result<(), OutOfMemory>
+    pub(crate) fn put_moment(&self, puts: &mut List<Put>) -> Result<(), OutOfMemory>
         ensures puts { OnOk result (puts.new ≡ puts.old ++ moment_put self.now.producer.responder.moment self.now.producer.responder.start self.now.producer.responder.name ∷ []) }
         ensures read { OnOk result (ReadsMoment self.now.producer.responder.moment self.now.producer.responder.start self.now.producer.responder.name) }
     {
@@ -140,7 +140,7 @@ impl Kept {
     }
 
     /// Puts all rows of subscriptions: those that are there are removed, and the producer's have theirs from place 1 on.
-    fn put_subscriptions(&mut self, puts: &mut List<Put>) -> Result<(), OutOfMemory>
+    pub(crate) fn put_subscriptions(&mut self, puts: &mut List<Put>) -> Result<(), OutOfMemory>
         ensures puts { OnOk result (puts.new ≡ puts.old ++ subscription_puts self.old.places (map held_of self.old.producer.table)) }
         ensures kept { OnOk result (self.new ≡ record self.old { places = places_to (length self.old.producer.table) }) }
         ensures few { OnOk result (length self.old.producer.table ≤ most_subscriptions) }
