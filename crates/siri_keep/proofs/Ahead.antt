@@ -16,6 +16,7 @@ use Rattle.siri_shelf.specs.declared.rows.StoredRow.{StoredRow}
 use Rattle.siri_shelf.specs.Rows.{InOrder, RowPlace, Rows, is_above, is_next, next_row, place_cmp, place_of, row_of}
 use Rattle.siri_shelf.proofs.Order.{AreBefore, AreBehind}
 use Rattle.siri_keep.specs.RowByRow.{IsComing, IsPassed}
+use Rattle.siri_keep.proofs.Alls.{all_weaker}
 
 -- ---- places in order
 
@@ -70,10 +71,6 @@ pub all_rows : (Q : RowPlace → Type 0) (P : StoredRow → Type 0) → ((row : 
     → All Q (map place_of rows) → All P rows
 all_rows Q P f [] a = tt
 all_rows Q P f (row ∷ rows) a = (f row a.0, all_rows Q P f rows a.1)
-
-pub all_each : {X : Type 0} (P Q : X → Type 0) → ((x : X) → P x → Q x) → (xs : List X) → All P xs → All Q xs
-all_each P Q f [] a = tt
-all_each P Q f (x ∷ xs) a = (f x a.0, all_each P Q f xs a.1)
 
 pub all_always : {X : Type 0} (P : X → Type 0) → ((x : X) → P x) → (xs : List X) → All P xs
 all_always P f [] = tt
@@ -160,7 +157,7 @@ ahead_by table after y ys (inr later) behind =
           (λ x less. omega (arith, later, table_le (place_of y) (place_of x) less)) ys behind,
     ) in
     let none = find_none (is_next table after) (y ∷ ys)
-    (all_each (λ (x : StoredRow). table < x.table) (λ x. is_next table after x ≡ false) (not_next table after) (y ∷ ys) all) in
+    (all_weaker (λ (x : StoredRow). table < x.table) (λ x. is_next table after x ≡ false) (not_next table after) (y ∷ ys) all) in
     subst (λ (o : Option StoredRow). IsAhead table (y ∷ ys) (option_map row_of o)) (sym none) all
 
 pub find_ahead : (table : ℕ) (after : Option (List ℕ)) (rest : Rows) → All (IsComing table after) rest → InOrder rest
@@ -174,7 +171,7 @@ pub next_ahead : (table : ℕ) (after : Option (List ℕ)) (rows prior rest : Ro
     → All (IsPassed table after) prior → next_row table after rows ≡ option_map row_of (find (is_next table after) rest)
 next_ahead table after rows prior rest split passed =
     let none = find_none (is_next table after) prior
-    (all_each (IsPassed table after) (λ x. is_next table after x ≡ false) (λ x p. p.1) prior passed) in
+    (all_weaker (IsPassed table after) (λ x. is_next table after x ≡ false) (λ x p. p.1) prior passed) in
     ap (λ (all : Rows). option_map row_of (find (is_next table after) all)) split
     ∙ ap (option_map row_of) (find-append (is_next table after) prior rest
     ∙ ap (λ (o : Option StoredRow). option_or o (find (is_next table after) rest)) none)

@@ -24,7 +24,8 @@ use Rattle.siri_keep.specs.declared.opening.KeptRequest.{KeptRequest}
 use Rattle.siri_keep.specs.declared.rows_read.RowsRead.{RowsRead}
 use Rattle.siri_keep.specs.Walking.{IsRead}
 use Rattle.siri_keep.specs.RowByRow.{HasRead, IsComing, IsPassed, Reached, SeesMore, Taken, TellsLive, first_began, live_delivery, request_under_key, taken, under_key, whole_of}
-use Rattle.siri_keep.proofs.Ahead.{IsAhead, IsFirst, all_always, all_each, all_rows, coming_after, coming_next, find_ahead, find_here, find_none, less_parts, next_ahead, order_behind, passed_next, passed_with, those_behind}
+use Rattle.siri_keep.proofs.Ahead.{IsAhead, IsFirst, all_always, all_rows, coming_after, coming_next, find_ahead, find_here, find_none, less_parts, next_ahead, order_behind, passed_next, passed_with, those_behind}
+use Rattle.siri_keep.proofs.Alls.{all_weaker}
 use Rattle.siri_keep.proofs.BadRows.{kind}
 use Rattle.siri_keep.proofs.TakenRows.{StepsTo, steps_to}
 
@@ -127,8 +128,8 @@ module _ (table : ℕ) (after : Option (List ℕ)) (rows : Rows) (read : RowsRea
         ordered = r.ordered;
         bytes = r.bytes;
         begun = r.begun;
-        passed = all_each (IsPassed table after) (IsPassed (table + 1) None) (passed_next table after) r.prior r.passed;
-        coming = all_each (λ (x : StoredRow). table < x.table) (IsComing (table + 1) None) (coming_next table) r.rest all;
+        passed = all_weaker (IsPassed table after) (IsPassed (table + 1) None) (passed_next table after) r.prior r.passed;
+        coming = all_weaker (λ (x : StoredRow). table < x.table) (IsComing (table + 1) None) (coming_next table) r.rest all;
         done = r.done;
       }
 
@@ -161,7 +162,7 @@ none_at_first rows all = ap (option_map (λ row. row.text)) (find_none at_first 
 
 no_table : (rows : Rows) → IsAhead 0 rows None → text_at rows 0 [] ≡ None
 no_table rows all =
-    none_at_first rows (all_each (λ (x : StoredRow). 0 < x.table) (λ row. at_first row ≡ false)
+    none_at_first rows (all_weaker (λ (x : StoredRow). 0 < x.table) (λ row. at_first row ≡ false)
     (λ row later. not_at_first row (λ h. let e : row.table ≡ 0 = ap (λ (p : RowPlace). p.0) h in absurd (omega (arith, later, e)))) rows all)
 
 pub first_missing : (rows : Rows) → InOrder rows → None ≡ next_row 0 None rows → (rows ≡ [] → ⊥) → said rows ≡ Err (0, [])
