@@ -1,4 +1,4 @@
--- Inner words: cited by private functions alone. An answer that is written from what a producer lends.
+-- An answer that is written from what a producer lends.
 use Rattle.std.specs.Prelude.{◌≡◌, ⊤, ℕ, Bool, true, false, List, Option, Some}
 use Rattle.siri_http.specs.declared.asked.Asked.{Asked}
 use Rattle.siri_messages.specs.declared.deliveries.ServiceDelivery.{ServiceDelivery}

@@ -1,7 +1,7 @@
 -- In order of reading: what a connection is answered; an end at a moment of its run; how an end takes part in the exchange;
 -- a connection that is answered; messages that are sent one after the other; a turn, and the calls of it; a producer and
--- a consumer as ends; what a part of a turn does. The last four have inner words: where the text of a body goes, and
--- answers that are written from what is lent.
+-- a consumer as ends; what a part of a turn does; answers that are written from what is lent. Between them are inner words:
+-- where the text of a body goes.
 pub mod Responses
 pub mod At
 pub mod Manners

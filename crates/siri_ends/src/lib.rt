@@ -42,8 +42,8 @@ mod turning;
 
 pub use answering::{Brought, brought_by, finish};
 pub use consuming::{consume_one, send_up, split_replies};
-pub use reply::Reply;
-pub use response::{Response, replying};
+pub use reply::{Reply, reply_to};
+pub use response::{Response, refusing, replying};
 pub use sending::send_all;
 pub use serving::serve_one;
 pub use siri_http::{PostAlone, Tally};

@@ -124,7 +124,11 @@ fn is_direct(message: &Message) -> bool
 
 /// What a message is to be answered. It is taken, but for a request for items whose answer is lent.
 #[tactic(auto, using(crate::proofs::Lends::directs, crate::proofs::Lends::asks_directly))]
-fn reply_to(alloc: Global, producer: &mut Producer, message: Message) -> Result<Reply, OutOfMemory>
+pub fn reply_to(
+    alloc: Global,
+    producer: &mut Producer,
+    message: Message,
+) -> Result<Reply, OutOfMemory>
     ensures prepares { IfOk result (λ reply. Prepares producer.old producer.new (Some message) (message_response message) reply) }
     ensures written { IfOk result CanBeWritten }
     ensures name { producer.new.responder.name ≡ producer.old.responder.name }

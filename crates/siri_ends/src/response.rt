@@ -22,8 +22,8 @@ pub struct Response {
     pub body: List<u8>,
 }
 
-/// A refusal, told as a line of plain text.
-fn refusing(status: u16, mut reason: Vec<u8>) -> Result<Response, OutOfMemory>
+/// A refusal, told as a line of plain text: a reason, and a line feed.
+pub fn refusing(status: u16, mut reason: Vec<u8>) -> Result<Response, OutOfMemory>
     requires { is_written status ≡ true }
     ensures response { IfOk result (λ response. response ≡ refusing status reason.items) }
     ensures written { IfOk result (λ response. is_written response.status ≡ true) }
