@@ -1,0 +1,3 @@
+-- In order of reading: connections in the places of others; runs over them.
+pub mod Places
+pub mod Served
