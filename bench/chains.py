@@ -45,17 +45,18 @@ def changes(program):
 
 
 def first_rounds(program):
-    """Seconds in which all visits come to a display, by relays, and the ratio to none."""
-    row = "%-10s %8s %8s %14s %7s"
-    print(row % ("all visits", "visits", "relays", "s", "ratio"))
+    """Seconds in which all visits come to a display that is new, over relays that are new, by relays, and the ratio to none: without the
+    feed of the source, and with it."""
+    row = "%-10s %8s %8s %14s %7s %14s %7s"
+    print(row % ("all visits", "visits", "relays", "s", "ratio", "s with the feed", "ratio"))
     fed, held = seconds(program, "fed", VISITS)
     if held != VISITS:
         sys.exit("chains: the source holds %d visits" % held)
     alone = None
     for relays in (0, 1, 3):
         shown, _ = seconds(program, "shown", relays, VISITS, 0)
-        alone = alone or shown - fed
-        print(row % ("", VISITS, relays, "%.3f" % (shown - fed), "%.2f" % ((shown - fed) / alone)))
+        alone = alone or shown
+        print(row % ("", VISITS, relays, "%.3f" % (shown - fed), "%.2f" % ((shown - fed) / (alone - fed)), "%.3f" % shown, "%.2f" % (shown / alone)))
 
 
 def main(program, first="1", count="2000"):
