@@ -5,6 +5,7 @@ use Rattle.std.specs.List.{AllByRecursion}
 use Rattle.std.proofs.Math.Seq.{take-length}
 use Rattle.siri_base.specs.OutsideCalls.{WhereTold}
 use Rattle.siri_model.specs.History.{History}
+use Rattle.siri_producer.specs.Known.{StandsFor}
 use Rattle.siri_shelf.specs.declared.rows.Put.{Put}
 use Rattle.siri_shelf.specs.Rows.{Rows, with_puts}
 use Rattle.siri_shelf.specs.Shelves.{ShelfState}
@@ -12,7 +13,7 @@ use Rattle.siri_keeping.specs.Keeping.{AddsOnly}
 use Rattle.siri_keeping.specs.Keeps.{Keeps}
 use Rattle.siri_keep.specs.declared.errors.KeepError.{KeepError}
 use Rattle.siri_keep.specs.declared.kept.Kept.{Kept}
-use Rattle.siri_keep.specs.Calls.{AddsFronts, GoesOnAs, GoesOnKept, Holds, KeepsFront}
+use Rattle.siri_keep.specs.Calls.{AddsFronts, GoesOnAs, GoesOnKept, Holds, KeepsFront, StandsOn}
 use Rattle.siri_keep.specs.Planning.{Plans, WritesAll}
 use Rattle.siri_keep.proofs.Left.{keeps_of}
 use Rattle.siri_keep.proofs.Told.{told_same, told_weaker}
@@ -55,6 +56,12 @@ module _ (old mid new : Kept) (steps : History) (puts : List Put) (plans : Plans
   holds_new : (rows : Rows) (h : History) → Holds mid rows h → Holds new rows h
   holds_new rows h m =
       subst (λ (k : Kept). Holds k rows h) (sym rest) (record { left = m.left; stands = m.stands; proper = m.proper })
+
+  pub stands_on : StandsOn old.producer new.producer steps
+  stands_on = λ h s. subst (λ (k : Kept). StandsFor k.producer (h ++ steps)) (sym rest) (plans.stands h s)
+
+  pub name_stays : new.producer.responder.name ≡ old.producer.responder.name
+  name_stays = ap (λ (k : Kept). k.producer.responder.name) rest ∙ plans.name
 
   keeps_after : (rows : Rows) (h : History) → Holds old rows h → Keeps name (with_puts rows puts) (h ++ steps)
   keeps_after rows h holds =

@@ -26,3 +26,6 @@ pub mod SaidRequests
 pub mod Opened
 pub mod Reopened
 pub mod OpenCalls
+pub mod SameKept
+pub mod KeptTurns
+pub mod Answered

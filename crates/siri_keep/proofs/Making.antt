@@ -147,6 +147,7 @@ pub nothing_plans : (old new : Kept) (m : Message) → new ≡ record old { prod
     → IsProper m → entries_fed m ≡ [] → changes_rows m ≡ false → Plans old new (Take m ∷ []) []
 nothing_plans old new m rest name goes proper none same = record {
   name = name;
+  stands = goes.stands;
   holds = λ rows h holds.
       let t = goes.stands h holds.stands in
       let state = taken_nothing (state_of h) m none in
@@ -173,6 +174,7 @@ pub subscriptions_plans : (old mid new : Kept) (m : Message) → mid ≡ record 
     → Plans old new (Take m ∷ []) (subscription_puts mid.places (helds mid.producer))
 subscriptions_plans old mid new m one two name goes few proper short none = record {
   name = ap (λ (k : Kept). k.producer.responder.name) two ∙ name;
+  stands = λ h s. subst (λ (k : Kept). StandsFor k.producer (h ++ Take m ∷ [])) (sym two) (goes.stands h s);
   holds = λ rows h holds.
       let t = goes.stands h holds.stands in
       let state = taken_nothing (state_of h) m none in
@@ -239,6 +241,7 @@ module _ (old mid : Kept) (now : ℕ) (one : mid ≡ record old { producer = mid
   pub clock_plans : Began → length old.producer.table ≤ length mid.producer.table → Plans old mid (Clock now ∷ []) (first ∷ [])
   clock_plans began more = record {
     name = name;
+    stands = goes.stands;
     holds = λ rows h holds.
         let t = goes.stands h holds.stands in
         record {
@@ -254,6 +257,7 @@ module _ (old mid : Kept) (now : ℕ) (one : mid ≡ record old { producer = mid
       → Plans old new (Clock now ∷ []) (first ∷ subscription_puts mid.places (helds mid.producer))
   clock_plans_all began new two few = record {
     name = ap (λ (k : Kept). k.producer.responder.name) two ∙ name;
+    stands = λ h s. subst (λ (k : Kept). StandsFor k.producer (h ++ Clock now ∷ [])) (sym two) (goes.stands h s);
     holds = λ rows h holds.
         let t = goes.stands h holds.stands in
         let all = all_stay old.producer mid.producer h now holds.stands t Reads (subscriptions_there old rows holds.left) in
@@ -273,6 +277,7 @@ pub clean_plans : (old new : Kept) → SameButReads old.producer new.producer
     → Plans old new [] (puts_to old.producer.responder.held (keys_of (dead_of old.producer.responder.moment old.mirror)))
 clean_plans old new reads mirror places = record {
   name = ap (λ (k : Known). k.responder.name) reads;
+  stands = λ h s. rw (append-nil h) (stands_read old.producer new.producer h reads s);
   holds = λ rows h holds.
       let known = old.producer.responder in
       let dead = keys_of (dead_of known.moment old.mirror) in
@@ -421,6 +426,7 @@ module _ (old : Kept) (mid : Known) (d : ServiceDelivery) (more : List Key) wher
       → Plans old new (Take (message.ServiceDelivery d) ∷ []) (puts_to live (named ++ more))
   feed_plans new none proper short name goes reads mirror places few are = record {
     name = ap (λ (k : Known). k.responder.name) reads ∙ name;
+    stands = λ h s. stands_read mid new.producer (h ++ Take (message.ServiceDelivery d) ∷ []) reads (goes.stands h s);
     holds = λ rows h holds.
         let m = message.ServiceDelivery d in
         let s = holds.stands in

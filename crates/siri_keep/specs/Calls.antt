@@ -4,7 +4,7 @@ use Rattle.std.specs.List.{AllByRecursion}
 use Rattle.siri_base.specs.Causes.{Rose}
 use Rattle.siri_model.specs.Held.{held_of}
 use Rattle.siri_model.specs.History.{History}
-use Rattle.siri_producer.specs.Known.{StandsFor}
+use Rattle.siri_producer.specs.Known.{Known, StandsFor}
 use Rattle.siri_shelf.specs.Rows.{Rows}
 use Rattle.siri_shelf.specs.Shelves.{ShelfState}
 use Rattle.siri_keeping.specs.Keeping.{AddsOnly}
@@ -13,6 +13,10 @@ use Rattle.siri_keeping.specs.Opening.{Kept as SaysKept, Nothing, Said, WhatIsKe
 use Rattle.siri_keep.specs.declared.errors.KeepError.{KeepError}
 use Rattle.siri_keep.specs.declared.errors.KeepError.TheVariants as errors
 use Rattle.siri_keep.specs.declared.kept.Kept.{Kept}
+
+-- whatever history a producer stood for, it stands for that one and these steps after it
+abbrev pub StandsOn : Known → Known → History → Type 0
+StandsOn old new steps = (h : History) → StandsFor old h → StandsFor new (h ++ steps)
 
 -- a shelf is as the calls of a producer left it
 abbrev pub Left : Kept → Rows → Type 0

@@ -1,7 +1,9 @@
--- In order of reading: what calls write; what they do; what is read at opening.
+-- In order of reading: what calls write; what they do; what is read at opening; one turn. Then inner words, cited by private
+-- functions alone.
 pub mod Puts
 pub mod Calls
 pub mod Walking
--- Inner words: cited by private functions alone.
+pub mod Serving
 pub mod Planning
 pub mod RowByRow
+pub mod KeptTurns

@@ -19,7 +19,7 @@ use Rattle.siri_keep.specs.declared.errors.KeepError.{KeepError}
 use Rattle.siri_keep.specs.declared.kept.Kept.{Kept}
 use Rattle.siri_keep.specs.declared.opening.WhatIsRead.{WhatIsRead}
 use Rattle.siri_keep.specs.declared.reopening.Opened.{Opened}
-use Rattle.siri_keep.specs.Calls.{Holds, IsEarlier}
+use Rattle.siri_keep.specs.Calls.{Holds, IsEarlier, StandsOn}
 use Rattle.siri_keep.specs.Walking.{IsRead}
 
 -- puts were written, all of them or none
@@ -36,6 +36,7 @@ ReadsMoment moment start name =
 -- puts make the rows that a producer left into those that it leaves after these steps
 pub record Plans (old new : Kept) (steps : History) (puts : List Put) : Type 0 where
   pub name : new.producer.responder.name ≡ old.producer.responder.name
+  pub stands : StandsOn old.producer new.producer steps
   pub holds : (rows : Rows) (h : History) → Holds old rows h → Holds new (with_puts rows puts) (h ++ steps)
 
 -- for each of these keys, its row was put, and what is kept of it is its live item, or nothing

@@ -7,7 +7,7 @@ ghost use Rattle.siri_producer.specs.Known.{AnswerFor, SameButReads, SendsFor};
 ghost use Rattle.siri_shelf.specs.Rows.{Rows};
 ghost use Rattle.siri_wire_laws.specs.ProperMessages.{IsProper};
 ghost use Rattle.siri_keep.specs.declared.errors.KeepError.TheVariants as error;
-ghost use Rattle.siri_keep.specs.Calls.{AddsFronts, ClosesBy, GoesOnKept, HasKeepCause};
+ghost use Rattle.siri_keep.specs.Calls.{AddsFronts, ClosesBy, GoesOnKept, HasKeepCause, StandsOn};
 ghost use Rattle.siri_keep.specs.Planning.{WritesAll};
 ghost use Rattle.siri_keep.specs.Puts.{has_long_row};
 
@@ -76,6 +76,8 @@ impl Kept {
         requires { B.is_open shelf.old }
         ensures open { B.is_open shelf.new }
         ensures ok { OnOk result (WhereTold (B.tells shelf.old) (B.tells shelf.new) (λ old new. GoesOnKept self.old self.new (Clock now ∷ []) old.rows new.rows)) }
+        ensures stands { OnOk result (StandsOn self.old.producer self.new.producer (Clock now ∷ [])) }
+        ensures name { OnOk result (self.new.producer.responder.name ≡ self.old.producer.responder.name) }
         ensures trail { WhereTold (B.tells shelf.old) (B.tells shelf.new) (AddsFronts self.old (Clock now ∷ [])) }
         ensures closes { ClosesBy self.old.is_closed self.new.is_closed result }
         ensures cause { HasKeepCause (B.faults shelf.old) (B.faults shelf.new) result }
@@ -101,6 +103,8 @@ impl Kept {
         requires proper { IsProper message.now }
         ensures open { B.is_open shelf.new }
         ensures ok { OnOk result (WhereTold (B.tells shelf.old) (B.tells shelf.new) (λ old new. GoesOnKept self.old self.new (Take message.now ∷ []) old.rows new.rows)) }
+        ensures stands { OnOk result (StandsOn self.old.producer self.new.producer (Take message.now ∷ [])) }
+        ensures name { OnOk result (self.new.producer.responder.name ≡ self.old.producer.responder.name) }
         ensures answer { IfOk result (AnswerFor self.old.producer message.now) }
         ensures trail { WhereTold (B.tells shelf.old) (B.tells shelf.new) (AddsFronts self.old (Take message.now ∷ [])) }
         ensures too_long { IsErrOf result error.RowTooLong → has_long_row message.now ≡ true }
@@ -123,7 +127,7 @@ impl Kept {
     }
 
     /// A message whose rows can be written.
-    fn take_short<B: Shelf>(
+    pub(crate) fn take_short<B: Shelf>(
         &mut self,
         shelf: &mut B,
         message: &Message,
@@ -134,6 +138,8 @@ impl Kept {
         requires short { has_long_row message.now ≡ false }
         ensures open { B.is_open shelf.new }
         ensures ok { OnOk result (WhereTold (B.tells shelf.old) (B.tells shelf.new) (λ old new. GoesOnKept self.old self.new (Take message.now ∷ []) old.rows new.rows)) }
+        ensures stands { OnOk result (StandsOn self.old.producer self.new.producer (Take message.now ∷ [])) }
+        ensures name { OnOk result (self.new.producer.responder.name ≡ self.old.producer.responder.name) }
         ensures answer { IfOk result (AnswerFor self.old.producer message.now) }
         ensures trail { WhereTold (B.tells shelf.old) (B.tells shelf.new) (AddsFronts self.old (Take message.now ∷ [])) }
         ensures too_long { ¬ IsErrOf result error.RowTooLong }
@@ -157,6 +163,8 @@ impl Kept {
         requires { B.is_open shelf.old }
         ensures open { B.is_open shelf.new }
         ensures ok { OnOk result (WhereTold (B.tells shelf.old) (B.tells shelf.new) (λ old new. GoesOnKept self.old self.new [] old.rows new.rows)) }
+        ensures stands { OnOk result (StandsOn self.old.producer self.new.producer []) }
+        ensures name { OnOk result (self.new.producer.responder.name ≡ self.old.producer.responder.name) }
         ensures trail { WhereTold (B.tells shelf.old) (B.tells shelf.new) (AddsFronts self.old []) }
         ensures closes { ClosesBy self.old.is_closed self.new.is_closed result }
         ensures cause { HasKeepCause (B.faults shelf.old) (B.faults shelf.new) result }

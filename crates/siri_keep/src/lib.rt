@@ -6,6 +6,8 @@
 //!     a later moment -> clock ---+
 //!     a message      -> take  ---+--> one write of the rows that change ---> and then the answer
 //!     dead items     -> clean ---+
+//!
+//!     a connection   -> serve_one: take, settle, and then the answer and what is to be sent
 //! ```
 //!
 //! What a shelf keeps is written before it is answered, in one write: so a stop at any moment leaves rows that keep the
@@ -16,8 +18,8 @@
 //! Rows are read through `Shelf::next` alone, table by table. No row is guessed at: one that this crate wouldn't have
 //! written, byte by byte, is told as bad.
 //!
-//! Stands on `siri_producer`, on `siri_row_texts` for the texts of rows, and on `siri_shelf`. It knows no wire, and
-//! opens no file.
+//! Stands on `siri_producer`, on `siri_row_texts` for the texts of rows, on `siri_shelf`, and on `siri_http` and `siri_ends`
+//! for a connection and for what is sent. It accepts no connection, and opens no file.
 #![tactic(auto)]
 
 mod by_service;
@@ -30,6 +32,7 @@ mod plans;
 mod reopening;
 mod rows;
 mod rows_read;
+mod serving;
 mod writing;
 
 pub use errors::KeepError;

@@ -6,7 +6,7 @@ ghost use Rattle.siri_messages.specs.Asked.{asked_with};
 ghost use Rattle.siri_messages.specs.declared.message.Message.TheVariants as message;
 ghost use Rattle.siri_row_texts.specs.ItemRows.{item_text};
 ghost use Rattle.siri_row_texts.specs.SubscriptionRows.{request_text};
-ghost use Rattle.siri_keep.specs.Puts.{has_long_row, is_long};
+ghost use Rattle.siri_keep.specs.Puts.{changes_rows, has_long_row, is_long};
 
 use siri_base::{List, OutOfMemory, Span};
 use siri_messages::{FunctionalDelivery, Message, ServiceDelivery, SubscriptionRequest};
@@ -14,6 +14,18 @@ use siri_records::Item;
 use siri_row_texts::{item_text, request_text};
 use siri_topic::Subscription;
 use std::alloc::Global;
+
+/// Whether a message changes rows: a feed, and what is asked about subscriptions but for a part.
+pub(crate) fn changes_rows(message: &Message) -> bool
+    ensures { result ≡ changes_rows message.now }
+{
+    match message {
+        Message::ServiceDelivery(delivery) => !delivery.has_round(),
+        Message::SubscriptionRequest(_) | Message::TerminateSubscriptionRequest(_) => true,
+        Message::DataSupplyRequest(request) => request.all_data,
+        _ => false,
+    }
+}
 
 /// The most bytes that the text of a row may have, as any document.
 const LONGEST_ROW: usize = 8_388_608;

@@ -1,6 +1,6 @@
 use Rattle.std.proofs.Common.{[], ◌∷◌, Ok}
 use Rattle.siri_model.specs.History.{Take}
-use Rattle.siri_keep.proofs.Fronts.{told_fronts, told_goes}
+use Rattle.siri_keep.proofs.Fronts.{name_stays, stands_on, told_fronts, told_goes}
 use Rattle.siri_keep.proofs.kept.Kept.take_short.Goals as goal
 
 pub returns-in-Ok-write-clause-ok : goal.returns-in-Ok-write-clause-ok
@@ -14,3 +14,11 @@ returns-in-Ok-write-clause-trail g c = told_fronts c.args.self.now c.plan_take.n
 pub returns-in-Err-write-clause-trail : goal.returns-in-Err-write-clause-trail
 returns-in-Err-write-clause-trail g c = told_fronts c.args.self.now c.plan_take.new.self c.write.new.self (Take c.args.message.now ∷ [])
     c.in-Ok.planned.puts c.in-Ok.ensures.ok c.write.ensures.rest c.write.result _ _ c.write.ensures.told
+
+pub returns-in-Ok-write-clause-stands : goal.returns-in-Ok-write-clause-stands
+returns-in-Ok-write-clause-stands g c = stands_on c.args.self.now c.plan_take.new.self c.write.new.self (Take c.args.message.now ∷ [])
+    c.in-Ok.planned.puts c.in-Ok.ensures.ok c.write.ensures.rest
+
+pub returns-in-Ok-write-clause-name : goal.returns-in-Ok-write-clause-name
+returns-in-Ok-write-clause-name g c = name_stays c.args.self.now c.plan_take.new.self c.write.new.self (Take c.args.message.now ∷ [])
+    c.in-Ok.planned.puts c.in-Ok.ensures.ok c.write.ensures.rest
