@@ -1,0 +1,4 @@
+pub mod Over
+pub mod Opened
+pub mod Causes
+pub mod Whole

@@ -1,0 +1,92 @@
+-- How a run of `keep` opens: the number of its start is raised, it listens, the clock tells its first moment, and then the rows of its
+-- file are read, which say what it begins with.
+use Rattle.std.specs.Prelude.{◌≡◌, ◌≢◌, ◌⊎◌, ⊤, ◌≤◌, ℕ, List, Option, None, Some, is_some, Ok, Err}
+use Rattle.siri_base.specs.OutsideCalls.{WhereTold}
+use Rattle.siri_base.specs.declared.reason.ShelfReason.{ShelfReason}
+use Rattle.siri_base.specs.declared.reason.ShelfReason.TheVariants as reason
+use Rattle.siri_base.specs.declared.status.Status.{Status}
+use Rattle.siri_base.specs.declared.status.Status.TheVariants as status
+use Rattle.siri_http.specs.Tallies.{nothing_yet}
+use Rattle.siri_model.specs.History.{History}
+use Rattle.siri_shelf.specs.Rows.{Rows}
+use Rattle.siri_shelf.specs.Shelves.{ShelfState}
+use Rattle.siri_keeping.specs.Opening.{Kept as SaysKept, Said, WhatIsKept, reopened, said}
+use Rattle.siri_keep.specs.Calls.{Holds, IsBegun}
+use Rattle.siri_keep.specs.declared.errors.KeepError.{KeepError}
+use Rattle.siri_keep.specs.declared.errors.KeepError.TheVariants as keep
+use Rattle.siri_keep.specs.declared.kept.Kept.{Kept}
+use Rattle.siri_runs.specs.Calls.{Outside}
+use Rattle.siri_runs.specs.Errors.{status_of}
+use Rattle.siri_runs.specs.Turns.{Running}
+use Rattle.siri_runs.specs.declared.network_error.NetworkError.{NetworkError}
+use Rattle.siri_runs.specs.producers.Opening as serving
+use Rattle.siri_runs.specs.producers.Opening.{Opens}
+use Rattle.siri_keep_run.specs.Serving.{Keeping}
+
+-- ---- what the rows say
+
+-- a producer begins so at this start and moment, by the rows that the shelf had, where it tells them
+abbrev pub BeginsWith : (start moment : ℕ) → Option ShelfState → History → Type 0
+BeginsWith start moment None h = ⊤
+BeginsWith start moment (Some shelf) h = (what : Said) × (said shelf.rows ≡ Ok what) × (h ≡ reopened start moment what)
+
+-- the run after it: nothing was counted yet
+abbrev pub begun : History → Option ShelfState → Outside → Running Keeping
+begun h shelf outside = record { state = record { history = h; tally = nothing_yet; is_told = is_some shelf }; outside = outside }
+
+-- why rows are refused: one of a table is the first that is bad, they are of another name, or of a start that isn't earlier
+abbrev pub Refused : (name : List ℕ) → (start : ℕ) → ShelfReason → Rows → Type 0
+Refused name start (reason.Row table) rows = (key : List ℕ) × (said rows ≡ Err (table, key))
+Refused name start reason.Name rows = (k : WhatIsKept) × (said rows ≡ Ok (SaysKept k)) × (k.began.name ≢ name)
+Refused name start (reason.Start kept) rows =
+    (k : WhatIsKept) × (said rows ≡ Ok (SaysKept k)) × (k.began.name ≡ name) × (kept ≡ k.began.start) × (start ≤ kept)
+
+abbrev pub RefusedBy : (name : List ℕ) → (start : ℕ) → ShelfReason → Option ShelfState → Type 0
+RefusedBy name start why None = ⊤
+RefusedBy name start why (Some shelf) = Refused name start why shelf.rows
+
+-- the statuses that a shelf ends the opening with
+abbrev pub EndsOpening : (name : List ℕ) → (start : ℕ) → Status → Option ShelfState → Type 0
+EndsOpening name start status.ShelfFault shelf = ⊤
+EndsOpening name start status.OutOfMemory shelf = ⊤
+EndsOpening name start (status.BadShelf why) shelf = RefusedBy name start why shelf
+EndsOpening name start other shelf = ⊥
+
+-- ---- how it ends there
+
+-- the keeper, the wire or the clock failed
+pub record FailsBefore (listen : List ℕ) (end : Status) (from to : Outside) : Type 0 where
+  pub error : NetworkError
+  pub end_is : end ≡ status_of error
+  pub fails : serving.FailsToRaise error from to ⊎ (serving.FailsToListen listen error from to ⊎ serving.FailsToTell listen error from to)
+
+-- it listens and the clock told its moment, and the file wasn't opened, or its rows
+pub record FailsOverShelf (name listen : List ℕ) (end : Status) (shelf : Option ShelfState) (from to : Outside) : Type 0 where
+  pub start : ℕ
+  pub moment : ℕ
+  pub opens : Opens listen start moment from to
+  pub ends : EndsOpening name start end shelf
+
+abbrev pub FailsToOpen : (name listen : List ℕ) → Status → Option ShelfState → Outside → Outside → Type 0
+FailsToOpen name listen end shelf from to = FailsBefore listen end from to ⊎ FailsOverShelf name listen end shelf from to
+
+-- ---- inner words, cited by private functions alone
+
+-- what a call that didn't succeed ends the opening with
+abbrev pub opening_end : KeepError → Status
+opening_end keep.ShelfFault = status.ShelfFault
+opening_end (keep.BadRow table key) = status.BadShelf (reason.Row table)
+opening_end keep.OtherName = status.BadShelf reason.Name
+opening_end (keep.OldStart kept) = status.BadShelf (reason.Start kept)
+opening_end other = status.OutOfMemory
+
+-- a producer that was opened over a shelf stands for what it begins with, and the shelf is as it left it
+pub record IsOpened (name : List ℕ) (start moment : ℕ) (kept : Kept) (before after : Option ShelfState) : Type 0 where
+  pub begun : IsBegun name kept
+  pub over : WhereTold before after (λ s t. (what : Said) × (said s.rows ≡ Ok what) × Holds kept t.rows (reopened start moment what))
+
+pub record OpensKept (name listen : List ℕ) (kept : Kept) (before after : Option ShelfState) (from to : Outside) : Type 0 where
+  pub start : ℕ
+  pub moment : ℕ
+  pub opens : Opens listen start moment from to
+  pub opened : IsOpened name start moment kept before after
