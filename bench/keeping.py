@@ -1,9 +1,9 @@
 #!/usr/bin/env python3
-"""What keeping costs: `keeping.py SIRI [--feeds 500] [--items 20000] [--rows 100000]`.
+"""What keeping costs: `keeping.py SIRI [--feeds 500] [--items 20000] [--subscriptions 200] [--rows 100000]`.
 
 So many feeds of one visit and of 100 go to `siri keep`, and to `siri serve`, which keeps nothing: processor milliseconds a feed. What
 `keep` takes beyond `serve` is held against a program of 40 lines on SQLite's own library (`rows.c`), which writes the same rows in as many
-transactions. Then `keep` is started on a file with so many visits and 200 subscriptions, and on one with so many rows of visits, all but
+transactions. Then `keep` is started on a file with so many visits and subscriptions, and on one with so many rows of visits, all but
 the first of which are over: the seconds until it answers, and its processor seconds. It wants cc and SQLite's headers."""
 import argparse
 import json
@@ -18,8 +18,6 @@ import time
 sys.path.insert(0, os.path.join(os.path.dirname(os.path.abspath(__file__)), "..", ".ci"))
 from behind import later
 from kept import Keeper, feed, post, seal, sqlite, visit
-
-MOST_VISITS, SUBSCRIPTIONS = 20_000, 200
 
 
 def processor(pid):
@@ -111,18 +109,18 @@ def subscribe(keeper, number):
     answered(post(keeper.port, json.dumps({"Siri": {"SubscriptionRequest": request}}).encode()))
 
 
-def measure_opening(siri, folder, items, rows):
+def measure_opening(siri, folder, items, subscriptions, rows):
     keeper = Keeper(siri, os.path.join(folder, "opening"))
     keeper.start()
     moment = later(hours=2)
     for first in range(0, items, 1000):
         answered(post(keeper.port, feed([visit("%06d" % name, "v", moment) for name in range(first, min(first + 1000, items))])))
-    for number in range(SUBSCRIPTIONS):
+    for number in range(subscriptions):
         subscribe(keeper, number)
     keeper.stop()
-    opened(keeper, "%d visits, %d subscriptions" % (items, SUBSCRIPTIONS))
+    opened(keeper, "%d visits, %d subscriptions" % (items, subscriptions))
     fill(keeper.file, rows)
-    opened(keeper, "%d rows of visits, %d subscriptions" % (rows, SUBSCRIPTIONS))
+    opened(keeper, "%d rows of visits, %d subscriptions" % (rows, subscriptions))
 
 
 def fill(file, rows):
@@ -145,7 +143,8 @@ def main():
     words = argparse.ArgumentParser(description=__doc__)
     words.add_argument("siri")
     words.add_argument("--feeds", type=int, default=500)
-    words.add_argument("--items", type=int, default=MOST_VISITS)
+    words.add_argument("--items", type=int, default=20_000)
+    words.add_argument("--subscriptions", type=int, default=200)
     words.add_argument("--rows", type=int, default=100_000)
     given = words.parse_args()
     with tempfile.TemporaryDirectory() as folder:
@@ -153,7 +152,7 @@ def main():
         source = os.path.join(os.path.dirname(os.path.abspath(__file__)), "rows.c")
         subprocess.run(["cc", "-O2", "-o", program, source, "-lsqlite3"], check=True)
         measure_feeds(given.siri, program, folder, given.feeds)
-        measure_opening(given.siri, folder, given.items, given.rows)
+        measure_opening(given.siri, folder, given.items, given.subscriptions, given.rows)
 
 
 if __name__ == "__main__":
