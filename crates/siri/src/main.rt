@@ -1,13 +1,14 @@
 //! The command `siri`: makes the adapters over the system, does what its words say, and tells how it ended.
 //!
-//! Stands on `siri_cli`, whose `run` is the whole of the work, on `siri_system` for the network, the clock and the
-//! start number, and on `siri_base` and `siri_lines` for the line that tells how a run ended. A line of the system's
-//! own words follows where the wire or the keeper failed. Where the variable `SIRI_LOG` of the environment is `1`, each
-//! connection that ends has a line on standard error.
+//! Stands on `siri_cli`, whose `run_all` is the whole of the work, on `siri_system` for the network, the clock and the
+//! start number, on `siri_file_shelf` for the file of `keep`, and on `siri_base` and `siri_lines` for the line that tells
+//! how a run ended. A line of the system's own words follows where the wire or the keeper failed. Where the variable
+//! `SIRI_LOG` of the environment is `1`, each connection that ends has a line on standard error.
 #![tactic(auto)]
 
 use siri_base::{Input, Output, Status};
-use siri_cli::run;
+use siri_cli::run_all;
+use siri_file_shelf::FileShelf;
 use siri_lines::write_status;
 use siri_system::{FileKeeper, LoggedWire, SystemClock};
 use std::io::{ErrorKind, Write};
@@ -22,6 +23,7 @@ siri load SEED COUNT
 siri get PRODUCER < DOCUMENT
 siri serve NAME HOST:PORT COUNT
 siri lite NAME HOST:PORT COUNT
+siri keep NAME HOST:PORT FILE COUNT
 siri consume NAME HOST:PORT PRODUCER COUNT < SUBSCRIPTIONS
 siri relay NAME HOST:PORT UPSTREAM COUNT < SUBSCRIPTION
 ";
@@ -29,7 +31,8 @@ siri relay NAME HOST:PORT UPSTREAM COUNT < SUBSCRIPTION
 fn main(rt: HostRuntime) -> ExitCode {
     let mut wire = LoggedWire::new(rt, is_logged(&rt));
     let mut keeper = FileKeeper::new(rt);
-    let status = run_command(&rt, &mut wire, &mut keeper);
+    let mut shelf = FileShelf::new(rt);
+    let status = run_command(&rt, &mut wire, &mut keeper, &mut shelf);
     let _ = write_status(rt.alloc(), &mut Output::new(rt.stderr()), &status);
     match status {
         Status::Usage => list_commands(&rt),
@@ -49,7 +52,12 @@ fn is_logged(rt: &HostRuntime) -> bool {
 }
 
 /// Runs the command over the words after the program's name. Words that aren't UTF-8 are no plain spelling.
-fn run_command(rt: &HostRuntime, wire: &mut LoggedWire, keeper: &mut FileKeeper) -> Status {
+fn run_command(
+    rt: &HostRuntime,
+    wire: &mut LoggedWire,
+    keeper: &mut FileKeeper,
+    shelf: &mut FileShelf,
+) -> Status {
     let alloc = rt.alloc();
     let given = match env::args(rt) {
         Ok(given) => given,
@@ -59,7 +67,7 @@ fn run_command(rt: &HostRuntime, wire: &mut LoggedWire, keeper: &mut FileKeeper)
     let Ok(words) = given.skip(1).collect::<Vec<String>>(alloc) else {
         return Status::OutOfMemory;
     };
-    run(
+    run_all(
         alloc,
         &words,
         &mut Input::new(rt.stdin()),
@@ -67,6 +75,7 @@ fn run_command(rt: &HostRuntime, wire: &mut LoggedWire, keeper: &mut FileKeeper)
         wire,
         &mut SystemClock::new(*rt),
         keeper,
+        shelf,
     )
 }
 

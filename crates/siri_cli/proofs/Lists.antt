@@ -3,6 +3,7 @@ use Rattle.std.proofs.Common.{◌≡◌, ◌≢◌, ℕ, List, [], ◌∷◌, le
 use Rattle.std.specs.Prelude.{◌||◌}
 use Rattle.std.specs.List.{list_any}
 use Rattle.siri_cli.specs.Commands.{load_of, get_of, serve_of, consume_of}
+use Rattle.siri_cli.specs.Keeping.{keep_words}
 use Rattle.siri_cli.specs.declared.consume.Consuming.{Consuming}
 use Rattle.siri_cli.specs.declared.serve.Producing.{Producing}
 
@@ -38,3 +39,12 @@ module _ {X : Type 0} (text : X → List ℕ) where
   no_consume word (a ∷ b ∷ c ∷ []) other = refl
   no_consume word (a ∷ b ∷ c ∷ d ∷ []) other = absurd (other refl)
   no_consume word (a ∷ b ∷ c ∷ d ∷ e ∷ rest) other = refl
+
+  pub no_keep : (list : List X) → length list ≢ 5 → keep_words (map text list) ≡ None
+  no_keep [] other = refl
+  no_keep (a ∷ []) other = refl
+  no_keep (a ∷ b ∷ []) other = refl
+  no_keep (a ∷ b ∷ c ∷ []) other = refl
+  no_keep (a ∷ b ∷ c ∷ d ∷ []) other = refl
+  no_keep (a ∷ b ∷ c ∷ d ∷ e ∷ []) other = absurd (other refl)
+  no_keep (a ∷ b ∷ c ∷ d ∷ e ∷ f ∷ rest) other = refl

@@ -2,5 +2,7 @@
 -- cited by private functions alone.
 pub mod Arguments
 pub mod Commands
+pub mod Keeping
 pub mod Run
+pub mod RunDoes
 pub mod inner

@@ -160,7 +160,7 @@ fn begins_with_minus(word: &str) -> bool
 }
 
 /// Whether one of the words begins with `-`.
-fn begin_with_minus(words: &[String]) -> bool
+pub(crate) fn begin_with_minus(words: &[String]) -> bool
     ensures { result ≡ list_any (λ word. begins_with_minus (string_bytes word)) words.now }
 {
     words.iter().any(|word| begins_with_minus(word.as_str()))

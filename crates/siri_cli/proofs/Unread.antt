@@ -1,0 +1,36 @@
+-- Words of `keep` that there was no memory to read.
+use Rattle.std.proofs.Common.{ℕ, List, Option, None, Some, Err, refl, inl, inr, arith}
+use Rattle.siri_base.specs.OutsideCalls.{KeeperState, RaisesNumber, WhereTold}
+use Rattle.siri_base.specs.declared.errors.OutsideError.TheVariants as outside_error
+use Rattle.siri_base.specs.declared.status.Status.TheVariants as status
+use Rattle.siri_lines.specs.Ends.{Bytes}
+use Rattle.siri_shelf.specs.Shelves.{ShelfState}
+use Rattle.siri_runs.specs.Calls.{Outside}
+use Rattle.siri_runs.specs.declared.network_error.NetworkError.TheVariants as error
+use Rattle.siri_keep_run.specs.Runs.{KeepRun}
+
+-- nothing was done
+pub unread_keeps : (name listen : List ℕ) (count : ℕ) (shelf after : Option ShelfState) (outside : Outside) (held : Bytes)
+    → KeepRun name listen count shelf after outside outside held held status.OutOfMemory
+unread_keeps name listen count shelf after outside held = inr (
+  inl (inl (record {
+    error = error.OutOfMemory;
+    end_is = refl;
+    fails = inl (record {
+      raises = record {
+        failure = outside_error.OutOfMemory;
+        error_is = refl;
+        call = record {
+          does = stays outside.keeper.tells;
+          cause = record { later = omega arith; failed = λ is. absurd (cc is) };
+        };
+      };
+      rest = refl;
+    });
+  })),
+  refl,
+)
+  where
+    stays : (keeper : Option KeeperState) → WhereTold keeper keeper (λ old new. RaisesNumber old new (Err outside_error.OutOfMemory))
+    stays None = tt
+    stays (Some state) = refl
