@@ -1,16 +1,26 @@
-//! Runs of `serve` and `consume` over an outside in memory, with failures that are named beforehand, and what comes of
+//! Runs of the commands over the network, over an outside in memory, with failures that are named beforehand, and what comes of
 //! them.
 
 use crate::running::{Ended, end_over};
 use siri_base::{
     FailingCalls, FailingClock, FailingConnection, FailingKeeper, FailingSink, FailingSource,
-    FailingWire, Moment, Name,
+    FailingWire, List, Moment, Name, OutOfMemory, OutsideError,
 };
+use siri_shelf::{InMemoryShelf, Put, Shelf};
 use std::alloc::Global;
+
+/// A row of a shelf.
+#[derive(Clone, Copy)]
+pub(crate) struct ShelfRow<'a> {
+    pub(crate) table: u8,
+    pub(crate) key: &'a str,
+    pub(crate) text: &'a str,
+}
 
 /// What is run: the words, the number that is kept, the moments to come, what the source has, and the connections to
 /// come and to be dialled, each with its failures; the calls that fail, each by how many of that name come before it;
-/// and where the source and the sink fail, each by how many bytes come before it.
+/// and where the source and the sink fail, each by how many bytes come before it. Of a shelf the rows that it holds, and
+/// the calls that fail, of which the first two put those rows.
 #[derive(Clone, Copy)]
 pub(crate) struct Run<'a> {
     pub(crate) words: &'a [&'a str],
@@ -24,6 +34,8 @@ pub(crate) struct Run<'a> {
     pub(crate) raise: &'a [usize],
     pub(crate) read: &'a [usize],
     pub(crate) write: &'a [usize],
+    pub(crate) rows: &'a [ShelfRow<'a>],
+    pub(crate) shelf: &'a [u64],
 }
 
 /// No call of a wire that fails.
@@ -46,6 +58,8 @@ pub(crate) const UNFAILING: Run<'static> = Run {
     raise: &[],
     read: &[],
     write: &[],
+    rows: &[],
+    shelf: &[],
 };
 
 /// What comes of it: what is written to the connections, in the order in which they came, where it is listened and
@@ -136,12 +150,52 @@ fn was_used(wire: &FailingWire<'_>, comes: &Comes<'_>) -> bool {
     same && wire.written(place).is_none()
 }
 
-/// How a run ends over a wire and a sink, which are lent, so that neither is let go here.
+/// The bytes of a text.
+fn bytes(alloc: Global, text: &str) -> Result<List<u8>, OutOfMemory> {
+    let mut bytes = Vec::new(alloc);
+    bytes.extend_from_slice(text.as_bytes())?;
+    Ok(List::of(bytes))
+}
+
+/// What puts these rows.
+fn puts_of(alloc: Global, rows: &[ShelfRow<'_>]) -> Result<List<Put>, OutOfMemory> {
+    let mut puts = List::new(alloc);
+    for row in rows {
+        puts.push(Put {
+            table: row.table,
+            key: bytes(alloc, row.key)?,
+            text: Some(bytes(alloc, row.text)?),
+        })?;
+    }
+    Ok(puts)
+}
+
+/// Puts the rows of a shelf.
+fn put_rows<B: Shelf>(shelf: &mut B, file: &Name, puts: &List<Put>) -> Result<(), OutsideError> {
+    shelf.open(file)?;
+    shelf.write(puts)
+}
+
+/// A shelf that holds these rows, of which these calls fail.
+fn shelf_of<'a>(
+    alloc: Global,
+    rows: &[ShelfRow<'_>],
+    fails: &'a [u64],
+) -> Option<InMemoryShelf<'a>> {
+    let file = Name::new(alloc, "rows").ok()?;
+    let puts = puts_of(alloc, rows).ok()?;
+    let mut shelf = InMemoryShelf::new(alloc, fails, None);
+    put_rows(&mut shelf, &file, &puts).ok()?;
+    Some(shelf)
+}
+
+/// How a run ends over a wire, a sink and a shelf, which are lent, so that none is let go here.
 fn end_of(
     alloc: Global,
     run: &Run<'_>,
     wire: &mut FailingWire<'_>,
     sink: &mut FailingSink<'_>,
+    shelf: &mut InMemoryShelf<'_>,
 ) -> Option<Ended> {
     let moments = moments_of(alloc, run.moments)?;
     let mut clock = FailingClock::new(&moments, run.now);
@@ -155,15 +209,19 @@ fn end_of(
         wire,
         &mut clock,
         &mut keeper,
+        shelf,
     )
     .ok()
 }
 
 /// Whether this comes of a run.
 pub(crate) fn comes_of(alloc: Global, run: &Run<'_>, comes: &Comes<'_>) -> bool {
+    let Some(mut shelf) = shelf_of(alloc, run.rows, run.shelf) else {
+        return false;
+    };
     let mut wire = FailingWire::new(alloc, run.to_accept, run.to_dial, run.calls);
     let mut sink = FailingSink::new(alloc, run.write);
-    match end_of(alloc, run, &mut wire, &mut sink) {
+    match end_of(alloc, run, &mut wire, &mut sink, &mut shelf) {
         Some(ended) => {
             ended.is(comes.number, comes.text)
                 && sink.bytes() == comes.output.as_bytes()

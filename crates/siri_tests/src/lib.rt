@@ -30,6 +30,8 @@ mod hostile;
 #[cfg(test)]
 mod items;
 #[cfg(test)]
+mod keep;
+#[cfg(test)]
 mod lite;
 #[cfg(test)]
 mod long;

@@ -3,6 +3,7 @@
 use crate::harness::{Comes, Run, UNFAILING, are_named, comes_of_bytes, moments_of};
 use crate::running::{Ended, end_over};
 use siri_base::{InMemoryClock, InMemoryKeeper, InMemorySink, InMemorySource, InMemoryWire};
+use siri_shelf::InMemoryShelf;
 use std::alloc::Global;
 use std::test::Fail;
 
@@ -252,6 +253,7 @@ fn end_of_plain(alloc: Global, wire: &mut InMemoryWire<'_>) -> Option<Ended> {
         wire,
         &mut InMemoryClock::new(&moments),
         &mut InMemoryKeeper::new(0),
+        &mut InMemoryShelf::new(alloc, &[], None),
     )
     .ok()
 }

@@ -4,7 +4,8 @@ use siri_base::{
     Clock, InMemoryClock, InMemoryKeeper, InMemorySink, InMemorySource, InMemoryWire, Keeper, List,
     OutOfMemory, Sink, Source, Status, Wire,
 };
-use siri_cli::run;
+use siri_cli::run_all;
+use siri_shelf::{InMemoryShelf, Shelf};
 use std::alloc::{AllocError, Global};
 
 fn words_of(alloc: Global, words: &[&str]) -> Result<Vec<String>, AllocError> {
@@ -40,8 +41,8 @@ fn told_of(alloc: Global, status: Status) -> Result<Ended, OutOfMemory> {
     })
 }
 
-/// How the command of these words ends over a source, a sink, a wire, a clock and a keeper.
-pub fn end_over<S: Source, K: Sink, W: Wire, C: Clock, E: Keeper>(
+/// How the command of these words ends over a source, a sink, a wire, a clock, a keeper and a shelf.
+pub fn end_over<S: Source, K: Sink, W: Wire, C: Clock, E: Keeper, B: Shelf>(
     alloc: Global,
     words: &[&str],
     source: &mut S,
@@ -49,13 +50,17 @@ pub fn end_over<S: Source, K: Sink, W: Wire, C: Clock, E: Keeper>(
     wire: &mut W,
     clock: &mut C,
     keeper: &mut E,
+    shelf: &mut B,
 ) -> Result<Ended, OutOfMemory> {
     let words = words_of(alloc, words)?;
-    told_of(alloc, run(alloc, &words, source, sink, wire, clock, keeper))
+    told_of(
+        alloc,
+        run_all(alloc, &words, source, sink, wire, clock, keeper, shelf),
+    )
 }
 
-/// How the command of these words ends over a source and a sink, with nothing to come from a wire, a clock and a
-/// keeper.
+/// How the command of these words ends over a source and a sink, with nothing to come from a wire, a clock, a
+/// keeper and a shelf.
 pub fn end_of<S: Source, K: Sink>(
     alloc: Global,
     words: &[&str],
@@ -70,6 +75,7 @@ pub fn end_of<S: Source, K: Sink>(
         &mut InMemoryWire::new(alloc, &[], &[]),
         &mut InMemoryClock::new(&[]),
         &mut InMemoryKeeper::new(0),
+        &mut InMemoryShelf::new(alloc, &[], None),
     )
 }
 
