@@ -1,8 +1,10 @@
 -- A producer that goes on by some steps.
-use Rattle.std.proofs.Common.{◌≡◌, inl, inr, Bool, List, [], ◌∷◌, ◌++◌, take, refl, ap, sym, ◌∙◌, subst, append_assoc, append-nil}
+use Rattle.std.proofs.Common.{◌≡◌, inl, inr, Bool, true, List, [], ◌∷◌, ◌++◌, map, take, refl, ap, sym, ◌∙◌, subst, append_assoc, append-nil}
 use Rattle.std.specs.Prelude.{Result, Ok, Err, OnErr}
-use Rattle.siri_model.specs.History.{Entry, History, Step, Feed}
-use Rattle.siri_records.specs.Keyed.{Items}
+use Rattle.siri_model.specs.History.{Entry, History, Step, Feed, Observed, Withdrawn}
+use Rattle.siri_records.specs.Keyed.{Items, KeyChange}
+use Rattle.siri_change.specs.Changes.{changes}
+use Rattle.siri_change.specs.Parts.{carried}
 use Rattle.siri_producer.specs.Known.{Known, StandsFor, Follows, GoesOn, TookSome, SameButReads}
 use Rattle.siri_relay.specs.Feeds.{feeds_of, items_fed, removals_fed}
 use Rattle.siri_relay.specs.Goes.{GoesBy, GoesSome, IsFront}
@@ -71,6 +73,10 @@ front_whole (step ∷ steps) = inl (refl, front_whole steps)
 pub some_none : (p : Known) (steps : List Step) → GoesSome p p steps
 some_none p steps = ([], tt, goes_none p)
 
+-- after all of them
+pub some_whole : (old new : Known) (steps : List Step) → GoesBy old new steps → GoesSome old new steps
+some_whole old new steps g = (steps, front_whole steps, g)
+
 -- on the way through the first steps
 pub some_first : (old new : Known) (first rest : List Step) → GoesSome old new first → GoesSome old new (first ++ rest)
 some_first old new first rest g = (g.0, front_more g.0 first rest g.1, g.2)
@@ -81,24 +87,31 @@ some_later old mid new first rest f g = (first ++ g.0, front_after first g.0 res
 
 -- ---- the two feeds of a view
 
-pub goes_feeds : (old mid new : Known) (level : Bool) (fed view : Items) (a b : List Entry) → a ≡ removals_fed fed view
-    → b ≡ items_fed level fed view → GoesOn old mid (Feed a) → mid.responder.name ≡ old.responder.name
-    → GoesOn mid new (Feed b) → new.responder.name ≡ mid.responder.name → GoesBy old new (feeds_of level fed view)
-goes_feeds old mid new level fed view a b same also f name g later =
-    subst (λ (l : List Entry × List Entry). GoesBy old new (Feed l.0 ∷ Feed l.1 ∷ [])) (λ i. (same i, also i))
-    (goes_then old mid new (Feed a ∷ []) (Feed b ∷ []) (goes_one old mid (Feed a) f name) (goes_one mid new (Feed b) g later))
+pub goes_both : (old mid new : Known) (a b : List Entry) → GoesOn old mid (Feed a) → mid.responder.name ≡ old.responder.name
+    → GoesOn mid new (Feed b) → new.responder.name ≡ mid.responder.name → GoesBy old new (Feed a ∷ Feed b ∷ [])
+goes_both old mid new a b f name g later =
+    goes_then old mid new (Feed a ∷ []) (Feed b ∷ []) (goes_one old mid (Feed a) f name) (goes_one mid new (Feed b) g later)
 
-pub cut_first : (old new : Known) (level : Bool) (fed view : Items) (a : List Entry) → a ≡ removals_fed fed view
-    → TookSome old new a → new.responder.name ≡ old.responder.name → GoesSome old new (feeds_of level fed view)
-cut_first old new level fed view a same took name =
-    (Feed (take took.0 a) ∷ [], inr (refl, (took.0, ap (take took.0) same)), goes_one old new (Feed (take took.0 a)) took.1 name)
+pub cut_first : (old new : Known) (a b : List Entry) → TookSome old new a → new.responder.name ≡ old.responder.name
+    → GoesSome old new (Feed a ∷ Feed b ∷ [])
+cut_first old new a b took name =
+    (Feed (take took.0 a) ∷ [], inr (refl, (took.0, refl)), goes_one old new (Feed (take took.0 a)) took.1 name)
 
-pub cut_second : (old mid new : Known) (level : Bool) (fed view : Items) (a b : List Entry) → a ≡ removals_fed fed view
-    → b ≡ items_fed level fed view → GoesOn old mid (Feed a) → mid.responder.name ≡ old.responder.name
-    → TookSome mid new b → new.responder.name ≡ mid.responder.name → GoesSome old new (feeds_of level fed view)
-cut_second old mid new level fed view a b same also f name took later = (
+pub cut_second : (old mid new : Known) (a b : List Entry) → GoesOn old mid (Feed a) → mid.responder.name ≡ old.responder.name
+    → TookSome mid new b → new.responder.name ≡ mid.responder.name → GoesSome old new (Feed a ∷ Feed b ∷ [])
+cut_second old mid new a b f name took later = (
   Feed a ∷ Feed (take took.0 b) ∷ [],
-  inl (ap Feed same, inr (refl, (took.0, ap (take took.0) also))),
-  goes_then old mid new (Feed a ∷ []) (Feed (take took.0 b) ∷ []) (goes_one old mid (Feed a) f name)
-      (goes_one mid new (Feed (take took.0 b)) took.1 later),
+  inl (refl, inr (refl, (took.0, refl))),
+  goes_both old mid new a (take took.0 b) f name took.1 later,
 )
+
+-- two feeds are those of a view where they have its entries
+pub feeds_are : (level : Bool) (fed view : Items) (a b : List Entry) → a ≡ removals_fed fed view → b ≡ items_fed level fed view
+    → Feed a ∷ Feed b ∷ [] ≡ feeds_of level fed view
+feeds_are level fed view a b same also i = Feed (same i) ∷ Feed (also i) ∷ []
+
+-- as they are where they have the changes that lead to it
+pub feeds_changed : (list : List KeyChange) (fed view : Items) (a b : List Entry) → list ≡ changes fed view
+    → a ≡ map Withdrawn (carried list).removals → b ≡ map Observed (carried list).items → Feed a ∷ Feed b ∷ [] ≡ feeds_of true fed view
+feeds_changed list fed view a b is same also =
+    feeds_are true fed view a b (same ∙ ap (λ l. map Withdrawn (carried l).removals) is) (also ∙ ap (λ l. map Observed (carried l).items) is)

@@ -1,7 +1,9 @@
 pub mod Chain
+pub mod Few
 pub mod Goings
 pub mod Held
 pub mod Levels
+pub mod Named
 pub mod Relays
 pub mod Room
 pub mod Shows

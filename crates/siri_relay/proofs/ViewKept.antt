@@ -43,7 +43,7 @@ own_parts : (view : Items) (parts : List Carried) → IsOwn view → IsOwn (appl
 own_parts view [] own = own
 own_parts view (part ∷ parts) own = own_parts (apply view (changes_in part)) parts (own_part view part own)
 
-own_base : (first incremental : Bool) (view : Items) → IsOwn view → IsOwn (cond first [] (cond incremental view []))
+pub own_base : (first incremental : Bool) (view : Items) → IsOwn view → IsOwn (cond first [] (cond incremental view []))
 own_base true incremental view own = own_none
 own_base false true view own = own
 own_base false false view own = own_none
@@ -56,7 +56,7 @@ own_start true h start false part own = own_parts (base_of meaning (with_start_i
 own_start false h start false part own =
     own_parts (base_of meaning h) (h.parts ++ part ∷ []) (own_base (h.round == 0) h.wanted.subscription.incremental h.view own)
 
-own_taken : (o : life.Outcome) (h : KeptSubscription) (m : Mark) (more : Bool) (part : Carried) → IsOwn h.view
+pub own_taken : (o : life.Outcome) (h : KeptSubscription) (m : Mark) (more : Bool) (part : Carried) → IsOwn h.view
     → IsOwn (taken_as meaning o h m more part).view
 own_taken life.Wanted h m more part own = own_start (nat_lt h.start m.start) h m.start more part own
 own_taken life.Repeat h m more part own = own
@@ -93,13 +93,13 @@ put_keeps P q k h x held there step was =
         let one = name_exact q k (equal_from (name_cmp q k) e) in
         step (subst (λ (o : Option KeptSubscription). P (seen_view o)) (ap (λ j. kept_of j held) one ∙ there) was)
 
-own_kept : (own : Bool) (found : Option KeptSubscription) (h : KeptSubscription) → cond own found None ≡ Some h → found ≡ Some h
+pub own_kept : (own : Bool) (found : Option KeptSubscription) (h : KeptSubscription) → cond own found None ≡ Some h → found ≡ Some h
 own_kept true found h is = is
 own_kept false found h is = absurd (cc is)
 
 -- ---- after a message
 
-delivery_keeps : (P : Items → Type 0) (c : Consuming) (q identifier : List ℕ) (found : Option KeptSubscription) (m : Mark) (more : Bool) (part : Carried)
+pub delivery_keeps : (P : Items → Type 0) (c : Consuming) (q identifier : List ℕ) (found : Option KeptSubscription) (m : Mark) (more : Bool) (part : Carried)
     → ((h : KeptSubscription) → found ≡ Some h → kept_of identifier c.held ≡ Some h)
     → ((h : KeptSubscription) → found ≡ Some h → P h.view → P (taken meaning h m more part).view)
     → P (view_held c q) → P (view_held (after_delivery c identifier found m more part) q)

@@ -1,5 +1,6 @@
 pub mod Feeds
 pub mod Goes
+pub mod Named
 pub mod Nearness
 pub mod Relaying
 pub mod Standing

@@ -1,18 +1,21 @@
 //! What a producer is fed of a view.
 
-ghost use Rattle.std.specs.Prelude.{◌≡◌, ◌++◌, [], map, IfOk, OnOk, OnErr};
+ghost use Rattle.std.specs.Prelude.{◌≡◌, ◌++◌, [], ◌∷◌, map, true, IfOk, OnOk, OnErr};
 ghost use Rattle.std.specs.Option.{option_map_or};
 ghost use Rattle.siri_records.specs.Keyed.{InOrder};
 ghost use Rattle.siri_change.specs.Changes.{changes};
-ghost use Rattle.siri_model.specs.History.{Observed, Withdrawn, entries_of};
+ghost use Rattle.siri_change.specs.Parts.{carried};
+ghost use Rattle.siri_model.specs.History.{Feed, Observed, Withdrawn, entries_of};
 ghost use Rattle.siri_relay.specs.Feeds.{feeds_of, has_room, items_fed, removals_fed};
 ghost use Rattle.siri_relay.specs.Goes.{GoesBy, GoesSome};
+ghost use Rattle.siri_relay.specs.Named.{IsRound};
 
+use crate::naming::changes_at;
 use siri_base::{Copies, List, OutOfMemory};
-use siri_change::{View, changes};
+use siri_change::{Change, View, changes};
 use siri_messages::{FunctionalDelivery, ServiceDelivery};
 use siri_producer::Producer;
-use siri_records::{Item, Key};
+use siri_records::{Item, Key, SharedKey};
 use siri_replies::{items_in, removals_in};
 use std::alloc::Global;
 
@@ -46,11 +49,35 @@ pub(crate) fn feed_view(
     let has_room = view.len() <= MOST_LIVE;
     let feeds = feeds_of(alloc, fed, view, is_level)?;
     let copy = view.copy()?;
-    let Feeds { removals, items } = feeds;
-    producer.feed_owned(removals)?;
-    producer.feed_owned(items)?;
+    feed_both(producer, feeds)?;
     *fed = copy;
     Ok(has_room)
+}
+
+/// The same of a view to which a round led that names these keys, where the producer has all of what was fed last: what is
+/// missing are the round's changes, and no other keys are looked at. Want of memory may come after both feeds.
+pub(crate) fn feed_round(
+    alloc: Global,
+    producer: &mut Producer,
+    fed: &mut View,
+    view: &View,
+    named: &List<SharedKey>,
+) -> Result<bool, OutOfMemory>
+    requires { IsRound named.now fed.old view.now }
+    ensures ok { OnOk result (GoesBy producer.old producer.new (feeds_of true fed.old view.now)) }
+    ensures room { IfOk result (λ room. room ≡ has_room view.now) }
+    ensures fed { OnOk result (fed.new ≡ view.now) }
+    ensures err { OnErr result (GoesSome producer.old producer.new (feeds_of true fed.old view.now)) }
+    ensures unfed { OnErr result (fed.new ≡ fed.old) }
+{
+    let found = changes_at(alloc, fed, view, named)?;
+    let Some(list) = found else {
+        return feed_view(alloc, producer, fed, view, true);
+    };
+    let feeds = feeds_by(alloc, &list)?;
+    feed_both(producer, feeds)?;
+    fed.put_changes(list)?;
+    Ok(view.len() <= MOST_LIVE)
 }
 
 /// The same of a view that is held, and of the empty one where none is.
@@ -85,6 +112,29 @@ fn feeds_of(alloc: Global, fed: &View, view: &View, is_level: bool) -> Result<Fe
     } else {
         items_in(alloc, changes(&View::new(alloc), view)?.slice())?
     };
+    let items = delivery(alloc, items, List::new(alloc))?;
+    Ok(Feeds { removals, items })
+}
+
+/// Feeds a producer the removals, and then the items. After want of memory one of the two was taken in part.
+fn feed_both(producer: &mut Producer, feeds: Feeds) -> Result<(), OutOfMemory>
+    ensures ok { OnOk result (GoesBy producer.old producer.new (Feed (entries_of feeds.removals) ∷ Feed (entries_of feeds.items) ∷ [])) }
+    ensures err { OnErr result (GoesSome producer.old producer.new (Feed (entries_of feeds.removals) ∷ Feed (entries_of feeds.items) ∷ [])) }
+{
+    let Feeds { removals, items } = feeds;
+    producer.feed_owned(removals)?;
+    producer.feed_owned(items)?;
+    Ok(())
+}
+
+/// Changes as two deliveries.
+fn feeds_by(alloc: Global, list: &List<Change>) -> Result<Feeds, OutOfMemory>
+    ensures removals { IfOk result (λ feeds. entries_of feeds.removals ≡ map Withdrawn (carried list.now).removals) }
+    ensures items { IfOk result (λ feeds. entries_of feeds.items ≡ map Observed (carried list.now).items) }
+{
+    let removals = removals_in(alloc, list.slice())?;
+    let removals = delivery(alloc, List::new(alloc), removals)?;
+    let items = items_in(alloc, list.slice())?;
     let items = delivery(alloc, items, List::new(alloc))?;
     Ok(Feeds { removals, items })
 }

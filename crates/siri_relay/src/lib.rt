@@ -20,6 +20,7 @@
 mod answers;
 mod feeding;
 mod laws;
+mod naming;
 mod relay;
 mod taking;
 

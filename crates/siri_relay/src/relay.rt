@@ -1,7 +1,7 @@
 //! The relay.
 
 ghost use Rattle.std.specs.Option.{option_map_or};
-ghost use Rattle.std.specs.Prelude.{◌≡◌, ◌↔◌, ◌<◌, ◌≤◌, ◌+◌, [], ◌∷◌, true, false, Some, None, IsSome, IsOk, IfOk, OnOk, OnErr, IsErrOf};
+ghost use Rattle.std.specs.Prelude.{◌≡◌, ◌↔◌, ◌<◌, ◌≤◌, ◌+◌, [], ◌∷◌, true, false, Some, None, IsSome, IsOk, IfOk, IfSome, OnOk, OnErr, IsErrOf};
 ghost use Rattle.siri_base.specs.Numbers.{greatest_number};
 ghost use Rattle.siri_model.specs.Followed.{followed_of, look_bounds};
 ghost use Rattle.siri_model.specs.History.{History, Start, Settle, current, now_of};
@@ -10,17 +10,20 @@ ghost use Rattle.siri_records.specs.Keyed.{living};
 ghost use Rattle.siri_relay.specs.declared.answers.OpenError.TheVariants.{Already, Ask};
 ghost use Rattle.siri_relay.specs.Feeds.{feeds_of, has_room, through};
 ghost use Rattle.siri_relay.specs.Goes.{GoesBy, GoesSome};
+ghost use Rattle.siri_relay.specs.Named.{IsRound};
 ghost use Rattle.siri_relay.specs.Relaying.{catch_up_steps, clock_steps, new_consumer, view_in, view_of};
 ghost use Rattle.siri_relay.specs.Standing.{HoldsView};
 ghost use Rattle.siri_view.specs.Consuming.{after_subscribe, clocked, request_for};
 ghost use Rattle.siri_view.specs.declared.outcome.AskError.TheVariants.{NotHeld, Spent, TooMany};
 
 use crate::OpenError;
-use crate::feeding::feed_if_held;
+use crate::feeding::{feed_if_held, feed_round};
+use crate::naming::NamedKeys;
 use siri_base::{Copies, GREATEST_NUMBER, List, Moment, Name, OutOfMemory, Span};
 use siri_change::View;
 use siri_messages::Message;
 use siri_producer::{Out, Producer};
+use siri_records::SharedKey;
 use siri_topic::Subscription;
 use siri_view::{AskError, Consumer};
 use std::alloc::Global;
@@ -174,6 +177,46 @@ impl Relay {
         let alloc = self.alloc;
         let view = upstream_view(&self.consumer, &self.upstream);
         let room = feed_if_held(alloc, &mut self.producer, &mut self.fed, view, is_level)?;
+        self.is_level = room;
+        Ok(())
+    }
+
+    /// Feeds the changes of a round, which led to the view from what was fed last: by the keys that it names, where the
+    /// producer holds all of that and they are known.
+    pub(crate) fn feed_applied(
+        &mut self,
+        is_level: bool,
+        named: &NamedKeys,
+    ) -> Result<(), OutOfMemory>
+        requires level { self.old.level ≡ false }
+        requires held { is_level ≡ true → HoldsView self.old.producer self.old.fed }
+        requires named { IfSome named.now.keys (λ keys. IsRound keys self.old.fed (view_of self.old)) }
+        ensures producer { OnOk result (GoesBy self.old.producer self.new.producer (feeds_of is_level self.old.fed (view_of self.old))) }
+        ensures ok { OnOk result (self.new ≡ record self.old { producer = self.new.producer; fed = view_of self.old; level = has_room (view_of self.old) }) }
+        ensures behind { OnErr result (GoesSome self.old.producer self.new.producer (feeds_of is_level self.old.fed (view_of self.old))) }
+        ensures rest { OnErr result (self.new ≡ record self.old { producer = self.new.producer }) }
+    {
+        match &named.keys {
+            Some(keys) if is_level => self.feed_round(keys),
+            _ => self.feed_view(is_level),
+        }
+    }
+
+    /// The same where the producer holds all of what was fed last, by the keys that the round names.
+    fn feed_round(&mut self, named: &List<SharedKey>) -> Result<(), OutOfMemory>
+        requires level { self.old.level ≡ false }
+        requires held { HoldsView self.old.producer self.old.fed }
+        requires named { IsRound named.now self.old.fed (view_of self.old) }
+        ensures producer { OnOk result (GoesBy self.old.producer self.new.producer (feeds_of true self.old.fed (view_of self.old))) }
+        ensures ok { OnOk result (self.new ≡ record self.old { producer = self.new.producer; fed = view_of self.old; level = has_room (view_of self.old) }) }
+        ensures behind { OnErr result (GoesSome self.old.producer self.new.producer (feeds_of true self.old.fed (view_of self.old))) }
+        ensures rest { OnErr result (self.new ≡ record self.old { producer = self.new.producer }) }
+    {
+        let alloc = self.alloc;
+        let Some(view) = upstream_view(&self.consumer, &self.upstream) else {
+            return self.feed_view(true);
+        };
+        let room = feed_round(alloc, &mut self.producer, &mut self.fed, view, named)?;
         self.is_level = room;
         Ok(())
     }

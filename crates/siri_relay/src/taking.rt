@@ -6,10 +6,12 @@ ghost use Rattle.siri_producer.specs.Known.{AnswerFor};
 ghost use Rattle.siri_relay.specs.declared.answers.RelayAnswer.TheVariants.{Down, Up};
 ghost use Rattle.siri_relay.specs.Feeds.{has_room};
 ghost use Rattle.siri_relay.specs.Goes.{GoesBy, GoesSome};
+ghost use Rattle.siri_relay.specs.Named.{named_by};
 ghost use Rattle.siri_relay.specs.Relaying.{applied_steps, consumer_after, is_up, take_steps, view_after, view_of};
 ghost use Rattle.siri_relay.specs.Taken.{AnswersFor};
 ghost use Rattle.siri_view.specs.Consuming.{after_message, seen_of};
 
+use crate::naming::{NamedKeys, named_by};
 use crate::{Relay, RelayAnswer};
 use siri_base::{Copies, OutOfMemory};
 use siri_messages::Message;
@@ -72,11 +74,29 @@ impl Relay {
         ensures same { OnErr result ((self.new.consumer ≡ self.old.consumer) ⊎ (self.new.consumer ≡ after_message self.old.consumer message)) }
         ensures upstream { self.new.upstream ≡ self.old.upstream }
     {
+        let named = named_by(self.alloc, &message)?;
+        self.take_named(message, &named)
+    }
+
+    /// The same of a message that names these keys.
+    fn take_named(&mut self, message: Message, named: &NamedKeys) -> Result<Seen, OutOfMemory>
+        requires named { named.now.keys ≡ named_by message }
+        requires fed { self.old.fed ≡ view_of self.old }
+        requires level { self.old.level ≡ has_room (view_of self.old) }
+        ensures seen { IfOk result (λ seen. seen ≡ seen_of self.old.consumer message) }
+        ensures producer { OnOk result (GoesBy self.old.producer self.new.producer (applied_steps (seen_of self.old.consumer message).outcome (view_of self.old) (view_after self.old message))) }
+        ensures consumer { OnOk result (self.new.consumer ≡ after_message self.old.consumer message) }
+        ensures level { OnOk result (self.new.level ≡ has_room (view_of self.new)) }
+        ensures fed { OnOk result (self.new.fed ≡ view_of self.new) }
+        ensures behind { OnErr result (GoesSome self.old.producer self.new.producer (applied_steps (seen_of self.old.consumer message).outcome (view_of self.old) (view_after self.old message))) }
+        ensures same { OnErr result ((self.new.consumer ≡ self.old.consumer) ⊎ (self.new.consumer ≡ after_message self.old.consumer message)) }
+        ensures upstream { self.new.upstream ≡ self.old.upstream }
+    {
         let seen = self.consumer.take_owned(message)?;
         if let Outcome::Applied { round: _ } = seen.outcome {
             let was_level = self.is_level;
             self.is_level = false;
-            match self.feed_view(was_level) {
+            match self.feed_applied(was_level, named) {
                 Ok(()) => Ok(seen),
                 Err(OutOfMemory) => {
                     drop(seen);
