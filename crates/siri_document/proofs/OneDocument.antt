@@ -1,12 +1,11 @@
 -- A run over one document.
-use Rattle.std.proofs.Common.{◌≡◌, ◌⊎◌, ◌+◌, ◌≤◌, ◌<◌, ℕ, List, [], ◌++◌, None, Some, Bool, true, false, Ok, Err, length, take, drop, refl, sym}
+use Rattle.std.proofs.Common.{◌≡◌, ◌⊎◌, ◌+◌, ◌≤◌, ◌<◌, ℕ, List, [], ◌++◌, None, Some, Bool, true, false, Ok, Err, length, take, drop, min, refl, sym}
 use Rattle.std.proofs.Common.{ap, ◌∙◌, subst, append-nil, arith, length-append, inl, inr}
 use Rattle.std.specs.Prelude.{MatchBool}
-use Rattle.std.specs.Io.KnownBytes.{Consumes, IsAtEnd}
-use Rattle.std.proofs.KnownBytes.{Consumes-trans}
-use Rattle.std.proofs.lemmas.List.{drop_all}
+use Rattle.std.specs.Io.KnownBytes.{IsAtEnd}
+use Rattle.std.proofs.lemmas.List.{drop_all, length-take}
 use Rattle.std.proofs.Math.Nat.{eq-or-lt_of_le}
-use Rattle.std.proofs.Math.Seq.{take-add, take-append_seam, drop-append_seam}
+use Rattle.std.proofs.Math.Seq.{take-append_seam, drop-append_seam}
 use Rattle.siri_base.specs.declared.reason.Reason.TheVariants as reason
 use Rattle.siri_base.specs.declared.status.Status.{Status}
 use Rattle.siri_base.specs.declared.status.Status.TheVariants as status
@@ -21,14 +20,13 @@ use Rattle.siri_document.specs.OneDocument.{Answered, Answers, IsDocument, Tells
 pub lent_whole : (n : ℕ) (lent items : List ℕ) → length lent ≡ length items → n ≡ length items → take n (lent ++ drop (length lent) items) ≡ lent
 lent_whole n lent items e h = ap (λ k. take k (lent ++ drop (length lent) items)) (h ∙ sym e) ∙ take-append_seam lent (drop (length lent) items)
 
--- more bytes were read behind those that came
-pub taken_more : (a b c : Bytes) (before room lent after : List ℕ) (f n : ℕ) → Consumes a b (take f before)
-    → take f room ≡ take f before → lent ≡ room → take f after ≡ take f lent → Consumes b c (take n (drop f after))
-    → Consumes a c (take (f + n) after)
-taken_more a b c before room lent after f n p e v k q =
-    let kept : take f after ≡ take f before = k ∙ ap (take f) v ∙ e in
-    subst (Consumes a c) (sym (take-add f n after ∙ ap (λ l. l ++ take n (drop f after)) kept))
-    (Consumes-trans a b c (take f before) (take n (drop f after)) p q)
+-- a list of which at most so many are kept
+pub kept_length : (n : ℕ) (before kept : List ℕ) → kept ≡ take n before → length kept ≡ min n (length before)
+kept_length n before kept e = ap length e ∙ length-take n before
+
+-- a list that grew by at most so many
+pub grown_length : (before piece after : List ℕ) (n most : ℕ) → after ≡ before ++ take n piece → n ≤ most → length after ≤ length before + most
+grown_length before piece after n most e h = omega (arith, ap length e ∙ length-append before (take n piece), length-take n piece, h)
 
 -- the message of what was read is that of the whole input
 pub message_same : (input later document : List ℕ) → input ≡ document ++ later → length document ≤ 8388609

@@ -1,6 +1,6 @@
 //! Reads the one document of a command, and tells what is made of it.
 
-ghost use Rattle.std.specs.Prelude.{◌≡◌, ◌≤◌, ◌<◌, ◌+◌, ℕ, List, ◌++◌, length, take, drop, IfOk, OnOk, false};
+ghost use Rattle.std.specs.Prelude.{◌≡◌, ◌≤◌, ◌<◌, ℕ, List, ◌++◌, length, take, IfOk, false};
 ghost use Rattle.std.specs.Io.KnownBytes.{Consumes, IsAtEnd};
 ghost use Rattle.siri_base.specs.Causes.{Rose, HasOutsideCause};
 ghost use Rattle.siri_base.specs.MetFailures.{SinkMeets, SourceMeets, has_failed, is_read_fault, is_write_fault};
@@ -18,7 +18,7 @@ use siri_wire::{DecodeError, Refusal, decode};
 use std::alloc::Global;
 use std::marker::Model;
 
-/// How much room is made for what the source gives at once.
+/// How much the source is asked for at once.
 const PIECE: usize = 65_536;
 
 /// How many bytes are read at most: one more than a document may have.
@@ -145,52 +145,39 @@ pub fn read_document<S: Source>(alloc: Global, source: &mut S) -> Result<Vec<u8>
     ensures cause { HasOutsideCause (S.faults source.old) (S.faults source.new) result }
     ensures meets { SourceMeets (has_failed result) (S.left source.old) (S.left source.new) (S.fails source.old) (S.fails source.new) }
 {
+    let mut piece = room(alloc)?;
     let mut document = Vec::new(alloc);
-    let mut filled = 0;
-    while filled < MOST_READ {
-        make_room(&mut document, filled)?;
-        match read_at(source, &mut document, filled)? {
-            0 => {
-                document.truncate(filled);
-                return Ok(document);
-            }
-            count => filled += count,
+    while document.len() < MOST_READ {
+        piece.truncate(MOST_READ - document.len());
+        let count = read_piece(source, &mut piece)?;
+        if count == 0 {
+            return Ok(document);
         }
+        append(&mut document, &piece[..count])?;
     }
     Ok(document)
 }
 
-/// Makes room behind the bytes that came, where there is none.
-fn make_room(document: &mut Vec<u8>, filled: usize) -> Result<(), OutOfMemory>
-    requires below { filled < MOST_READ }
-    requires within { filled ≤ length document.old.items }
-    requires bound { length document.old.items ≤ MOST_READ }
-    ensures kept { OnOk result (take filled document.new.items ≡ take filled document.old.items) }
-    ensures room { OnOk result (filled < length document.new.items) }
-    ensures bound { OnOk result (length document.new.items ≤ MOST_READ) }
+/// Room for what the source gives at once.
+fn room(alloc: Global) -> Result<Vec<u8>, OutOfMemory>
+    ensures { IfOk result (λ room. length room.items ≡ PIECE) }
 {
-    if filled == document.len() {
-        document.resize((filled + PIECE).min(MOST_READ), 0)?;
-    }
-    Ok(())
+    let mut room = Vec::new(alloc);
+    room.resize(PIECE, 0)?;
+    Ok(room)
 }
 
-/// Reads into the room behind the bytes that came, and gives how many more came: 0 at the end.
-fn read_at<S: Source>(
-    source: &mut S,
-    document: &mut [u8],
-    filled: usize,
-) -> Result<usize, OutsideError>
-    requires { filled < length document.old }
-    ensures kept { take filled document.new ≡ take filled document.old }
-    ensures length { length document.new ≡ length document.old }
-    ensures bound { IfOk result (λ count. filled + count ≤ length document.new) }
-    ensures bytes { IfOk result (λ count. Consumes (S.left source.old) (S.left source.new) (take count (drop filled document.new))) }
+/// Reads into a buffer, and gives how many bytes came: 0 at the end.
+fn read_piece<S: Source>(source: &mut S, into: &mut [u8]) -> Result<usize, OutsideError>
+    requires { 0 < length into.old }
+    ensures length { length into.new ≡ length into.old }
+    ensures bound { IfOk result (λ count. count ≤ length into.new) }
+    ensures bytes { IfOk result (λ count. Consumes (S.left source.old) (S.left source.new) (take count into.new)) }
     ensures end { IfOk result (λ count. count ≡ 0 → IsAtEnd (S.left source.new)) }
     ensures cause { HasOutsideCause (S.faults source.old) (S.faults source.new) result }
     ensures meets { SourceMeets (has_failed result) (S.left source.old) (S.left source.new) (S.fails source.old) (S.fails source.new) }
 {
-    match source.read(&mut document[filled..]) {
+    match source.read(into) {
         Ok(count) => Ok(count),
         Err(_) => Err(OutsideError::Failed),
     }
