@@ -6,6 +6,7 @@ pub mod BackValues
 pub mod CanonicalParts
 mod Capped
 pub mod DecimalRead
+mod Digits
 pub mod Entries
 pub mod Nonempty
 pub mod ProperParts

@@ -15,8 +15,9 @@
 //! What was written under a rule is read by it again, and what is read is proper; these lemmas stand in `proofs/` for
 //! each rule and row, and the crates above put them together for their tables.
 //!
-//! Stands on `siri_base`, `siri_time` and `siri_json`: it reads the trees of `json`, and writes those of `serde_json`.
-//! It knows no item, no message and no name of a member, and doesn't read or write the bytes of a document.
+//! Stands on `siri_base`, `siri_time` and `siri_json`, and on `itoa` for decimal digits: it reads the trees of `json`,
+//! and writes those of `serde_json`. It knows no item, no message and no name of a member, and doesn't read or write the
+//! bytes of a document.
 #![tactic(auto)]
 
 pub mod refusal;

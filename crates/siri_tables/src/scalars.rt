@@ -1,13 +1,14 @@
 //! Numbers and decimals as texts.
 
-ghost use Rattle.std.specs.Prelude.{◌≡◌, ◌<◌, ◌≤◌, ◌-◌, length, min, IfSome, IfOk, OnOk, ◌++◌, ◌==◌};
+ghost use Rattle.std.specs.Prelude.{◌≡◌, ◌<◌, ◌≤◌, ◌+◌, ◌-◌, length, min, take, IfSome, ◌++◌, ◌==◌};
 ghost use Rattle.std.specs.List.{list_all, prefix_len, suffix_len};
 ghost use Rattle.std.specs.Char.{is_ascii_digit};
+ghost use Rattle.std.specs.Fmt.{decimal};
 ghost use Rattle.siri_tables.specs.Scalars.{decimal_of, magnitude_of, number_on, seven_digits, sign_at, units_after, units_of};
-ghost use Rattle.siri_tables.specs.Writing.{decimal_text, fraction_text, seven_wide, without_zeros};
+ghost use Rattle.siri_tables.specs.Writing.{decimal_text, fraction_text, magnitude_text, seven_wide, without_zeros};
 
-use siri_base::{OutOfMemory, append, append_number};
-use std::alloc::Global;
+use itoa::Buffer;
+use siri_time::put;
 
 /// One more than the units of 180 degrees: the greatest number that is told apart.
 const BEYOND: u64 = 1_800_000_001;
@@ -113,34 +114,55 @@ fn number_on(before: u64, digits: &[u8]) -> u64
     number
 }
 
-/// The text of so many 10^-7 degrees, in degrees: `-` where negative, the whole part, and `.` with the fraction without
-/// the zeros at its end where it isn't zero.
-#[tactic(auto, unfolding(crate::specs::Writing::decimal_text, crate::specs::Writing::magnitude_text))]
-pub(crate) fn decimal_text(alloc: Global, units: i64) -> Result<Vec<u8>, OutOfMemory>
-    ensures { IfOk result (λ text. text.items ≡ decimal_text units) }
+/// Writes so many 10^-7 degrees, in degrees: `-` where negative, the whole part, and `.` with the fraction without the
+/// zeros at its end where it isn't zero. Gives the length of the text in bytes.
+#[tactic(auto, unfolding(crate::specs::Writing::decimal_text))]
+pub(crate) fn write_decimal(units: i64, into: &mut [u8; 24]) -> usize
+    ensures text { take result into.new ≡ decimal_text units }
+    ensures bound { result ≤ 24 }
 {
-    let mut text = Vec::new(alloc);
-    if units < 0 {
-        append(&mut text, b"-")?;
-    }
-    let magnitude = units.unsigned_abs();
-    append_number(alloc, &mut text, magnitude / 10_000_000)?;
-    append_fraction(&mut text, magnitude % 10_000_000)?;
-    Ok(text)
+    let at = if units < 0 { put(into, 0, b"-") } else { 0 };
+    put_magnitude(into, at, units.unsigned_abs())
 }
 
-/// Puts `.` and a fraction in 10^-7 at the end, without the zeros it ends with; nothing where it is 0.
+/// Writes so many 10^-7 degrees without a sign at a place, and gives the place behind it.
+#[tactic(auto, unfolding(crate::specs::Writing::magnitude_text))]
+fn put_magnitude(into: &mut [u8], at: usize, units: u64) -> usize
+    requires { at + 21 ≤ length into.old }
+    ensures text { take result into.new ≡ take at into.old ++ magnitude_text units }
+    ensures place { result ≤ at + 21 }
+{
+    let at = put_whole(into, at, units / 10_000_000);
+    put_fraction(into, at, units % 10_000_000)
+}
+
+/// Writes a number of at most 13 digits at a place, and gives the place behind it.
+#[tactic(auto, using(crate::proofs::Digits::decimal_short))]
+fn put_whole(into: &mut [u8], at: usize, n: u64) -> usize
+    requires room { at + 13 ≤ length into.old }
+    requires small { n < 10000000000000 }
+    ensures text { take result into.new ≡ take at into.old ++ decimal n }
+    ensures place { result ≤ at + 13 }
+{
+    let mut buffer = Buffer::new();
+    put(into, at, buffer.format(n).as_bytes())
+}
+
+/// Writes `.` and a fraction in 10^-7 at a place, without the zeros it ends with, nothing where it is 0, and gives the
+/// place behind it.
 #[tactic(auto, unfolding(crate::specs::Writing::fraction_text))]
-fn append_fraction(into: &mut Vec<u8>, fraction: u64) -> Result<(), OutOfMemory>
-    requires { fraction < 10000000 }
-    ensures { OnOk result (into.new.items ≡ into.old.items ++ fraction_text fraction) }
+fn put_fraction(into: &mut [u8], at: usize, fraction: u64) -> usize
+    requires room { at + 8 ≤ length into.old }
+    requires small { fraction < 10000000 }
+    ensures text { take result into.new ≡ take at into.old ++ fraction_text fraction }
+    ensures place { result ≤ at + 8 }
 {
     if fraction == 0 {
-        return Ok(());
+        return at;
     }
-    append(into, b".")?;
+    let at = put(into, at, b".");
     let digits = seven_wide(fraction);
-    append(into, without_zeros(&digits))
+    put(into, at, without_zeros(&digits))
 }
 
 /// A fraction below 1, in 10^-7, as seven digits with zeros in front.
@@ -173,7 +195,8 @@ fn zeros_at_end(digits: &[u8]) -> usize
 
 /// The digits of a fraction without the `0` that they end with.
 fn without_zeros(digits: &[u8; 7]) -> &[u8]
-    ensures { result.now ≡ without_zeros digits.now }
+    ensures text { result.now ≡ without_zeros digits.now }
+    ensures short { length result.now ≤ 7 }
 {
     &digits[..7 - zeros_at_end(digits)]
 }

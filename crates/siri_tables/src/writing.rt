@@ -10,7 +10,7 @@ ghost use Rattle.siri_tables.specs.Writing.{with_rows, object_unless_empty, writ
 ghost use Rattle.json.specs.Token.{string};
 
 use crate::rules::{DecimalRule, FlagRule, MomentRule, NameRule, NumberRule, SpanRule, TextRule};
-use crate::scalars;
+use crate::scalars::write_decimal;
 use siri_base::{List, Moment, Name, OutOfMemory, Span, Text};
 use siri_json::Output;
 use siri_time::{write_moment, write_span, written_moment_is_ascii, written_span_is_ascii};
@@ -223,8 +223,9 @@ impl Written for DecimalRule {
 fn decimal(out: &mut Output, units: i64) -> Result<(), OutOfMemory>
     ensures { OnOk result (out.new ≡ out.old ++ string (decimal_text units) ∷ []) }
 {
-    let text = scalars::decimal_text(out.alloc(), units)?;
-    match std::str::from_utf8(&text) {
+    let mut buffer = [0u8; 24];
+    let length = write_decimal(units, &mut buffer);
+    match std::str::from_utf8(&buffer[..length]) {
         Ok(text) => out.text(text),
         Err(_) => unreachable!(),
     }

@@ -8,5 +8,5 @@ use Rattle.siri_tables.proofs.writing.decimal.Goals as goal
 pub unreachable-requires : goal.unreachable-requires
 unreachable-requires c =
     let small : unsigned_abs c.args.units ≤ 2 ^ 63 = nat_abs-le c.args.units c.ranges.units.sfits in
-    c.in-Err.ensures.cases.0 (rw (c.deref.ensures.value, c.in_ok-text.ensures, to_z-of_z c.ranges.units)
+    c.in-Err.ensures.cases.0 (rw (c.write_decimal-length.ensures.text, to_z-of_z c.ranges.units)
     (IsUtf8-from_ascii _ (IsAscii-decimal_text c.args.units (omega (arith, small)))))
