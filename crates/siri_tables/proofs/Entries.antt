@@ -1,15 +1,18 @@
 -- The entries of a list.
 use Rattle.std.proofs.Common.{◌≡◌, ℕ, ◌+◌, ◌<◌, ◌≤◌, true, false, List, [], ◌∷◌, ◌++◌, length, get_or, drop, map, Option, Global, Result}
 use Rattle.std.proofs.Common.{Ok, Err, refl, ap, sym, ◌∙◌, append_assoc, add-one, drop-cons}
-use Rattle.std.specs.Prelude.{option_to_list}
+use Rattle.std.specs.Prelude.{option_to_list, OnOk, IfOk}
+use Rattle.std.specs.Result.{result_map_both}
 use Rattle.std.proofs.lemmas.List.{append-nil, drop_all}
 use Rattle.serde_json.specs.Data.{Data}
 use Rattle.siri_json.specs.Shown.{shown}
 use Rattle.json.specs.declared.value.Value.{Value}
+use Rattle.siri_json.specs.declared.path.Step.{Step}
 use Rattle.siri_json.specs.declared.path.Step.TheVariants.{Place}
+use Rattle.siri_base.specs.declared.reason.Reason.TheVariants.{Missing}
 use Rattle.siri_tables.specs.declared.refusal.TableError.{TableError}
 use Rattle.siri_tables.specs.declared.refusal.TableError.TheVariants as errors
-use Rattle.siri_tables.specs.Refusals.{◌>>=◌, Refusal, Fails, below}
+use Rattle.siri_tables.specs.Refusals.{◌>>=◌, Refusal, Fails, Gives, refused, below}
 use Rattle.siri_tables.specs.Rules.{is_null, required_value, entries_from, found_from}
 
 -- what was read so far, and then the rest
@@ -56,6 +59,41 @@ pub fails : {A : Type 0} (rule : Data → Result (Option A) Refusal) (front : Li
 unfolding entries_from
 fails rule front place v rest errors.OutOfMemory total required_value_is read so_far = tt
 fails rule front place v rest (errors.Refused path reason) total required_value_is read so_far = sym so_far ∙ rw (required_value_is, read) refl
+
+-- an entry was read, and nothing is told but that
+abbrev pub is_read : {A : Type 0} → Result A Refusal → Result (Unit {0}) Refusal
+is_read r = result_map_both (λ x. tt) (λ e. e) r
+
+-- what is seen as read from the list was read
+pub was_read : (read : Result (Unit {0}) TableError) (step : Step) (P : Type 0)
+    → ((r : Result (Unit {0}) Refusal) → Gives read r → below step r ≡ Ok tt) → OnOk read P → P
+was_read (Ok x) step P h p = p
+was_read (Err errors.OutOfMemory) step P h p = absurd (cc (h (refused Missing) tt))
+was_read (Err (errors.Refused path reason)) step P h p = absurd (cc (h (Err (record { path = path; reason = reason })) refl))
+
+pub pushes : {A : Type 0} (rule : Data → Result (Option A) Refusal) (front : List A) (place : ℕ) (v : Data)
+    (rest : List Data) (found : List A) (total : Result (List A) Refusal)
+    → is_null v ≡ false → below (Place place) (is_read (required_value rule v)) ≡ Ok tt
+    → IfOk (required_value rule v) (λ x. found ≡ front ++ x ∷ [])
+    → after front (entries_from rule place (v ∷ rest)) ≡ total
+    → after found (entries_from rule (place + 1) rest) ≡ total
+pushes {A} rule front place v rest found total there read pushed so_far = choose (required_value rule v) refl read pushed
+  where
+    choose : (r : Result A Refusal) → required_value rule v ≡ r → below (Place place) (is_read r) ≡ Ok tt
+        → IfOk r (λ x. found ≡ front ++ x ∷ []) → after found (entries_from rule (place + 1) rest) ≡ total
+    choose (Ok x) e ok same = rw same (takes rule front place v rest x total there (ap (below (Place place)) e) so_far)
+    choose (Err q) e ok same = absurd (cc ok)
+
+pub fails_read : {A : Type 0} (rule : Data → Result (Option A) Refusal) (front : List A) (place : ℕ) (v : Data)
+    (rest : List Data) (e : TableError) (total : Result (List A) Refusal)
+    → is_null v ≡ false → Fails e (below (Place place) (is_read (required_value rule v)))
+    → after front (entries_from rule place (v ∷ rest)) ≡ total → Fails e total
+fails_read {A} rule front place v rest e total there failed so_far = fails rule front place v rest e total there (choose e (required_value rule v) failed) so_far
+  where
+    choose : (e : TableError) (r : Result A Refusal) → Fails e (below (Place place) (is_read r)) → Fails e (below (Place place) r)
+    choose errors.OutOfMemory r h = tt
+    choose (errors.Refused path reason) (Ok x) h = absurd (cc h)
+    choose (errors.Refused path reason) (Err q) h = cc h
 
 pub done : {A : Type 0} (rule : Data → Result (Option A) Refusal) (front : List A) (place : ℕ) (rest : List Data) (total : Result (List A) Refusal)
     → rest ≡ [] → after front (entries_from rule place rest) ≡ total → total ≡ Ok front

@@ -1,7 +1,8 @@
 //! Rows of tables: what a member of an object is read as under a rule, where it may be absent, has to be there, or is a
 //! list.
 
-ghost use Rattle.std.specs.Prelude.{◌≡◌, ◌++◌, Result, Option, Ok, IsTrue, map, count_by, not, option_to_list, OnOk};
+ghost use Rattle.std.specs.Prelude.{◌≡◌, [], ◌∷◌, ◌++◌, Result, Option, Ok, IsTrue, map, count_by, not, option_to_list, OnOk, IfOk};
+ghost use Rattle.std.specs.Result.{result_map_both};
 ghost use Rattle.siri_json.specs.Shown.{shown};
 ghost use Rattle.siri_tables.specs.Refusals.{Gives, is_key};
 ghost use Rattle.siri_tables.specs.Rules.{name, at_most, row, required_row, required_value, is_null, entry_count, entries_from, found_from, list_of, names_of, list, nonempty_list, inside, names, list_inside};
@@ -35,31 +36,22 @@ pub fn required_row<R: Rule>(
     requires { IsTrue (is_key key.now) }
     ensures { Gives result (required_row R.rule key.now (shown tree.now)) }
 {
-    match row::<R>(alloc, tree, key)? {
-        Some(found) => Ok(found),
-        None => refuse_at(alloc, key, Reason::Missing),
+    match row::<R>(alloc, tree, key) {
+        Ok(Some(found)) => Ok(found),
+        Ok(None) => refuse_at(alloc, key, Reason::Missing),
+        Err(error) => Err(error),
     }
 }
 
 /// What a value is read as that must not count as absent: otherwise `Missing`.
+#[tactic(auto, unfolding(crate::specs::Rules::required_value))]
 pub fn required_value<R: Rule>(alloc: Global, value: &Tree<'_>) -> Result<R::Out, TableError>
     ensures { Gives result (required_value R.rule (shown value.now)) }
 {
-    required_value_in::<R>(alloc, &(), value)
-}
-
-/// [`required_value`], under a rule that needs `with` to be known.
-#[tactic(auto, unfolding(crate::specs::Rules::required_value))]
-fn required_value_in<R: RuleIn>(
-    alloc: Global,
-    with: &R::With,
-    value: &Tree<'_>,
-) -> Result<R::Out, TableError>
-    ensures { Gives result (required_value (R.rule_in with.now) (shown value.now)) }
-{
-    match R::read_in(alloc, with, value)? {
-        Some(found) => Ok(found),
-        None => refuse(alloc, Reason::Missing),
+    match R::read(alloc, value) {
+        Ok(Some(found)) => Ok(found),
+        Ok(None) => refuse(alloc, Reason::Missing),
+        Err(error) => Err(error),
     }
 }
 
@@ -113,6 +105,29 @@ fn count_in(values: &[Tree<'_>]) -> usize
     values.iter().filter(|entry| !is_null(entry)).count()
 }
 
+/// Puts what a value is read as, which must not count as absent, behind others: otherwise `Missing`. So a record goes
+/// from its table into the list, and through no other result.
+#[tactic(auto, unfolding(crate::specs::Rules::required_value))]
+fn push_required<R: RuleIn>(
+    alloc: Global,
+    with: &R::With,
+    value: &Tree<'_>,
+    found: &mut Vec<R::Out>,
+) -> Result<(), TableError>
+    ensures read { Gives result (result_map_both (λ _. tt) (λ refusal. refusal) (required_value (R.rule_in with.now) (shown value.now))) }
+    ensures pushed { OnOk result (IfOk (required_value (R.rule_in with.now) (shown value.now)) (λ entry. found.new.items ≡ found.old.items ++ entry ∷ [])) }
+{
+    found.reserve(1)?;
+    match R::read_in(alloc, with, value) {
+        Ok(Some(entry)) => {
+            found.push_reserved(entry);
+            Ok(())
+        }
+        Ok(None) => refuse(alloc, Reason::Missing),
+        Err(error) => Err(error),
+    }
+}
+
 /// The values under a rule, refused at their places: null is passed over, any other absent one is `Missing`.
 fn entries_from<R: RuleIn>(
     alloc: Global,
@@ -124,7 +139,7 @@ fn entries_from<R: RuleIn>(
     let mut found = Vec::new(alloc);
     for (place, value) in values.iter().enumerate() {
         if !is_null(value) {
-            found.push(below_place(place, required_value_in::<R>(alloc, with, value))?)?;
+            below_place(place, push_required::<R>(alloc, with, value, &mut found))?;
         }
     }
     Ok(List::of(found))

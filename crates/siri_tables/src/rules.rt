@@ -235,7 +235,10 @@ fn from_object<T: Table>(alloc: Global, value: &Tree<'_>) -> Result<Option<T::Ou
     ensures { Gives result (table T.rows (shown value.now)) }
 {
     match object_of(value) {
-        ObjectOf::Is(tree) => Ok(Some(T::read_rows(alloc, tree)?)),
+        ObjectOf::Is(tree) => match T::read_rows(alloc, tree) {
+            Ok(found) => Ok(Some(found)),
+            Err(error) => Err(error),
+        },
         ObjectOf::Absent => Ok(None),
         ObjectOf::Wrong => refuse(alloc, Reason::WrongKind),
     }
