@@ -1,6 +1,6 @@
 -- The rows of what a situation affects.
 use Rattle.std.proofs.Common.{◌≡◌, ℕ, ◌+◌, ◌≤◌, inl, inr, true, nat_le, List, [], ◌∷◌, length, append-nil, Option, Some, None, Ok, refl, ap}
-use Rattle.std.proofs.Common.{arith, Bool, false, cond, ◌++◌, length-append, subst}
+use Rattle.std.proofs.Common.{arith, Bool, false, cond, length-append, subst}
 use Rattle.std.specs.Prelude.{IfSome, sum_by, flat_map}
 use Rattle.std.specs.List.{filter_map, AllByRecursion}
 use Rattle.std.proofs.lemmas.Bool.{le-leb, leb-true}
@@ -31,7 +31,7 @@ use Rattle.siri_json.specs.declared.path.Step.TheVariants.{Member}
 use Rattle.siri_json.specs.TextsOfTrees.{TextsAreUtf8}
 use Rattle.siri_tables.proofs.ProperParts.{OnRead, Yields, on_ok, on_bind, on_below, member_is, table_yields, row_is, AreRead, list_of_on}
 use Rattle.siri_tables.proofs.ProperParts.{names_of_on, at_name, list_inside_on, names_inside_on}
-use Rattle.siri_tables.proofs.TableLaws.{RowLaws, at_depth, AllLaws, TableLaws, written_read, table_within, table_kind}
+use Rattle.siri_tables.proofs.TableLaws.{RowLaws, at_depth, AllLaws, TableLaws, all_joined, written_read, table_within, table_kind}
 use Rattle.siri_tables.specs.Tables.{AllProper}
 
 abbrev IsProperNetwork : Network → Type 0
@@ -48,10 +48,6 @@ network_yields = table_yields network IsProperNetwork
     (λ d u. on_below IsProperNetwork (Member AFFECTED_LINE.now) _
     (lines_at_on (member_of AFFECTED_LINE.now d) (member_is AFFECTED_LINE.now d u)))
 
-all_joined : (xs ys : List (List ℕ)) → AllByRecursion IsName xs → AllByRecursion IsName ys → AllByRecursion IsName (xs ++ ys)
-all_joined [] ys first rest = rest
-all_joined (x ∷ xs) ys first rest = (first.0, all_joined xs ys first.1 rest)
-
 abbrev lines_of_all : List Network → List (List ℕ)
 lines_of_all networks = flat_map (λ n. n.lines) networks
 
@@ -65,7 +61,7 @@ joined_are (n ∷ ns) all =
     let rest = joined_are ns all.1 in
     let lines : length (lines_of_all (n ∷ ns)) ≡ length n.lines + length (lines_of_all ns) = length-append n.lines (lines_of_all ns) in
     let entries : entries_in (n ∷ ns) ≡ n.entries + entries_in ns = sum_by-cons (λ (m : Network). m.entries) n ns in
-    (all_joined n.lines (lines_of_all ns) all.0.0 rest.0, omega (arith, all.0.1, rest.1, lines, entries))
+    (all_joined IsName n.lines (lines_of_all ns) all.0.0 rest.0, omega (arith, all.0.1, rest.1, lines, entries))
 
 all_lines_by : (networks : List Network) (b : Bool) → nat_le (entries_in networks) 2000 ≡ b → AllByRecursion IsProperNetwork networks
     → OnRead (cond b (Ok (lines_of_all networks)) (refused TooMany)) (IsListWithin 2000 IsName)

@@ -1,5 +1,5 @@
 -- The laws of items.
-use Rattle.std.proofs.Common.{◌≡◌, ◌≤◌, true, Option, Some, None, Result, Ok, refl, arith, Bool, false, ◌||◌, subst, if◌then◌else◌}
+use Rattle.std.proofs.Common.{◌≡◌, ◌≤◌, true, Some, None, Result, Ok, refl, arith, Bool, false, ◌||◌, subst, if◌then◌else◌}
 use Rattle.serde_json.specs.Data.{Data, object, Members, no_members, depth}
 use Rattle.siri_json.specs.Canonical.{as_texts, IsCanonical}
 use Rattle.siri_json.specs.Values.{object_in}
@@ -19,7 +19,7 @@ use Rattle.siri_items.specs.Items.{item_of}
 use Rattle.siri_tables.specs.Writing.{with_rows}
 use Rattle.siri_tables.proofs.Back.{GivesBack}
 use Rattle.siri_tables.proofs.BackValues.{table_back}
-use Rattle.siri_tables.proofs.RowSpells.{bind_ok, done, ok_is, table_is, found_map, table_ok}
+use Rattle.siri_tables.proofs.RowSpells.{bind_ok, done, ok_is, table_is, found_map, value_ok, table_ok}
 use Rattle.serde_json.specs.Written.{compact_text}
 use Rattle.siri_json.specs.Tree.{tree_of}
 use Rattle.siri_json.proofs.Read.{tree_of-compact_text}
@@ -142,13 +142,9 @@ journey_back j p =
     let reads = written_read journey_laws (without_time j) (tt, p.0.1) in
     table_back journey (with_rows no_members (rows_of_journey j)) (without_time j) (rw reads (with_time_ok (without_time j) p.1))
 
-given : {A : Type 0} (rule : Data → Result (Option A) Refusal) (d : Data) (x : A) → rule d ≡ Ok (Some x) → required_value rule d ≡ Ok x
-unfolding required_value
-given rule d x is = rw is refl
-
 table_given : {A : Type 0} (rows : Data → Result A Refusal) (ms : Members) (x : A)
     → GivesBack (table rows) (Some (object ms)) (Some x) → required_value (table rows) (as_texts (object ms)) ≡ Ok x
-table_given rows ms x back = given (table rows) (as_texts (object ms)) x back
+table_given rows ms x back = value_ok (table rows) (as_texts (object ms)) x back
 
 pub item_back : (i : Item) → IsProper i → item_of (service_of i) (as_texts (written_item i)) ≡ Ok (as_written i)
 unfolding written_visit written_journey written_vehicle written_situation

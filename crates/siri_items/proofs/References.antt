@@ -77,7 +77,7 @@ IsProperRequiredRef r = IfSome r.data_frame_ref IsName × IsName r.dated_vehicle
 abbrev IsProperRef : JourneyRef → Type 0
 IsProperRef r = IfSome r.data_frame_ref IsName × IfSome r.dated_vehicle_journey_ref IsName × (IsSome r.data_frame_ref → IsSome r.dated_vehicle_journey_ref)
 
-name_row : (key : List ℕ) (d : Data) → TextsAreUtf8 d → OnRead (row name key d) (λ o. IfSome o IsName)
+pub name_row : (key : List ℕ) (d : Data) → TextsAreUtf8 d → OnRead (row name key d) (λ o. IfSome o IsName)
 name_row key d u = row_on name IsName name_yields key d u
 
 framed_ref_of_on : (frame dated : Option (List ℕ)) → IfSome frame IsName → IfSome dated IsName

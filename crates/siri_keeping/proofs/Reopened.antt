@@ -28,7 +28,7 @@ use Rattle.siri_model_laws.proofs.Lawful.{direct_live}
 use Rattle.siri_row_texts.specs.declared.moments.Began.{Began}
 use Rattle.siri_row_texts.specs.SubscriptionRows.{renewal_of}
 use Rattle.siri_shelf.specs.Rows.{InOrder, RowPlace, Rows}
-use Rattle.siri_wire_laws.proofs.ProperReadValues.{all_joined}
+use Rattle.siri_tables.proofs.TableLaws.{all_joined}
 use Rattle.siri_keeping.specs.Keeps.{Keeps}
 use Rattle.siri_keeping.specs.Opening.{Kept, Nothing, Said, WhatIsKept, by_service, kept_in, live_items, reopened, said}
 use Rattle.siri_keeping.specs.Subscribed.{unexpired}

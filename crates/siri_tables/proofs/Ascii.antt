@@ -1,25 +1,12 @@
 -- The text of a decimal is ASCII.
-use Rattle.std.proofs.Common.{◌≡◌, ℕ, suc, ◌^◌, ◌/◌, ◌%◌, ◌<◌, inl, inr, false, eqb, List, [], ◌∷◌, ◌++◌, ℤ, pos, negsuc, unsigned_abs, arith}
+use Rattle.std.proofs.Common.{◌≡◌, ℕ, suc, ◌^◌, ◌/◌, ◌%◌, ◌<◌, inl, inr, false, eqb, ℤ, pos, negsuc, unsigned_abs, arith}
 use Rattle.std.proofs.lemmas.Bool.{cases_lt}
 use Rattle.std.proofs.lemmas.Bool.Decides.{nat_tests}
 use Rattle.std.proofs.lemmas.Fmt.{IsAscii-decimal}
-use Rattle.std.proofs.lemmas.Str.{IsAscii-append, IsAscii-take}
-use Rattle.std.proofs.lemmas.Str.Ascii.{IsAscii-nil, IsAscii-cons}
+use Rattle.std.proofs.lemmas.Str.{IsAscii-take}
 use Rattle.std.specs.Str.{IsAscii}
+use Rattle.siri_time.proofs.Ascii.{Low, none, before, joined}
 use Rattle.siri_tables.specs.Writing.{seven_wide, fraction_text, magnitude_text, decimal_text}
-
--- each byte is below 128
-record Low (text : List ℕ) : Type 0 where
-  is : IsAscii text
-
-none : Low []
-none = record { is = IsAscii-nil }
-
-before : (b : ℕ) {text : List ℕ} → b < 128 → Low text → Low (b ∷ text)
-before b {text} h low = record { is = IsAscii-cons b text h low.is }
-
-joined : {front back : List ℕ} → Low front → Low back → Low (front ++ back)
-joined {front} {back} f b = record { is = IsAscii-append front back f.is b.is }
 
 digits : (f : ℕ) → f < 10000000 → Low (seven_wide f)
 digits f small =

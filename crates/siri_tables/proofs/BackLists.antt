@@ -90,7 +90,7 @@ pub entry_count_back : {A : Type 0} (rule : Data → Result (Option A) Refusal) 
 unfolding entries_of
 entry_count_back rule writing xs all = count_back rule writing xs all
 
-list_of_back : {A : Type 0} (rule : Data → Result (Option A) Refusal) (writing : A → Option Data) (xs : List A)
+pub list_of_back : {A : Type 0} (rule : Data → Result (Option A) Refusal) (writing : A → Option Data) (xs : List A)
     → AllByRecursion (EntryBack rule writing) xs → list_of rule (list_again (filter_map writing xs)) ≡ Ok xs
 unfolding list_of entries_of
 list_of_back rule writing xs all = entries_back rule writing 0 xs all

@@ -11,6 +11,7 @@ use Rattle.std.specs.Fmt.{decimal}
 use Rattle.std.specs.List.{list_all, prefix_len}
 use Rattle.std.specs.Str.{all_ascii_digits}
 use Rattle.siri_time.proofs.MomentRead.{is_digit}
+use Rattle.siri_time.proofs.SpanRead.{run}
 use Rattle.siri_tables.specs.Scalars.{number_on, seven_digits, units_of, units_after, magnitude_of, sign_at, decimal_of}
 use Rattle.siri_tables.specs.Writing.{seven_wide, without_zeros, fraction_text, magnitude_text, decimal_text}
 
@@ -37,14 +38,6 @@ split (d ∷ ds) all some = record { first = d; rest = ds; is = refl; first_is =
 
 whole_digits : (n : ℕ) → n ≤ 180 → Digits (decimal n)
 whole_digits n small = split (decimal n) (digits_decimal own n (omega arith)) (decimal_nonempty n (omega arith))
-
-run : (digits : List ℕ) (b : ℕ) (rest : List ℕ) → all_ascii_digits digits ≡ true → is_ascii_digit b ≡ false
-    → prefix_len is_ascii_digit (digits ++ b ∷ rest) ≡ length digits
-run [] b rest each ends = rw ends refl
-run (digit ∷ digits) b rest each ends =
-    let parts = and_parts (is_ascii_digit digit) (all_ascii_digits digits) each in
-    let here : is_ascii_digit digit ≡ true = parts.0 in
-    rw (here, run digits b rest parts.1 ends) (omega arith)
 
 run_to_end : (digits : List ℕ) → all_ascii_digits digits ≡ true → prefix_len is_ascii_digit (digits ++ []) ≡ length digits
 run_to_end [] each = refl

@@ -73,6 +73,10 @@ pub required_row_ok : {A : Type 0} (rule : Data → Result (Option A) Refusal) (
 unfolding required_row
 required_row_ok rule key d value spells = rw (row_ok rule key d (Some value) spells) refl
 
+pub value_ok : {A : Type 0} (rule : Data → Result (Option A) Refusal) (d : Data) (x : A) → rule d ≡ Ok (Some x) → required_value rule d ≡ Ok x
+unfolding required_value
+value_ok rule d x is = rw is refl
+
 pub required_value_ok : {A : Type 0} (rows : Data → Result A Refusal) (f : Found Data) (x : A)
     → IfFound f (λ o. rows o ≡ Ok x) → ((unless_wrong f >>= each rows) >>= required []) ≡ Ok x
 required_value_ok rows (found o) x is = rw is refl

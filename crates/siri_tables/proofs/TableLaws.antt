@@ -49,12 +49,12 @@ pub record RowLaws {S : Type 0} (most : ℕ) (r : Row S) : Type 0 where
   pub within : (x : r.Of) → r.Is x → AllByRecursion (IsRowWithin most) (r.write x)
   pub proper : (d : Data) (x : r.Of) → TextsAreUtf8 d → r.Spelled d x → r.Is x
 
-some_back : {A : Type 0} (least : ℕ) (kind : Kind A) → KindLaws least kind → (o : Option A) → IfSome o kind.Is
+pub some_back : {A : Type 0} (least : ℕ) (kind : Kind A) → KindLaws least kind → (o : Option A) → IfSome o kind.Is
     → GivesBack kind.rule (option_and_then kind.writing o) o
 some_back least kind laws None is = refl
 some_back least kind laws (Some x) is = laws.back x is
 
-some_within : {A : Type 0} (least : ℕ) (kind : Kind A) → KindLaws least kind → (o : Option A) → IfSome o kind.Is
+pub some_within : {A : Type 0} (least : ℕ) (kind : Kind A) → KindLaws least kind → (o : Option A) → IfSome o kind.Is
     → MayBeWithin least (option_and_then kind.writing o)
 some_within least kind laws None is = tt
 some_within least kind laws (Some x) is = laws.within x is
@@ -173,13 +173,13 @@ both_parts : {A : Type 0} (P : A → Type 0) (xs ys : List A) → AllByRecursion
 both_parts P [] ys all = (tt, all)
 both_parts P (x ∷ xs) ys all = let parts = both_parts P xs ys all.1 in ((all.0, parts.0), parts.1)
 
-joined : {A : Type 0} (P : A → Type 0) (xs ys : List A) → AllByRecursion P xs → AllByRecursion P ys → AllByRecursion P (xs ++ ys)
-joined P [] ys left right = right
-joined P (x ∷ xs) ys left right = (left.0, joined P xs ys left.1 right)
+pub all_joined : {A : Type 0} (P : A → Type 0) (xs ys : List A) → AllByRecursion P xs → AllByRecursion P ys → AllByRecursion P (xs ++ ys)
+all_joined P [] ys left right = right
+all_joined P (x ∷ xs) ys left right = (left.0, all_joined P xs ys left.1 right)
 
 all_within : {S : Type 0} (most : ℕ) (t : Table S) → AllLaws most t → (s : S) → AllProper t s → AllByRecursion (IsRowWithin most) (all_written t s)
 all_within most [] laws s is = tt
-all_within most (r ∷ t) laws s is = joined (IsRowWithin most) (r.write (r.of s)) (all_written t s)
+all_within most (r ∷ t) laws s is = all_joined (IsRowWithin most) (r.write (r.of s)) (all_written t s)
     (laws.0.within (r.of s) is.0) (all_within most t laws.1 s is.1)
 
 all_back : {S : Type 0} (most : ℕ) (t : Table S) → AllLaws most t → (d : Data) (s : S) → AllProper t s → FoundAgain d (all_written t s) → AllSpelled t d s

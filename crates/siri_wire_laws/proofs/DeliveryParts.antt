@@ -1,6 +1,6 @@
 -- What is written of the parts of deliveries is read again, and is canonical and not deep; and what is read of them is proper where
 -- the texts of its tree are UTF-8.
-use Rattle.std.proofs.Common.{◌≡◌, ◌⊎◌, ℕ, ◌+◌, ◌≤◌, true, nat_le, List, [], ◌∷◌, length, map, Option, Some, None, Result, Ok, refl, ap}
+use Rattle.std.proofs.Common.{◌≡◌, ◌⊎◌, ℕ, ◌≤◌, true, nat_le, List, [], ◌∷◌, length, map, Option, Some, None, Result, Ok, refl, ap}
 use Rattle.std.proofs.Common.{◌∙◌, arith, Bool, false, cond, is_some, sym, subst}
 use Rattle.std.specs.Prelude.{option_and_then, IfSome}
 use Rattle.std.specs.List.{filter_map, AllByRecursion}
@@ -32,14 +32,15 @@ use Rattle.siri_tables.specs.Tables.{all_written, AllProper}
 use Rattle.siri_tables.specs.Proper.{IsMoment, IsListWithin, IsName, IsNumber}
 use Rattle.siri_tables.proofs.Back.{found_again, GivesBack, in_rows, member_again, row_again}
 use Rattle.siri_tables.proofs.BackValues.{name_back, some_name_back, number_back, some_moment_back}
-use Rattle.siri_tables.proofs.BackLists.{object_back_or_empty, same_as_empty, EntryBack, table_entry, read_again, list_again, list_back}
-use Rattle.siri_tables.proofs.TableLaws.{EntryLaws, written_read, read_proper}
+use Rattle.siri_tables.proofs.BackLists.{object_back_or_empty, same_as_empty, EntryBack, table_entry, list_again, list_of_back, list_back}
+use Rattle.siri_tables.proofs.TableLaws.{EntryLaws, all_joined, written_read, read_proper}
 use Rattle.siri_tables.proofs.RowSpells.{done}
 use Rattle.siri_tables.proofs.CanonicalParts.{MayBeWithin, text_within, some_text_within, some_number_within, some_moment_within}
 use Rattle.siri_tables.proofs.CanonicalParts.{row_within, ◌then◌, object_within, object_unless_empty_within, array_unless_empty_within}
 use Rattle.siri_tables.proofs.CanonicalParts.{list_within}
 use Rattle.siri_tables.proofs.ProperParts.{OnRead, Yields, reads_to, on_map, on_bind, name_yields, moment_yields, number_yields}
 use Rattle.siri_tables.proofs.ProperParts.{table_yields, row_on, row_is, AreRead, list_of_on, at_name}
+use Rattle.siri_items.proofs.References.{name_row}
 use Rattle.siri_items.proofs.ItemTables.{visit_laws, vehicle_laws, situation_laws}
 use Rattle.siri_items.proofs.ItemLaws.{journey_back, without_time, item_within, journey_yields}
 use Rattle.siri_deliveries.specs.declared.names.TheConstants.{ESTIMATED_JOURNEY_VERSION_FRAME, ESTIMATED_VEHICLE_JOURNEY, ITEM_REF, PART, REMOVED, ROUND, START}
@@ -58,7 +59,7 @@ use Rattle.siri_wire_laws.proofs.MessageValues.{all_map}
 use Rattle.siri_wire_laws.proofs.ReadIffSpellsParts.{visit_cancellation_read, vehicle_cancellation_read, removed_journey_read}
 use Rattle.siri_wire_laws.proofs.ReadIffSpellsParts.{removed_situation_read, round_position_read, delivery_extensions_read, frame_read}
 use Rattle.siri_wire_laws.proofs.ReadIffSpellsParts.{round_position_spelled, delivery_extensions_spelled}
-use Rattle.siri_wire_laws.proofs.ProperReadValues.{required_row_on, spelled_yields, list_is, all_joined}
+use Rattle.siri_wire_laws.proofs.ProperReadValues.{required_row_on, spelled_yields, list_is}
 use Rattle.siri_deliveries.specs.Limits.{most_entries}
 
 -- ---- items
@@ -150,17 +151,6 @@ frame_entries : (is : List Item) → AllByRecursion (IsProperOf service.Timetabl
 frame_entries [] all = tt
 frame_entries (i ∷ is) all = (frame_entry i all.0, frame_entries is all.1)
 
-entries_again : {A : Type 0} (rule : Data → Result (Option A) Refusal) (writing : A → Option Data) (place : ℕ) (xs : List A)
-    → AllByRecursion (EntryBack rule writing) xs → entries_from rule place (read_again writing xs) ≡ Ok xs
-unfolding entries_from required_value
-entries_again rule writing place [] all = refl
-entries_again rule writing place (x ∷ xs) all = rw (all.0.is, all.0.not_null, all.0.again, entries_again rule writing (place + 1) xs all.1) refl
-
-all_again : {A : Type 0} (rule : Data → Result (Option A) Refusal) (writing : A → Option Data) (xs : List A)
-    → AllByRecursion (EntryBack rule writing) xs → list_of rule (list_again (filter_map writing xs)) ≡ Ok xs
-unfolding list_of entries_of
-all_again rule writing xs all = entries_again rule writing 0 xs all
-
 frames_none : list_of (table frame) (list_again []) ≡ Ok []
 unfolding list_of entries_of entries_from
 frames_none = refl
@@ -183,7 +173,7 @@ pub frames_back : (d : Data) (items : List Item) → AllByRecursion (IsProperOf 
 unfolding journeys_of_frames written_list
 frames_back d items all le at_frames =
     let read : list_of (table frame) (list_again (filter_map written_frame items)) ≡ Ok (map single items) =
-    rw (← singles_written items) (all_again (table frame) written_single (map single items)
+    rw (← singles_written items) (list_of_back (table frame) written_single (map single items)
     (frame_entries items all)) in
     rw (at_frames, frames_at (filter_map written_frame items) (map single items) items read (singles_together items) le) refl
 
@@ -331,9 +321,6 @@ removal_within s k p = absurd p
 
 required_name : (key : List ℕ) (d : Data) → TextsAreUtf8 d → OnRead (required_row name key d) IsName
 required_name key d u = required_row_on name IsName name_yields key d u
-
-name_row : (key : List ℕ) (d : Data) → TextsAreUtf8 d → OnRead (row name key d) (λ o. IfSome o IsName)
-name_row key d u = row_on name IsName name_yields key d u
 
 pub visit_removal_on : (d : Data) → TextsAreUtf8 d → OnRead (visit_cancellation d) (IsProperRemoval service.Stop)
 unfolding visit_cancellation

@@ -1,7 +1,6 @@
 -- What is read is proper where the texts of its tree are UTF-8: values, rows and lists that items have none of.
-use Rattle.std.proofs.Common.{◌≡◌, ℕ, ℤ, pos, negsuc, Bool, true, false, List, [], ◌∷◌, ◌++◌, Option, Some, None, Result, Ok, Err, arith}
+use Rattle.std.proofs.Common.{◌≡◌, ℕ, ℤ, pos, negsuc, Bool, true, false, List, [], ◌∷◌, Option, Some, None, Result, Ok, Err, arith}
 use Rattle.std.specs.Prelude.{IfSome, unwrap_or, if◌then◌else◌}
-use Rattle.std.specs.List.{AllByRecursion}
 use Rattle.serde_json.specs.Data.{Data}
 use Rattle.siri_json.specs.Values.{Found, found, absent, wrong, text_in}
 use Rattle.siri_json.specs.declared.path.Step.TheVariants.{Member}
@@ -61,10 +60,6 @@ pub list_is : {A : Type 0} (rule : Data → Result (Option A) Refusal) (P : A �
     → (most : ℕ) (key : List ℕ) (d : Data) (xs : List A) → TextsAreUtf8 d → list rule most key d ≡ Ok xs
     → IsListWithin most P xs
 list_is rule P y most key d xs u e = on_ok (IsListWithin most P) (list rule most key d) xs (list_on rule P y most key d u) e
-
-pub all_joined : {A : Type 0} (P : A → Type 0) (xs ys : List A) → AllByRecursion P xs → AllByRecursion P ys → AllByRecursion P (xs ++ ys)
-all_joined P [] ys first rest = rest
-all_joined P (x ∷ xs) ys first rest = (first.0, all_joined P xs ys first.1 rest)
 
 -- what is read of an object, unless it counts as absent
 pub unless_absent : {A : Type 0} (P : A → Type 0) (b : Bool) (r : Result A Refusal) → OnRead r P

@@ -13,7 +13,7 @@ use Rattle.siri_tables.specs.Refusals.{Refusal, ◌>>=◌, refused, each}
 use Rattle.siri_tables.specs.Rules.{table, unless_wrong, maybe, required_row}
 use Rattle.siri_tables.specs.Spelling.{IfFound}
 use Rattle.siri_tables.specs.Tables.{AllSpelled}
-use Rattle.siri_tables.proofs.RowSpells.{some, done, ok_is, required_row_ok, bind_ok, required_row_spelled}
+use Rattle.siri_tables.proofs.RowSpells.{some, done, ok_is, required_row_ok, bind_ok, required_row_spelled, found_map}
 use Rattle.siri_tables.proofs.TableLaws.{read_spelled, spelled_read}
 use Rattle.siri_wire.specs.declared.kinds.Kind.{Kind}
 use Rattle.siri_wire.specs.declared.kinds.Kind.TheVariants as kind
@@ -57,11 +57,6 @@ found_read : {A : Type 0} (rows : Data → Result A Refusal) (f : Found Data) (x
 found_read rows (found o) x is = rw is refl
 found_read rows absent x is = absurd is
 found_read rows wrong x is = absurd is
-
-found_map : (f : Found Data) (P Q : Data → Type 0) → ((o : Data) → P o → Q o) → IfFound f P → IfFound f Q
-found_map (found o) P Q h is = h o is
-found_map absent P Q h is = is
-found_map wrong P Q h is = is
 
 table_spelled : {A : Type 0} (rows : Data → Result A Refusal) (o : Option Data) (x : A)
     → maybe (table rows) o ≡ Ok (Some x) → IsSomeAnd o (λ e. IfFound (object_in e) (λ d. rows d ≡ Ok x))

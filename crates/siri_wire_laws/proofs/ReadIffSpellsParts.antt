@@ -1,8 +1,9 @@
 -- What is read is spelled and the other way round: rows inside objects, errors, removals, the journeys of frames, and where in a
 -- round a delivery stands.
-use Rattle.std.proofs.Common.{◌≡◌, ℕ, suc, ◌+◌, ◌≤◌, Bool, true, false, not, nat_le, List, [], ◌∷◌, length, filter, map, Option, Some, None}
+use Rattle.std.proofs.Common.{◌≡◌, ℕ, ◌+◌, ◌≤◌, Bool, true, false, not, nat_le, List, [], ◌∷◌, length, filter, map, Option, Some, None}
 use Rattle.std.proofs.Common.{Result, Ok, Err, refl, sym, ap, ap₂, ◌∙◌, subst, arith, if◌then◌else◌}
 use Rattle.std.proofs.lemmas.Bool.{le-leb, leb-true}
+use Rattle.std.proofs.lemmas.List.{length-map}
 use Rattle.std.proofs.lemmas.List.Sums.{length-filter}
 use Rattle.serde_json.specs.Data.{Data}
 use Rattle.siri_base.specs.declared.reason.Reason.TheVariants.{TooMany}
@@ -20,7 +21,7 @@ use Rattle.siri_tables.specs.Refusals.{Refusal, ◌>>=◌, refused, below, each}
 use Rattle.siri_tables.specs.Rules.{name, text, table, maybe, unless_wrong, required, row, required_row, inside, required_value, is_null}
 use Rattle.siri_tables.specs.Rules.{entry_count, entries_from, at_most, list_of, list, or_empty, moment, number, read_from_text}
 use Rattle.siri_tables.specs.Spelling.{Spells}
-use Rattle.siri_tables.proofs.RowSpells.{done, ok_is, below_ok, bind_ok, row_spelled, required_row_spelled, row_ok, required_row_ok}
+use Rattle.siri_tables.proofs.RowSpells.{done, ok_is, below_ok, bind_ok, row_spelled, required_row_spelled, row_ok, required_row_ok, value_ok}
 use Rattle.siri_deliveries.specs.declared.names.TheConstants.{ERROR_TEXT, ESTIMATED_JOURNEY_VERSION_FRAME, ESTIMATED_VEHICLE_JOURNEY}
 use Rattle.siri_deliveries.specs.declared.names.TheConstants.{ITEM_REF, OTHER_ERROR, PART, REMOVED, ROUND, START}
 use Rattle.siri_deliveries.specs.Errors.{other_error}
@@ -176,10 +177,6 @@ first_is a b xs ys e = cc
 others_are : {A : Type 0} (a b : A) (xs ys : List A) → a ∷ xs ≡ b ∷ ys → xs ≡ ys
 others_are a b xs ys e = cc
 
-value_read : {A : Type 0} (rule : Data → Result (Option A) Refusal) (d : Data) (x : A) → rule d ≡ Ok (Some x) → required_value rule d ≡ Ok x
-unfolding required_value
-value_read rule d x is = rw is refl
-
 entry_read : {A : Type 0} (rule : Data → Result (Option A) Refusal) (place : ℕ) (d : Data) (ds : List Data)
     (xs : List A) (null : Bool) → ((ys : List A) → EachSpells rule ds ys → entries_from rule (place + 1) ds ≡ Ok ys)
     → map rule (if not null then d ∷ filter (λ e. not (is_null e)) ds else filter (λ e. not (is_null e)) ds) ≡ map (λ x. done (Some x)) xs
@@ -190,7 +187,7 @@ unfolding EachSpells
 entry_read rule place d ds xs true h e = h xs e
 entry_read rule place d ds [] false h e = absurd cc
 entry_read rule place d ds (x ∷ xs) false h e =
-    rw (value_read rule d x (first_is _ _ _ _ e), h xs (others_are _ _ _ _ e)) refl
+    rw (value_ok rule d x (first_is _ _ _ _ e), h xs (others_are _ _ _ _ e)) refl
 
 entries_read : {A : Type 0} (rule : Data → Result (Option A) Refusal) (place : ℕ) (ds : List Data) (xs : List A)
     → EachSpells rule ds xs → entries_from rule place ds ≡ Ok xs
@@ -210,15 +207,11 @@ unfolding list_of EachSpells
 list_read rule None xs is = ap (λ (ys : List _). done ys) (sym is)
 list_read rule (Some d) xs is = entries_read rule 0 (entries_of d) xs is
 
-as_many : {X Y : Type 0} (f : X → Y) (xs : List X) → length (map f xs) ≡ length xs
-as_many f [] = refl
-as_many f (x ∷ xs) = ap suc (as_many f xs)
-
 -- as many entries that aren't null as elements
 count_is : {A : Type 0} (rule : Data → Result (Option A) Refusal) (d : Data) (xs : List A) → SpellsEntries rule (Some d) xs → entry_count d ≡ length xs
 count_is rule d xs is =
     let entries = filter (λ e. not (is_null e)) (entries_of d) in
-    sym (length-filter (λ e. not (is_null e)) (entries_of d)) ∙ (sym (as_many rule entries) ∙ (ap length is ∙ as_many (λ x. done (Some x)) xs))
+    sym (length-filter (λ e. not (is_null e)) (entries_of d)) ∙ (sym (length-map entries rule) ∙ (ap length is ∙ length-map xs (λ x. done (Some x))))
 
 few_spelled : {A : Type 0} (rule : Data → Result (Option A) Refusal) (most : ℕ) (d : Data) (xs : List A) (few : Bool)
     → nat_le (entry_count d) most ≡ few → (if few then list_of rule d else refused TooMany) ≡ Ok xs

@@ -14,7 +14,7 @@ use Rattle.siri_tables.proofs.BackValues.{name_back, flag_back}
 use Rattle.siri_tables.proofs.CanonicalParts.{are_ascii, MayBeWithin, some_flag_within, list_within, row_within, object_within, object_unless_empty_within}
 use Rattle.siri_tables.proofs.ProperParts.{Yields, on_ok, on_map, row_is, list_on, number_yields}
 use Rattle.siri_tables.proofs.RowSpells.{done, bind_ok, ok_is, row_ok, row_spelled}
-use Rattle.siri_tables.proofs.TableLaws.{KindLaws, EntryLaws, RowLaws, at_key, at_depth}
+use Rattle.siri_tables.proofs.TableLaws.{KindLaws, EntryLaws, RowLaws, at_key, at_depth, some_back, some_within}
 use Rattle.siri_tables.proofs.ValueLaws.{name_laws}
 use Rattle.siri_wire.specs.Identifiers.{an_identifier}
 use Rattle.siri_deliveries.specs.Rows.{a_whole_span, an_error, SpellsOr, with_default, flag_where_true, entries, optional_inside}
@@ -129,16 +129,6 @@ inside_or_left_out : {A : Type 0} (rule : Data → Result (Option A) Refusal) (k
     → GivesBack (inside rule key) (object_unless_empty (with_rows no_members ((key, written) ∷ []))) value
 inside_or_left_out rule key None value again = again
 inside_or_left_out rule key (Some d) value again = inside_again rule key (Some d) value again
-
-some_back : {A : Type 0} (least : ℕ) (kind : Kind A) → KindLaws least kind → (o : Option A) → IfSome o kind.Is
-    → GivesBack kind.rule (option_and_then kind.writing o) o
-some_back least kind laws None is = refl
-some_back least kind laws (Some x) is = laws.back x is
-
-some_within : {A : Type 0} (least : ℕ) (kind : Kind A) → KindLaws least kind → (o : Option A) → IfSome o kind.Is
-    → MayBeWithin least (option_and_then kind.writing o)
-some_within least kind laws None is = tt
-some_within least kind laws (Some x) is = laws.within x is
 
 pub optional_inside_laws : {A S : Type 0} {least most : ℕ} {kind : Kind A} {outer : List ℕ} {of : S → Option A}
     (key : List ℕ) → KindLaws least kind → are_ascii outer ≡ true → are_ascii key ≡ true
