@@ -168,6 +168,7 @@ impl KeyedItems {
 impl Copies for KeyedItems {
     fn copy(&self) -> Result<Self, OutOfMemory> {
         let mut entries = Vec::new(self.allocator());
+        entries.reserve(self.entries.len())?;
         for entry in &self.entries {
             entries.push(copy_entry(entry)?)?;
         }
