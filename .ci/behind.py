@@ -44,7 +44,8 @@ class Producer:
 
     def start(self):
         with open(os.path.join(self.folder, "errors"), "ab") as errors, open(os.path.join(self.folder, "output"), "ab") as output:
-            self.process = subprocess.Popen([self.siri, self.command, "AGENCY", "127.0.0.1:%d" % self.port, "1000000"], cwd=self.folder,
+            file = ["items"] if self.command == "keep" else []
+            self.process = subprocess.Popen([self.siri, self.command, "AGENCY", "127.0.0.1:%d" % self.port, *file, "1000000"], cwd=self.folder,
                                             env=self.environment, stdin=subprocess.DEVNULL, stdout=output, stderr=errors)
         await_port(self.port, self.process)
 

@@ -1,6 +1,6 @@
 """Opens examples/board in a browser: `departures.py CHROMIUM SIRI EXAMPLES [PICTURE]`, with the program SIRI behind nginx as
-examples/deploy has it, or behind the stand-in of examples/deploy/try.py where there is no nginx. What the page shows has to be what
-was fed. With PICTURE, the board is drawn there."""
+examples/deploy has it, or behind the stand-in of examples/deploy/try.py where there is no nginx; then, with nginx, over `keep`. What the
+page shows has to be what was fed. With PICTURE, the board is drawn there."""
 import http.server
 import importlib.util
 import json
@@ -172,6 +172,19 @@ class Board:
         self.wait_rows([["10", "Harbour", at(self.now + 1800)]], "a board after a restart")
         self.wait(STATE + " === ''", "something is wrong for good")
 
+    def comes_back(self):
+        """The producer keeps what it knows: killed and started again, it is fed nothing, and the board shows what it showed."""
+        departures = [["10", "Harbour", at(self.now + 840)], ["6", "University", at(self.now + 1500)]]
+        self.feed([visit("a", "10", "Harbour", self.now + 840), visit("b", "6", "University", self.now + 1500)])
+        self.open("stop=S1&zone=Europe/Paris&every=1&old=4")
+        self.wait_rows(departures, "a board over a producer that keeps")
+        self.producer.kill()
+        self.wait(STATE + ".includes('can’t be reached')", "it isn't told that a producer that keeps can't be reached")
+        self.producer.start()
+        self.open("stop=S1&zone=Europe/Paris&every=1&old=4")
+        self.wait_rows(departures, "a board over a producer that keeps, after it was killed")
+        self.wait(STATE + " === ''", "something is wrong for good")
+
     def refuses(self):
         """A question that is refused says so, beside one that isn't; what of the address is wrong is told."""
         self.open("stop=%s&stop=S1&zone=Europe/Paris&every=1" % ("x" * 256))
@@ -260,37 +273,54 @@ class Board:
 
 
 def main(chromium, siri, examples, *pictures):
-    browser, faults, nginx = Browser(chromium), [], None
+    browser, faults, behind = Browser(chromium), [], []
     with tempfile.TemporaryDirectory() as folder:
         os.chmod(folder, 0o755)
-        producer = Producer(siri, os.path.join(folder, "producer"))
-        try:
+
+        def start(command):
+            """A producer and nginx before it, in the place of those before; the page's address."""
+            end()
+            producer = Producer(siri, os.path.join(folder, command), command)
+            behind.append(producer.kill)
             producer.start()
-            if shutil.which("openssl") and shutil.which("nginx", path=os.environ["PATH"] + ":/usr/sbin"):
-                nginx = Nginx(os.path.join(folder, "nginx"), os.path.join(examples, "deploy"), os.path.join(examples, "board"), producer.port)
-                nginx.start()
+            if not has_nginx:
+                return producer, stand_in(examples, producer)
+            nginx = Nginx(os.path.join(folder, "nginx-" + command), os.path.join(examples, "deploy"), os.path.join(examples, "board"), producer.port, command != "lite")
+            behind.append(nginx.stop)
+            nginx.start()
+            return producer, "https://127.0.0.1:%d" % nginx.public
+
+        def end():
+            while behind:
+                behind.pop()()
+
+        has_nginx = shutil.which("openssl") and shutil.which("nginx", path=os.environ["PATH"] + ":/usr/sbin")
+        try:
+            producer, base = start("lite")
+            if has_nginx:
                 browser.call("Security.setIgnoreCertificateErrors", ignore=True)
-                base = "https://127.0.0.1:%d" % nginx.public
             else:
                 print("board: there is no nginx or no openssl (Debian's packages of these names), so a stand-in is before the producer")
-                base = stand_in(examples, producer)
             browser.size(1280, 900)
             board = Board(browser, base, producer, faults)
             for part in (board.shows, board.breaks_off, board.refuses, board.hostile, board.reads, board.clock, board.screens):
                 part()
             for path in pictures:
                 board.picture(path)
+            bases = [base]
+            if has_nginx:
+                board.producer, board.base = start("keep")
+                bases.append(board.base)
+                board.comes_back()
             errors = [error for error in browser.errors if not re.search(r"/siri-lite/", error)]
             board.check(not errors, "the console has errors: %s" % errors)
-            others = [request for request in browser.requests if not request.startswith((base, "about:", "data:"))]
+            others = [request for request in browser.requests if not request.startswith((*bases, "about:", "data:"))]
             board.check(not others, "it asks for %s" % others)
         except (TimeoutError, EOFError, RuntimeError, OSError, IndexError) as fault:
             faults.append("%s: %s" % (type(fault).__name__, fault))
         finally:
             browser.close()
-            if nginx:
-                nginx.stop()
-            producer.kill()
+            end()
     for fault in faults:
         print("board: " + fault)
     return 1 if faults else 0

@@ -307,6 +307,16 @@ class Deployed:
         self.check(min(held) > 2 and sum(held) == 20, "of 20 stops the two producers hold %s" % held)
         other.kill()
 
+    def kept(self):
+        """A producer that keeps is killed, and has again what it was fed."""
+        question = "/siri-lite/stop-monitoring.json?MonitoringRef=S1&x=%d"
+        before = [re.findall('"ItemIdentifier":"([^"]*)"', self.nginx.ask(question % 1)[1].decode())]
+        self.producer.kill()
+        self.answers(question % 2, 502, re.compile("Bad Gateway"))
+        self.producer.start()
+        before.append(re.findall('"ItemIdentifier":"([^"]*)"', self.nginx.ask(question % 3)[1].decode()))
+        self.check(before == [["a", "b"]] * 2, "before and after it was killed it shows %s" % before)
+
     def gone(self):
         """Without a producer a question is refused at once."""
         self.producer.kill()
@@ -322,6 +332,7 @@ def units(siri, deploy, folder, faults):
     for path in glob.glob(os.path.join(deploy, "systemd", "*")):
         with open(path) as file:
             text = file.read().replace("/usr/local/bin/siri", os.path.abspath(siri)).replace("/usr/local/lib/wurtelim/portals", portals)
+            text = text.replace("/usr/local/lib/wurtelim/upstream", os.path.join(os.path.abspath(deploy), "upstream"))
         with open(os.path.join(copies, os.path.basename(path)), "w") as file:
             file.write(text)
     for path in sorted(glob.glob(os.path.join(copies, "*"))):
@@ -329,10 +340,11 @@ def units(siri, deploy, folder, faults):
         lines = [line for line in (told.stdout + told.stderr).splitlines() if "wurtelim" in line]
         if told.returncode or lines:
             faults.append("systemd-analyze of %s: %s %s" % (os.path.basename(path), told.returncode, lines or told.stderr[-500:]))
-    told = subprocess.run(["systemd-analyze", "security", "--offline=yes", "--threshold=15", os.path.join(copies, "wurtelim-lite.service")],
-                          capture_output=True, text=True, check=False)
-    if told.returncode:
-        faults.append("systemd-analyze finds wurtelim-lite.service exposed: %s" % (told.stdout + told.stderr)[-200:])
+    for name in ("lite", "keep", "relay"):
+        told = subprocess.run(["systemd-analyze", "security", "--offline=yes", "--threshold=15", os.path.join(copies, "wurtelim-%s.service" % name)],
+                              capture_output=True, text=True, check=False)
+        if told.returncode:
+            faults.append("systemd-analyze finds wurtelim-%s.service exposed: %s" % (name, (told.stdout + told.stderr)[-200:]))
 
 
 def before(siri, examples, folder, command, parts, faults):
@@ -365,6 +377,7 @@ def main(siri, examples):
             parts = (Deployed.public, Deployed.names, Deployed.no_feeds, Deployed.crowd, Deployed.queue, Deployed.reader, Deployed.feeds, Deployed.divided, Deployed.gone)
             before(siri, examples, os.path.join(folder, "lite"), "lite", parts, faults)
             before(siri, examples, os.path.join(folder, "serve"), "serve", (Deployed.public, Deployed.not_plain, Deployed.no_feeds, Deployed.feeds, Deployed.gone), faults)
+            before(siri, examples, os.path.join(folder, "keep"), "keep", (Deployed.public, Deployed.no_feeds, Deployed.feeds, Deployed.kept, Deployed.gone), faults)
         else:
             print("deploy: there is no nginx or no openssl (Debian's packages of these names), so the configuration of nginx isn't tested")
         if shutil.which("systemd-analyze"):
