@@ -32,7 +32,7 @@ def run_once(command, path):
         return seconds, int(kilobytes.read()) * 1024 / 1e6
 
 
-PHASES = ["bytes", "tree", "items", "text"]
+PHASES = ["bytes", "tokens", "message", "text"]
 
 
 def replay_beside_yardsticks(program, folder):
@@ -60,7 +60,7 @@ def replay_beside_yardsticks(program, folder):
 
 
 def phases(program, folder):
-    """The phases of reading and writing items, each as the difference of two runs."""
+    """The phases of reading and writing a document, each as the difference of two runs."""
     path = os.path.join(folder, "delivery.8000")
     megabytes = os.path.getsize(path) / 1e6
     runs = [[run_once([program, phase], path) for phase in PHASES] for _ in range(PHASE_RUNS)]

@@ -1,5 +1,5 @@
 -- Each piece of a functional delivery of changes, and what is still to come behind it.
-use Rattle.std.proofs.Common.{◌≡◌, ◌<◌, ◌+◌, ℕ, true, false, List, [], ◌∷◌, ◌++◌, Option, Some, None, refl, sym}
+use Rattle.std.proofs.Common.{◌≡◌, ◌<◌, ℕ, true, false, List, [], ◌∷◌, ◌++◌, Option, Some, None, refl, sym}
 use Rattle.std.proofs.Common.{ap, ◌∙◌, append_assoc, append-nil, filter_map, length, arith}
 use Rattle.std.specs.Prelude.{IfSome, is_some}
 use Rattle.json.specs.Token.{Token, end_object}

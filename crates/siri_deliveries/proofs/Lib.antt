@@ -1,4 +1,7 @@
+pub mod Apart
+pub mod AsItComes
 pub mod ChangeTexts
+pub mod Delivered
 pub mod Framed
 pub mod InOrder
 pub mod ItemTexts

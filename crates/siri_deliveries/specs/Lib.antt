@@ -12,3 +12,5 @@ pub mod Deliveries
 pub mod Layout
 pub mod Pieces
 pub mod Frame
+pub mod AsItComes
+pub mod Incoming

@@ -1,7 +1,7 @@
 //! Topics and deliveries as JSON: what EN 15531-3 and CEN/TS 15531-5 say of each functional service, both ways.
 //!
 //! ```text
-//!   tree --topic--> Topic    tree --ServiceDelivery--> FunctionalDelivery --> Item, Key
+//!   tree --topic--> Topic    tree, tokens --ServiceDelivery--> FunctionalDelivery --> Item, Key
 //!   tokens <-written-        tokens <-----------written---------------
 //! ```
 //!
@@ -11,6 +11,10 @@
 //! of all members that messages have, and what the messages of `siri_wire` share with deliveries: errors, flags, texts
 //! that are absent.
 //!
+//! A ServiceDelivery is read from its tree, or as its tokens come ([`Incoming`]): then each item is read from a tree of its
+//! own, which goes before the next comes, so that no tree of many items is there. By the second way nothing is told of why
+//! a delivery is refused.
+//!
 //! Stands on `siri_tables`, which has the rules of values and rows and the refusals, on `siri_items` for the tables of
 //! items, on `siri_messages`, `siri_topic` and `siri_records` for what is read and written, and on `siri_base` and
 //! `siri_json`. It keeps no state, knows no document, no clock and no connection.
@@ -18,6 +22,8 @@
 
 mod absence;
 mod frame;
+mod incoming;
+mod incoming_deliveries;
 mod laws;
 mod layout;
 pub mod names;
@@ -35,6 +41,7 @@ mod write_values;
 
 pub use absence::lacks;
 pub use frame::{FramePiece, cut, write_frame};
+pub use incoming::{Incoming, NotRead};
 pub use laws::members_are_spelled;
 pub use pieces::{
     ChangePieces, DeliveryHead, ItemPieces, ItemStage, Listed, Stage, change_pieces, item_pieces,

@@ -20,10 +20,10 @@ use siri_tables::rules::{FlagRule, MomentRule, NameRule, Table};
 use std::alloc::Global;
 
 /// The most deliveries of each service in a ServiceDelivery; with more their list is `TooMany`.
-const MOST_DELIVERIES: usize = 100;
+pub(crate) const MOST_DELIVERIES: usize = 100;
 
 /// A MonitoredStopVisit as an item.
-struct VisitItemTable;
+pub(crate) struct VisitItemTable;
 
 impl Table for VisitItemTable {
     type Out = Item;
@@ -37,7 +37,7 @@ impl Table for VisitItemTable {
 }
 
 /// A VehicleActivity as an item.
-struct VehicleItemTable;
+pub(crate) struct VehicleItemTable;
 
 impl Table for VehicleItemTable {
     type Out = Item;

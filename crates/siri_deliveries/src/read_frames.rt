@@ -18,7 +18,7 @@ use siri_tables::rules::{MomentRule, Table};
 use std::alloc::Global;
 
 /// A frame's journeys (EN 15531-3, EstimatedJourneyVersionFrame), each with its own RecordedAtTime or the frame's.
-struct FrameTable;
+pub(crate) struct FrameTable;
 
 /// The item of a frame's journey: where it has no RecordedAtTime, it takes the frame's.
 fn journey_of_frame(frame: &Option<Moment>, mut journey: Journey) -> Item
@@ -29,7 +29,7 @@ fn journey_of_frame(frame: &Option<Moment>, mut journey: Journey) -> Item
 }
 
 /// The items of a frame's journeys, in order, each with its own RecordedAtTime or the frame's.
-fn journeys_of_frame(
+pub(crate) fn journeys_of_frame(
     alloc: Global,
     frame: &Option<Moment>,
     journeys: List<Journey>,
@@ -72,7 +72,10 @@ impl Table for FrameTable {
 }
 
 /// The items of all frames in one list, frame by frame.
-fn concat_frames(alloc: Global, frames: List<List<Item>>) -> Result<List<Item>, OutOfMemory>
+pub(crate) fn concat_frames(
+    alloc: Global,
+    frames: List<List<Item>>,
+) -> Result<List<Item>, OutOfMemory>
     ensures { IfOk result (λ items. items ≡ concat_frames frames) }
 {
     let mut items = Vec::new(alloc);

@@ -1,24 +1,26 @@
-//! A program for the benchmark: does the first phases of reading and writing a delivery of visits, so that the time of
-//! each phase is the difference of two runs.
+//! A program for the benchmark: does the first phases of reading and writing a document, so that the time of each phase
+//! is the difference of two runs.
 //!
 //! `siri_speed PHASE < DOCUMENT`, where PHASE is one of these, each after those before it:
 //!
 //! | Phase | What is done |
 //! |---|---|
 //! | `bytes` | the document is read into memory |
-//! | `tree` | its tree is read |
-//! | `items` | the visits of its StopMonitoringDelivery are read from the tree |
-//! | `text` | their texts are written |
+//! | `tokens` | its tokens are read, and nothing is made of them |
+//! | `message` | its message is read, and its tokens by that, so this comes in the place of `tokens` |
+//! | `text` | the message's text is written |
 //!
-//! It prints how many bytes, items or bytes of text it made. With no word it prints nothing.
+//! and, in the place of `message`, `tree`: a tree of the whole document, as it is read where its message isn't one of
+//! deliveries or is refused.
+//!
+//! It prints how many bytes, tokens or bytes of text it made, and 1 for a message or a tree. With no word it prints nothing.
 #![tactic(auto)]
 
+use json::{Reader, Token};
 use siri_base::OutOfMemory;
-use siri_items::{read_item, write_item};
-use siri_json::{Output, Path, Scratch, Tree, TreeError, entry_at, entry_list, member, read_tree};
-use siri_records::{Item, Service};
-use siri_tables::TableError;
-use std::alloc::{AllocError, AllocFailed, Global};
+use siri_json::{Scratch, TreeError, read_tree};
+use siri_wire::{DecodeError, decode, encode};
+use std::alloc::{AllocError, Global};
 use std::env;
 use std::io::Read;
 use std::process::ExitCode;
@@ -39,12 +41,6 @@ impl From<AllocError> for Stopped {
     }
 }
 
-impl<T: Drop> From<AllocFailed<T>> for Stopped {
-    fn from(_: AllocFailed<T>) -> Self {
-        Stopped
-    }
-}
-
 impl From<std::io::Error> for Stopped {
     fn from(_: std::io::Error) -> Self {
         Stopped
@@ -57,8 +53,8 @@ impl From<TreeError> for Stopped {
     }
 }
 
-impl From<TableError> for Stopped {
-    fn from(_: TableError) -> Self {
+impl From<DecodeError> for Stopped {
+    fn from(_: DecodeError) -> Self {
         Stopped
     }
 }
@@ -90,46 +86,40 @@ fn measured(rt: &HostRuntime, phase: &str) -> Result<(), Stopped> {
     Ok(())
 }
 
-/// How many bytes, visits or bytes of text the phase of that name made.
+/// How many bytes, tokens or bytes of text the phase of that name made.
 fn made(alloc: Global, document: Vec<u8>, phase: &str) -> Result<usize, Stopped> {
-    if phase == "bytes" {
-        return Ok(document.len());
+    match phase {
+        "bytes" => Ok(document.len()),
+        "tokens" => tokens(alloc, &document),
+        "tree" => {
+            let mut scratch = Scratch::new(alloc);
+            read_tree(alloc, &document, &mut scratch)?;
+            Ok(1)
+        }
+        "message" => {
+            decode(alloc, &document)?;
+            Ok(1)
+        }
+        _ => {
+            let message = decode(alloc, &document)?;
+            Ok(encode(alloc, &message)?.len())
+        }
     }
+}
+
+/// How many tokens a document has.
+fn tokens(alloc: Global, document: &[u8]) -> Result<usize, Stopped> {
+    let Ok(text) = simdutf8::compat::from_utf8(document) else {
+        return Err(Stopped);
+    };
     let mut scratch = Scratch::new(alloc);
-    let tree = read_tree(alloc, &document, &mut scratch)?;
-    let visits = visits_of(&tree).ok_or(Stopped)?;
-    if phase == "tree" {
-        return Ok(visits.len());
+    let mut reader = Reader::new(text, &mut scratch)?;
+    for count in 0..usize::MAX {
+        match reader.next() {
+            Some(Token::Bad) => return Err(Stopped),
+            Some(_) => {}
+            None => return Ok(count),
+        }
     }
-    let items = items_of(alloc, visits)?;
-    if phase == "items" {
-        return Ok(items.len());
-    }
-    text_len(alloc, &items)
-}
-
-/// The visits of the first StopMonitoringDelivery.
-fn visits_of<'v, 'a>(tree: &'v Tree<'a>) -> Option<&'v [Tree<'a>]> {
-    let delivery = member(member(tree, "Siri")?, "ServiceDelivery")?;
-    let service = entry_at(member(delivery, "StopMonitoringDelivery")?, 0)?;
-    Some(entry_list(member(service, "MonitoredStopVisit")?))
-}
-
-/// The items that the visits are read as, until the first is refused.
-fn items_of(alloc: Global, visits: &[Tree<'_>]) -> Result<Vec<Item>, Stopped> {
-    let root = Path::new(alloc);
-    let mut items = Vec::new(alloc);
-    for visit in visits {
-        items.push(read_item(alloc, visit, Service::Stop, &root)?)?;
-    }
-    Ok(items)
-}
-
-/// How many bytes the texts of these items have, one after another.
-fn text_len(alloc: Global, items: &[Item]) -> Result<usize, Stopped> {
-    let mut out = Output::new(alloc);
-    for item in items {
-        write_item(&mut out, item)?;
-    }
-    Ok(out.into_text().len())
+    Err(Stopped)
 }

@@ -6,8 +6,8 @@
 //! ```
 //!
 //! A call that takes memory is proved also where its body gives up for want of it; these runs see that it doesn't where
-//! memory is there. What no command brings stands in `times`, `trees`, `queries`, `refusals`, `views`, `reads` and
-//! `system`.
+//! memory is there. What no command brings stands in `times`, `trees`, `incoming`, `queries`, `refusals`,
+//! `views`, `reads` and `system`.
 //!
 //! Stands on `siri_cli`, and for those on the crates of their calls. It has no code of its own outside of tests, so
 //! that no crate is proved a second time for them.
@@ -27,6 +27,8 @@ mod getting;
 mod harness;
 #[cfg(test)]
 mod hostile;
+#[cfg(test)]
+mod incoming;
 #[cfg(test)]
 mod items;
 #[cfg(test)]

@@ -1,3 +1,4 @@
 pub mod Documents
 pub mod Framed
 pub mod InOrder
+pub mod Plain

@@ -5,6 +5,7 @@ ghost use Rattle.siri_json.specs.Shown.{shown};
 ghost use Rattle.siri_tables.specs.Refusals.{Gives};
 ghost use Rattle.siri_wire.specs.Documents.{message_at, siri, root, message_of, Decodes, decode_error, refusal_text};
 
+use crate::incoming::read_delivery;
 use crate::kinds::{Kind, only_held};
 use crate::read_requests::ServiceRequestTable;
 use crate::read_statuses::{
@@ -19,7 +20,7 @@ use crate::read_terminations::{
     TerminateSubscriptionRequestTable, TerminateSubscriptionResponseTable,
 };
 use siri_base::{OutOfMemory, Reason, append};
-use siri_deliveries::{ServiceDeliveryTable, names};
+use siri_deliveries::{NotRead, ServiceDeliveryTable, names};
 use siri_json::{Path, Scratch, Tree, TreeError, read_tree};
 use siri_messages::Message;
 use siri_tables::TableError;
@@ -166,12 +167,27 @@ fn root(alloc: Global, tree: &Tree<'_>) -> Result<Message, TableError>
 }
 
 /// The message of a document or its first refusal, `TooLong` and `NotJson` before all others.
-#[tactic(auto, unfolding(crate::specs::Documents::message_of))]
 fn message_of(alloc: Global, document: &[u8]) -> Result<Message, TableError>
     ensures { Gives result (message_of document.now) }
 {
     let mut scratch = Scratch::new(alloc);
-    match read_tree(alloc, document, &mut scratch) {
+    match read_delivery(alloc, document, &mut scratch) {
+        Ok(delivery) => Ok(Message::ServiceDelivery(delivery)),
+        Err(NotRead::Otherwise) => message_by_tree(alloc, document, &mut scratch),
+        Err(NotRead::OutOfMemory) => Err(TableError::OutOfMemory),
+    }
+}
+
+/// The same by the document's tree.
+#[tactic(auto, unfolding(crate::specs::Documents::message_of))]
+fn message_by_tree(
+    alloc: Global,
+    document: &[u8],
+    scratch: &mut Scratch,
+) -> Result<Message, TableError>
+    ensures { Gives result (message_of document.now) }
+{
+    match read_tree(alloc, document, scratch) {
         Ok(tree) => root(alloc, &tree),
         Err(TreeError::TooLong) => refuse(alloc, Reason::TooLong),
         Err(TreeError::NotJson) => refuse(alloc, Reason::NotJson),

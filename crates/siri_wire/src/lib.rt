@@ -2,6 +2,7 @@
 //!
 //! ```text
 //!   bytes --siri_json::read_tree--> tree --message--> Message      decode
+//!   bytes --json::Reader--> tokens --ServiceDelivery--> Message    decode, where it isn't refused
 //!   bytes <-siri_json::Output <-written--- Message      encode
 //! ```
 //!
@@ -19,6 +20,7 @@
 mod document;
 mod encoding;
 mod frame;
+mod incoming;
 mod kinds;
 mod read_requests;
 mod read_statuses;
