@@ -10,17 +10,24 @@
 //! | `message` | its message is read, and its tokens by that, so this comes in the place of `tokens` |
 //! | `text` | the message's text is written |
 //!
-//! and, in the place of `message`, `tree`: a tree of the whole document, as it is read where its message isn't one of
-//! deliveries or is refused.
+//! and in the place of `message`, as a document is read that is refused:
 //!
-//! It prints how many bytes, tokens or bytes of text it made, and 1 for a message or a tree. With no word it prints nothing.
+//! | Phase | What is done |
+//! |---|---|
+//! | `tree` | a tree of the whole document is read |
+//! | `items` | the visits of its StopMonitoringDelivery are read from the tree |
+//!
+//! It prints how many bytes, tokens, visits or bytes of text it made, and 1 for a message. With no word it prints nothing.
 #![tactic(auto)]
 
 use json::{Reader, Token};
 use siri_base::OutOfMemory;
-use siri_json::{Scratch, TreeError, read_tree};
+use siri_items::read_item;
+use siri_json::{Path, Scratch, Tree, TreeError, entry_at, entry_list, member, read_tree};
+use siri_records::{Item, Service};
+use siri_tables::TableError;
 use siri_wire::{DecodeError, decode, encode};
-use std::alloc::{AllocError, Global};
+use std::alloc::{AllocError, AllocFailed, Global};
 use std::env;
 use std::io::Read;
 use std::process::ExitCode;
@@ -41,6 +48,12 @@ impl From<AllocError> for Stopped {
     }
 }
 
+impl<T: Drop> From<AllocFailed<T>> for Stopped {
+    fn from(_: AllocFailed<T>) -> Self {
+        Stopped
+    }
+}
+
 impl From<std::io::Error> for Stopped {
     fn from(_: std::io::Error) -> Self {
         Stopped
@@ -49,6 +62,12 @@ impl From<std::io::Error> for Stopped {
 
 impl From<TreeError> for Stopped {
     fn from(_: TreeError) -> Self {
+        Stopped
+    }
+}
+
+impl From<TableError> for Stopped {
+    fn from(_: TableError) -> Self {
         Stopped
     }
 }
@@ -91,11 +110,7 @@ fn made(alloc: Global, document: Vec<u8>, phase: &str) -> Result<usize, Stopped>
     match phase {
         "bytes" => Ok(document.len()),
         "tokens" => tokens(alloc, &document),
-        "tree" => {
-            let mut scratch = Scratch::new(alloc);
-            read_tree(alloc, &document, &mut scratch)?;
-            Ok(1)
-        }
+        "tree" | "items" => by_tree(alloc, &document, phase),
         "message" => {
             decode(alloc, &document)?;
             Ok(1)
@@ -105,6 +120,34 @@ fn made(alloc: Global, document: Vec<u8>, phase: &str) -> Result<usize, Stopped>
             Ok(encode(alloc, &message)?.len())
         }
     }
+}
+
+/// How many visits a document's tree has, and how many were read from it.
+fn by_tree(alloc: Global, document: &[u8], phase: &str) -> Result<usize, Stopped> {
+    let mut scratch = Scratch::new(alloc);
+    let tree = read_tree(alloc, document, &mut scratch)?;
+    let visits = visits_of(&tree).ok_or(Stopped)?;
+    if phase == "tree" {
+        return Ok(visits.len());
+    }
+    Ok(items_of(alloc, visits)?.len())
+}
+
+/// The visits of the first StopMonitoringDelivery.
+fn visits_of<'v, 'a>(tree: &'v Tree<'a>) -> Option<&'v [Tree<'a>]> {
+    let delivery = member(member(tree, "Siri")?, "ServiceDelivery")?;
+    let service = entry_at(member(delivery, "StopMonitoringDelivery")?, 0)?;
+    Some(entry_list(member(service, "MonitoredStopVisit")?))
+}
+
+/// The items that the visits are read as, until the first is refused.
+fn items_of(alloc: Global, visits: &[Tree<'_>]) -> Result<Vec<Item>, Stopped> {
+    let root = Path::new(alloc);
+    let mut items = Vec::new(alloc);
+    for visit in visits {
+        items.push(read_item(alloc, visit, Service::Stop, &root)?)?;
+    }
+    Ok(items)
 }
 
 /// How many tokens a document has.
