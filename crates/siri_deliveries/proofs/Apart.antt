@@ -6,7 +6,7 @@ use Rattle.json.specs.Json.{Members, object}
 use Rattle.serde_json.specs.Data.{Data}
 use Rattle.serde_json.specs.Find.{get}
 use Rattle.siri_json.specs.Shown.{data_of}
-use Rattle.siri_json.specs.Values.{member_of, unless_null}
+use Rattle.siri_json.specs.Values.{member_of, unless_null, object_in}
 use Rattle.siri_json.specs.declared.path.Step.TheVariants.{Member}
 use Rattle.siri_items.specs.Journeys.{journey}
 use Rattle.siri_records.specs.declared.item.Item.{Item}
@@ -16,19 +16,19 @@ use Rattle.siri_messages.specs.declared.deliveries.FunctionalDelivery.{Functiona
 use Rattle.siri_messages.specs.declared.deliveries.ServiceDelivery.{ServiceDelivery}
 use Rattle.siri_base.specs.declared.reason.Reason.TheVariants.{TooMany}
 use Rattle.siri_tables.specs.Refusals.{Refusal, ◌>>=◌, below, refused}
-use Rattle.siri_tables.specs.Rules.{table, row, list, maybe, or_empty, at_most, list_of, entry_count, moment, name, flag}
+use Rattle.siri_tables.specs.Rules.{table, row, list, maybe, or_empty, at_most, list_of, list_inside, unless_wrong, entry_count, moment, name, flag}
 use Rattle.siri_deliveries.specs.AsItComes.{entries, is_among, AreOthers, IsOwn}
-use Rattle.siri_deliveries.specs.Incoming.{of_services, AreDeliveries}
+use Rattle.siri_deliveries.specs.Incoming.{of_services, situations_in, AreDeliveries}
 use Rattle.siri_deliveries.specs.declared.incoming_deliveries.Deliveries.{Deliveries}
 use Rattle.siri_deliveries.specs.Deliveries.{visit_item, stop_monitoring_delivery, estimated_timetable_delivery, vehicle_monitoring_delivery}
-use Rattle.siri_deliveries.specs.Deliveries.{situation_exchange_delivery, service_delivery, make_service_delivery, vehicle_item, with_extensions}
+use Rattle.siri_deliveries.specs.Deliveries.{situation_exchange_delivery, service_delivery, make_service_delivery, vehicle_item, situation_item, with_extensions}
 use Rattle.siri_deliveries.specs.Limits.{most_entries}
 use Rattle.siri_deliveries.specs.Errors.{other_error}
 use Rattle.siri_deliveries.specs.Frames.{journey_of_frame, journeys, frame, concat_frames, frames_of, journeys_of_frames}
 use Rattle.siri_deliveries.specs.Parts.{heading, round_position, no_round, delivery_extensions, no_extensions, delivery_of}
-use Rattle.siri_deliveries.specs.Removals.{visit_cancellation, vehicle_cancellation, removed_journey}
+use Rattle.siri_deliveries.specs.Removals.{visit_cancellation, vehicle_cancellation, removed_journey, removed_situation}
 use Rattle.siri_deliveries.specs.declared.names.TheConstants.{MONITORED_STOP_VISIT, MONITORED_STOP_VISIT_CANCELLATION, STOP_MONITORING_DELIVERY}
-use Rattle.siri_deliveries.specs.declared.names.TheConstants.{VEHICLE_ACTIVITY, VEHICLE_ACTIVITY_CANCELLATION}
+use Rattle.siri_deliveries.specs.declared.names.TheConstants.{VEHICLE_ACTIVITY, VEHICLE_ACTIVITY_CANCELLATION, SITUATIONS, PT_SITUATION_ELEMENT}
 use Rattle.siri_deliveries.specs.declared.names.TheConstants.{ESTIMATED_VEHICLE_JOURNEY, ESTIMATED_JOURNEY_VERSION_FRAME}
 use Rattle.siri_items.specs.declared.names.TheConstants.{RECORDED_AT_TIME}
 use Rattle.siri_deliveries.specs.declared.names.TheConstants.{ESTIMATED_TIMETABLE_DELIVERY, VEHICLE_MONITORING_DELIVERY}
@@ -171,6 +171,35 @@ journeys_apart ms others found h own le d e =
     let heads = same_heading (key ∷ []) ms others h refl refl refl refl refl in
     let rest = same_row (key ∷ []) ms others h gone EXTENSIONS.now refl in
     let all = frames_read (unless_null (get key (data_of (object ms)))) found own le in
+    rw (heads, rest, all)
+    (then (heading others) _ _ d (with_items d items) (λ x at_heading.
+    then (row gone EXTENSIONS.now others >>= λ o. Ok (unwrap_or o no_extensions)) _ _ d (with_items d items) (λ y at_rest.
+    let made : with_extensions x y [] ≡ d = cc at_rest in ap (λ (made : FunctionalDelivery). Ok (with_items made items)) made)
+    at_heading) (rw (h.none key refl) at e))
+
+-- ---- situations, which stand in an object of their own
+
+pub situations_are : (ms : Members) (items : List Item)
+    → IsOwn (entries situation_item most_entries) PT_SITUATION_ELEMENT.now ms items → situations_in (data_of (object ms)) ≡ Ok items
+unfolding object_in
+situations_are ms items own = own_list situation_item most_entries PT_SITUATION_ELEMENT.now ms items own
+
+situations_read : (o : Option Data) (items : List Item) → or_empty situations_in o ≡ Ok items
+    → (maybe (λ v. unless_wrong (object_in v)) o >>= or_empty (list (table situation_item) most_entries PT_SITUATION_ELEMENT.now)) ≡ Ok items
+situations_read None items e = e
+situations_read (Some d) items e = e
+
+pub situations_apart : (ms : Members) (others : Data) (items : List Item) → AreOthers (SITUATIONS.now ∷ []) ms others
+    → IsOwn situations_in SITUATIONS.now ms items
+    → (d : FunctionalDelivery) → situation_exchange_delivery others ≡ Ok d
+    → situation_exchange_delivery (data_of (object ms)) ≡ Ok (with_items d items)
+unfolding situation_exchange_delivery list_inside member_of
+situations_apart ms others items h own d e =
+    let key = SITUATIONS.now in
+    let gone = table (delivery_extensions removed_situation) in
+    let heads = same_heading (key ∷ []) ms others h refl refl refl refl refl in
+    let rest = same_row (key ∷ []) ms others h gone EXTENSIONS.now refl in
+    let all = situations_read (unless_null (get key (data_of (object ms)))) items own in
     rw (heads, rest, all)
     (then (heading others) _ _ d (with_items d items) (λ x at_heading.
     then (row gone EXTENSIONS.now others >>= λ o. Ok (unwrap_or o no_extensions)) _ _ d (with_items d items) (λ y at_rest.

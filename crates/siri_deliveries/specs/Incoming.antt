@@ -1,13 +1,22 @@
 -- The deliveries of an object, read as they come.
-use Rattle.std.specs.Prelude.{◌≡◌, ℕ, List, [], ◌∷◌, Some}
+use Rattle.std.specs.Prelude.{◌≡◌, ℕ, List, [], ◌∷◌, Some, Result}
 use Rattle.json.specs.Token.{Token}
 use Rattle.json.specs.Json.{Members, object, value}
 use Rattle.serde_json.specs.Data.{Data}
+use Rattle.siri_json.specs.Values.{object_in}
+use Rattle.siri_records.specs.declared.item.Item.{Item}
+use Rattle.siri_tables.specs.Refusals.{Refusal, ◌>>=◌}
+use Rattle.siri_tables.specs.Rules.{table, list, or_empty, unless_wrong}
 use Rattle.siri_deliveries.specs.AsItComes.{entries, AreOthers, IsOwn}
-use Rattle.siri_deliveries.specs.Deliveries.{stop_monitoring_delivery, estimated_timetable_delivery, vehicle_monitoring_delivery, situation_exchange_delivery}
+use Rattle.siri_deliveries.specs.Deliveries.{stop_monitoring_delivery, estimated_timetable_delivery, vehicle_monitoring_delivery, situation_exchange_delivery, situation_item}
+use Rattle.siri_deliveries.specs.Limits.{most_entries}
 use Rattle.siri_deliveries.specs.declared.incoming_deliveries.Deliveries.{Deliveries}
 use Rattle.siri_deliveries.specs.declared.names.TheConstants.{STOP_MONITORING_DELIVERY, ESTIMATED_TIMETABLE_DELIVERY}
-use Rattle.siri_deliveries.specs.declared.names.TheConstants.{VEHICLE_MONITORING_DELIVERY, SITUATION_EXCHANGE_DELIVERY}
+use Rattle.siri_deliveries.specs.declared.names.TheConstants.{VEHICLE_MONITORING_DELIVERY, SITUATION_EXCHANGE_DELIVERY, PT_SITUATION_ELEMENT}
+
+-- what the value of Situations is read as
+abbrev pub situations_in : Data → Result (List Item) Refusal
+situations_in d = unless_wrong (object_in d) >>= or_empty (list (table situation_item) most_entries PT_SITUATION_ELEMENT.now)
 
 -- the names of the four services' deliveries
 abbrev pub of_services : List (List ℕ)

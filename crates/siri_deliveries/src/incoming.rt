@@ -4,8 +4,10 @@
 //! Only what is read without a refusal is read so. Where something is refused, or stands in a form that is rare, nothing
 //! is told but that, and the tree of the document tells the rest.
 
-ghost use Rattle.std.specs.Prelude.{◌≡◌, IfOk};
+ghost use Rattle.std.specs.Prelude.{◌≡◌, Result, List, IfOk};
+ghost use Rattle.serde_json.specs.Data.{Data};
 ghost use Rattle.siri_json.specs.Shown.{shown};
+ghost use Rattle.siri_tables.specs.Refusals.{Refusal};
 ghost use Rattle.siri_deliveries.specs.AsItComes.{Comes, ListComes, PartsCome, entries};
 
 use json::{Error as JsonError, Invalid, Reader, Token};
@@ -117,16 +119,32 @@ pub(crate) fn list_next<T: Incoming>(
     Ok(List::of(found))
 }
 
-/// The object that stands next in two parts: a tree of its members but those named `key`, and the entries of the last of
-/// that name, at most so many, none where there is none.
-pub(crate) fn parts_next<'a, T: Incoming>(
+/// A list that is read apart from the object that it stands in.
+pub(crate) trait Apart {
+    /// What its entries are read as.
+    type Out: Drop;
+
+    /// What a value is read as, or the first refusal.
+    ghost read: { Data → Result (List Self.Out) Refusal };
+
+    /// What the value that stands next is read as.
+    fn next(
+        alloc: Global,
+        reader: &mut Reader<'_>,
+        depth: usize,
+    ) -> Result<List<Self::Out>, NotRead>
+        ensures { IfOk result (λ list. ListComes read depth reader.old reader.new list) };
+}
+
+/// The object that stands next in two parts: a tree of its members but those named `key`, and what the last of that name
+/// is read as, nothing where there is none.
+pub(crate) fn parts_next<'a, A: Apart>(
     alloc: Global,
     reader: &mut Reader<'a>,
     depth: usize,
     key: &str,
-    most: usize,
-) -> Result<(Tree<'a>, List<T::Out>), NotRead>
-    ensures { IfOk result (λ parts. PartsCome (entries T.rows most) key.now depth reader.old reader.new (shown parts.0) parts.1) }
+) -> Result<(Tree<'a>, List<A::Out>), NotRead>
+    ensures { IfOk result (λ parts. PartsCome A.read key.now depth reader.old reader.new (shown parts.0) parts.1) }
 {
     if depth == 0 {
         return Err(NotRead::Otherwise);
@@ -138,7 +156,7 @@ pub(crate) fn parts_next<'a, T: Incoming>(
     let mut own = List::new(alloc);
     while let Some(name) = reader.next_key()? {
         if name == key {
-            own = list_next::<T>(alloc, reader, depth - 1, most)?;
+            own = A::next(alloc, reader, depth - 1)?;
         } else {
             others.push((name, Tree::read(alloc, reader, depth - 1)?))?;
         }

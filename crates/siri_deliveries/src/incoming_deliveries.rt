@@ -3,14 +3,18 @@
 ghost use Rattle.std.specs.Prelude.{◌≡◌, IfOk};
 ghost use Rattle.siri_json.specs.Shown.{shown};
 ghost use Rattle.siri_deliveries.specs.AsItComes.{Comes, ListComes, entries};
-ghost use Rattle.siri_deliveries.specs.Incoming.{DeliveriesCome, no_deliveries};
+ghost use Rattle.siri_deliveries.specs.Deliveries.{visit_item, vehicle_item, situation_item};
+ghost use Rattle.siri_deliveries.specs.Frames.{frame};
+ghost use Rattle.siri_deliveries.specs.Incoming.{DeliveriesCome, no_deliveries, situations_in};
+ghost use Rattle.siri_deliveries.specs.Limits.{most_entries};
+ghost use Rattle.siri_items.specs.Journeys.{journey};
 
-use crate::incoming::{Incoming, NotRead, by_tree, list_next, parts_next};
+use crate::incoming::{Apart, Incoming, NotRead, by_tree, list_next, parts_next};
 use crate::names;
 use crate::read_deliveries::{
     EstimatedTimetableDeliveryTable, MOST_DELIVERIES, ServiceDeliveryTable,
-    SituationExchangeDeliveryTable, StopMonitoringDeliveryTable, VehicleItemTable,
-    VehicleMonitoringDeliveryTable, VisitItemTable,
+    SituationExchangeDeliveryTable, SituationItemTable, StopMonitoringDeliveryTable,
+    VehicleItemTable, VehicleMonitoringDeliveryTable, VisitItemTable,
 };
 use crate::read_frames::{FrameTable, concat_frames, journeys_of_frame};
 use crate::read_parts::MOST_ENTRIES;
@@ -34,6 +38,98 @@ pub(crate) struct Deliveries {
     pub situation_exchange: List<FunctionalDelivery>,
 }
 
+/// The visits of a delivery.
+struct Visits;
+
+impl Apart for Visits {
+    type Out = Item;
+
+    ghost read = { entries visit_item most_entries };
+
+    fn next(alloc: Global, reader: &mut Reader<'_>, depth: usize) -> Result<List<Item>, NotRead> {
+        list_next::<VisitItemTable>(alloc, reader, depth, MOST_ENTRIES)
+    }
+}
+
+/// The vehicle activities of a delivery.
+struct VehicleActivities;
+
+impl Apart for VehicleActivities {
+    type Out = Item;
+
+    ghost read = { entries vehicle_item most_entries };
+
+    fn next(alloc: Global, reader: &mut Reader<'_>, depth: usize) -> Result<List<Item>, NotRead> {
+        list_next::<VehicleItemTable>(alloc, reader, depth, MOST_ENTRIES)
+    }
+}
+
+/// The journeys of a frame.
+struct Journeys;
+
+impl Apart for Journeys {
+    type Out = Journey;
+
+    ghost read = { entries journey most_entries };
+
+    fn next(
+        alloc: Global,
+        reader: &mut Reader<'_>,
+        depth: usize,
+    ) -> Result<List<Journey>, NotRead> {
+        list_next::<JourneyTable>(alloc, reader, depth, MOST_ENTRIES)
+    }
+}
+
+/// The frames of a delivery, each as the items of its journeys.
+struct Frames;
+
+impl Apart for Frames {
+    type Out = List<Item>;
+
+    ghost read = { entries frame most_entries };
+
+    fn next(
+        alloc: Global,
+        reader: &mut Reader<'_>,
+        depth: usize,
+    ) -> Result<List<List<Item>>, NotRead> {
+        list_next::<FrameTable>(alloc, reader, depth, MOST_ENTRIES)
+    }
+}
+
+/// The situations in the Situations of a delivery.
+struct SituationElements;
+
+impl Apart for SituationElements {
+    type Out = Item;
+
+    ghost read = { entries situation_item most_entries };
+
+    fn next(alloc: Global, reader: &mut Reader<'_>, depth: usize) -> Result<List<Item>, NotRead> {
+        list_next::<SituationItemTable>(alloc, reader, depth, MOST_ENTRIES)
+    }
+}
+
+/// Situations, in which they stand; what else stands there isn't looked at.
+struct Situations;
+
+impl Apart for Situations {
+    type Out = Item;
+
+    ghost read = { situations_in };
+
+    fn next(alloc: Global, reader: &mut Reader<'_>, depth: usize) -> Result<List<Item>, NotRead> {
+        let (_, items) = parts_next::<SituationElements>(
+            alloc,
+            reader,
+            depth,
+            names::PT_SITUATION_ELEMENT,
+        )?;
+        Ok(items)
+    }
+}
+
 impl Incoming for VisitItemTable {
     fn read_next(alloc: Global, reader: &mut Reader<'_>, depth: usize) -> Result<Item, NotRead> {
         by_tree::<VisitItemTable>(alloc, reader, depth)
@@ -43,6 +139,12 @@ impl Incoming for VisitItemTable {
 impl Incoming for VehicleItemTable {
     fn read_next(alloc: Global, reader: &mut Reader<'_>, depth: usize) -> Result<Item, NotRead> {
         by_tree::<VehicleItemTable>(alloc, reader, depth)
+    }
+}
+
+impl Incoming for SituationItemTable {
+    fn read_next(alloc: Global, reader: &mut Reader<'_>, depth: usize) -> Result<Item, NotRead> {
+        by_tree::<SituationItemTable>(alloc, reader, depth)
     }
 }
 
@@ -59,12 +161,11 @@ impl Incoming for FrameTable {
         reader: &mut Reader<'_>,
         depth: usize,
     ) -> Result<List<Item>, NotRead> {
-        let (others, journeys) = parts_next::<JourneyTable>(
+        let (others, journeys) = parts_next::<Journeys>(
             alloc,
             reader,
             depth,
             names::ESTIMATED_VEHICLE_JOURNEY,
-            MOST_ENTRIES,
         )?;
         let recorded_at_time = row::<MomentRule>(alloc, &others, RECORDED_AT_TIME)?;
         Ok(journeys_of_frame(alloc, &recorded_at_time, journeys)?)
@@ -78,12 +179,11 @@ impl Incoming for StopMonitoringDeliveryTable {
         reader: &mut Reader<'_>,
         depth: usize,
     ) -> Result<FunctionalDelivery, NotRead> {
-        let (others, items) = parts_next::<VisitItemTable>(
+        let (others, items) = parts_next::<Visits>(
             alloc,
             reader,
             depth,
             names::MONITORED_STOP_VISIT,
-            MOST_ENTRIES,
         )?;
         let mut delivery = StopMonitoringDeliveryTable::read_rows(alloc, &others)?;
         delivery.items = items;
@@ -98,12 +198,11 @@ impl Incoming for EstimatedTimetableDeliveryTable {
         reader: &mut Reader<'_>,
         depth: usize,
     ) -> Result<FunctionalDelivery, NotRead> {
-        let (others, frames) = parts_next::<FrameTable>(
+        let (others, frames) = parts_next::<Frames>(
             alloc,
             reader,
             depth,
             names::ESTIMATED_JOURNEY_VERSION_FRAME,
-            MOST_ENTRIES,
         )?;
         let mut delivery = EstimatedTimetableDeliveryTable::read_rows(alloc, &others)?;
         let items = concat_frames(alloc, frames)?;
@@ -122,12 +221,11 @@ impl Incoming for VehicleMonitoringDeliveryTable {
         reader: &mut Reader<'_>,
         depth: usize,
     ) -> Result<FunctionalDelivery, NotRead> {
-        let (others, items) = parts_next::<VehicleItemTable>(
+        let (others, items) = parts_next::<VehicleActivities>(
             alloc,
             reader,
             depth,
             names::VEHICLE_ACTIVITY,
-            MOST_ENTRIES,
         )?;
         let mut delivery = VehicleMonitoringDeliveryTable::read_rows(alloc, &others)?;
         delivery.items = items;
@@ -136,13 +234,16 @@ impl Incoming for VehicleMonitoringDeliveryTable {
 }
 
 impl Incoming for SituationExchangeDeliveryTable {
-    /// All of it by one tree.
+    /// Its situations one by one, all else by a tree.
     fn read_next(
         alloc: Global,
         reader: &mut Reader<'_>,
         depth: usize,
     ) -> Result<FunctionalDelivery, NotRead> {
-        by_tree::<SituationExchangeDeliveryTable>(alloc, reader, depth)
+        let (others, items) = parts_next::<Situations>(alloc, reader, depth, names::SITUATIONS)?;
+        let mut delivery = SituationExchangeDeliveryTable::read_rows(alloc, &others)?;
+        delivery.items = items;
+        Ok(delivery)
     }
 }
 

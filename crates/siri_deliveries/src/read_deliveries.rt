@@ -51,7 +51,7 @@ impl Table for VehicleItemTable {
 }
 
 /// A PtSituationElement as an item.
-struct SituationItemTable;
+pub(crate) struct SituationItemTable;
 
 impl Table for SituationItemTable {
     type Out = Item;

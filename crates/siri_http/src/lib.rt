@@ -9,7 +9,7 @@
 //!   an accepted connection  -> read_asked ---> a POST with its body, a refused request, or none; `Asking` says which
 //!                                              other requests are taken for a POST
 //!                           <- respond    <--- a status and a body; then it hangs up
-//!                           <- write_head <--- a status and a length; then pieces of a body, and end_response hangs up
+//!                           <- write_piece <-- response_head, then pieces of a body; end_response hangs up
 //!
 //!   an address and a body   -> post_to    ---> dials, writes, reads and hangs up: the body of a 200, or none
 //!   its text and a body     -> post       ---> the same, where the text is an address
@@ -48,6 +48,4 @@ pub use request::{HttpRequest, read_request};
 pub use responding::{end_response, respond};
 pub use response::{HttpResponse, read_response};
 pub use tally::Tally;
-pub use writing::{
-    response_head, write_get, write_head, write_piece, write_request, write_response,
-};
+pub use writing::{response_head, write_get, write_piece, write_request, write_response};

@@ -180,27 +180,6 @@ pub fn response_head(
     head_text(alloc, code_of(status), plain, length)
 }
 
-/// Writes the head of a response of one of the statuses 200, 400, 404, 405, 411, 413, 431 and 501, for a JSON body or a plain
-/// one of so many bytes. `WriteFault` comes only where the wire's count of faults rose.
-#[tactic(auto, using(crate::proofs::Sending::wrote_nothing))]
-pub fn write_head<W: Wire>(
-    alloc: Global,
-    wire: &mut W,
-    status: u16,
-    plain: bool,
-    length: u64,
-) -> Result<(), HttpError>
-    requires there { W.is_open wire.old }
-    requires status { is_written status ≡ true }
-    ensures open { W.is_open wire.new }
-    ensures told { OnConnection (PutsText (head_text status plain length) result) (W.tells wire.old) (W.tells wire.new) }
-    ensures cause { HasWriteCause (W.faults wire.old) (W.faults wire.new) result }
-    ensures ends { IfErr result EndsWrite }
-{
-    let head = response_head(alloc, status, plain, length)?;
-    write_piece(wire, &head)
-}
-
 /// Writes a response of one of the statuses 200, 400, 404, 405, 411, 413, 431 and 501, with a JSON body or a plain one.
 /// `WriteFault` comes only where the wire's count of faults rose.
 #[tactic(auto, using(crate::proofs::Sending::wrote_nothing))]

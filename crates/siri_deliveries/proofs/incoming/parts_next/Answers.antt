@@ -3,7 +3,6 @@ use Rattle.json.specs.Token.{Token}
 use Rattle.json.specs.Json.{no_members, members, value, read_key}
 use Rattle.json.specs.Value.{value_view}
 use Rattle.json.proofs.Trees.{none_before}
-use Rattle.siri_deliveries.specs.AsItComes.{entries}
 use Rattle.siri_deliveries.proofs.AsItComes.{with_member, none_came, another, its_own, stays, is_read, one_apart, one_among, passed, came_on, ended, are_others, is_own}
 use Rattle.siri_deliveries.proofs.incoming.parts_next.Goals as goal
 
@@ -28,7 +27,7 @@ loop-others-smaller g c =
 pub loop-others-smaller-then-eq : goal.loop-others-smaller-then-eq
 loop-others-smaller-then-eq g c =
     let key : read_key c.loop-others.reader ≡ Some (Some c.in-Some.name.now, c.next_key.new.self) = grind arith in
-    passed (c.args.depth - 1) c.loop-others.reader c.next_key.new.self c.list_next.new.reader c.in-Some.name.now c.in_ok-own.ensures.0 key c.in_ok-own.ensures.1
+    passed (c.args.depth - 1) c.loop-others.reader c.next_key.new.self c.next-then-eq.new.reader c.in-Some.name.now c.in_ok-own.ensures.0 key c.in_ok-own.ensures.1
 
 pub loop-others-preserved : goal.loop-others-preserved
 loop-others-preserved g c =
@@ -47,7 +46,7 @@ loop-others-preserved g c =
       on.1,
       on.2,
       rw pushed (another (c.args.key.now ∷ []) l.invariant.1 l.others.items (c.in-Some.name, v) (one_apart c.args.key.now k other) l.invariant.4),
-      stays (entries g.T.Table.rows c.args.most) c.args.key.now l.invariant.1 l.own k (value_view v) other l.invariant.5,
+      stays g.A.Apart.read c.args.key.now l.invariant.1 l.own k (value_view v) other l.invariant.5,
       omega (arith, l.invariant.6, passed (c.args.depth - 1) l.reader s r k (value_view v) key read),
     )
 
@@ -56,7 +55,7 @@ loop-others-preserved-then-eq g c =
     let l = c.loop-others in
     let k = c.in-Some.name.now in
     let s = c.next_key.new.self in
-    let r = c.list_next.new.reader in
+    let r = c.next-then-eq.new.reader in
     let key : read_key l.reader ≡ Some (Some k, s) = grind arith in
     let came = c.in_ok-own.ensures in
     let same : bytes_eq k c.args.key.now ≡ true = grind arith in
@@ -66,7 +65,7 @@ loop-others-preserved-then-eq g c =
       on.1,
       on.2,
       its_own (c.args.key.now ∷ []) l.invariant.1 l.others.items k came.0 (one_among c.args.key.now k same) l.invariant.4,
-      is_read (entries g.T.Table.rows c.args.most) c.args.key.now l.invariant.1 c.in_ok-own.own k came.0 same came.2 came.3,
+      is_read g.A.Apart.read c.args.key.now l.invariant.1 c.in_ok-own.own k came.0 same came.2 came.3,
       omega (arith, l.invariant.6, passed (c.args.depth - 1) l.reader s r k came.0 key came.1),
     )
 
@@ -80,5 +79,5 @@ returns g c =
       l.invariant.1,
       ended c.args.depth next l.reader c.args.reader.now r l.invariant.0 l.invariant.1 (omega (arith, c.if-depth-eq0.false)) l.invariant.2 l.invariant.3 first closing,
       are_others (c.args.key.now ∷ []) l.invariant.1 l.others l.invariant.4,
-      is_own (entries g.T.Table.rows c.args.most) c.args.key.now l.invariant.1 l.own l.invariant.5,
+      is_own g.A.Apart.read c.args.key.now l.invariant.1 l.own l.invariant.5,
     )
