@@ -3,6 +3,7 @@
 ghost use Rattle.std.specs.Prelude.{◌≡◌, None, IsSome};
 
 use crate::clock::system_moment;
+use crate::gone::Change;
 use crate::traffic::Traffic;
 use crate::wire::TcpWire;
 use siri_base::{Failed, Moment, Name, OutsideError, Wire};
@@ -17,11 +18,14 @@ use std::{io, str};
 /// ```text
 /// 2024-05-01T08:00:00Z accepted 127.0.0.1:50312 "POST / HTTP/1.1" "HTTP/1.1 200 OK" in 532 out 310 bytes, 3 ms
 /// 2024-05-01T08:00:02Z dialled 127.0.0.1:7002 failed: Connection refused (os error 111), 1 ms
+/// 2024-05-01T08:00:14Z left alone 127.0.0.1:7003 for 15 s
+/// 2024-05-01T08:00:44Z answers again 127.0.0.1:7003
 /// ```
 ///
-/// The moment at which it was accepted or dialled, the peer, the first lines of the request and of the response, how
-/// many bytes came in and went out, what the system told where a call failed, and how long it took. Nothing that a
-/// connection carries depends on it; a line that can't be written is left out.
+/// The moment at which it came or was dialled, the peer, the first lines of the request and of the response, how many
+/// bytes came in and went out, what the system told where a call failed, and how long it took. Where an address is left
+/// alone, a line says so once, and one says that it answers again; what isn't sent to it meanwhile has none. Nothing
+/// that a connection carries depends on it; a line that can't be written is left out.
 #[derive(Drop)]
 pub struct LoggedWire {
     wire: TcpWire,
@@ -66,6 +70,25 @@ impl Begun {
         Begun {
             moment: system_moment(rt),
             since: Instant::now(rt).ok(),
+        }
+    }
+
+    /// It began at this moment of the system's other clock, where that is known.
+    fn at(rt: &HostRuntime, since: Option<Instant>) -> Begun {
+        let now = Begun::now(rt);
+        match (now.moment, since) {
+            (Some(moment), Some(since)) => {
+                let begun = Begun {
+                    moment: None,
+                    since: Some(since),
+                };
+                let ago = i64::try_from(begun.milliseconds(rt)).unwrap_or(0);
+                Begun {
+                    moment: Moment::new(moment.ms().saturating_sub(ago)),
+                    since: Some(since),
+                }
+            }
+            _ => now,
         }
     }
 
@@ -143,6 +166,24 @@ fn write_failure(
     write_end(rt, begun, fault)
 }
 
+/// The line of an address that is left alone from now on, or answers again.
+fn write_change(rt: &HostRuntime, change: &Change) -> io::Result<()> {
+    write_begun(rt, &Begun::now(rt))?;
+    match change {
+        Change::Alone(address, seconds) => {
+            writeln!(rt.stderr(), "left alone {} for {seconds} s", address.text())
+        }
+        Change::Back(address) => writeln!(rt.stderr(), "answers again {}", address.text()),
+    }
+}
+
+/// The lines of changes, one after the other.
+fn write_changes(rt: &HostRuntime, changes: &[Change]) {
+    for change in changes {
+        let _ = write_change(rt, change);
+    }
+}
+
 /// What the system told last where a call failed, and how long it took.
 fn write_end(rt: &HostRuntime, begun: &Begun, fault: Option<io::Error>) -> io::Result<()> {
     if let Some(fault) = fault {
@@ -170,6 +211,18 @@ impl LoggedWire {
         }
     }
 
+    /// Tells what changed of addresses since this was told last.
+    fn tell_changes(&mut self)
+        ensures faults { self.new.wire.faults ≡ self.old.wire.faults }
+        ensures connection { self.new.wire.connection ≡ self.old.wire.connection }
+    {
+        if let Some(log) = &self.log
+            && let Some(changes) = self.wire.take_changes()
+        {
+            write_changes(&log.rt, &changes);
+        }
+    }
+
     /// What the system told at the last failure.
     pub fn fault(&self) -> Option<io::Error>
         ensures { result ≡ self.now.wire.fault }
@@ -192,9 +245,11 @@ impl Wire for LoggedWire {
     fn accept(&mut self) -> Result<(), OutsideError> {
         let told = self.wire.accept();
         if let (Some(log), Ok(())) = (&mut self.log, told) {
-            let begun = Begun::now(&log.rt);
-            log.begin(Way::Accepted, begun, self.wire.peer());
+            let rt = log.rt;
+            let (peer, came) = self.wire.peer();
+            log.begin(Way::Accepted, Begun::at(&rt, came), peer);
         }
+        self.tell_changes();
         told
     }
 
@@ -206,12 +261,14 @@ impl Wire for LoggedWire {
         let told = self.wire.dial(address);
         if let (Some(log), Some(begun)) = (&mut self.log, begun) {
             match told {
-                Ok(()) => log.begin(Way::Dialled, begun, self.wire.peer()),
+                Ok(()) => log.begin(Way::Dialled, begun, self.wire.peer().0),
+                Err(_) if self.wire.was_left_alone() => {}
                 Err(_) => {
                     let _ = write_failure(&log.rt, &begun, address.text(), self.wire.fault());
                 }
             }
         }
+        self.tell_changes();
         told
     }
 
@@ -242,6 +299,7 @@ impl Wire for LoggedWire {
         if let Some(log) = &mut self.log {
             log.end();
         }
+        self.tell_changes();
     }
 }
 

@@ -3,37 +3,25 @@
 ghost use Rattle.std.specs.Prelude.{◌≡◌, ◌≤◌, None, IsSome};
 ghost use Rattle.siri_base.specs.Causes.{Rose};
 
-use crate::connection::Connection;
+use crate::beside::{Beside, is_left_alone};
+use crate::connection::{Connection, Whose};
+use crate::gone::Change;
 use siri_base::{Failed, Name, OutsideError, Wire};
+use std::io;
 use std::io::ErrorKind;
-use std::net::{SocketAddr, TcpListener, TcpStream, ToSocketAddrs};
-use std::time::Duration;
-use std::{io, thread};
+use std::net::SocketAddr;
+use std::time::Instant;
 
-/// How long it may take to make a connection, in seconds, which the addresses of a name share alike. A host that is
-/// there answers at once, or to the second packet, which the system sends after a second; of one that swallows packets
-/// the system itself waits for two minutes, and everybody else with it.
-const DIAL_SECONDS: u64 = 2;
-
-/// How often it is tried to accept a connection where that fails for no fault of the listener.
-const MOST_TRIES: u32 = 600;
-
-/// How long it is waited for descriptors before the next try, in milliseconds: with all tries, for a minute.
-const PAUSE_MILLISECONDS: u64 = 100;
-
-/// What the system tells of a connection that came and was given up before it was accepted: ENONET, EPROTO,
-/// ENOPROTOOPT, ENETDOWN, ENETUNREACH, ECONNABORTED, ECONNRESET, EHOSTDOWN and EHOSTUNREACH.
-const GIVEN_UP: [i32; 9] = [64, 71, 92, 100, 101, 103, 104, 112, 113];
-
-/// What the system tells where descriptors or buffers are short: ENFILE, EMFILE and ENOBUFS.
-const SHORT: [i32; 3] = [23, 24, 105];
-
-/// One connection at a time over TCP. To make one takes at most two seconds, but for the look-up of a host's name. What
-/// a connection may take is said in `connection`; to accept waits for as long as none comes.
+/// One connection at a time over TCP, and what goes on beside it: clients that come are read side by side until one has
+/// its turn, and answers go out as they are taken. How long this end waits for whom is said in `connection`, `door` and
+/// `beside`; to accept waits for as long as none comes.
+///
+/// An address that cost time and didn't answer is left alone for a while: to dial it fails at once then, and counts as
+/// any failure does.
 #[derive(Drop)]
 pub struct TcpWire {
     rt: HostRuntime,
-    listener: Option<TcpListener>,
+    beside: Option<Beside>,
     connection: Option<Connection>,
     fault: Option<io::Error>,
     faults: u64,
@@ -46,7 +34,7 @@ impl TcpWire {
     {
         TcpWire {
             rt,
-            listener: None,
+            beside: None,
             connection: None,
             fault: None,
             faults: 0,
@@ -60,10 +48,30 @@ impl TcpWire {
         self.fault
     }
 
-    /// The peer of the connection that is there, where the system tells it.
-    pub(crate) fn peer(&self) -> Option<SocketAddr> {
+    /// The peer of the connection that is there, where it is known, and when that connection came or began to be made.
+    pub(crate) fn peer(&self) -> (Option<SocketAddr>, Option<Instant>) {
         match &self.connection {
-            Some(connection) => connection.peer(),
+            Some(connection) => (connection.peer, Some(connection.begun)),
+            None => (None, None),
+        }
+    }
+
+    /// Whether the last failure was that an address is left alone.
+    pub(crate) fn was_left_alone(&self) -> bool {
+        match &self.fault {
+            Some(fault) => is_left_alone(fault),
+            None => false,
+        }
+    }
+
+    /// What changed of addresses since this was asked last.
+    pub(crate) fn take_changes(&mut self) -> Option<Vec<Change>>
+        ensures faults { self.new.faults ≡ self.old.faults }
+        ensures connection { self.new.connection ≡ self.old.connection }
+        ensures fault { self.new.fault ≡ self.old.fault }
+    {
+        match &mut self.beside {
+            Some(beside) => Some(beside.take_changes()),
             None => None,
         }
     }
@@ -79,48 +87,37 @@ impl TcpWire {
     }
 }
 
-/// Whether an error of the system is one of these.
-fn is_among(error: &io::Error, codes: &[i32]) -> bool {
-    match error.raw_os_error() {
-        Some(code) => codes.contains(&code),
-        None => false,
+/// What goes on beside a connection, which begins where it is first asked for.
+fn beside_of<'a>(rt: &HostRuntime, beside: &'a mut Option<Beside>) -> io::Result<&'a mut Beside> {
+    if beside.is_none() {
+        *beside = Some(Beside::new(rt)?);
     }
-}
-
-/// Accepts a connection. One that was given up is passed over, and where descriptors are short it is tried again.
-fn accepted(rt: &HostRuntime, listener: &TcpListener) -> io::Result<Connection> {
-    let mut last = io::Error::from(ErrorKind::ConnectionAborted);
-    for _ in 0..MOST_TRIES {
-        match listener.accept() {
-            Ok((stream, _)) => return Connection::new(rt, stream),
-            Err(error) => last = error,
-        }
-        if is_among(&last, &SHORT) {
-            thread::sleep(rt, Duration::from_millis(PAUSE_MILLISECONDS));
-        } else if !is_among(&last, &GIVEN_UP) {
-            break;
-        }
-    }
-    Err(last)
-}
-
-/// Dials the addresses of a name in turn.
-fn dialled(rt: &HostRuntime, address: &str) -> io::Result<Connection> {
-    let addresses = address.to_socket_addrs(rt)?;
-    let each = Duration::from_secs(DIAL_SECONDS) / (addresses.len() as u32).max(1);
-    let mut last = io::Error::from(ErrorKind::NotFound);
-    for address in addresses {
-        match TcpStream::connect_timeout(rt, &address, each) {
-            Ok(stream) => return Connection::new(rt, stream),
-            Err(error) => last = error,
-        }
-    }
-    Err(last)
+    beside.as_mut().ok_or(not_connected())
 }
 
 /// What a call tells where no connection is there.
 fn not_connected() -> io::Error {
     io::Error::from(ErrorKind::NotConnected)
+}
+
+/// A call of a connection failed: the address that it was made to didn't answer.
+fn note_failure(
+    rt: &HostRuntime,
+    beside: &mut Option<Beside>,
+    connection: &mut Connection,
+    error: &io::Error,
+) {
+    let was_late = connection.is_late;
+    connection.has_failed = true;
+    connection.is_late = error.kind() == ErrorKind::TimedOut;
+    match (&connection.whose, beside) {
+        // (what becomes of one that is tried and late is decided beside)
+        (Whose::Tried(_), _) if connection.is_late => {}
+        (Whose::Ours(address) | Whose::Tried(address), Some(beside)) if !was_late => {
+            beside.failed(rt, address, connection.begun);
+        }
+        _ => {}
+    }
 }
 
 impl Wire for TcpWire {
@@ -131,11 +128,12 @@ impl Wire for TcpWire {
     ghost faults = { λ w. w.faults };
 
     fn listen(&mut self, address: &Name) -> Result<(), OutsideError> {
-        match TcpListener::bind(&self.rt, address.text()) {
-            Ok(listener) => {
-                self.listener = Some(listener);
-                Ok(())
-            }
+        let told = match beside_of(&self.rt, &mut self.beside) {
+            Ok(beside) => beside.listen(&self.rt, address.text()),
+            Err(error) => Err(error),
+        };
+        match told {
+            Ok(()) => Ok(()),
             Err(error) => {
                 self.failed(error);
                 Err(OutsideError::Failed)
@@ -144,9 +142,9 @@ impl Wire for TcpWire {
     }
 
     fn accept(&mut self) -> Result<(), OutsideError> {
-        let made = match &self.listener {
-            Some(listener) => accepted(&self.rt, listener),
-            None => Err(not_connected()),
+        let made = match beside_of(&self.rt, &mut self.beside) {
+            Ok(beside) => beside.accept(&self.rt),
+            Err(error) => Err(error),
         };
         match made {
             Ok(connection) => {
@@ -161,7 +159,11 @@ impl Wire for TcpWire {
     }
 
     fn dial(&mut self, address: &Name) -> Result<(), OutsideError> {
-        match dialled(&self.rt, address.text()) {
+        let made = match beside_of(&self.rt, &mut self.beside) {
+            Ok(beside) => beside.dial(&self.rt, address),
+            Err(error) => Err(error),
+        };
+        match made {
             Ok(connection) => {
                 self.connection = Some(connection);
                 Ok(())
@@ -174,13 +176,16 @@ impl Wire for TcpWire {
     }
 
     fn read(&mut self, into: &mut [u8]) -> Result<usize, Failed> {
-        let told = match &mut self.connection {
-            Some(connection) => connection.read(&self.rt, into),
-            None => Err(not_connected()),
+        let told = match (&mut self.connection, &mut self.beside) {
+            (Some(connection), Some(beside)) => connection.read(&self.rt, beside, into),
+            _ => Err(not_connected()),
         };
         match told {
             Ok(count) => Ok(count),
             Err(error) => {
+                if let Some(connection) = &mut self.connection {
+                    note_failure(&self.rt, &mut self.beside, connection, &error);
+                }
                 self.failed(error);
                 Err(Failed)
             }
@@ -188,13 +193,16 @@ impl Wire for TcpWire {
     }
 
     fn write(&mut self, piece: &[u8]) -> Result<usize, OutsideError> {
-        let told = match &mut self.connection {
-            Some(connection) => connection.write(&self.rt, piece),
-            None => Err(not_connected()),
+        let told = match (&mut self.connection, &mut self.beside) {
+            (Some(connection), Some(beside)) => connection.write(&self.rt, beside, piece),
+            _ => Err(not_connected()),
         };
         match told {
             Ok(count) => Ok(count),
             Err(error) => {
+                if let Some(connection) = &mut self.connection {
+                    note_failure(&self.rt, &mut self.beside, connection, &error);
+                }
                 self.failed(error);
                 Err(OutsideError::Failed)
             }
@@ -202,8 +210,8 @@ impl Wire for TcpWire {
     }
 
     fn hang_up(&mut self) {
-        if let Some(connection) = self.connection.take() {
-            let _ = connection.end(&self.rt);
+        if let (Some(connection), Some(beside)) = (self.connection.take(), &mut self.beside) {
+            beside.end(&self.rt, connection);
         }
     }
 }

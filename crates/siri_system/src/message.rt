@@ -1,0 +1,222 @@
+//! A message as it comes, and whether it is whole. This is asked for patience alone: whoever reads the message decides
+//! what it is, and reads on where it was handed over too early.
+
+use std::alloc::{AllocError, Global};
+
+/// The most bytes that a head may have: of a longer one no more is waited for.
+const LONGEST_HEAD: usize = 16_384;
+
+/// The most bytes that a body may have: of a longer one the head is enough, which refuses it.
+const LONGEST_BODY: usize = 8_388_608;
+
+/// The name of the field that says how long the body is, and its colon.
+const LENGTH_FIELD: &[u8] = b"content-length:";
+
+/// What came of the line of a head that has begun.
+#[derive(Clone, Copy)]
+enum Line {
+    /// Nothing yet.
+    Nothing,
+    /// A CR alone.
+    Return,
+    /// More than that.
+    Text,
+}
+
+/// A request or a response, as far as it came.
+#[derive(Drop)]
+pub(crate) struct Message {
+    bytes: Vec<u8>,
+    line: Line,
+    /// Whether a line came that isn't empty: empty ones before it are no part of a head.
+    has_line: bool,
+    /// How many bytes are waited for, once that is known.
+    wanted: Option<usize>,
+}
+
+impl Message {
+    /// Nothing yet.
+    pub(crate) fn new(alloc: Global) -> Message {
+        Message {
+            bytes: Vec::new(alloc),
+            line: Line::Nothing,
+            has_line: false,
+            wanted: None,
+        }
+    }
+
+    /// Takes the next bytes. After an error there is no memory for them.
+    pub(crate) fn take(&mut self, piece: &[u8]) -> Result<(), AllocError> {
+        let before = self.bytes.len();
+        self.make_room(piece.len())?;
+        self.bytes.extend_from_slice(piece)?;
+        if self.wanted.is_none() {
+            if let Some(count) = self.head_end(piece) {
+                let head = self.bytes.get(..before.saturating_add(count));
+                self.wanted = head.map(wanted_by);
+            } else if self.bytes.len() >= LONGEST_HEAD {
+                self.wanted = Some(0);
+            }
+        }
+        Ok(())
+    }
+
+    /// Makes room for so many more bytes: twice as much as there was, and no more than is waited for.
+    fn make_room(&mut self, count: usize) -> Result<(), AllocError> {
+        let len = self.bytes.len();
+        if count <= self.bytes.capacity().saturating_sub(len) {
+            return Ok(());
+        }
+        let most = match self.wanted {
+            Some(wanted) => wanted.saturating_sub(len).min(len),
+            None => len,
+        };
+        self.bytes.reserve_exact(most.max(count))
+    }
+
+    /// How many of the next bytes belong to the head, where it ends among them.
+    fn head_end(&mut self, piece: &[u8]) -> Option<usize> {
+        for (place, byte) in piece.iter().enumerate() {
+            match (*byte, self.line) {
+                (b'\n', Line::Text) => {
+                    self.has_line = true;
+                    self.line = Line::Nothing;
+                }
+                (b'\n', _) if self.has_line => return Some(place.saturating_add(1)),
+                (b'\n', _) => self.line = Line::Nothing,
+                (b'\r', Line::Nothing) => self.line = Line::Return,
+                _ => self.line = Line::Text,
+            }
+        }
+        None
+    }
+
+    /// Whether no more is waited for.
+    pub(crate) fn is_whole(&self) -> bool {
+        match self.wanted {
+            Some(wanted) => wanted <= self.bytes.len(),
+            None => false,
+        }
+    }
+
+    /// How many bytes came.
+    pub(crate) fn len(&self) -> usize {
+        self.bytes.len()
+    }
+
+    /// The bytes that came.
+    pub(crate) fn into_bytes(self) -> Vec<u8> {
+        let Message { bytes, .. } = self;
+        bytes
+    }
+}
+
+/// The number that a text is, where it is one of decimal digits.
+fn number_of(text: &[u8]) -> Option<usize> {
+    let mut number: usize = 0;
+    for byte in text {
+        match *byte {
+            digit @ b'0'..=b'9' => {
+                number = number
+                    .saturating_mul(10)
+                    .saturating_add(usize::from(digit - b'0'));
+            }
+            _ => return None,
+        }
+    }
+    Some(number)
+}
+
+/// What a line says of the length of the body, where it does; a length that is none is above each bound.
+fn length_in(line: &[u8]) -> Option<usize> {
+    let name = line.get(..LENGTH_FIELD.len())?;
+    if !name.eq_ignore_ascii_case(LENGTH_FIELD) {
+        return None;
+    }
+    let value = line.get(LENGTH_FIELD.len()..)?.trim_ascii();
+    Some(number_of(value).unwrap_or(usize::MAX))
+}
+
+/// How many bytes a message of this head has that are waited for. A request that isn't a POST has no body; nor is one
+/// waited for whose length is told twice, or is none, or too great, since the head decides then.
+fn wanted_by(head: &[u8]) -> usize {
+    let begin = head.trim_ascii();
+    if !begin.starts_with(b"POST ") && !begin.starts_with(b"HTTP/") {
+        return head.len();
+    }
+    let mut body = None;
+    for line in head.split(|byte: &u8| *byte == b'\n') {
+        match (length_in(line), body) {
+            (Some(_), Some(_)) => return head.len(),
+            (Some(length), None) => body = Some(length),
+            (None, _) => {}
+        }
+    }
+    match body {
+        Some(length) if length <= LONGEST_BODY => head.len().saturating_add(length),
+        _ => head.len(),
+    }
+}
+
+#[cfg(test)]
+mod tests {
+    use super::Message;
+    use std::test::Fail;
+
+    #[test]
+    fn no_more_is_waited_for_than_decides(rt: HostRuntime) -> Result<(), Fail> {
+        for (text, is_whole) in [
+            ("", false),
+            ("POST / HTTP/1.1\r\n", false),
+            ("POST / HTTP/1.1\r\n\r", false),
+            ("POST / HTTP/1.1\r\n\r\n", true),
+            ("POST / HTTP/1.1\n\n", true),
+            (
+                "\r\n\r\nPOST / HTTP/1.1\r\nContent-Length: 2\r\n\r\n{",
+                false,
+            ),
+            (
+                "\r\n\r\nPOST / HTTP/1.1\r\nContent-Length: 2\r\n\r\n{}",
+                true,
+            ),
+            (
+                "POST / HTTP/1.1\r\nHost: a\r\ncontent-LENGTH:  12\t\r\n\r\n0123456789a",
+                false,
+            ),
+            (
+                "POST / HTTP/1.1\r\nHost: a\r\ncontent-LENGTH:  12\t\r\n\r\n0123456789ab",
+                true,
+            ),
+            ("POST / HTTP/1.1\r\nContent-Length: 8388609\r\n\r\n", true),
+            ("POST / HTTP/1.1\r\nContent-Length: 8388608\r\n\r\n", false),
+            ("POST / HTTP/1.1\r\nContent-Length: 3 4\r\n\r\n", true),
+            (
+                "POST / HTTP/1.1\r\nContent-Length: 3\r\nContent-Length: 3\r\n\r\n",
+                true,
+            ),
+            ("GET / HTTP/1.1\r\nContent-Length: 3\r\n\r\n", true),
+            ("HTTP/1.1 200 OK\r\nContent-Length: 3\r\n\r\nab", false),
+            ("HTTP/1.1 200 OK\r\nContent-Length: 3\r\n\r\nabc", true),
+        ] {
+            let mut at_once = Message::new(rt.alloc());
+            at_once.take(text.as_bytes())?;
+            assert_eq!(rt; at_once.is_whole(), is_whole, "{text}");
+            let mut in_bytes = Message::new(rt.alloc());
+            for byte in text.as_bytes() {
+                in_bytes.take(&[*byte])?;
+            }
+            assert_eq!(rt; in_bytes.is_whole(), is_whole, "{text}");
+        }
+        Ok(())
+    }
+
+    #[test]
+    fn a_head_that_is_too_long_is_waited_for_no_longer(rt: HostRuntime) -> Result<(), Fail> {
+        let mut message = Message::new(rt.alloc());
+        message.take(&[b'x'; 16_383])?;
+        assert!(rt; !message.is_whole());
+        message.take(b"x")?;
+        assert!(rt; message.is_whole());
+        Ok(())
+    }
+}
