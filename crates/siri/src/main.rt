@@ -2,8 +2,9 @@
 //!
 //! Stands on `siri_cli`, whose `run_all` is the whole of the work, on `siri_system` for the network, the clock and the
 //! start number, on `siri_file_shelf` for the file of `keep`, and on `siri_base` and `siri_lines` for the line that tells
-//! how a run ended. A line of the system's own words follows where the wire or the keeper failed. Where the variable
-//! `SIRI_LOG` of the environment is `1`, each connection that ends has a line on standard error.
+//! how a run ended. A line of the system's own words follows where the wire or the keeper failed, and one of the
+//! database's where the shelf did. Where the variable `SIRI_LOG` of the environment is `1`, each connection that ends has
+//! a line on standard error.
 #![tactic(auto)]
 
 use siri_base::{Input, Output, Status};
@@ -13,7 +14,7 @@ use siri_lines::write_status;
 use siri_system::{FileKeeper, LoggedWire, SystemClock};
 use std::io::{ErrorKind, Write};
 use std::process::ExitCode;
-use std::{env, io};
+use std::{env, fmt};
 
 /// What is listed where the words are no command.
 const COMMANDS: &str = "siri replay < SCRIPT
@@ -38,6 +39,7 @@ fn main(rt: HostRuntime) -> ExitCode {
         Status::Usage => list_commands(&rt),
         Status::WireFault => tell_fault(&rt, wire.fault()),
         Status::KeeperFault => tell_fault(&rt, keeper.fault()),
+        Status::ShelfFault => tell_fault(&rt, shelf.fault()),
         _ => {}
     }
     ExitCode::from(status.number())
@@ -79,8 +81,8 @@ fn run_command(
     )
 }
 
-/// Tells what the system told of a failure, on a line of standard error.
-fn tell_fault(rt: &HostRuntime, fault: Option<io::Error>) {
+/// Tells what the system, or the database, told of a failure, on a line of standard error.
+fn tell_fault<F: fmt::Display + Drop>(rt: &HostRuntime, fault: Option<F>) {
     if let Some(fault) = fault {
         let _ = writeln!(rt.stderr(), "siri: {fault}");
     }

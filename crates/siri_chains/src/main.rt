@@ -1,4 +1,5 @@
-//! A program for the tests and the benchmark: chains in memory of a source, relays and a display.
+//! A program for the tests and the benchmark: chains in memory of a source, relays and a display, and the phases of reading
+//! and writing a document.
 //!
 //! ```text
 //!     source <--> relay <--> relay <--> relay <--> display
@@ -14,6 +15,7 @@
 //! | `counts FIRST COUNT` | the same, and how much of everything happened |
 //! | `fed VISITS` | a source is fed so many visits |
 //! | `shown RELAYS VISITS CHANGES` | then they come to a display over so many relays, and so many changes of a visit after them |
+//! | `phase NAME` | the document on standard input is read and written as far as that phase (`phases`) |
 //!
 //! What a run has to come to is the direct response of the source: at its end, when everything has come and nothing more
 //! is sent, the display has the same keys, and items that are equal but for predicted times and delays, which differ by
@@ -26,11 +28,13 @@ mod chain;
 mod dice;
 mod ends;
 mod making;
+mod phases;
 mod running;
 mod stopped;
 mod timing;
 mod verdict;
 
+use crate::phases::measured;
 use crate::running::{Tally, run};
 use crate::stopped::Stopped;
 use crate::timing::{fed, shown};
@@ -53,6 +57,9 @@ fn main(rt: HostRuntime) -> ExitCode {
 
 /// Whether all went well, or nothing where the words are none.
 fn done(rt: &HostRuntime, words: &[String]) -> Option<bool> {
+    if words.first()?.as_str() == "phase" {
+        return Some(measured(rt, words.get(1)?.as_str()).is_ok());
+    }
     let first = number(words, 1)?;
     match words.first()?.as_str() {
         "runs" => Some(told_runs(rt, first, number(words, 2)?, false)),

@@ -8,7 +8,7 @@ use Rattle.siri_base.specs.Numbers.{number_of}
 use Rattle.siri_http.specs.declared.address.Address.{Address as Producer}
 use Rattle.siri_cli.specs.Arguments.{count_of, is_listen, is_name, producer_of, most_events, most_connections}
 use Rattle.siri_cli.specs.Commands.{begins_with_minus, command_by, command_named, command_of, command_with, consume_by, consume_of}
-use Rattle.siri_cli.specs.Commands.{consume_with, consumer_command, get_by, get_of, is_word, load_by, load_of, load_with, plain_of, producer_command, serve_by}
+use Rattle.siri_cli.specs.Commands.{consume_with, get_by, get_of, is_word, load_by, load_of, load_with, plain_of, producer_command, serve_by}
 use Rattle.siri_cli.specs.Commands.{serve_of}
 use Rattle.siri_cli.specs.declared.command.Command.{Command}
 use Rattle.siri_cli.specs.declared.command.Command.TheVariants.{Replay, Check, Convert, Get, Consume, Relay}

@@ -7,30 +7,44 @@ use Rattle.siri_lines.specs.Ends.{Bytes}
 use Rattle.siri_shelf.specs.Shelves.{ShelfState}
 use Rattle.siri_runs.specs.Calls.{Outside}
 use Rattle.siri_runs.specs.declared.network_error.NetworkError.TheVariants as error
+use Rattle.siri_keep_run.specs.Left.{KeepAnswered, KeepTrail}
+use Rattle.siri_keep_run.specs.Opening.{FailsToOpen}
 use Rattle.siri_keep_run.specs.Runs.{KeepRun}
 
--- nothing was done
-pub unread_keeps : (name listen : List ℕ) (count : ℕ) (shelf after : Option ShelfState) (outside : Outside) (held : Bytes)
-    → KeepRun name listen count shelf after outside outside held held status.OutOfMemory
-unread_keeps name listen count shelf after outside held = inr (
-  inl (inl (record {
-    error = error.OutOfMemory;
-    end_is = refl;
-    fails = inl (record {
-      raises = record {
-        failure = outside_error.OutOfMemory;
-        error_is = refl;
-        call = record {
-          does = stays outside.keeper.tells;
-          cause = record { later = omega arith; failed = λ is. absurd (cc is) };
-        };
+opens_nothing : (name listen : List ℕ) (shelf : Option ShelfState) (outside : Outside)
+    → FailsToOpen name listen status.OutOfMemory shelf shelf outside outside
+opens_nothing name listen shelf outside = inl (record {
+  error = error.OutOfMemory;
+  end_is = refl;
+  fails = inl (record {
+    raises = record {
+      failure = outside_error.OutOfMemory;
+      error_is = refl;
+      call = record {
+        does = stays outside.keeper.tells;
+        cause = record { later = omega arith; failed = λ is. absurd (cc is) };
       };
-      rest = refl;
-    });
-  })),
-  refl,
-)
+    };
+    rest = refl;
+  });
+  same = refl;
+})
   where
     stays : (keeper : Option KeeperState) → WhereTold keeper keeper (λ old new. RaisesNumber old new (Err outside_error.OutOfMemory))
     stays None = tt
     stays (Some state) = refl
+
+-- nothing was done
+pub unread_keeps : (name listen : List ℕ) (count : ℕ) (shelf : Option ShelfState) (outside : Outside) (held : Bytes)
+    → KeepRun name listen count shelf shelf outside outside held held status.OutOfMemory
+unread_keeps name listen count shelf outside held = inr (inl (opens_nothing name listen shelf outside), refl)
+
+pub unread_trail : (name listen : List ℕ) (count : ℕ) (shelf : Option ShelfState) (outside : Outside)
+    → WhereTold shelf shelf (KeepTrail name listen count outside)
+unread_trail name listen count None outside = tt
+unread_trail name listen count (Some s) outside = inl refl
+
+pub unread_answered : (name listen : List ℕ) (count : ℕ) (shelf : Option ShelfState) (outside : Outside)
+    → WhereTold shelf shelf (KeepAnswered name listen count status.OutOfMemory outside outside)
+unread_answered name listen count None outside = tt
+unread_answered name listen count (Some s) outside = inl (opens_nothing name listen (Some s) outside)

@@ -4,7 +4,7 @@ use Rattle.siri_base.specs.Causes.{Rose}
 use Rattle.siri_base.specs.MetFailures.{SinkMeets, SourceMeets, is_read_fault, is_write_fault}
 use Rattle.siri_http.specs.Requests.{post_alone}
 use Rattle.siri_http.specs.declared.address.Address.{Address as Target}
-use Rattle.siri_lite.specs.Asking.{post_or_query}
+use Rattle.siri_ends.specs.lite.Asking.{post_or_query}
 use Rattle.siri_lines.specs.Ends.{ReadsAll}
 use Rattle.siri_lines.specs.Pieces.{ReadsNoFurther}
 use Rattle.siri_lines.specs.RunResult.{verdict}

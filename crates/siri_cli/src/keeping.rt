@@ -3,8 +3,10 @@
 ghost use Rattle.std.specs.Prelude.{◌≡◌, [], map, string_bytes, Some, None};
 ghost use Rattle.siri_base.specs.Causes.{Rose};
 ghost use Rattle.siri_base.specs.MetFailures.{SinkMeets, is_write_fault};
+ghost use Rattle.siri_base.specs.OutsideCalls.{WhereTold};
 ghost use Rattle.siri_runs.specs.Calls.{outside_told};
 ghost use Rattle.siri_runs.specs.Enough.{HasEnough};
+ghost use Rattle.siri_keep_run.specs.Left.{KeepAnswered, KeepTrail};
 ghost use Rattle.siri_keep_run.specs.Runs.{EndsKeeping, EndsWholeOrByShelf, KeepRun};
 ghost use Rattle.siri_cli.specs.declared.keep.Keep.{Keep as Asked};
 ghost use Rattle.siri_cli.specs.Commands.{command_of};
@@ -40,6 +42,14 @@ pub fn run_all<S: Source, K: Sink, W: Wire, C: Clock, E: Keeper, B: Shelf>(
         (outside_told W.Wire C.Clock E.Keeper wire.old clock.old keeper.old)
         (outside_told W.Wire C.Clock E.Keeper wire.new clock.new keeper.new)
         (K.held sink.old) (K.held sink.new) result }
+    // What it leaves on the shelf, at every moment and at whatever status.
+    ensures keep_trail { (k : Asked) → keep_of (map string_bytes words.now) ≡ Some k
+        → WhereTold (B.tells shelf.old) (B.tells shelf.new) (KeepTrail k.name k.listen k.count
+        (outside_told W.Wire C.Clock E.Keeper wire.old clock.old keeper.old)) }
+    ensures keep_answered { (k : Asked) → keep_of (map string_bytes words.now) ≡ Some k
+        → WhereTold (B.tells shelf.old) (B.tells shelf.new) (KeepAnswered k.name k.listen k.count result
+        (outside_told W.Wire C.Clock E.Keeper wire.old clock.old keeper.old)
+        (outside_told W.Wire C.Clock E.Keeper wire.new clock.new keeper.new)) }
     ensures keep_whole { (k : Asked) → keep_of (map string_bytes words.now) ≡ Some k
         → HasEnough k.count (outside_told W.Wire C.Clock E.Keeper wire.old clock.old keeper.old)
         → K.fails sink.old ≡ Some [] → EndsWholeOrByShelf result }

@@ -37,9 +37,9 @@
 //! words of `keep`, which is no `Command`, since `run` has no shelf, are taken as they are (`read_keep`).
 //!
 //! Stands on a crate for each command (`siri_replay`, `siri_document`, `siri_load`, `siri_get`, `siri_relay_run`,
-//! `siri_keep_run`; `siri_runs` for three), on `siri_lite` for what queries by GET ask, on `siri_base` for names, on
-//! `siri_http` for hosts, ports and addresses, on `siri_shelf` for what a shelf is, and on `clap`. It looks into no line and
-//! no document, and knows no socket and no file.
+//! `siri_keep_run`; `siri_runs` for three), on `siri_ends` for what queries by GET ask, on `siri_base` for names, on
+//! `siri_http` for hosts, ports and addresses, on `siri_shelf` for what a shelf is, and on `clap`. It looks into no
+//! line and no document, and knows no socket and no file.
 #![tactic(auto)]
 
 mod arguments;

@@ -1,1 +1,4 @@
 pub mod OneDocument
+pub mod Texts
+pub mod ItemTexts
+pub mod Results

@@ -8,7 +8,7 @@ use Rattle.siri_messages.specs.declared.message.Message.{Message}
 use Rattle.siri_messages.specs.Kinds.{kind_of}
 use Rattle.siri_wire.specs.Documents.{message_of, refusal_text}
 use Rattle.siri_wire.specs.Canonical.{canonical}
-use Rattle.siri_script.specs.Spaced.{line_feed}
+use Rattle.siri_document.specs.script.Spaced.{line_feed}
 use Rattle.siri_lines.specs.Ends.{Bytes, Ends, AppendsFront, is_cut}
 use Rattle.siri_lines.specs.RunResult.{RunResult}
 

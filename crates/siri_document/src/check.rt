@@ -1,7 +1,7 @@
 //! The command `check`.
 
 ghost use Rattle.std.specs.Prelude.{◌≡◌, ◌++◌, IfOk};
-ghost use Rattle.siri_script.specs.Spaced.{line_feed};
+ghost use Rattle.siri_document.specs.script.Spaced.{line_feed};
 ghost use Rattle.siri_document.specs.OneDocument.{ok_text};
 
 use crate::document::Telling;

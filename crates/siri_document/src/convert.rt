@@ -2,7 +2,7 @@
 
 ghost use Rattle.std.specs.Prelude.{◌≡◌, ◌++◌, IfOk};
 ghost use Rattle.siri_wire.specs.Canonical.{canonical};
-ghost use Rattle.siri_script.specs.Spaced.{line_feed};
+ghost use Rattle.siri_document.specs.script.Spaced.{line_feed};
 
 use crate::document::Telling;
 use siri_base::{OutOfMemory, append};

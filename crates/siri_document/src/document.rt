@@ -8,7 +8,7 @@ ghost use Rattle.siri_messages.specs.declared.message.Message.{Message as Msg};
 ghost use Rattle.siri_wire.specs.Documents.{Decodes, message_of};
 ghost use Rattle.siri_lines.specs.Ends.{ReadsAll};
 ghost use Rattle.siri_document.specs.OneDocument.{Answers, EndsDocument, IsDocument, Tells, refused_told, told_by};
-ghost use Rattle.siri_script.specs.Spaced.{line_feed};
+ghost use Rattle.siri_document.specs.script.Spaced.{line_feed};
 
 use siri_base::{OutOfMemory, OutsideError, Sink, Source, Status, append};
 use siri_json::LONGEST_DOCUMENT;

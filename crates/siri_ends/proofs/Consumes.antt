@@ -29,16 +29,17 @@ took old new asked list reply is made sends = record {
 -- a message that was answered was taken
 pub heard : (old new : Consuming) (sent message : Message) (more : List Message) → new ≡ after_message old message
     → more ≡ (seen_of old message).replies
-    → Hears kept stands (λ nothing. consuming) sent (Some message) more old new
+    → Hears {Beside = Unit {0}} kept stands (λ consumer beside state. Unit {0}) (λ nothing. consuming) sent (Some message) more old new
 heard old new sent message more is replies = record {
   keeps = refl;
   stands_for = λ s so. ap (λ c. after_message c message) so ∙ sym is;
+  holds_for = λ beside s so holds. tt;
   more_are = λ s so. replies ∙ ap (λ c. (seen_of c message).replies) (sym so);
 }
 
 -- what a call does of whatever it stands for, it does of itself
-pub itself : (Does : At Consuming → At Consuming → Type 0) (old new : At Consuming)
-    → Goes kept stands (λ nothing. Does) old new → Does old new
-itself Does old new goes =
+pub itself : (Does And : At Consuming → At Consuming → Type 0) (old new : At Consuming)
+    → Goes kept stands (λ nothing at end. Does at end × And at end) old new → Does old new
+itself Does And old new goes =
     let one = goes.goes old.state refl in
-    subst (λ s. Does old (stood_for new s)) one.1 one.2
+    subst (λ s. Does old (stood_for new s)) one.1 one.2.0

@@ -4,7 +4,7 @@ use Rattle.siri_http.specs.declared.asked.Asked.TheVariants as asked
 use Rattle.siri_messages.specs.declared.message.Message.TheVariants as siri
 use Rattle.siri_model.specs.History.{Clock, History, Start, after_step}
 use Rattle.siri_producer.specs.Answers.{answer_to}
-use Rattle.siri_replies.specs.Statuses.{status_response}
+use Rattle.siri_subscriptions.specs.replies.Statuses.{status_response}
 use Rattle.siri_ends.specs.Responses.{document_response, replying, responding, response_to}
 
 -- a request that didn't come whole isn't answered

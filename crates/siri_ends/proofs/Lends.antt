@@ -28,9 +28,9 @@ use Rattle.siri_producer.specs.declared.lending.Supplied.{Supplied}
 use Rattle.siri_producer.specs.declared.lending.Supplied.TheVariants as supplied
 use Rattle.siri_producer.proofs.Lends.{refused_reply, request_forgotten, response_forgets, sends_asked}
 use Rattle.siri_producer.proofs.Lends.{state_after_both, supplied_stays}
-use Rattle.siri_replies.specs.Parts.{part_delivery, refused_supply}
-use Rattle.siri_rounds.specs.Wanted.{part_sent}
-use Rattle.siri_rounds.specs.declared.answers.SupplyError.{SupplyError}
+use Rattle.siri_subscriptions.specs.replies.Parts.{part_delivery, refused_supply}
+use Rattle.siri_subs.specs.rounds.Wanted.{part_sent}
+use Rattle.siri_subs.specs.declared.rounds.answers.SupplyError.{SupplyError}
 use Rattle.siri_subscriptions.specs.declared.outs.Out.{Out}
 use Rattle.siri_ends.specs.declared.answering.Brought.TheVariants as brought
 use Rattle.siri_ends.specs.declared.reply.Reply.{Reply}

@@ -24,9 +24,9 @@ use Rattle.siri_store.specs.Walk.{Steps, steps, to_lend}
 use Rattle.siri_store.specs.declared.selected.Selected.{Selected}
 use Rattle.siri_model.specs.Direct.{answer, response}
 use Rattle.siri_change.specs.Parts.{Carried, carried}
-use Rattle.siri_rounds.specs.Wanted.{WantedPart, part_sent}
-use Rattle.siri_replies.specs.Parts.{in_estimated_timetable, in_situation_exchange, in_stop_monitoring}
-use Rattle.siri_replies.specs.Parts.{in_vehicle_monitoring, part_delivery, part_functional}
+use Rattle.siri_subs.specs.rounds.Wanted.{WantedPart, part_sent}
+use Rattle.siri_subscriptions.specs.replies.Parts.{in_estimated_timetable, in_situation_exchange, in_stop_monitoring}
+use Rattle.siri_subscriptions.specs.replies.Parts.{in_vehicle_monitoring, part_delivery, part_functional}
 use Rattle.siri_producer.specs.Lent.{has_all, if_it_has_all, is_lent, topics_of, without_items}
 use Rattle.siri_producer.specs.Lent.{without_own_items}
 use Rattle.siri_producer.specs.declared.lending.LentPart.{LentPart}

@@ -6,3 +6,6 @@ pub mod Puts
 pub mod Sends
 pub mod Serves
 pub mod Taking
+pub mod Paths
+pub mod Posts
+pub mod Queries

@@ -5,7 +5,7 @@ use Rattle.std.specs.Prelude.{OnErr}
 use Rattle.siri_base.specs.Wires.{WireState}
 use Rattle.siri_http.specs.Tallies.{with_unsent}
 use Rattle.siri_http.specs.declared.posting.Sent.{Sent}
-use Rattle.siri_ends.specs.At.{At, Goes, stood_for}
+use Rattle.siri_ends.specs.At.{At, Goes, HoldingAny, stood_for}
 use Rattle.siri_ends.specs.EndCalls.{SendsNext, StopsAt}
 use Rattle.siri_ends.specs.InTurn.{FirstInTurn, FirstSends, InTurn, SendsAll, SendsOne, most_sends}
 use Rattle.siri_ends.specs.Manners.{Manner, Posting, after_hearing, brings_of, message_answered}
@@ -29,6 +29,21 @@ module _ {State M : Type 0} (Posts : Posting M) (manner : Manner State M) where
       → InTurn Posts manner zero list now (record now { tally = with_unsent (length list) now.tally })
   unfolding InTurn
   all_left list now = refl
+
+  -- of messages that were all sent the first ones were
+  pub whole_first : (limit : ℕ) (list : List M) (at end : At State) → InTurn Posts manner limit list at end
+      → FirstInTurn Posts manner limit list at.state at.wire end.wire
+  unfolding InTurn FirstInTurn
+  whole_first zero list at end is = ap (λ (a : At State). a.wire) is
+  whole_first (suc limit) [] at end is = ap (λ (a : At State). a.wire) is
+  whole_first (suc limit) (first ∷ rest) at end some =
+      let more = rest ++ brings_of manner first (message_answered some.0) at.state in
+      inr (
+        some.0,
+        some.1.wire,
+        some.2.told,
+        subst (λ s. FirstInTurn Posts manner limit more s some.1.wire end.wire) some.2.state (whole_first limit more some.1 end some.3),
+      )
 
   first_sent : (less : ℕ) (first : M) (rest : List M) (outcome : Sent) (s : State) (wire next now : Option WireState)
       → Posts first (Some outcome) wire next
@@ -62,12 +77,13 @@ module _ {State M : Type 0} (Posts : Posting M) (manner : Manner State M) where
 
 -- ---- by whatever state an end stood for
 
-module _ {Own Kept State M : Type 0} (kept : Own → Kept) (stands : Own → State → Type 0) (Posts : Posting M)
-    (manner : Kept → Manner State M) where
+module _ {Own Beside Kept State M : Type 0} (kept : Own → Kept) (stands : Own → State → Type 0)
+    (holds : Own → Beside → State → Type 0) (Posts : Posting M) (manner : Kept → Manner State M) where
   -- Some messages were sent: whatever the rest of the sends comes to is what all of them come to.
   pub record Comes (list : List M) (start now : At Own) (left : ℕ) (queue : List M) : Type 0 where
     pub keeps : kept now.state ≡ kept start.state
     pub comes : (s : State) → stands start.state s → (after : State) × stands now.state after
+        × ((beside : Beside) → holds start.state beside s → holds now.state beside after)
         × ((end : At State) → InTurn Posts (manner (kept start.state)) left queue (stood_for now after) end
         → SendsAll Posts (manner (kept start.state)) list (stood_for start s) end)
         × ((wire : Option WireState) → FirstInTurn Posts (manner (kept start.state)) left queue after now.wire wire
@@ -75,11 +91,11 @@ module _ {Own Kept State M : Type 0} (kept : Own → Kept) (stands : Own → Sta
 
   pub comes_first : (list queue : List M) (start : At Own) → queue ≡ list → Comes list start start most_sends queue
   comes_first list queue start is = subst (λ q. Comes list start start most_sends q) (sym is)
-      (record { keeps = refl; comes = λ s so. (s, so, (λ end p. p), (λ wire p. p)) })
+      (record { keeps = refl; comes = λ s so. (s, so, (λ beside h. h), (λ end p. p), (λ wire p. p)) })
 
   pub comes_next : (list queue later : List M) (start now next : At Own) (left less : ℕ) (first : M) (rest more : List M)
       → Comes list start now left queue → queue ≡ first ∷ rest → left ≡ suc less
-      → SendsNext kept stands Posts manner first more now next → later ≡ rest ++ more
+      → SendsNext kept stands holds Posts manner first more now next → later ≡ rest ++ more
       → Comes list start next less later
   comes_next list queue later start now next left less first rest more c front one sent joined = record {
     keeps = sent.hears.keeps ∙ c.keeps;
@@ -96,12 +112,14 @@ module _ {Own Kept State M : Type 0} (kept : Own → Kept) (stands : Own → Sta
         record { told = sent.told; cause = sent.cause; state = refl; tally = sent.tally } in (
           further,
           subst (λ k. stands next.state (after_hearing k first answered after)) same (sent.hears.stands_for after before.1),
-          (λ end p. before.2 end
+          (λ beside h. subst (λ k. holds next.state beside (after_hearing k first answered after)) same
+              (sent.hears.holds_for beside after before.1 (before.2 beside h))),
+          (λ end p. before.3 end
               (subst (λ l. InTurn Posts own l queue (stood_for now after) end) (sym one)
               (subst (λ q. InTurn Posts own (suc less) q (stood_for now after) end) (sym front)
               (one_sent Posts own less first rest sent.outcome (stood_for now after) (stood_for next further) end one_is
               (subst (λ q. InTurn Posts own less q (stood_for next further) end) brought p))))),
-          (λ wire p. before.3 wire
+          (λ wire p. before.4 wire
               (subst (λ l. FirstInTurn Posts own l queue after now.wire wire) (sym one)
               (subst (λ q. FirstInTurn Posts own (suc less) q after now.wire wire) (sym front)
               (first_sent Posts own less first rest sent.outcome after now.wire next.wire wire sent.told
@@ -112,7 +130,7 @@ module _ {Own Kept State M : Type 0} (kept : Own → Kept) (stands : Own → Sta
   -- no message is left
   pub comes_last : (list queue : List M) (start now : At Own) (left less : ℕ) → Comes list start now left queue
       → queue ≡ [] → left ≡ suc less
-      → Goes kept stands (λ k. SendsAll Posts (manner k) list) start now
+      → Goes kept stands (λ k. HoldingAny holds (SendsAll Posts (manner k) list) start.state now.state) start now
   comes_last list queue start now left less c none one = record {
     keeps = c.keeps;
     goes = λ s so.
@@ -121,14 +139,17 @@ module _ {Own Kept State M : Type 0} (kept : Own → Kept) (stands : Own → Sta
         let end = stood_for now before.0 in (
           before.0,
           before.1,
-          before.2 end (subst (λ l. InTurn Posts own l queue end end) (sym one)
-              (subst (λ q. InTurn Posts own (suc less) q end end) (sym none) (none_sent Posts own less end))),
+          (
+            before.3 end (subst (λ l. InTurn Posts own l queue end end) (sym one)
+                (subst (λ q. InTurn Posts own (suc less) q end end) (sym none) (none_sent Posts own less end))),
+            before.2,
+          ),
         );
   }
 
   -- no further message may be sent
   pub comes_full : (list queue : List M) (start now : At Own) (left : ℕ) → Comes list start now left queue → left ≡ 0
-      → Goes kept stands (λ k. SendsAll Posts (manner k) list) start
+      → Goes kept stands (λ k. HoldingAny holds (SendsAll Posts (manner k) list) start.state now.state) start
       (record now { tally = with_unsent (length queue) now.tally })
   comes_full list queue start now left c none = record {
     keeps = c.keeps;
@@ -139,7 +160,10 @@ module _ {Own Kept State M : Type 0} (kept : Own → Kept) (stands : Own → Sta
         let end : At State = record last { tally = with_unsent (length queue) last.tally } in (
           before.0,
           before.1,
-          before.2 end (subst (λ l. InTurn Posts own l queue last end) (sym none) (all_left Posts own queue last)),
+          (
+            before.3 end (subst (λ l. InTurn Posts own l queue last end) (sym none) (all_left Posts own queue last)),
+            before.2,
+          ),
         );
   }
 
@@ -151,13 +175,13 @@ module _ {Own Kept State M : Type 0} (kept : Own → Kept) (stands : Own → Sta
   comes_short still list queue start now left less first rest end c front one stops s so =
       let before = c.comes s so in
       let own = manner (kept start.state) in
-      before.3 end
+      before.4 end
       (subst (λ l. FirstInTurn Posts own l queue before.0 now.wire end) (sym one)
       (subst (λ q. FirstInTurn Posts own (suc less) q before.0 now.wire end) (sym front)
       (last_begun Posts own still less first rest before.0 now.wire end stops)))
 
   -- memory was wanting after a send
-  pub whole_stop : (message : M) (more : List M) (old new : At Own) → SendsNext kept stands Posts manner message more old new
+  pub whole_stop : (message : M) (more : List M) (old new : At Own) → SendsNext kept stands holds Posts manner message more old new
       → StopsAt (Posts message) old.wire new.wire
   whole_stop message more old new sent = inr (sent.outcome, sent.told)
 

@@ -13,5 +13,10 @@ acknowledges_nothing known = record { name = refl; stands = λ h s. s; outs_are 
 
 -- so a message is heard
 pub heard : (old new : Known) (sent : Out) (message : Message) (outs : List Out) → Acknowledges old new (acknowledging message) outs
-    → Hears (λ known. known.responder.name) StandsFor serving sent (Some message) outs old new
-heard old new sent message outs a = record { keeps = a.name; stands_for = a.stands; more_are = a.outs_are }
+    → Hears {Beside = Unit {0}} (λ known. known.responder.name) StandsFor (λ known beside h. Unit {0}) serving sent (Some message) outs old new
+heard old new sent message outs a = record {
+  keeps = a.name;
+  stands_for = a.stands;
+  holds_for = λ beside h s holds. tt;
+  more_are = a.outs_are;
+}

@@ -1,5 +1,5 @@
 -- A turn: a connection is answered, and what comes of it is sent.
-use Rattle.std.proofs.Common.{◌≡◌, ℕ, List, Option, Some, refl, sym, ◌∙◌, subst, inl, inr}
+use Rattle.std.proofs.Common.{◌≡◌, ◌⊎◌, ℕ, List, Option, None, Some, refl, sym, ◌∙◌, subst, inl, inr}
 use Rattle.siri_base.specs.Wires.{WireState}
 use Rattle.siri_http.specs.Connections.{OnConnection}
 use Rattle.siri_http.specs.ExchangeCauses.{HasAskedCause}
@@ -8,11 +8,12 @@ use Rattle.siri_http.specs.declared.asked.Asked.{Asked}
 use Rattle.siri_http.specs.declared.tally.Tally.{Tally}
 use Rattle.siri_ends.specs.declared.response.Response.{Response}
 use Rattle.siri_ends.specs.Answering.{AnswersWith, StopsWriting}
-use Rattle.siri_ends.specs.At.{At, Goes, at_of, stood_for, surroundings}
+use Rattle.siri_ends.specs.At.{At, Goes, Holding, HoldingAny, around, at_of, stood_for, surroundings}
 use Rattle.siri_ends.specs.EndCalls.{AnswersAsked, StopsAsked, Turned}
-use Rattle.siri_ends.specs.InTurn.{FirstSends, SendsAll}
+use Rattle.siri_ends.specs.InTurn.{FirstSends, SendsAll, most_sends}
 use Rattle.siri_ends.specs.Manners.{Manner, Posting}
-use Rattle.siri_ends.specs.TurnsTaken.{Answers, StopsTurn, TakesTurn}
+use Rattle.siri_ends.specs.TurnsTaken.{Answers, LeavesBeside, StopsTurn, TakesTurn}
+use Rattle.siri_ends.proofs.Sends.{whole_first}
 
 module _ {Own Kept State M : Type 0} (kept : Own → Kept) (stands : Own → State → Type 0) (manner : Kept → Manner State M) where
   -- what a connection asks was taken, and its answer written
@@ -63,27 +64,31 @@ module _ {Own Kept State M : Type 0} (asks : Meaning) (kept : Own → Kept) (sta
   }
 
   -- and what comes of it is sent
-  pub turn_taken : (Posts : Posting M) (asked : Asked) (list : List M) (old : Own) (mid new : At Own) (was : Tally)
-      (before read : Option WireState) (earlier between : ℕ)
+  pub turn_taken : {Beside : Type 0} (holds : Own → Beside → State → Type 0) (Posts : Posting M) (asked : Asked) (list : List M) (old : Own) (mid new : At Own)
+      (x y : Beside) (was : Tally) (before read : Option WireState) (earlier between : ℕ)
       → OnConnection (Asks asks (Some asked)) before read → HasAskedCause earlier between (Some asked)
       → AnswersAsked kept stands manner asked list (at_of old was read between) mid
-      → Goes kept stands (λ k. SendsAll Posts (manner k) list) mid new
-      → Goes kept stands (λ k. TakesTurn asks Posts (manner k)) (at_of old was before earlier) new
-  turn_taken Posts asked list old mid new was before read earlier between told cause answers sends = record {
+      → ((s : State) → stands old s → holds old x s → holds mid.state y ((manner (kept old)).after s asked))
+      → Goes kept stands (λ k. HoldingAny holds (SendsAll Posts (manner k) list) mid.state new.state) mid new
+      → Goes kept stands (λ k. Holding holds (TakesTurn asks Posts (manner k)) old x new.state y) (at_of old was before earlier) new
+  turn_taken holds Posts asked list old mid new x y was before read earlier between told cause answers held sends = record {
     keeps = sends.keeps ∙ answers.keeps;
     goes = λ s so.
         let last = (manner (kept old)).after s asked in
         let two = sends.goes last (answers.stands_for s so) in (
           two.0,
           two.1,
-          record {
-            asked = asked;
-            mid = stood_for mid last;
-            answers = answers_of asked list old mid was before read earlier between told cause answers s so;
-            sends = subst (λ l. SendsAll Posts (manner (kept old)) l (stood_for mid last) (stood_for new two.0))
-                (answers.list_is s so)
-                (subst (λ k. SendsAll Posts (manner k) list (stood_for mid last) (stood_for new two.0)) answers.keeps two.2);
-          },
+          (
+            record {
+              asked = asked;
+              mid = stood_for mid last;
+              answers = answers_of asked list old mid was before read earlier between told cause answers s so;
+              sends = subst (λ l. SendsAll Posts (manner (kept old)) l (stood_for mid last) (stood_for new two.0))
+                  (answers.list_is s so)
+                  (subst (λ k. SendsAll Posts (manner k) list (stood_for mid last) (stood_for new two.0)) answers.keeps two.2.0);
+            },
+            λ h. two.2.1 y (held s so h),
+          ),
         );
   }
 
@@ -104,6 +109,68 @@ module _ {Own Kept State M : Type 0} (asks : Meaning) (kept : Own → Kept) (sta
             (subst (λ k. FirstSends Posts (manner k) list last mid.wire after) answers.keeps
             (fails last (answers.stands_for s so))),
       )
+
+  -- ---- what stands beside it
+
+  module _ (Posts : Posting M) (asked : Asked) (old : Own) (Same : Type 0) (May Has : Asked → Type 0)
+      (before read : Option WireState) (told : OnConnection (Asks asks (Some asked)) before read) (may : May asked) where
+    -- where it was answered in part
+    pub leaves_stopped : (after : Option WireState) → (after ≡ read) ⊎ Has asked
+        → ((s : State) → stands old s → StopsAsked ((manner (kept old)).responds s asked) read after)
+        → LeavesBeside asks Posts (manner (kept old)) (stands old) Same May Has before after
+    leaves_stopped after (inl same) stops = inr (asked, read, told, may, inl same)
+    leaves_stopped after (inr has) stops = inr (asked, read, told, may, inr (has, λ s so. inl (stops s so)))
+
+    -- where it was answered, and this was sent of what comes of it, or the first of that
+    pub leaves_sent : (list : List M) (mid : At Own) (was : Tally) (between : ℕ) (after : Option WireState) → Has asked
+        → AnswersAsked kept stands manner asked list (at_of old was read between) mid
+        → ((s : State) → stands mid.state s → FirstSends Posts (manner (kept mid.state)) list s mid.wire after)
+        → LeavesBeside asks Posts (manner (kept old)) (stands old) Same May Has before after
+    leaves_sent list mid was between after has answers sends = inr (
+      asked,
+      read,
+      told,
+      may,
+      inr (
+        has,
+        λ s so.
+            let last = (manner (kept old)).after s asked in
+            inr (
+              surroundings was read between,
+              around mid,
+              refl,
+              answers.answers s so,
+              subst (λ l. FirstSends Posts (manner (kept old)) l last mid.wire after) (answers.list_is s so)
+                  (subst (λ k. FirstSends Posts (manner k) list last mid.wire after) answers.keeps
+                  (sends last (answers.stands_for s so))),
+            ),
+      ),
+    )
+
+  -- what was sent whole was sent at first
+  pub sends_first : {Beside : Type 0} (holds : Own → Beside → State → Type 0) (Posts : Posting M) (list : List M) (mid new : At Own)
+      → Goes kept stands (λ k. HoldingAny holds (SendsAll Posts (manner k) list) mid.state new.state) mid new
+      → (s : State) → stands mid.state s → FirstSends Posts (manner (kept mid.state)) list s mid.wire new.wire
+  sends_first holds Posts list mid new goes s so =
+      let one = goes.goes s so in
+      whole_first Posts (manner (kept mid.state)) most_sends list (stood_for mid s) (stood_for new one.0) one.2.0
+
+-- where its request wasn't read, or what it asks
+pub leaves_unread : {State M : Type 0} (asks : Meaning) (takes_memory : WholeRequest → Type 0) (Posts : Posting M) (manner : Manner State M)
+    (stands : State → Type 0) (Same : Type 0) (May Has : Asked → Type 0) (before after : Option WireState) → Same
+    → StopsAsking asks takes_memory before after → LeavesBeside asks Posts manner stands Same May Has before after
+leaves_unread asks takes_memory Posts manner stands Same May Has before after same (inl stops) = inl (same, None, stops)
+leaves_unread asks takes_memory Posts manner stands Same May Has before after same (inr whole) =
+    inl (same, Some (asks whole.0), whole.2)
+
+-- what a call does beside holding what stands beside an end
+pub only_goes : {Own Kept State : Type 0} (kept : Own → Kept) (stands : Own → State → Type 0)
+    (Does And : Kept → At State → At State → Type 0) (old new : At Own)
+    → Goes kept stands (λ k at end. Does k at end × And k at end) old new → Goes kept stands Does old new
+only_goes kept stands Does And old new goes = record {
+  keeps = goes.keeps;
+  goes = λ s so. let one = goes.goes s so in (one.0, one.1, one.2.0);
+}
 
 -- where memory was wanting while its request was read, or for what it asks
 pub reading_stopped : {State M : Type 0} (asks : Meaning) (takes_memory : WholeRequest → Type 0)

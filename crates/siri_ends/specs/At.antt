@@ -36,3 +36,16 @@ pub record Goes {Own Kept State : Type 0} (kept : Own → Kept) (stands : Own �
   pub keeps : kept new.state ≡ kept old.state
   pub goes : (s : State) → stands old.state s → (after : State) × stands new.state after
       × Does (kept old.state) (stood_for old s) (stood_for new after)
+
+-- ---- with what stands beside it, by whether that is as the end left it, in a state that it stands for
+
+-- a call does this, and what stands beside the end is afterwards as the end left it, where it was so before
+abbrev pub Holding : {Own Beside State : Type 0} → (holds : Own → Beside → State → Type 0) → (Does : At State → At State → Type 0)
+    → (old : Own) (was : Beside) (new : Own) (is : Beside) → At State → At State → Type 0
+Holding holds Does old was new is at end = Does at end × (holds old was at.state → holds new is end.state)
+
+-- the same of a call that isn't lent it, whatever it is
+abbrev pub HoldingAny : {Own Beside State : Type 0} → (holds : Own → Beside → State → Type 0) → (Does : At State → At State → Type 0)
+    → (old new : Own) → At State → At State → Type 0
+HoldingAny {Beside = Beside} holds Does old new at end =
+    Does at end × ((beside : Beside) → holds old beside at.state → holds new beside end.state)

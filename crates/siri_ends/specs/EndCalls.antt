@@ -22,21 +22,26 @@ pub record Turned {Own Kept State M R : Type 0} (kept : Own → Kept) (stands : 
   pub reply_is : (s : State) → stands first s
       → IsReply (kept first) reply ((manner (kept first)).after s asked) ((manner (kept first)).responds s asked)
 
--- an end heard a message that was answered to this one, where there is one, and these are more to be sent
-pub record Hears {Own Kept State M : Type 0} (kept : Own → Kept) (stands : Own → State → Type 0)
-    (manner : Kept → Manner State M) (sent : M) (message : Option Message) (more : List M) (old new : Own) : Type 0 where
+-- An end heard a message that was answered to this one, where there is one, and these are more to be sent. Whatever stands
+-- beside it is as the end left it, where it was so before.
+pub record Hears {Own Beside Kept State M : Type 0} (kept : Own → Kept) (stands : Own → State → Type 0)
+    (holds : Own → Beside → State → Type 0) (manner : Kept → Manner State M) (sent : M) (message : Option Message)
+    (more : List M) (old new : Own) : Type 0 where
   pub keeps : kept new ≡ kept old
   pub stands_for : (s : State) → stands old s → stands new (after_hearing (manner (kept old)) sent message s)
+  pub holds_for : (beside : Beside) (s : State) → stands old s → holds old beside s
+      → holds new beside (after_hearing (manner (kept old)) sent message s)
   pub more_are : (s : State) → stands old s → more ≡ brings_of (manner (kept old)) sent message s
 
 -- a message is sent, what is answered is heard, and these are more to be sent
-pub record SendsNext {Own Kept State M : Type 0} (kept : Own → Kept) (stands : Own → State → Type 0)
-    (Posts : Posting M) (manner : Kept → Manner State M) (message : M) (more : List M) (old new : At Own) : Type 0 where
+pub record SendsNext {Own Beside Kept State M : Type 0} (kept : Own → Kept) (stands : Own → State → Type 0)
+    (holds : Own → Beside → State → Type 0) (Posts : Posting M) (manner : Kept → Manner State M) (message : M) (more : List M)
+    (old new : At Own) : Type 0 where
   pub outcome : Sent
   pub told : Posts message (Some outcome) old.wire new.wire
   pub cause : HasSentCause old.faults new.faults (Some outcome)
   pub tally : new.tally ≡ tally_after outcome old.tally
-  pub hears : Hears kept stands manner message (message_answered outcome) more old.state new.state
+  pub hears : Hears kept stands holds manner message (message_answered outcome) more old.state new.state
 
 -- an end answered a connection that asks this, and these messages are to be sent
 pub record AnswersAsked {Own Kept State M : Type 0} (kept : Own → Kept) (stands : Own → State → Type 0)

@@ -14,7 +14,7 @@ use Rattle.siri_producer.specs.Answers.{answer_to}
 use Rattle.siri_producer.specs.Known.{Known, StandsFor}
 use Rattle.siri_producer.specs.Lent.{OwnPart, is_lent, part_in, supplied_by}
 use Rattle.siri_producer.specs.declared.lending.Supplied.TheVariants as supplied
-use Rattle.siri_replies.specs.Parts.{part_delivery}
+use Rattle.siri_subscriptions.specs.replies.Parts.{part_delivery}
 use Rattle.siri_subscriptions.specs.declared.outs.Out.{Out}
 use Rattle.siri_ends.specs.declared.reply.Reply.{Reply}
 use Rattle.siri_ends.specs.declared.reply.Reply.TheVariants as reply

@@ -1,10 +1,12 @@
--- In order of reading: what a connection is answered; an end at a moment of its run; how an end takes part in the exchange;
+-- In order of reading: what a connection is answered; an end at a moment of its run; how an end takes part in the exchange, and what
+-- it is called for;
 -- a connection that is answered; messages that are sent one after the other; a turn, and the calls of it; a producer and
 -- a consumer as ends; what a part of a turn does; answers that are written from what is lent. Between them are inner words:
 -- where the text of a body goes.
 pub mod Responses
 pub mod At
 pub mod Manners
+pub mod Occasions
 pub mod Answering
 pub mod InTurn
 pub mod TurnsTaken
@@ -16,3 +18,4 @@ pub mod Sinks
 pub mod SinkLaws
 pub mod Pieces
 pub mod Lending
+pub mod lite

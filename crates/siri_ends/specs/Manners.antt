@@ -1,6 +1,6 @@
 -- How an end of the exchange takes part in it, by the state that it stands for (EN 15531-2 for what is said, RFC 9112 for
 -- how).
-use Rattle.std.specs.Prelude.{List, [], Option, None, Some}
+use Rattle.std.specs.Prelude.{◌≡◌, ℕ, List, [], Option, None, Some, Ok}
 use Rattle.siri_base.specs.Wires.{WireState}
 use Rattle.siri_messages.specs.declared.message.Message.{Message}
 use Rattle.siri_wire.specs.Documents.{message_of}
@@ -23,6 +23,10 @@ pub record Manner (State M : Type 0) : Type 0 where
 unfoldable pub message_answered : Sent → Option Message
 message_answered (sent.Accepted body) = message_in (message_of body)
 message_answered other = None
+
+-- a message that a document has
+abbrev pub IsRead : Message → Type 0
+IsRead message = (document : List ℕ) × (message_of document ≡ Ok message)
 
 -- the state after such a message, where there is one
 abbrev pub after_hearing : {State M : Type 0} → Manner State M → (sent : M) → Option Message → State → State

@@ -10,8 +10,8 @@ use Rattle.siri_messages.specs.declared.requests.ServiceRequest.{ServiceRequest}
 use Rattle.siri_store.specs.Walk.{to_lend}
 use Rattle.siri_store.specs.declared.selected.Selected.{Selected}
 use Rattle.siri_model.specs.Direct.{response, shown}
-use Rattle.siri_rounds.specs.Wanted.{WantedPart, part_sent}
-use Rattle.siri_replies.specs.Parts.{part_delivery}
+use Rattle.siri_subs.specs.rounds.Wanted.{WantedPart, part_sent}
+use Rattle.siri_subscriptions.specs.replies.Parts.{part_delivery}
 use Rattle.siri_producer.specs.Lent.{lent_topic}
 use Rattle.siri_producer.specs.declared.lending.LentPart.{LentPart}
 use Rattle.siri_deliveries.specs.Pieces.{delivery_of_head, delivery_text, item_text_left, items_of_changes}

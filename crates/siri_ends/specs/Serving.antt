@@ -6,7 +6,6 @@ use Rattle.siri_base.specs.OutsideCalls.{WhereTold}
 use Rattle.siri_http.specs.Addresses.{address_of}
 use Rattle.siri_http.specs.Posts.{Posts}
 use Rattle.siri_http.specs.Requests.{Meaning}
-use Rattle.siri_http.specs.declared.asked.Asked.{Asked}
 use Rattle.siri_http.specs.declared.posting.Sent.{Sent}
 use Rattle.siri_messages.specs.declared.message.Message.{Message}
 use Rattle.siri_messages.specs.declared.message.Message.TheVariants as message

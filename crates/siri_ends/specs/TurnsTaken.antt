@@ -1,10 +1,12 @@
 -- A turn of an end: a connection is answered, and then messages are sent.
-use Rattle.std.specs.Prelude.{◌≡◌, ◌⊎◌, Option}
+use Rattle.std.specs.Prelude.{◌≡◌, ◌⊎◌, Option, Some}
 use Rattle.siri_base.specs.Wires.{WireState}
-use Rattle.siri_http.specs.Requests.{Meaning}
+use Rattle.siri_http.specs.Connections.{OnConnection}
+use Rattle.siri_http.specs.Requests.{Asks, Meaning}
 use Rattle.siri_http.specs.declared.asked.Asked.{Asked}
 use Rattle.siri_ends.specs.Answering.{AnswersWith, Reads, StopsAnswering}
 use Rattle.siri_ends.specs.At.{At, Surroundings, around}
+use Rattle.siri_ends.specs.EndCalls.{StopsAsked}
 use Rattle.siri_ends.specs.InTurn.{FirstSends, SendsAll}
 use Rattle.siri_ends.specs.Manners.{Manner, Posting}
 
@@ -32,3 +34,21 @@ StopsTurn asks Posts manner at after =
     StopsAnswering asks (manner.responds at.state) at.wire after
     ⊎ ((asked : Asked) × (mid : At _) × Answers asks manner asked at mid
     × FirstSends Posts manner (manner.sends at.state asked) mid.state mid.wire after)
+
+-- ---- what a turn does beside its end, whatever comes of it
+
+-- after a connection asked this: nothing was answered, or a front of the answer, or all of it, and then the first sends, if any
+abbrev pub AnswersSome : {State M : Type 0} → Posting M → Manner State M → Asked → State → (read after : Option WireState) → Type 0
+AnswersSome Posts manner asked state read after =
+    StopsAsked (manner.responds state asked) read after
+    ⊎ ((at mid : Surroundings) × (at.wire ≡ read) × AnswersWith (manner.responds state asked) at mid
+    × FirstSends Posts manner (manner.sends state asked) (manner.after state asked) mid.wire after)
+
+-- Until the request is read, nothing is done there. What a connection asked may be there then; and it is there before anything
+-- is answered, by whatever state the end stands for.
+abbrev pub LeavesBeside : {State M : Type 0} → (asks : Meaning) → Posting M → Manner State M → (stands : State → Type 0)
+    → (Same : Type 0) → (May Has : Asked → Type 0) → (before after : Option WireState) → Type 0
+LeavesBeside {State = State} asks Posts manner stands Same May Has before after =
+    (Same × (outcome : Option Asked) × OnConnection (Asks asks outcome) before after)
+    ⊎ ((asked : Asked) × (read : Option WireState) × OnConnection (Asks asks (Some asked)) before read × May asked
+    × ((after ≡ read) ⊎ (Has asked × ((s : State) → stands s → AnswersSome Posts manner asked s read after))))

@@ -1,7 +1,7 @@
 //! Answers a connection as a consumer.
 
 ghost use Rattle.std.specs.Prelude.{◌≡◌, IfOk, OnOk, OnErr, Some};
-ghost use Rattle.siri_view.specs.Consuming.{Consuming, after_message, seen_of};
+ghost use Rattle.siri_view.specs.Consuming.{Consuming, after_message, clocked, seen_of};
 ghost use Rattle.siri_ends.specs.Responses.{replying};
 ghost use Rattle.siri_ends.specs.At.{at_of};
 ghost use Rattle.siri_ends.specs.Consuming.{ConsumesOne, ConsumesSome, FirstSendsUp, PostsUp, SendsUp, consuming, first_of, further_of, none_posted_up};
@@ -13,7 +13,7 @@ use crate::response::{Response, replying};
 use crate::sending::send_all;
 use crate::taker::Taker;
 use crate::turning::take_turn;
-use siri_base::{List, OutOfMemory, Wire};
+use siri_base::{List, Moment, OutOfMemory, OutsideError, Wire};
 use siri_http::{Address, Asked, PostAlone, Sent, post_to};
 use siri_messages::Message;
 use siri_view::Consumer;
@@ -75,7 +75,7 @@ fn reply_to(
     }
 }
 
-impl Taker for Consumer {
+impl Taker<()> for Consumer {
     type Reply = Option<Response>;
 
     type Message = Message;
@@ -90,6 +90,12 @@ impl Taker for Consumer {
 
     ghost stands = { λ consumer state. state ≡ consumer };
 
+    ghost holds = { λ _ _ _. Unit {0} };
+
+    ghost given = { λ now consumer. clocked consumer now };
+
+    ghost refuses = { λ _ _. ⊥ };
+
     ghost manner = { λ _. consuming };
 
     ghost posts = { λ producer. PostsUp producer.host producer.path };
@@ -98,12 +104,18 @@ impl Taker for Consumer {
 
     ghost is_reply = { λ _ reply _ response. response ≡ reply };
 
+    fn clock(&mut self, _beside: &mut (), now: Moment) -> Result<(), OutsideError> {
+        self.clock(now);
+        Ok(())
+    }
+
     #[tactic(auto, using(crate::proofs::Consumes::took))]
     fn take(
         &mut self,
         alloc: Global,
+        _beside: &mut (),
         asked: &Asked,
-    ) -> Result<(Option<Response>, List<Message>), OutOfMemory> {
+    ) -> Result<(Option<Response>, List<Message>), OutsideError> {
         let replied = reply_to(alloc, self, asked)?;
         Ok(replied)
     }
@@ -140,6 +152,10 @@ impl Taker for Consumer {
         Ok(replies)
     }
 
+    fn end_turn(&mut self, _beside: &mut (), _made: u64) -> Result<(), OutsideError> {
+        Ok(())
+    }
+
     ghost none_posted = { λ producer message wire. none_posted_up producer.host producer.path message wire };
 }
 
@@ -156,7 +172,7 @@ pub fn send_up<W: Wire>(
     ensures ok { OnOk result (SendsUp producer.now.host producer.now.path list (at_of consumer.old tally.old (W.tells wire.old) (W.faults wire.old)) (at_of consumer.new tally.new (W.tells wire.new) (W.faults wire.new))) }
     ensures err { OnErr result (FirstSendsUp producer.now.host producer.now.path list consumer.old (W.tells wire.old) (W.tells wire.new)) }
 {
-    send_all(alloc, wire, list, producer, consumer, tally)
+    send_all::<W, (), Consumer>(alloc, wire, list, producer, consumer, tally)
 }
 
 /// Answers the connection that was accepted. Its request is read; where it is a POST whose body is a document, the
@@ -178,5 +194,8 @@ pub fn consume_one<W: Wire>(
     ensures ok { OnOk result (ConsumesOne producer.now.host producer.now.path (at_of consumer.old tally.old (W.tells wire.old) (W.faults wire.old)) (at_of consumer.new tally.new (W.tells wire.new) (W.faults wire.new))) }
     ensures err { OnErr result (ConsumesSome producer.now.host producer.now.path (at_of consumer.old tally.old (W.tells wire.old) (W.faults wire.old)) (W.tells wire.new)) }
 {
-    take_turn::<W, PostAlone, Consumer>(alloc, wire, producer, consumer, tally)
+    match take_turn::<W, PostAlone, (), Consumer>(alloc, wire, producer, consumer, &mut (), tally) {
+        Ok(()) => Ok(()),
+        Err(_) => Err(OutOfMemory),
+    }
 }

@@ -13,8 +13,8 @@ ghost use Rattle.siri_model.specs.Rows.{rows_of};
 ghost use Rattle.siri_producer.specs.Known.{SameButReads, StandsFor};
 ghost use Rattle.siri_producer.specs.Lent.{OwnPart, is_lent, part_in};
 ghost use Rattle.siri_deliveries.specs.Pieces.{text_left};
-ghost use Rattle.siri_replies.specs.Parts.{part_delivery};
-ghost use Rattle.siri_rounds.specs.Wanted.{part_sent};
+ghost use Rattle.siri_subscriptions.specs.replies.Parts.{part_delivery};
+ghost use Rattle.siri_subs.specs.rounds.Wanted.{part_sent};
 ghost use Rattle.siri_ends.specs.Answering.{StopsWriting, Writes};
 ghost use Rattle.siri_ends.specs.At.{surroundings};
 ghost use Rattle.siri_ends.specs.Lending.{delivering};
@@ -29,9 +29,9 @@ use siri_http::{HttpError, response_head, write_piece};
 use siri_messages::ServiceRequest;
 use siri_producer::{LentPart, Producer, lent_topic};
 use siri_records::{Change, Service};
-use siri_replies::part_delivery;
-use siri_rounds::Part;
 use siri_store::Selected;
+use siri_subs::Part;
+use siri_subscriptions::part_delivery;
 use siri_topic::Topic;
 use siri_wire::{
     ChangePieces, DeliveryHead, FramePiece, ItemPieces, change_pieces, item_pieces, reply_frame,

@@ -5,7 +5,7 @@ ghost use Rattle.siri_http.specs.Texts.{is_written};
 ghost use Rattle.siri_messages.specs.declared.message.Message.TheVariants as message;
 ghost use Rattle.siri_model.specs.History.{History};
 ghost use Rattle.siri_producer.specs.Known.{StandsFor};
-ghost use Rattle.siri_replies.specs.Parts.{refused_supply};
+ghost use Rattle.siri_subscriptions.specs.replies.Parts.{refused_supply};
 ghost use Rattle.siri_ends.specs.Responses.{producer_reply, replying};
 ghost use Rattle.siri_ends.specs.Lending.{CanBeWritten, Prepares, PreparesFor, delivering, is_direct, message_response};
 ghost use Rattle.siri_ends.specs.Turns.{TakesFor};
@@ -16,8 +16,8 @@ use siri_base::{Copies, Moment, Name, OutOfMemory};
 use siri_http::Asked;
 use siri_messages::{DataSupplyRequest, Message, ServiceRequest};
 use siri_producer::{Producer, Supplied, is_lent};
-use siri_replies::refused_supply;
-use siri_rounds::SupplyError;
+use siri_subs::SupplyError;
+use siri_subscriptions::refused_supply;
 use std::alloc::Global;
 
 /// What a connection is to be answered.

@@ -3,7 +3,7 @@
 ghost use Rattle.std.specs.Prelude.{◌≡◌, ◌++◌, IfOk, OnOk, OnErr};
 ghost use Rattle.siri_wire.specs.Documents.{message_of};
 ghost use Rattle.siri_ends.specs.Responses.{message_in};
-ghost use Rattle.siri_ends.specs.At.{Goes, at_of};
+ghost use Rattle.siri_ends.specs.At.{Goes, HoldingAny, at_of};
 ghost use Rattle.siri_ends.specs.EndCalls.{Hears, SendsNext, StopsAt};
 ghost use Rattle.siri_ends.specs.InTurn.{FirstSends, SendsAll};
 
@@ -26,13 +26,13 @@ fn append_all<M: Drop>(queue: &mut VecDeque<M>, more: List<M>) -> Result<(), Out
 }
 
 /// Hears the message of a document that was answered to one that was sent, where it is one.
-fn hear_document<T: Taker>(
+fn hear_document<B, T: Taker<B>>(
     alloc: Global,
     taker: &mut T,
     sent: &T::Message,
     document: &[u8],
 ) -> Result<List<T::Message>, OutOfMemory>
-    ensures { IfOk result (λ more. Hears T.kept T.stands T.manner sent.now (message_in (message_of document.now)) more taker.old taker.new) }
+    ensures { IfOk result (λ more. Hears T.kept T.stands T.holds T.manner sent.now (message_in (message_of document.now)) more taker.old taker.new) }
 {
     match decode(alloc, document) {
         Ok(message) => taker.hear(alloc, sent, message),
@@ -43,7 +43,7 @@ fn hear_document<T: Taker>(
 
 /// Sends one message, and gives what is to be sent then.
 #[tactic(auto, unfolding(crate::specs::Manners::message_answered))]
-fn send_one<W: Wire, T: Taker>(
+fn send_one<W: Wire, B, T: Taker<B>>(
     alloc: Global,
     wire: &mut W,
     message: &T::Message,
@@ -51,7 +51,7 @@ fn send_one<W: Wire, T: Taker>(
     taker: &mut T,
     tally: &mut Tally,
 ) -> Result<List<T::Message>, OutOfMemory>
-    ensures ok { IfOk result (λ more. SendsNext T.kept T.stands (T.posts target.now) T.manner message.now more (at_of taker.old tally.old (W.tells wire.old) (W.faults wire.old)) (at_of taker.new tally.new (W.tells wire.new) (W.faults wire.new))) }
+    ensures ok { IfOk result (λ more. SendsNext T.kept T.stands T.holds (T.posts target.now) T.manner message.now more (at_of taker.old tally.old (W.tells wire.old) (W.faults wire.old)) (at_of taker.new tally.new (W.tells wire.new) (W.faults wire.new))) }
     ensures err { OnErr result (StopsAt (T.posts target.now message.now) (W.tells wire.old) (W.tells wire.new)) }
 {
     match T::post(alloc, wire, message, target)? {
@@ -67,7 +67,7 @@ fn send_one<W: Wire, T: Taker>(
 }
 
 /// The same of a message that is handed over.
-fn send_next<W: Wire, T: Taker>(
+fn send_next<W: Wire, B, T: Taker<B>>(
     alloc: Global,
     wire: &mut W,
     message: T::Message,
@@ -75,7 +75,7 @@ fn send_next<W: Wire, T: Taker>(
     taker: &mut T,
     tally: &mut Tally,
 ) -> Result<List<T::Message>, OutOfMemory>
-    ensures ok { IfOk result (λ more. SendsNext T.kept T.stands (T.posts target.now) T.manner message more (at_of taker.old tally.old (W.tells wire.old) (W.faults wire.old)) (at_of taker.new tally.new (W.tells wire.new) (W.faults wire.new))) }
+    ensures ok { IfOk result (λ more. SendsNext T.kept T.stands T.holds (T.posts target.now) T.manner message more (at_of taker.old tally.old (W.tells wire.old) (W.faults wire.old)) (at_of taker.new tally.new (W.tells wire.new) (W.faults wire.new))) }
     ensures err { OnErr result (StopsAt (T.posts target.now message) (W.tells wire.old) (W.tells wire.new)) }
 {
     let more = send_one(alloc, wire, &message, target, taker, tally);
@@ -87,7 +87,7 @@ fn send_next<W: Wire, T: Taker>(
 /// brings, where its body is a document that the end hears, joins the end. After 100,000 sends the rest are counted as
 /// unsent, as is each message that has no address, or one that is none, that the wire failed, or whose response was
 /// refused or of another status than 200.
-pub fn send_all<W: Wire, T: Taker>(
+pub fn send_all<W: Wire, B, T: Taker<B>>(
     alloc: Global,
     wire: &mut W,
     list: List<T::Message>,
@@ -95,7 +95,7 @@ pub fn send_all<W: Wire, T: Taker>(
     taker: &mut T,
     tally: &mut Tally,
 ) -> Result<(), OutOfMemory>
-    ensures ok { OnOk result (Goes T.kept T.stands (λ kept. SendsAll (T.posts target.now) (T.manner kept) list) (at_of taker.old tally.old (W.tells wire.old) (W.faults wire.old)) (at_of taker.new tally.new (W.tells wire.new) (W.faults wire.new))) }
+    ensures ok { OnOk result (Goes T.kept T.stands (λ kept. HoldingAny T.holds (SendsAll (T.posts target.now) (T.manner kept) list) taker.old taker.new) (at_of taker.old tally.old (W.tells wire.old) (W.faults wire.old)) (at_of taker.new tally.new (W.tells wire.new) (W.faults wire.new))) }
     ensures err { OnErr result ((s : T.State) → T.stands taker.old s → FirstSends (T.posts target.now) (T.manner (T.kept taker.old)) list s (W.tells wire.old) (W.tells wire.new)) }
 {
     let mut queue = VecDeque::from(list.into_vec());

@@ -1,7 +1,7 @@
 //! Serves a connection.
 
-ghost use Rattle.std.specs.Prelude.{List, ℕ, Option, IfOk, OnOk, OnErr, Some};
-ghost use Rattle.siri_model.specs.History.{History};
+ghost use Rattle.std.specs.Prelude.{◌∷◌, ◌++◌, List, [], ℕ, Option, IfOk, OnOk, OnErr, Some};
+ghost use Rattle.siri_model.specs.History.{Clock, History};
 ghost use Rattle.siri_producer.specs.Known.{SameButReads, StandsFor};
 ghost use Rattle.siri_ends.specs.declared.response.Response.{Response};
 ghost use Rattle.siri_ends.specs.Answering.{AnswersWith, StopsWriting};
@@ -15,7 +15,7 @@ use crate::lending::{write_direct, write_part};
 use crate::reply::{Reply, reply_for};
 use crate::taker::Taker;
 use crate::turning::take_turn;
-use siri_base::{List, OutOfMemory, Wire};
+use siri_base::{List, Moment, OutOfMemory, OutsideError, Wire};
 use siri_http::{Asked, Asking, Sent, Tally, post};
 use siri_messages::Message;
 use siri_producer::{Out, Producer};
@@ -73,7 +73,7 @@ fn hear_message(
     }
 }
 
-impl Taker for Producer {
+impl Taker<()> for Producer {
     type Reply = Reply;
 
     type Message = Out;
@@ -88,6 +88,12 @@ impl Taker for Producer {
 
     ghost stands = { StandsFor };
 
+    ghost holds = { λ _ _ _. Unit {0} };
+
+    ghost given = { λ now h. h ++ Clock now ∷ [] };
+
+    ghost refuses = { λ _ _. ⊥ };
+
     ghost manner = { serving };
 
     ghost posts = { λ _. PostsOut };
@@ -96,7 +102,17 @@ impl Taker for Producer {
 
     ghost is_reply = { λ name reply h response. IsReply reply name h response };
 
-    fn take(&mut self, alloc: Global, asked: &Asked) -> Result<(Reply, List<Out>), OutOfMemory> {
+    fn clock(&mut self, _beside: &mut (), now: Moment) -> Result<(), OutsideError> {
+        self.clock(now);
+        Ok(())
+    }
+
+    fn take(
+        &mut self,
+        alloc: Global,
+        _beside: &mut (),
+        asked: &Asked,
+    ) -> Result<(Reply, List<Out>), OutsideError> {
         let reply = reply_for(alloc, self, asked)?;
         let outs = self.settle()?;
         Ok((reply, outs))
@@ -141,13 +157,17 @@ impl Taker for Producer {
         Ok(outs)
     }
 
+    fn end_turn(&mut self, _beside: &mut (), _made: u64) -> Result<(), OutsideError> {
+        Ok(())
+    }
+
     ghost none_posted = { λ _ out wire. none_posted_out out wire };
 }
 
 /// Serves the connection that was accepted. Its request is read; where it is a POST whose body is a document, or asks
-/// what such a POST asks by [`Asking`], the message is taken; the producer settles; the answer is written, and the connection hung up. What was settled is then
-/// sent out, as [`send_all`](crate::send_all) says; of what is answered to it a DataReceivedAcknowledgement is taken and
-/// settled.
+/// what such a POST asks by [`Asking`], the message is taken; the producer settles; the answer is written, and the
+/// connection hung up. What was settled is then sent out, as [`send_all`](crate::send_all) says; of what is answered to it
+/// a DataReceivedAcknowledgement is taken and settled.
 ///
 /// The answer has status 200 and the reply's document, or an empty body where there is no reply. A refused head, method
 /// or body is answered with its own status and a line of text, and counted as refused. A request that didn't come whole
@@ -166,5 +186,8 @@ pub fn serve_one<W: Wire, A: Asking>(
     ensures ok { OnOk result (Goes (ServesOne A.asks) (at_of producer.old tally.old (W.tells wire.old) (W.faults wire.old)) (at_of producer.new tally.new (W.tells wire.new) (W.faults wire.new))) }
     ensures err { OnErr result ((h : History) → StandsFor producer.old h → ServesSome A.asks producer.old.responder.name (at_of h tally.old (W.tells wire.old) (W.faults wire.old)) (W.tells wire.new)) }
 {
-    take_turn::<W, A, Producer>(alloc, wire, &(), producer, tally)
+    match take_turn::<W, A, (), Producer>(alloc, wire, &(), producer, &mut (), tally) {
+        Ok(()) => Ok(()),
+        Err(_) => Err(OutOfMemory),
+    }
 }

@@ -1,21 +1,27 @@
-//! What takes the messages of connections, answers them, and sends messages.
+//! What is given moments, takes the messages of connections, answers them, and sends messages.
 
-ghost use Rattle.std.specs.Prelude.{◌≡◌, Option, IfOk, OnErr, OnOk, None, Some};
+ghost use Rattle.std.specs.Prelude.{◌≡◌, ℕ, Option, IfErr, IfOk, OnErr, OnOk, None, Some};
+ghost use Rattle.siri_base.specs.Causes.{HasOutsideCause};
 ghost use Rattle.siri_base.specs.Wires.{WireState};
+ghost use Rattle.siri_base.specs.declared.errors.OutsideError.{OutsideError as Error};
+ghost use Rattle.siri_http.specs.declared.asked.Asked.{Asked as Question};
 ghost use Rattle.siri_http.specs.ExchangeCauses.{HasSentCause, outcome};
 ghost use Rattle.siri_ends.specs.declared.response.Response.{Response};
 ghost use Rattle.siri_ends.specs.Answering.{AnswersWith, StopsWriting};
 ghost use Rattle.siri_ends.specs.At.{surroundings};
 ghost use Rattle.siri_ends.specs.EndCalls.{Hears, Turned};
-ghost use Rattle.siri_ends.specs.Manners.{Manner, Posting};
+ghost use Rattle.siri_ends.specs.Manners.{IsRead, Manner, Posting};
+ghost use Rattle.siri_ends.specs.Occasions.{AfterTurn, Occasion, OfConnection, OfMoment};
 
-use siri_base::{List, OutOfMemory, Wire};
+use siri_base::{List, Moment, OutOfMemory, OutsideError, Wire};
 use siri_http::{Asked, Sent, Tally};
 use siri_messages::Message;
 use std::alloc::Global;
 
-/// An end of the exchange, as a turn of it sees it.
-pub trait Taker {
+/// An end of the exchange, as a run of it sees it, and each turn of the run. What stands beside it, a shelf or nothing,
+/// which is `()`, is lent to it where it is given a moment, where it takes what a connection asks, and where a turn is
+/// over.
+pub trait Taker<B> {
     /// What a connection is to be answered.
     type Reply: Drop;
 
@@ -37,6 +43,30 @@ pub trait Taker {
     /// It stands for a state.
     ghost stands: { Self → State → Type 0 };
 
+    /// It can be called with this beside it: a shelf has to be open.
+    ghost is_ready: { B → Type 0 } = { λ _. Unit {0} };
+
+    /// What stands beside it is as it left it, in a state that it stands for.
+    ghost holds: { Self → B → State → Type 0 };
+
+    /// What may stand beside it once it was called for this, by what stood there before, whatever came of it.
+    ghost may_leave: { Self → Occasion → B → B → Type 0 } = { λ _ _ _ _. Unit {0} };
+
+    /// What stands there before anything is answered to a connection that asks this.
+    ghost has_left: { Self → Question → B → B → Type 0 } = { λ _ _ _ _. Unit {0} };
+
+    /// What stands there after a turn that was the last of so many.
+    ghost has_ended: { Self → ℕ → B → B → Type 0 } = { λ _ _ _ _. Unit {0} };
+
+    /// How often what stands beside it has failed; never, where that is nothing.
+    ghost faults: { B → ℕ } = { λ _. 0 };
+
+    /// The state after it is given a moment.
+    ghost given: { ℕ → State → State };
+
+    /// It can't be given one, for this reason.
+    ghost refuses: { Error → State → Type 0 };
+
     /// How it takes part in the exchange.
     ghost manner: { Kept → Manner State Self.Message };
 
@@ -49,15 +79,33 @@ pub trait Taker {
     /// By the state after the turn a reply is this response, or none.
     ghost is_reply: { Kept → Self.Reply → State → Option Response → Type 0 };
 
+    /// Gives it a moment. `Failed` only where the count of what stands beside it rose.
+    fn clock(&mut self, beside: &mut B, now: Moment) -> Result<(), OutsideError>
+        requires { is_ready beside.old }
+        ensures ready { is_ready beside.new }
+        ensures keeps { OnOk result (kept self.new ≡ kept self.old) }
+        ensures stands { OnOk result ((s : State) → stands self.old s → stands self.new (given now s)) }
+        ensures holds { OnOk result ((s : State) → stands self.old s → holds self.old beside.old s → holds self.new beside.new (given now s)) }
+        ensures err { IfErr result (λ error. (s : State) → stands self.old s → refuses error s) }
+        ensures may { may_leave self.old (OfMoment now) beside.old beside.new }
+        ensures cause { HasOutsideCause (faults beside.old) (faults beside.new) result };
+
     /// Takes the message that a connection brings, where it brings one, and settles: what the connection is to be
-    /// answered, and what is to be sent then.
+    /// answered, and what is to be sent then. `Failed` only where the count of what stands beside it rose.
     fn take(
         &mut self,
         alloc: Global,
+        beside: &mut B,
         asked: &Asked,
-    ) -> Result<(Self::Reply, List<Self::Message>), OutOfMemory>
+    ) -> Result<(Self::Reply, List<Self::Message>), OutsideError>
+        requires { is_ready beside.old }
+        ensures ready { is_ready beside.new }
         ensures turned { IfOk result (λ taken. Turned kept stands manner is_reply asked.now taken.1 taken.0 self.old self.new) }
-        ensures written { IfOk result (λ taken. can_be_written taken.0) };
+        ensures written { IfOk result (λ taken. can_be_written taken.0) }
+        ensures holds { OnOk result ((s : State) → holds self.old beside.old s → holds self.new beside.new ((manner (kept self.old)).after s asked.now)) }
+        ensures may { may_leave self.old (OfConnection asked.now) beside.old beside.new }
+        ensures left { OnOk result (has_left self.old asked.now beside.old beside.new) }
+        ensures cause { HasOutsideCause (faults beside.old) (faults beside.new) result };
 
     /// Writes what a connection is to be answered, hangs up, and counts the connection.
     fn write_reply<W: Wire>(
@@ -71,6 +119,7 @@ pub trait Taker {
         requires written { can_be_written reply.now }
         ensures keeps { OnOk result (kept self.new ≡ kept self.old) }
         ensures stands { OnOk result ((s : State) → stands self.old s → stands self.new s) }
+        ensures holds { OnOk result ((beside : B) (s : State) → stands self.old s → holds self.old beside s → holds self.new beside s) }
         ensures ok { OnOk result ((s : State) (response : Option Response) → stands self.old s → is_reply (kept self.old) reply.now s response → AnswersWith response (surroundings tally.old (W.tells wire.old) (W.faults wire.old)) (surroundings tally.new (W.tells wire.new) (W.faults wire.new))) }
         ensures err { OnErr result ((s : State) (response : Option Response) → stands self.old s → is_reply (kept self.old) reply.now s response → StopsWriting response (W.tells wire.old) (W.tells wire.new)) };
 
@@ -84,14 +133,27 @@ pub trait Taker {
         ensures told { posts target.now message.now (outcome result) (W.tells wire.old) (W.tells wire.new) }
         ensures cause { HasSentCause (W.faults wire.old) (W.faults wire.new) (outcome result) };
 
-    /// Hears a message that was answered to one that it sent, and gives what is to be sent then.
+    /// Hears a message, read of a document that was answered to one that it sent, and gives what is to be sent then.
     fn hear(
         &mut self,
         alloc: Global,
         sent: &Self::Message,
         message: Message,
     ) -> Result<List<Self::Message>, OutOfMemory>
-        ensures { IfOk result (λ more. Hears kept stands manner sent.now (Some message) more self.old self.new) };
+        requires { IsRead message }
+        ensures { IfOk result (λ more. Hears kept stands holds manner sent.now (Some message) more self.old self.new) };
+
+    /// Ends a turn, once everything was sent: the last of so many of a run. `Failed` only where the count of what stands
+    /// beside it rose.
+    fn end_turn(&mut self, beside: &mut B, made: u64) -> Result<(), OutsideError>
+        requires { is_ready beside.old }
+        ensures ready { is_ready beside.new }
+        ensures keeps { OnOk result (kept self.new ≡ kept self.old) }
+        ensures stands { OnOk result ((s : State) → stands self.old s → stands self.new s) }
+        ensures holds { OnOk result ((s : State) → stands self.old s → holds self.old beside.old s → holds self.new beside.new s) }
+        ensures may { may_leave self.old AfterTurn beside.old beside.new }
+        ensures ended { OnOk result (has_ended self.old made beside.old beside.new) }
+        ensures cause { HasOutsideCause (faults beside.old) (faults beside.new) result };
 
     /// Of an exchange the first steps may be none.
     ghost none_posted: { (target : Self.Target) (message : Self.Message) (wire : Option WireState) → posts target message None wire wire };

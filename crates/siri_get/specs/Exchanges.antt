@@ -11,7 +11,7 @@ use Rattle.siri_http.specs.Messages.{IsResponse, Brings}
 use Rattle.siri_http.specs.Texts.{get_text}
 use Rattle.siri_http.specs.Responses.{WroteFront, is_whole, over_after, over_with}
 use Rattle.siri_http.specs.Posts.{Response, StopsThere, dialled}
-use Rattle.siri_script.specs.Spaced.{line_feed}
+use Rattle.siri_document.specs.script.Spaced.{line_feed}
 use Rattle.siri_lines.specs.RunResult.{RunResult}
 use Rattle.siri_get.specs.declared.plan.Plan.{Plan}
 use Rattle.siri_get.specs.declared.plan.Plan.TheVariants as plan

@@ -6,7 +6,7 @@ use Rattle.siri_messages.specs.declared.message.Message.TheVariants as message
 use Rattle.siri_messages.specs.declared.requests.ServiceRequest.{ServiceRequest}
 use Rattle.siri_tables.specs.Refusals.{Refusal}
 use Rattle.siri_queries.specs.Targets.{target_of}
-use Rattle.siri_script.specs.Spaced.{line_feed}
+use Rattle.siri_document.specs.script.Spaced.{line_feed}
 use Rattle.siri_lines.specs.RunResult.{RunResult}
 use Rattle.siri_document.specs.OneDocument.{refused_told}
 use Rattle.siri_get.specs.declared.plan.Plan.{Plan}

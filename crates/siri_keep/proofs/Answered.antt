@@ -1,12 +1,12 @@
 -- What is written to a connection, and that its message was kept where it is answered with status 200.
-use Rattle.std.specs.Prelude.{⊤, if◌then◌else◌, codes, slice_get, option_map, option_to_list}
-use Rattle.std.proofs.Common.{◌≡◌, ◌⊎◌, ◌+◌, ◌/◌, ℕ, zero, suc, List, [], ◌∷◌, ◌++◌, length, take, drop, Bool, true, false, Option, None, Some, Result, Ok, Err, refl, sym, ap, ◌∙◌, subst, append-nil, append_assoc, inl, inr, arith}
+use Rattle.std.specs.Prelude.{if◌then◌else◌, codes, slice_get, option_map, option_to_list}
+use Rattle.std.proofs.Common.{◌≡◌, ◌+◌, ◌/◌, ℕ, zero, suc, List, [], ◌∷◌, ◌++◌, length, take, drop, Bool, true, false, Option, None, Some, Result, Ok, Err, refl, sym, ap, ◌∙◌, subst, append-nil, append_assoc, inl, inr, arith}
 use Rattle.siri_base.specs.OutsideCalls.{WhereTold}
 use Rattle.siri_base.specs.Wires.{Connection, Present, WireState, dial_called, hung_up, present_text, texts, with_connection}
 use Rattle.siri_tables.specs.Refusals.{Refusal}
 use Rattle.siri_http.specs.Connections.{OnConnection, OnPresent, passing}
 use Rattle.siri_http.specs.Posts.{ByDial, Posts, dialled_of, is_due}
-use Rattle.siri_http.specs.Requests.{Asks, StopsAsking, name_of, post_alone, status_of}
+use Rattle.siri_http.specs.Requests.{Asks, name_of, post_alone, status_of}
 use Rattle.siri_http.specs.Responses.{Responded, Responds, WroteFront, over_after}
 use Rattle.siri_http.specs.Texts.{head_text, request_text, response_text}
 use Rattle.siri_http.specs.declared.asked.Asked.{Asked}
@@ -15,24 +15,24 @@ use Rattle.siri_http.specs.declared.asked.BadRequest.{BadRequest}
 use Rattle.siri_http.specs.declared.asked.BadRequest.TheVariants as bad
 use Rattle.siri_http.specs.declared.posting.Sent.{Sent}
 use Rattle.siri_messages.specs.declared.message.Message.{Message}
-use Rattle.siri_model.specs.History.{History, Take}
+use Rattle.siri_model.specs.History.{History}
 use Rattle.siri_producer.specs.Known.{StandsFor}
 use Rattle.siri_subscriptions.specs.declared.outs.Out.{Out}
 use Rattle.siri_wire.specs.Documents.{message_of}
 use Rattle.siri_ends.specs.Answering.{AnswersWith, StopsWriting}
-use Rattle.siri_ends.specs.At.{At, Surroundings}
-use Rattle.siri_ends.specs.EndCalls.{StopsAsked}
-use Rattle.siri_ends.specs.InTurn.{FirstInTurn, InTurn}
+use Rattle.siri_ends.specs.At.{Surroundings}
+use Rattle.siri_ends.specs.InTurn.{FirstInTurn, most_sends}
 use Rattle.siri_ends.specs.Manners.{Manner, after_hearing, brings_of, message_answered}
 use Rattle.siri_ends.specs.Responses.{message_asked, message_in, producer_reply, refusing, responding, responding_to, response_to, taking}
 use Rattle.siri_ends.specs.Serving.{PostsOut, target_of}
+use Rattle.siri_ends.specs.TurnsTaken.{AnswersSome}
 use Rattle.siri_ends.specs.declared.response.Response.{Response}
 use Rattle.siri_shelf.specs.Shelves.{ShelfState}
 use Rattle.siri_keeping.specs.Keeps.{Keeps}
 use Rattle.siri_keep.specs.declared.kept.Kept.{Kept}
 use Rattle.siri_keep.specs.Calls.{AddsFronts, Holds}
 use Rattle.siri_keep.specs.KeptTurns.{KeepsOn}
-use Rattle.siri_keep.specs.Serving.{AnswersOk, KeepsAnswered, KeepsWhatIsAnswered, has_long_asked, kept_response, message_kept, row_too_long}
+use Rattle.siri_keep.specs.Serving.{AnswersOk, KeepsAnswered, KeepsWhatIsAnswered, has_long_asked, keeping, kept_response, message_kept, row_too_long}
 use Rattle.siri_keep.proofs.Told.{told_same, told_weaker}
 
 told_both : {S : Type 0} (P Q R : S → S → Type 0) (x y z : Option S) → ((s t u : S) → P s t → Q t u → R s u)
@@ -92,17 +92,6 @@ stopped_grows (Some address) body x y (inr stop) =
     stop_grows address.0 (request_text address.0 address.1 body) (is_due x.dial_fails) x.to_dial x stop.there y stop.dialled_is stop.wrote
 
 module _ (manner : Manner History Out) where
-  pub sends_grow : (limit : ℕ) (list : List Out) (at end : At History) → InTurn PostsOut manner limit list at end
-      → WhereTold at.wire end.wire Grows
-  unfolding InTurn
-  sends_grow zero list at end is = subst (λ (e : At History). WhereTold at.wire e.wire Grows) (sym is) (told_same Grows at.wire grows_same)
-  sends_grow (suc limit) [] at end is = subst (λ (e : At History). WhereTold at.wire e.wire Grows) (sym is) (told_same Grows at.wire grows_same)
-  sends_grow (suc limit) (first ∷ rest) at end some =
-      told_both Grows Grows Grows at.wire some.1.wire end.wire grows_then
-      (told_weaker (Posts (target_of first.address) _ (Some some.0)) Grows at.wire some.1.wire
-      (λ x y p. post_grows (target_of first.address) _ some.0 x y p) some.2.told)
-      (sends_grow limit (rest ++ brings_of manner first (message_answered some.0) at.state) some.1 end some.3)
-
   pub first_grows : (limit : ℕ) (list : List Out) (h : History) (before now : Option WireState)
       → FirstInTurn PostsOut manner limit list h before now → WhereTold before now Grows
   unfolding FirstInTurn
@@ -328,7 +317,7 @@ wrote_hung_up p a b is there = subst (λ b. Wrote None p a b) (sym is) (record {
   is_front = refl;
 })
 
-pub answers_wrote : (response : Option Response) (at mid : Surroundings) → AnswersWith response at mid → WroteTold response at.wire mid.wire
+answers_wrote : (response : Option Response) (at mid : Surroundings) → AnswersWith response at mid → WroteTold response at.wire mid.wire
 answers_wrote None at mid answers = told_weaker (λ a b. b ≡ hung_up a) (λ a b. (p : Present) → a.present ≡ Some p → Wrote None p a b)
     at.wire mid.wire (λ a b is p there. wrote_hung_up p a b is there) answers.told
 answers_wrote (Some r) at mid answers =
@@ -404,11 +393,14 @@ module _ (old : Kept) (a : Asked) (s t : ShelfState) (keeps : KeepsOn old (takin
 -- ---- as it is told, of the shelf too
 
 -- where reading ended the turn
-pub told_unread : (old : Kept) (x : Option ShelfState) (from to : Option WireState) → StopsAsking post_alone (λ request. ⊥) from to
-    → WhereTold x x (KeepsWhatIsAnswered old from to)
-told_unread old x from to (inl stops) = told_same (KeepsWhatIsAnswered old from to) x
-    (λ s a b is now ok. absurd (unanswered_told from to (read_unanswered None from to stops) a b is now ok))
-told_unread old x from to (inr whole) = absurd whole.1
+pub told_unread : (old : Kept) (x : Option ShelfState) (from to : Option WireState) (outcome : Option Asked)
+    → OnConnection (Asks post_alone outcome) from to → WhereTold x x (KeepsWhatIsAnswered old from to)
+told_unread old x from to outcome told = told_same (KeepsWhatIsAnswered old from to) x
+    (λ s a b is now ok. absurd (unanswered_told from to (read_unanswered outcome from to told) a b is now ok))
+
+-- a wire to which nothing was written answered nothing
+pub not_answered : (wire : Option WireState) (a b : WireState) → wire ≡ Some a → wire ≡ Some b → AnswersOk a b → ⊥
+not_answered wire a b is now ok = unanswered_told wire wire (told_same Unanswered wire unanswered_same) a b is now ok
 
 -- where nothing was done
 pub told_closed : (old : Kept) (x : Option ShelfState) (wire : Option WireState) → WhereTold x x (KeepsWhatIsAnswered old wire wire)
@@ -424,28 +416,29 @@ module _ (old : Kept) (a : Asked) (x y : Option ShelfState) (from read written :
   unwritten s t same = λ b c is now ok.
       absurd (unanswered_told from read (read_unanswered (Some a) from read told) b c is (sym same ∙ now) ok)
 
-  -- where the answer ended it
-  pub told_stopped : WhereTold x y (AddsFronts old (taking (message_kept a))) → (written ≡ read) ⊎ WhereTold x y Keeps_
-      → ((h : History) → StandsFor old.producer h → StopsAsked (kept_response old.producer.responder.name h a) read written)
+  -- where nothing was answered
+  pub told_unanswered : written ≡ read → WhereTold x y (AddsFronts old (taking (message_kept a)))
       → WhereTold x y (KeepsWhatIsAnswered old from written)
-  told_stopped adds (inl same) stops = told_weaker (AddsFronts old (taking (message_kept a))) (KeepsWhatIsAnswered old from written) x y
+  told_unanswered same adds = told_weaker (AddsFronts old (taking (message_kept a))) (KeepsWhatIsAnswered old from written) x y
       (λ s t some. unwritten s t same) adds
-  told_stopped adds (inr keeps) stops = told_weaker Keeps_ (KeepsWhatIsAnswered old from written) x y
-      (λ s t k b c is now ok h holds. by_stop s t k b c is now ok h holds (stops h holds.stands)) keeps
-    where
-      by_stop : (s t : ShelfState) → Keeps_ s t → (b c : WireState) → from ≡ Some b → written ≡ Some c → AnswersOk b c → (h : History)
-          → Holds old s.rows h → StopsAsked (kept_response old.producer.responder.name h a) read written
-          → KeepsAnswered old.producer.responder.name b t.rows h
-      by_stop s t k b c is now ok h holds (inl same) = unwritten s t same b c is now ok h holds
-      by_stop s t k b c is now ok h holds (inr stop) =
-          answered_at old a s t k from read written written h told holds
-          (stops_wrote (kept_response old.producer.responder.name h a) read written stop) (told_same Grows written grows_same) b c is now ok
 
-  -- where it was answered
-  pub told_answered : (to : Option WireState) → WhereTold x y Keeps_
-      → ((h : History) → StandsFor old.producer h → WroteTold (kept_response old.producer.responder.name h a) read written)
-      → ((h : History) → StandsFor old.producer h → WhereTold written to Grows)
-      → WhereTold x y (KeepsWhatIsAnswered old from to)
-  told_answered to keeps wrote grows = told_weaker Keeps_ (KeepsWhatIsAnswered old from to) x y
-      (λ s t k b c is now ok h holds. answered_at old a s t k from read written to h told holds (wrote h holds.stands) (grows h holds.stands)
-      b c is now ok) keeps
+  -- where it was answered, in part or whole
+  pub told_answered : WhereTold x y Keeps_
+      → ((h : History) → StandsFor old.producer h → AnswersSome PostsOut (keeping old.producer.responder.name) a h read written)
+      → WhereTold x y (KeepsWhatIsAnswered old from written)
+  told_answered keeps some = told_weaker Keeps_ (KeepsWhatIsAnswered old from written) x y
+      (λ s t k b c is now ok h holds. by s t k b c is now ok h holds (some h holds.stands)) keeps
+    where
+      name : List ℕ
+      name = old.producer.responder.name
+
+      by : (s t : ShelfState) → Keeps_ s t → (b c : WireState) → from ≡ Some b → written ≡ Some c → AnswersOk b c → (h : History)
+          → Holds old s.rows h → AnswersSome PostsOut (keeping name) a h read written → KeepsAnswered name b t.rows h
+      by s t k b c is now ok h holds (inl (inl same)) = unwritten s t same b c is now ok h holds
+      by s t k b c is now ok h holds (inl (inr stop)) =
+          answered_at old a s t k from read written written h told holds (stops_wrote (kept_response name h a) read written stop)
+          (told_same Grows written grows_same) b c is now ok
+      by s t k b c is now ok h holds (inr some) =
+          answered_at old a s t k from read some.1.wire written h told holds
+          (subst (λ w. WroteTold (kept_response name h a) w some.1.wire) some.2 (answers_wrote (kept_response name h a) some.0 some.1 some.3))
+          (first_grows (keeping name) most_sends ((keeping name).sends h a) ((keeping name).after h a) some.1.wire written some.4) b c is now ok

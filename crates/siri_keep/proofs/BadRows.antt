@@ -27,12 +27,14 @@ use Rattle.siri_wire.specs.Documents.{message_of}
 use Rattle.std.specs.Result.{result_ok}
 use Rattle.siri_shelf.specs.declared.rows.StoredRow.{StoredRow}
 use Rattle.siri_shelf.specs.Rows.{InOrder, Rows, of_table, place_cmp, place_of, text_at}
-use Rattle.siri_keeping.specs.Keeping.{is_place}
+use Rattle.siri_keeping.specs.Keeping.{is_place, most_rows}
 use Rattle.siri_keeping.specs.Opening.{are_same, began_in, exceeds, is_any, is_bad, is_bad_beginning, is_bad_item, is_bad_request, is_live_at, is_live_in, is_of_same, item_in, renewal_in, renewal_of_request, request_in, subscription_in, up_to}
 use Rattle.siri_keep.specs.declared.opening.KeptRequest.{KeptRequest}
 use Rattle.siri_keep.specs.declared.rows_read.RowsRead.{RowsRead}
 use Rattle.siri_keep.specs.RowByRow.{HasRead, asks_again, has_place, has_room, renewal_at, request_at, request_under_key, under_key}
 use Rattle.siri_keep.proofs.Ahead.{all_rows, less_parts, those_before, those_behind, greater_key}
+use Rattle.siri_subs.specs.Table.{most_subscriptions}
+use Rattle.siri_records.specs.Keyed.{most_live}
 
 -- ---- tests and filters
 
@@ -164,23 +166,23 @@ module _ (rows prior rest : Rows) (row : StoredRow) (split : rows ≡ prior ++ r
       ∙ one_more most read
 
   live_here : (read : RowsRead) → read.living ≡ length (filter (is_live_at read.began.moment) (of_table row.table prior))
-      → is_live_at read.began.moment row ≡ true → exceeds 20000 (is_live_at read.began.moment) row rows ≡ not (nat_lt read.living 20000)
+      → is_live_at read.began.moment row ≡ true → exceeds most_live (is_live_at read.began.moment) row rows ≡ not (nat_lt read.living most_live)
   live_here read living_ is =
-      exceeds_here rows prior rest row split ordered 20000 (is_live_at read.began.moment) is
-      ∙ ap (λ n. nat_lt 20000 (n + 1)) (sym living_)
-      ∙ one_more 20000 read.living
+      exceeds_here rows prior rest row split ordered most_live (is_live_at read.began.moment) is
+      ∙ ap (λ n. nat_lt most_live (n + 1)) (sym living_)
+      ∙ one_more most_live read.living
 
   item_bad : (read : RowsRead) (i : Item) → began_in rows ≡ Some read.began → HasRead (of_table row.table prior) read → item_in row ≡ Some i
       → is_bad_item rows row ≡ not (has_room read i)
   item_bad read i began has is =
       let m = read.began.moment in
-      ap (λ o. (is_none o || (is_live_in rows row && exceeds 20000 (is_live_in rows) row rows)) || exceeds 100000 is_any row rows) is
-      ∙ ap (λ p. (false || (p row && exceeds 20000 p row rows)) || exceeds 100000 is_any row rows) (live_same rows read.began began)
-      ∙ ap (λ b. (false || b) || exceeds 100000 is_any row rows)
-      (and_same (is_live_at m row) (exceeds 20000 (is_live_at m) row rows) (not (nat_lt read.living 20000)) (live_here read has.living_))
-      ∙ ap (λ b. (false || (b && not (nat_lt read.living 20000))) || exceeds 100000 is_any row rows) (live_of m row i is)
-      ∙ ap (λ b. (false || (not (is_dead i m) && not (nat_lt read.living 20000))) || b) (any_here 100000 read.count has.count)
-      ∙ room_of (is_dead i m) (nat_lt read.count 100000) (nat_lt read.living 20000)
+      ap (λ o. (is_none o || (is_live_in rows row && exceeds most_live (is_live_in rows) row rows)) || exceeds most_rows is_any row rows) is
+      ∙ ap (λ p. (false || (p row && exceeds most_live p row rows)) || exceeds most_rows is_any row rows) (live_same rows read.began began)
+      ∙ ap (λ b. (false || b) || exceeds most_rows is_any row rows)
+      (and_same (is_live_at m row) (exceeds most_live (is_live_at m) row rows) (not (nat_lt read.living most_live)) (live_here read has.living_))
+      ∙ ap (λ b. (false || (b && not (nat_lt read.living most_live))) || exceeds most_rows is_any row rows) (live_of m row i is)
+      ∙ ap (λ b. (false || (not (is_dead i m) && not (nat_lt read.living most_live))) || b) (any_here most_rows read.count has.count)
+      ∙ room_of (is_dead i m) (nat_lt read.count most_rows) (nat_lt read.living most_live)
 
   pub bad_item : (read : RowsRead) (i : Item) → row.table ≡ 1 → began_in rows ≡ Some read.began → HasRead (of_table 1 prior) read
       → item_in row ≡ Some i → is_bad rows row ≡ not (has_room read i)
@@ -190,7 +192,7 @@ module _ (rows prior rest : Rows) (row : StoredRow) (split : rows ≡ prior ++ r
   pub bad_no_item : row.table ≡ 1 → item_in row ≡ None → is_bad rows row ≡ true
   bad_no_item mine none =
       ap kind mine
-      ∙ ap (λ o. (is_none o || (is_live_in rows row && exceeds 20000 (is_live_in rows) row rows)) || exceeds 100000 is_any row rows) none
+      ∙ ap (λ o. (is_none o || (is_live_in rows row && exceeds most_live (is_live_in rows) row rows)) || exceeds most_rows is_any row rows) none
 
 -- ---- requests
 
@@ -277,11 +279,11 @@ module _ (rows prior rest : Rows) (row : StoredRow) (split : rows ≡ prior ++ r
   request_bad read m are is =
       let count : length read.requests ≡ length (of_table row.table prior) =
       sym (length-map read.requests under_key) ∙ ap length are ∙ length-map (of_table row.table prior) request_under_key in
-      ap (λ o. ((not (is_place row.key) || is_none o) || exceeds 1 (is_of_same row) row rows) || exceeds 200 is_any row rows) is
-      ∙ ap (λ b. ((not (is_place row.key) || false) || b) || exceeds 200 is_any row rows) (again_here read m are is)
+      ap (λ o. ((not (is_place row.key) || is_none o) || exceeds 1 (is_of_same row) row rows) || exceeds most_subscriptions is_any row rows) is
+      ∙ ap (λ b. ((not (is_place row.key) || false) || b) || exceeds most_subscriptions is_any row rows) (again_here read m are is)
       ∙ ap (λ b. ((not (is_place row.key) || false) || asks_again read.requests m) || b)
-      (any_here rows prior rest row split ordered 200 (length read.requests) count)
-      ∙ place_by (is_place row.key) (nat_lt (length read.requests) 200) (asks_again read.requests m)
+      (any_here rows prior rest row split ordered most_subscriptions (length read.requests) count)
+      ∙ place_by (is_place row.key) (nat_lt (length read.requests) most_subscriptions) (asks_again read.requests m)
 
   pub bad_request : (read : RowsRead) (m : Message) → row.table ≡ 2 → map under_key read.requests ≡ map request_under_key (of_table 2 prior)
       → request_in row ≡ Some m → is_bad rows row ≡ not (has_place read row.key m)
@@ -292,8 +294,8 @@ module _ (rows prior rest : Rows) (row : StoredRow) (split : rows ≡ prior ++ r
   pub bad_no_request : row.table ≡ 2 → request_in row ≡ None → is_bad rows row ≡ true
   bad_no_request mine none =
       ap (kind rows prior rest row split ordered) mine
-      ∙ ap (λ o. ((not (is_place row.key) || is_none o) || exceeds 1 (is_of_same row) row rows) || exceeds 200 is_any row rows) none
-      ∙ or_true (not (is_place row.key)) (exceeds 1 (is_of_same row) row rows) (exceeds 200 is_any row rows)
+      ∙ ap (λ o. ((not (is_place row.key) || is_none o) || exceeds 1 (is_of_same row) row rows) || exceeds most_subscriptions is_any row rows) none
+      ∙ or_true (not (is_place row.key)) (exceeds 1 (is_of_same row) row rows) (exceeds most_subscriptions is_any row rows)
 
 -- ---- renewals
 

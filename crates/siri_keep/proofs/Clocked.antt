@@ -1,15 +1,14 @@
 -- What a later moment changes of what is kept.
-use Rattle.std.proofs.Common.{◌≡◌, ◌≤◌, ℕ, suc, max, List, [], ◌∷◌, ◌++◌, length, map, Bool, true, false, cond, not, refl, sym, ap, ◌∙◌, subst, arith}
+use Rattle.std.proofs.Common.{◌≡◌, ◌≤◌, ℕ, max, List, [], ◌∷◌, ◌++◌, length, map, Bool, true, false, not, refl, sym, ap, ◌∙◌, subst, arith}
 use Rattle.std.specs.List.{AllByRecursion as All, filter}
-use Rattle.siri_records.specs.Keyed.{InOrder, Items, living}
+use Rattle.siri_records.specs.Keyed.{living}
 use Rattle.siri_subs.specs.declared.entry.Row.{Row}
 use Rattle.siri_subs.specs.Table.{expired, is_terminated}
 use Rattle.siri_model.specs.Held.{Held, held_of}
 use Rattle.siri_model.specs.History.{Clock, History, State, after_step, current, now_of, state_of}
 use Rattle.siri_model.specs.Rows.{KeptLife, rows_after}
-use Rattle.siri_model_laws.proofs.InOrder.{live_later}
-use Rattle.siri_producer.specs.Known.{GoesOn, Known, StandsFor}
-use Rattle.siri_keep.specs.declared.kept.Kept.{Kept}
+use Rattle.siri_model.proofs.InOrder.{live_later}
+use Rattle.siri_producer.specs.Known.{Known, StandsFor}
 use Rattle.siri_keep.proofs.Alls.{all_filtered, all_mapped, all_unmapped}
 use Rattle.siri_keep.proofs.Steps.{held_is, moment_is, start_is, table_is}
 

@@ -16,11 +16,13 @@ use Rattle.siri_records.specs.Ends.{is_dead}
 use Rattle.siri_shelf.specs.declared.rows.StoredRow.{StoredRow}
 use Rattle.siri_shelf.specs.Rows.{InOrder, Rows, of_table, place_cmp, place_of}
 use Rattle.siri_row_texts.specs.declared.moments.Began.{Began}
+use Rattle.siri_keeping.specs.Keeping.{most_rows}
 use Rattle.siri_keeping.specs.Opening.{WhatIsKept, began_in, exceeds, is_any, is_live_at, is_live_in, item_in}
 use Rattle.siri_keeping.proofs.LiveItems.{alive}
 use Rattle.siri_keeping.proofs.Written.{here, later}
 use Rattle.siri_keep.proofs.Alls.{all_unmapped, all_weaker, each_of_all}
 use Rattle.siri_keep.proofs.SaidRows.{Says, bad_at, good_of}
+use Rattle.siri_records.specs.Keyed.{most_live}
 
 -- a row comes no later than another of its table
 abbrev is_up_to : StoredRow → StoredRow → Bool
@@ -163,31 +165,31 @@ module _ (rows : Rows) (what : WhatIsKept) (s : Says rows what) where
   are_items = all_weaker IsGood (λ row. (row.table ≡ 1) × (is_none (item_in row) ≡ false))
       (λ row good. (
         good.0,
-        (or_parts (is_none (item_in row)) (is_live_in rows row && exceeds 20000 (is_live_in rows) row rows)
-            (or_parts (is_none (item_in row) || (is_live_in rows row && exceeds 20000 (is_live_in rows) row rows))
-            (exceeds 100000 is_any row rows) good.1).0).0,
+        (or_parts (is_none (item_in row)) (is_live_in rows row && exceeds most_live (is_live_in rows) row rows)
+            (or_parts (is_none (item_in row) || (is_live_in rows row && exceeds most_live (is_live_in rows) row rows))
+            (exceeds most_rows is_any row rows) good.1).0).0,
       )) list (good_of rows what s 1)
 
   one_table : All (λ row. row.table ≡ 1) list
   one_table = all_weaker IsGood (λ row. row.table ≡ 1) (λ row good. good.0) list (good_of rows what s 1)
 
-  pub few_rows : InOrder (of_table 1 rows) → length (of_table 1 rows) ≤ 100000
-  few_rows order = subst (λ (xs : Rows). length xs ≤ 100000) (all_any list) (counted is_any 100000 list order one_table
-      (all_weaker IsGood (λ row. is_any row ≡ true → nat_lt 100000 (length (filter is_any (filter (is_up_to row) list))) ≡ false)
-      (λ row good passes. subst (λ t. nat_lt 100000 (length (filter is_any (filter (is_up_to row) (of_table t rows)))) ≡ false) good.0
-      (or_parts (is_none (item_in row) || (is_live_in rows row && exceeds 20000 (is_live_in rows) row rows))
-      (exceeds 100000 is_any row rows) good.1).1) list (good_of rows what s 1)))
+  pub few_rows : InOrder (of_table 1 rows) → length (of_table 1 rows) ≤ most_rows
+  few_rows order = subst (λ (xs : Rows). length xs ≤ most_rows) (all_any list) (counted is_any most_rows list order one_table
+      (all_weaker IsGood (λ row. is_any row ≡ true → nat_lt most_rows (length (filter is_any (filter (is_up_to row) list))) ≡ false)
+      (λ row good passes. subst (λ t. nat_lt most_rows (length (filter is_any (filter (is_up_to row) (of_table t rows)))) ≡ false) good.0
+      (or_parts (is_none (item_in row) || (is_live_in rows row && exceeds most_live (is_live_in rows) row rows))
+      (exceeds most_rows is_any row rows) good.1).1) list (good_of rows what s 1)))
 
-  few_live_rows : InOrder (of_table 1 rows) → length (filter (is_live_in rows) list) ≤ 20000
-  few_live_rows order = counted (is_live_in rows) 20000 list order one_table
+  few_live_rows : InOrder (of_table 1 rows) → length (filter (is_live_in rows) list) ≤ most_live
+  few_live_rows order = counted (is_live_in rows) most_live list order one_table
       (all_weaker IsGood
-      (λ row. is_live_in rows row ≡ true → nat_lt 20000 (length (filter (is_live_in rows) (filter (is_up_to row) list))) ≡ false)
-      (λ row good passes. subst (λ t. nat_lt 20000 (length (filter (is_live_in rows) (filter (is_up_to row) (of_table t rows)))) ≡ false) good.0
-      (not_both (is_live_in rows row) (exceeds 20000 (is_live_in rows) row rows)
-      (or_parts (is_none (item_in row)) (is_live_in rows row && exceeds 20000 (is_live_in rows) row rows)
-      (or_parts (is_none (item_in row) || (is_live_in rows row && exceeds 20000 (is_live_in rows) row rows))
-      (exceeds 100000 is_any row rows) good.1).0).1 passes)) list (good_of rows what s 1))
+      (λ row. is_live_in rows row ≡ true → nat_lt most_live (length (filter (is_live_in rows) (filter (is_up_to row) list))) ≡ false)
+      (λ row good passes. subst (λ t. nat_lt most_live (length (filter (is_live_in rows) (filter (is_up_to row) (of_table t rows)))) ≡ false) good.0
+      (not_both (is_live_in rows row) (exceeds most_live (is_live_in rows) row rows)
+      (or_parts (is_none (item_in row)) (is_live_in rows row && exceeds most_live (is_live_in rows) row rows)
+      (or_parts (is_none (item_in row) || (is_live_in rows row && exceeds most_live (is_live_in rows) row rows))
+      (exceeds most_rows is_any row rows) good.1).0).1 passes)) list (good_of rows what s 1))
 
   pub few_live_items : InOrder (of_table 1 rows)
-      → length (filter (alive what.began.moment) (filter_map item_in (of_table 1 rows))) ≤ 20000
-  few_live_items order = subst (λ n. n ≤ 20000) (sym (live_rows rows what.began list s.began are_items)) (few_live_rows order)
+      → length (filter (alive what.began.moment) (filter_map item_in (of_table 1 rows))) ≤ most_live
+  few_live_items order = subst (λ n. n ≤ most_live) (sym (live_rows rows what.began list s.began are_items)) (few_live_rows order)

@@ -1,5 +1,5 @@
 -- What a feed leaves of the rows of items.
-use Rattle.std.proofs.Common.{◌≡◌, ◌⊎◌, ℕ, List, [], ◌∷◌, ◌++◌, length, map, flat_map, fold, Bool, true, false, cond, not, ◌||◌, Option, None, Some, refl, sym, ap, ◌∙◌, subst, inl, inr}
+use Rattle.std.proofs.Common.{◌≡◌, ◌⊎◌, ℕ, List, [], ◌∷◌, ◌++◌, map, flat_map, fold, Bool, true, false, cond, ◌||◌, Option, Some, refl, sym, ◌∙◌, subst, inl, inr}
 use Rattle.std.specs.List.{AllByRecursion as All, list_any}
 use Rattle.std.proofs.lemmas.Bool.{or_parts}
 use Rattle.siri_records.specs.declared.item.Item.{Item}
@@ -8,7 +8,6 @@ use Rattle.siri_records.specs.declared.item.Service.TheVariants as service
 use Rattle.siri_records.specs.declared.key.Key.{Key}
 use Rattle.siri_records.specs.Keyed.{InOrder, Items, item_of}
 use Rattle.siri_records.specs.Keys.{key_of}
-use Rattle.siri_records.specs.Order.{key_cmp}
 use Rattle.siri_records.proofs.KeyLists.{one_key}
 use Rattle.siri_deliveries.specs.Removals.{IsProperRemoval}
 use Rattle.siri_deliveries.specs.Deliveries.{IsProperDelivery, IsProperOf}
@@ -18,13 +17,13 @@ use Rattle.siri_messages.specs.declared.deliveries.ServiceDelivery.{ServiceDeliv
 use Rattle.siri_messages.specs.declared.message.Message.TheVariants as message
 use Rattle.siri_model.specs.Fed.{refuses}
 use Rattle.siri_model.specs.History.{Entry, Observed, Withdrawn, after_entry, entries_in, entries_of}
-use Rattle.siri_model.specs.Last.{after_one, entry_key, is_of, left_by}
-use Rattle.siri_model_laws.proofs.Current.{entry_leaves}
-use Rattle.siri_model_laws.proofs.InOrder.{in_order_after}
+use Rattle.siri_model.specs.Last.{entry_key, is_of, left_by}
+use Rattle.siri_model.proofs.Current.{entry_leaves}
+use Rattle.siri_model.proofs.InOrder.{in_order_after}
 use Rattle.siri_row_texts.specs.ItemRows.{item_text, key_text}
 use Rattle.siri_row_texts.specs.Reading.{item_of_row}
 use Rattle.siri_row_texts.proofs.Rows.{item_row_read}
-use Rattle.siri_wire_laws.specs.ProperMessages.{IsProper as IsProperMessage}
+use Rattle.siri_wire.specs.laws.ProperMessages.{IsProper as IsProperMessage}
 use Rattle.siri_keeping.specs.Keeping.{IsProperKey}
 use Rattle.siri_keeping.proofs.ReadProper.{key_is_proper}
 use Rattle.siri_keep.specs.Puts.{has_long_row, is_long}

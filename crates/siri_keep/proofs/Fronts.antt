@@ -1,5 +1,5 @@
 -- One write: what it makes of the rows, and what a stop may leave.
-use Rattle.std.proofs.Common.{◌≡◌, ◌⊎◌, ℕ, List, [], ◌∷◌, ◌++◌, length, Option, Result, Ok, Err, OnOk, refl, ap, sym, ◌∙◌, subst, inl, inr, append-nil}
+use Rattle.std.proofs.Common.{◌≡◌, ◌⊎◌, ℕ, List, [], ◌∷◌, ◌++◌, length, Option, Result, Ok, Err, OnOk, ap, sym, ◌∙◌, subst, inl, inr, append-nil}
 use Rattle.std.specs.Prelude.{take}
 use Rattle.std.specs.List.{AllByRecursion}
 use Rattle.std.proofs.Math.Seq.{take-length}
@@ -13,7 +13,7 @@ use Rattle.siri_keeping.specs.Keeping.{AddsOnly}
 use Rattle.siri_keeping.specs.Keeps.{Keeps}
 use Rattle.siri_keep.specs.declared.errors.KeepError.{KeepError}
 use Rattle.siri_keep.specs.declared.kept.Kept.{Kept}
-use Rattle.siri_keep.specs.Calls.{AddsFronts, GoesOnAs, GoesOnKept, Holds, KeepsFront, StandsOn}
+use Rattle.siri_keep.specs.Calls.{AddsFronts, GoesOnAs, GoesOnKept, Holds, KeepsFront, LeavesLive, StandsOn}
 use Rattle.siri_keep.specs.Planning.{Plans, WritesAll}
 use Rattle.siri_keep.proofs.Left.{keeps_of}
 use Rattle.siri_keep.proofs.Told.{told_same, told_weaker}
@@ -101,6 +101,14 @@ module _ (old mid new : Kept) (steps : History) (puts : List Put) (plans : Plans
         by (Ok value) w = told_weaker (λ s t. WritesAll puts s t (Ok value)) (λ s t. GoesOnKept old new steps s.rows t.rows) x y
             (λ s t w. goes_kept s.rows t.rows w.ok) w
         by (Err error) w = tt
+
+-- where the rows of dead items leave, those of live ones are left
+pub told_cleaned : {T : Type 0} (old : Kept) (puts : List Put) → ((rows : Rows) → LeavesLive old rows (with_puts rows puts))
+    → (result : Result T KeepError) (x y : Option ShelfState) → WhereTold x y (λ s t. WritesAll puts s t result)
+    → OnOk result (WhereTold x y (λ s t. LeavesLive old s.rows t.rows))
+told_cleaned {T} old puts leaves (Ok value) x y told = told_weaker (λ s t. WritesAll {T = T} puts s t (Ok value))
+    (λ s t. LeavesLive old s.rows t.rows) x y (λ s t w. subst (LeavesLive old s.rows) (sym w.ok) (leaves s.rows)) told
+told_cleaned old puts leaves (Err error) x y told = tt
 
 -- where nothing was done
 pub told_fronts_same : (old : Kept) (steps : History) (x : Option ShelfState) → WhereTold x x (AddsFronts old steps)

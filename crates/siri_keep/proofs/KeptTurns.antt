@@ -1,11 +1,13 @@
 -- A turn over a shelf: what it takes, what it answers, and what it sends.
-use Rattle.std.specs.Prelude.{if◌then◌else◌, IfOk, OnOk, OnErr, IfErr, IsErrOf}
-use Rattle.std.proofs.Common.{◌≡◌, ℕ, zero, suc, List, [], ◌∷◌, ◌++◌, Bool, true, false, Option, None, Some, Result, Ok, Err, refl, sym, ap, ◌∙◌, subst, append-nil, inl, inr}
+use Rattle.std.specs.Prelude.{if◌then◌else◌, IfOk, IsErrOf, IsSomeAnd, OnOk}
+use Rattle.std.proofs.Common.{◌≡◌, ◌⊎◌, ◌<◌, ◌*◌, ◌%◌, ℕ, List, [], ◌∷◌, ◌++◌, Bool, true, false, Option, None, Some, Result, Ok, Err, refl, sym, ap, ◌∙◌, subst, append-nil, arith, inl, inr}
+use Rattle.std.proofs.Math.Nat.{mul-mod_left}
+use Rattle.siri_base.specs.Causes.{HasOutsideCause, Rose}
 use Rattle.siri_base.specs.OutsideCalls.{WhereTold}
 use Rattle.siri_base.specs.Wires.{WireState}
-use Rattle.siri_http.specs.Connections.{OnConnection}
-use Rattle.siri_http.specs.ExchangeCauses.{HasAskedCause}
-use Rattle.siri_http.specs.Requests.{Asks, post_alone}
+use Rattle.siri_base.specs.declared.errors.OutsideError.{OutsideError}
+use Rattle.siri_base.specs.declared.errors.OutsideError.TheVariants as outside
+use Rattle.siri_http.specs.Requests.{post_alone}
 use Rattle.siri_http.specs.declared.asked.Asked.{Asked}
 use Rattle.siri_http.specs.declared.tally.Tally.{Tally}
 use Rattle.siri_messages.specs.declared.message.Message.{Message}
@@ -13,43 +15,45 @@ use Rattle.siri_model.specs.History.{History, Settle, Take}
 use Rattle.siri_producer.specs.Known.{GoesOn, Known, SendsFor, StandsFor}
 use Rattle.siri_producer.specs.Sends.{sends}
 use Rattle.siri_subscriptions.specs.declared.outs.Out.{Out}
-use Rattle.siri_ends.specs.At.{At, Goes, at_of, stood_for, surroundings}
-use Rattle.siri_ends.specs.InTurn.{FirstInTurn, FirstSends, InTurn, SendsAll, most_sends}
+use Rattle.siri_ends.specs.At.{Goes, Holding, at_of}
+use Rattle.siri_ends.specs.EndCalls.{Hears, Turned}
 use Rattle.siri_ends.specs.Lending.{IsReply, Prepares, PreparesFor, TurnedBy, message_response}
-use Rattle.siri_ends.specs.Manners.{after_hearing, brings_of, message_answered}
+use Rattle.siri_ends.specs.Manners.{IsRead}
 use Rattle.siri_ends.specs.Responses.{message_asked, response_to, taking, turn_steps}
-use Rattle.siri_ends.specs.Serving.{PostsOut, serving}
+use Rattle.siri_ends.specs.Serving.{PostsOut, acknowledging, after_acknowledging, serving}
+use Rattle.siri_ends.specs.TurnsTaken.{AnswersSome, LeavesBeside, TakesTurn}
 use Rattle.siri_ends.specs.declared.reply.Reply.{Reply}
 use Rattle.siri_ends.specs.declared.response.Response.{Response}
 use Rattle.siri_ends.specs.declared.reply.Reply.TheVariants as reply
 use Rattle.siri_ends.proofs.Lends.{turns}
-use Rattle.siri_ends.proofs.Taking.{turn_stopped}
 use Rattle.siri_shelf.specs.Rows.{Rows}
 use Rattle.siri_shelf.specs.Shelves.{ShelfState}
-use Rattle.siri_wire_laws.specs.ProperMessages.{IsProper}
+use Rattle.siri_wire.proofs.ProperReadMessages.{document_proper}
+use Rattle.siri_wire.specs.laws.ProperMessages.{IsProper}
 use Rattle.siri_keeping.specs.Keeps.{Keeps}
 use Rattle.siri_keep.specs.declared.errors.KeepError.{KeepError}
 use Rattle.siri_keep.specs.declared.errors.KeepError.TheVariants as errors
 use Rattle.siri_keep.specs.declared.kept.Kept.{Kept}
-use Rattle.siri_keep.specs.Calls.{AddsFronts, ClosesBy, GoesOnKept, Holds, Left}
-use Rattle.siri_keep.specs.KeptTurns.{AnswersKept, EndsTurn, KeepsOn, LeavesKept, TurnedKept}
+use Rattle.siri_keep.specs.Calls.{AddsFronts, GoesOnKept, HasKeepCause, Holds, LeavesLive}
+use Rattle.siri_keep.specs.KeptTurns.{KeepsOn, LeavesKept, outside_error}
 use Rattle.siri_keep.specs.Puts.{changes_rows, has_long_row}
-use Rattle.siri_keep.specs.Serving.{AddsTurn, GoesOnServing, ServesKeptSome, has_long_asked, is_long_in, keeping, message_kept, row_too_long}
+use Rattle.siri_keep.specs.Serving.{AddsTurn, GoesOnServing, KeepsWhatIsAnswered, LeavesLiveAt, has_long_asked, is_long_in, keeping, message_kept, row_too_long, turns_to_clean}
+use Rattle.siri_keep.proofs.Answered.{told_answered, told_unanswered, told_unread}
 use Rattle.siri_keep.proofs.Left.{keeps_of}
-use Rattle.siri_keep.proofs.SameKept.{SameKept, keeps_same, kept_proper, left_same, same_none, same_settled, same_taken, sends_kept, turn_proper}
+use Rattle.siri_keep.proofs.SameKept.{SameKept, heard_kept, keeps_same, kept_proper, left_same, same_none, same_settled, same_taken, turn_proper}
 use Rattle.siri_keep.proofs.Fronts.{fronts_same}
-use Rattle.siri_keep.proofs.Told.{told_same, told_weaker}
+use Rattle.siri_keep.proofs.Told.{some_on, some_weaker, told_same, told_some, told_weaker}
 
 -- ---- what ends a turn
 
-pub ends_of : {T : Type 0} (old new : Bool) (result : Result T KeepError) → old ≡ false → ClosesBy old new result
-    → (IsErrOf result errors.RowTooLong → ⊥) → IfErr result EndsTurn
-ends_of old new (Ok value) open_ closes not = tt
-ends_of old new (Err errors.ShelfFault) open_ closes not = tt
-ends_of old new (Err errors.OutOfMemory) open_ closes not = tt
-ends_of old new (Err errors.Closed) open_ closes not = absurd (cc (open_, closes.0))
-ends_of old new (Err errors.RowTooLong) open_ closes not = absurd (not refl)
-ends_of old new (Err other) open_ closes not = absurd closes
+pub outside_cause : {T U : Type 0} (before now : ℕ) (e : KeepError) → HasKeepCause {T = T} before now (Err e)
+    → HasOutsideCause {T = U} before now (Err (outside_error e))
+outside_cause before now e cause = record { later = cause.later; failed = by e cause.failed }
+  where
+    by : {T U : Type 0} (e : KeepError) → (IsErrOf {T = T} (Err e) errors.ShelfFault → Rose before now)
+        → IsErrOf {T = U} (Err (outside_error e)) outside.Failed → Rose before now
+    by errors.ShelfFault failed is = failed refl
+    by other failed is = absurd (cc is)
 
 -- ---- what is taken
 
@@ -153,17 +157,17 @@ module _ {B : Type 0} (tells : B → Option ShelfState) (asked : Asked) (m : Mes
     abbrev Leaves : Option Message → B → Kept → Type 0
     Leaves o u k = WhereTold (tells s) (tells u) (λ before after. LeavesKept old k (taking o) before.rows after.rows)
 
-    leaves_at : (result : Result Reply KeepError) (o : Option Message) → message_kept asked ≡ o → OnOk result (Leaves o t new)
+    leaves_at : (result : Result Reply OutsideError) (o : Option Message) → message_kept asked ≡ o → OnOk result (Leaves o t new)
         → OnOk result (Leaves (message_kept asked) t new)
     leaves_at result o at leaves = subst (λ o. OnOk result (Leaves o t new)) (sym at) leaves
 
-    pub kept_leaves : (result : Result Reply KeepError)
+    pub kept_leaves : (result : Result Reply OutsideError)
         → IfOk result (λ answer. has_long_row m ≡ true → (answer ≡ reply.Made (Some row_too_long)) × (new ≡ old))
         → (has_long_row m ≡ false → OnOk result (WhereTold (tells s) (tells t) (λ before after. LeavesKept old new (Take m ∷ []) before.rows after.rows)))
         → OnOk result (WhereTold (tells s) (tells t) (λ before after. LeavesKept old new (taking (message_kept asked)) before.rows after.rows))
     kept_leaves result long leaves = by (has_long_row m) refl
       where
-        nothing : (result : Result Reply KeepError) → has_long_row m ≡ true
+        nothing : (result : Result Reply OutsideError) → has_long_row m ≡ true
             → IfOk result (λ answer. has_long_row m ≡ true → (answer ≡ reply.Made (Some row_too_long)) × (new ≡ old))
             → OnOk result (Leaves None t new)
         nothing (Ok answer) is long = subst (λ k. Leaves None t k) (sym (long is).1)
@@ -175,6 +179,11 @@ module _ {B : Type 0} (tells : B → Option ShelfState) (asked : Asked) (m : Mes
         by false short = leaves_at result (Some m) (one_kept short) (leaves short)
 
 -- ---- the turn of a connection, of which the reply is still to be written
+
+abbrev TurnedKept : Asked → List Out → Reply → (first last : Known) → Type 0
+TurnedKept asked outs reply first last =
+    Turned (λ (known : Known). known.responder.name) StandsFor keeping (λ name reply h response. IsReply reply name h response) asked outs
+    reply first last
 
 turned_short : (asked : Asked) (outs : List Out) (r : Reply) (first last : Known) → has_long_asked asked ≡ false
     → TurnedBy asked outs r first last → TurnedKept asked outs r first last
@@ -273,134 +282,180 @@ settled_on asked r first taken last short long settles h s =
     let t = stands_between asked r first taken short long h s in
     (t.0, t.0 ++ Settle ∷ [], t.1, settles.stands t.0 t.1, same_settled t.0)
 
--- before its answer is written, and after it
-pub written_on : (asked : Asked) (outs : List Out) (r : Reply) (first taken last : Known) → TurnedKept asked outs r first taken
-    → ((h : History) → StandsFor taken h → StandsFor last h)
-    → (h : History) → StandsFor first h → (t later : History) × StandsFor taken t × StandsFor last later × SameKept t later
-written_on asked outs r first taken last turned stays h s =
-    let t = h ++ turn_steps (message_kept asked) in
-    let stands = turned.stands_for h s in
-    (t, t, stands, stays t stands, same_none t)
+-- ---- as an end over a shelf
 
--- ---- what is sent, by either manner
+abbrev name_in : Kept → List ℕ
+name_in kept = kept.producer.responder.name
 
-same_hearing : (name : List ℕ) (out : Out) (m : Option Message) (h : History)
-    → after_hearing (keeping name) out m h ≡ after_hearing (serving name) out m h
-same_hearing name out None h = refl
-same_hearing name out (Some m) h = refl
+abbrev stands : Kept → History → Type 0
+stands kept h = StandsFor kept.producer h
 
-same_brings : (name : List ℕ) (out : Out) (m : Option Message) (h : History)
-    → brings_of (keeping name) out m h ≡ brings_of (serving name) out m h
-same_brings name out None h = refl
-same_brings name out (Some m) h = refl
+abbrev HoldsIn : {B : Type 0} → (tells : B → Option ShelfState) → Kept → B → History → Type 0
+HoldsIn tells kept shelf h = IsSomeAnd (tells shelf) (λ s. Holds kept s.rows h)
 
-keeping_sends : (name : List ℕ) (limit : ℕ) (list : List Out) (at end : At History) → InTurn PostsOut (serving name) limit list at end
-    → InTurn PostsOut (keeping name) limit list at end
-unfolding InTurn
-keeping_sends name zero list at end is = is
-keeping_sends name (suc limit) [] at end is = is
-keeping_sends name (suc limit) (first ∷ rest) at end some =
-    let m = message_answered some.0 in (
-      some.0,
-      some.1,
-      record {
-        told = some.2.told;
-        cause = some.2.cause;
-        state = some.2.state ∙ sym (same_hearing name first m at.state);
-        tally = some.2.tally;
-      },
-      subst (λ more. InTurn PostsOut (keeping name) limit (rest ++ more) some.1 end) (sym (same_brings name first m at.state))
-          (keeping_sends name limit (rest ++ brings_of (serving name) first m at.state) some.1 end some.3),
-    )
+abbrev IsReplyFor : List ℕ → Reply → History → Option Response → Type 0
+IsReplyFor name reply h response = IsReply reply name h response
 
-keeping_first : (name : List ℕ) (limit : ℕ) (list : List Out) (h : History) (before now : Option WireState)
-    → FirstInTurn PostsOut (serving name) limit list h before now → FirstInTurn PostsOut (keeping name) limit list h before now
-unfolding FirstInTurn
-keeping_first name zero list h before now is = is
-keeping_first name (suc limit) [] h before now is = is
-keeping_first name (suc limit) (first ∷ rest) h before now (inl part) = inl part
-keeping_first name (suc limit) (first ∷ rest) h before now (inr whole) =
-    let m = message_answered whole.0 in inr (
-      whole.0,
-      whole.1,
-      whole.2,
-      subst (λ s. FirstInTurn PostsOut (keeping name) limit (rest ++ brings_of (keeping name) first m h) s whole.1 now)
-          (sym (same_hearing name first m h))
-          (subst (λ more. FirstInTurn PostsOut (keeping name) limit (rest ++ more) (after_hearing (serving name) first m h) whole.1 now)
-          (sym (same_brings name first m h))
-          (keeping_first name limit (rest ++ brings_of (serving name) first m h) (after_hearing (serving name) first m h) whole.1 now
-          whole.3)),
-    )
+-- it took what a connection asks, and settled
+module _ (asked : Asked) (outs : List Out) (r : Reply) (old mid : Kept) (last : Known)
+    (short : has_long_asked asked ≡ false → PreparesFor old.producer mid.producer asked r)
+    (long : has_long_asked asked ≡ true → (r ≡ reply.Made (Some row_too_long)) × (mid ≡ old)) (named : name_in mid ≡ name_in old)
+    (settles : GoesOn mid.producer last Settle) (sent : SendsFor mid.producer outs)
+    (same : last.responder.name ≡ mid.producer.responder.name) where
+  long_known : has_long_asked asked ≡ true → (r ≡ reply.Made (Some row_too_long)) × (mid.producer ≡ old.producer)
+  long_known is = ((long is).0, ap (λ (k : Kept). k.producer) (long is).1)
 
--- ---- the whole turn
+  taken : TurnedKept asked outs r old.producer last
+  taken = turned_kept asked r old.producer mid.producer short long_known outs last named settles sent same
 
-abbrev name_in : Known → List ℕ
-name_in known = known.responder.name
+  pub turned : Turned name_in stands keeping IsReplyFor asked outs r old (record mid { producer = last })
+  turned = record { keeps = taken.keeps; stands_for = taken.stands_for; messages_are = taken.messages_are; reply_is = taken.reply_is }
 
-module _ (asked : Asked) (list : List Out) (old mid new : Kept) (was between is : Tally) (before read answered end : Option WireState)
-    (f0 f1 f2 f3 : ℕ) (told : OnConnection (Asks post_alone (Some asked)) before read) (cause : HasAskedCause f0 f1 (Some asked))
-    (answers : AnswersKept asked list (at_of old.producer was read f1) (at_of mid.producer between answered f2)) where
+  -- and the shelf is as it left it
+  pub holds_turned : {B : Type 0} (tells : B → Option ShelfState) (s t : B)
+      → WhereTold (tells s) (tells t) (λ before after. LeavesKept old mid (taking (message_kept asked)) before.rows after.rows)
+      → (h : History) → HoldsIn tells old s h → HoldsIn tells (record mid { producer = last }) t (h ++ turn_steps (message_kept asked))
+  holds_turned tells s t told h =
+      some_on (tells s) (tells t) (λ before. Holds old before.rows h)
+      (λ after. Holds (record mid { producer = last }) after.rows (h ++ turn_steps (message_kept asked)))
+      (told_weaker (λ before after. LeavesKept old (record mid { producer = last }) (taking (message_kept asked)) before.rows after.rows)
+      (λ before after. Holds old before.rows h → Holds (record mid { producer = last }) after.rows (h ++ turn_steps (message_kept asked)))
+      (tells s) (tells t)
+      (λ before after leaves holds. record {
+        left = leaves.left h holds;
+        stands = taken.stands_for h holds.stands;
+        proper = turn_proper h (message_kept asked) (kept_proper asked) holds.proper;
+      })
+      (told_leaves_on old mid (record mid { producer = last }) (taking (message_kept asked)) (tells s) (tells t) told
+      (settled_on asked r old.producer mid.producer last short long_known settles) same refl))
+
+module _ {B : Type 0} (tells : B → Option ShelfState) where
+  -- where no row is touched
+  holds_on : (old new : Kept) (shelf : B) (h later : History) → stands old h → stands new later → SameKept h later
+      → name_in new ≡ name_in old → new ≡ record old { producer = new.producer } → HoldsIn tells old shelf h → HoldsIn tells new shelf later
+  holds_on old new shelf h later s t same name rest =
+      some_weaker (tells shelf) (λ state. Holds old state.rows h) (λ state. Holds new state.rows later)
+      (λ state holds. record {
+        left = left_same old new state.rows h later s t same name (ap (λ (k : Kept). k.mirror) rest) (ap (λ (k : Kept). k.places) rest)
+            holds.left;
+        stands = t;
+        proper = same.proper holds.proper;
+      })
+
+  -- its answer was written
+  pub holds_written : {T E : Type 0} (result : Result T E) (old new : Kept) → new ≡ record old { producer = new.producer }
+      → OnOk result ((h : History) → stands old h → stands new h) → OnOk result (name_in new ≡ name_in old)
+      → OnOk result ((shelf : B) (h : History) → stands old h → HoldsIn tells old shelf h → HoldsIn tells new shelf h)
+  holds_written (Ok value) old new rest stays name = λ shelf h s holds. holds_on old new shelf h h s (stays h s) (same_none h) name rest holds
+  holds_written (Err error) old new rest stays name = tt
+
+  -- it heard a message
+  pub heard : (sent : Out) (m : Message) (more : List Out) (old new : Kept) → IsRead m → new ≡ record old { producer = new.producer }
+      → Hears {Beside = Unit {0}} (λ (known : Known). known.responder.name) StandsFor (λ known beside h. Unit {0}) serving sent (Some m) more
+      old.producer new.producer
+      → Hears name_in stands (HoldsIn tells) keeping sent (Some m) more old new
+  heard sent m more old new read rest hears = record {
+    keeps = hears.keeps;
+    stands_for = hears.stands_for;
+    holds_for = λ shelf h s holds.
+        holds_on old new shelf h (after_acknowledging (acknowledging m) h) s (hears.stands_for h s)
+        (heard_kept h m (document_proper read.0 m read.1)) hears.keeps rest holds;
+    more_are = hears.more_are;
+  }
+
+-- ---- before a turn and after it
+
+-- it was given a moment, or the rows of dead items left
+pub holds_after : {B T : Type 0} (tells : B → Option ShelfState) (s t : B) (old new : Kept) (steps : History) (result : Result T KeepError)
+    → OnOk result (WhereTold (tells s) (tells t) (λ before after. GoesOnKept old new steps before.rows after.rows))
+    → OnOk result ((h : History) → stands old h → HoldsIn tells old s h → HoldsIn tells new t (h ++ steps))
+holds_after tells s t old new steps (Ok value) told = λ h so.
+    some_on (tells s) (tells t) (λ before. Holds old before.rows h) (λ after. Holds new after.rows (h ++ steps))
+    (told_weaker (λ before after. GoesOnKept old new steps before.rows after.rows)
+    (λ before after. Holds old before.rows h → Holds new after.rows (h ++ steps)) (tells s) (tells t) (λ before after goes holds. (goes h holds).holds) told)
+holds_after tells s t old new steps (Err error) told = tt
+
+-- after none of them
+pub stands_same : (new : Kept) (h : History) → stands new (h ++ []) → stands new h
+stands_same new h so = subst (λ l. stands new l) (append-nil h) so
+
+pub holds_same : {B : Type 0} (tells : B → Option ShelfState) (new : Kept) (t : B) (h : History) → HoldsIn tells new t (h ++ []) → HoldsIn tells new t h
+holds_same tells new t h holds = subst (λ l. HoldsIn tells new t l) (append-nil h) holds
+
+-- between two cleanings
+pub not_yet : (made n : ℕ) → 0 < made % turns_to_clean → made ≡ n * turns_to_clean → ⊥
+not_yet made n more is = omega (arith, more, ap (λ k. k % turns_to_clean) is ∙ mul-mod_left n turns_to_clean)
+
+pub told_not_yet : (old : Kept) (made : ℕ) (x : Option ShelfState) → 0 < made % turns_to_clean
+    → WhereTold x x (λ s t. LeavesLiveAt old made s.rows t.rows)
+told_not_yet old made x more = told_same (λ s t. LeavesLiveAt old made s.rows t.rows) x (λ s n is. absurd (not_yet made n more is))
+
+pub told_live : (old : Kept) (made : ℕ) (x y : Option ShelfState) → WhereTold x y (λ s t. LeavesLive old s.rows t.rows)
+    → WhereTold x y (λ s t. LeavesLiveAt old made s.rows t.rows)
+told_live old made x y told =
+    told_weaker (λ s t. LeavesLive old s.rows t.rows) (λ s t. LeavesLiveAt old made s.rows t.rows) x y (λ s t live n is. live) told
+
+-- ---- what the turn comes to
+
+module _ {B : Type 0} (tells : B → Option ShelfState) (old : Kept) (shelf later : B)
+    (before after : Option WireState) where
   abbrev name : List ℕ
   name = old.producer.responder.name
 
+  -- what it leaves on the shelf
+  abbrev pub LeavesTurn : Type 0
+  LeavesTurn = LeavesBeside post_alone PostsOut (keeping name) (λ h. StandsFor old.producer h) (later ≡ shelf)
+      (λ asked. WhereTold (tells shelf) (tells later) (AddsFronts old (taking (message_kept asked))))
+      (λ asked. WhereTold (tells shelf) (tells later) (λ s t. KeepsOn old (taking (message_kept asked)) s.rows t.rows)) before after
+
+  pub adds_turn : LeavesTurn → WhereTold (tells shelf) (tells later) (AddsTurn old before)
+  adds_turn (inl same) = subst (λ b. WhereTold (tells shelf) (tells b) (AddsTurn old before)) (sym same.0)
+      (told_same (AddsTurn old before) (tells shelf) (λ s. inl refl))
+  adds_turn (inr some) = told_weaker (AddsFronts old (taking (message_kept some.0))) (AddsTurn old before) (tells shelf) (tells later)
+      (λ s t adds. inr (some.0, some.1, some.2, adds)) some.3
+
+  pub keeps_answered : LeavesTurn → WhereTold (tells shelf) (tells later) (KeepsWhatIsAnswered old before after)
+  keeps_answered (inl same) = subst (λ b. WhereTold (tells shelf) (tells b) (KeepsWhatIsAnswered old before after)) (sym same.0)
+      (told_unread old (tells shelf) before after same.1 same.2)
+  keeps_answered (inr some) = by some.4
+    where
+      by : (after ≡ some.1) ⊎ (WhereTold (tells shelf) (tells later) (λ s t. KeepsOn old (taking (message_kept some.0)) s.rows t.rows)
+          × ((h : History) → StandsFor old.producer h → AnswersSome PostsOut (keeping name) some.0 h some.1 after))
+          → WhereTold (tells shelf) (tells later) (KeepsWhatIsAnswered old before after)
+      by (inl same) = told_unanswered old some.0 (tells shelf) (tells later) before some.1 after some.2 same some.3
+      by (inr has) = told_answered old some.0 (tells shelf) (tells later) before some.1 after some.2 has.0 has.1
+
   -- where all went well
-  pub served_kept : (x y : Option ShelfState)
-      → Goes name_in StandsFor (λ name. SendsAll PostsOut (serving name) list) (at_of mid.producer between answered f2) (at_of new.producer is end f3)
-      → new ≡ record mid { producer = new.producer }
-      → WhereTold x y (λ s t. LeavesKept old mid (taking (message_kept asked)) s.rows t.rows)
-      → GoesOnServing (at_of old was before f0) (at_of new is end f3) x y
-  served_kept x y sends rest leaves = record {
-    name = sends.keeps ∙ answers.keeps;
+  pub goes_kept : (mid : Kept) (was is : Tally) (f g : ℕ) → LeavesTurn
+      → Goes name_in stands (λ name. Holding (HoldsIn tells) (TakesTurn post_alone PostsOut (keeping name)) old shelf mid later)
+      (at_of old was before f) (at_of mid is after g)
+      → GoesOnServing (at_of old was before f) (at_of mid is after g) (tells shelf) (tells later)
+  goes_kept mid was is f g leaves goes = record {
+    name = goes.keeps;
     goes = λ h s.
-        let t : History = h ++ turn_steps (message_kept asked) in
-        let stands : StandsFor mid.producer t = answers.stands_for h s in
-        let two = sends.goes t stands in
-        let from : At History = at_of t between answered f2 in
-        let to : At History = at_of two.0 is end f3 in
-        let all : SendsAll PostsOut (serving name) list from to =
-        subst (λ n. SendsAll PostsOut (serving n) list from to) answers.keeps two.2 in
-        let same = sends_kept name most_sends list from to all in (
-          two.0,
-          two.1,
-          record {
-            asked = asked;
-            mid = from;
-            answers = record {
-              read = surroundings was read f1;
-              reads = record { told = told; cause = cause; tally = refl };
-              answers = answers.answers h s;
-              state = refl;
-            };
-            sends = subst (λ l. SendsAll PostsOut (keeping name) l from to) (answers.list_is h s)
-                (keeping_sends name most_sends list from to all);
-          },
-          told_weaker (λ s t. LeavesKept old mid (taking (message_kept asked)) s.rows t.rows)
-              (λ s t. Holds old s.rows h → Holds new t.rows two.0) x y
-              (λ s u left. λ holds. record {
-                left = left_same mid new u.rows t two.0 stands two.1 same sends.keeps (ap (λ (k : Kept). k.mirror) rest)
-                    (ap (λ (k : Kept). k.places) rest) (left.left h holds);
-                stands = two.1;
-                proper = same.proper (turn_proper h (message_kept asked) (kept_proper asked) holds.proper);
-              }) leaves,
+        let one = goes.goes h s in (
+          one.0,
+          one.1,
+          one.2.0,
+          told_some (AddsTurn old before) (tells shelf) (tells later) (λ s. Holds old s.rows h) (λ t. Holds mid t.rows one.0)
+              (adds_turn leaves) one.2.1,
         );
   }
 
-  -- where memory was wanting in the sends
-  pub serve_stopped : ((h : History) → StandsFor mid.producer h
-      → FirstSends PostsOut (serving mid.producer.responder.name) list h answered end)
-      → (h : History) → StandsFor old.producer h → ServesKeptSome name (at_of h was before f0) end
-  serve_stopped fails = turn_stopped post_alone name_in StandsFor keeping PostsOut asked list old.producer
-      (at_of mid.producer between answered f2) was before read end f0 f1 told cause answers
-      (λ h s. keeping_first mid.producer.responder.name most_sends list h answered end (fails h s))
-
--- ---- what a stop may leave
-
--- nothing was asked
-pub adds_unasked : (old : Kept) (wire : Option WireState) (s : ShelfState) → AddsTurn old wire s s
-adds_unasked old wire s = inl refl
-
-pub adds_asked : (old : Kept) (asked : Asked) (wire read : Option WireState) (x y : Option ShelfState)
-    → OnConnection (Asks post_alone (Some asked)) wire read → WhereTold x y (AddsFronts old (taking (message_kept asked)))
-    → WhereTold x y (AddsTurn old wire)
-adds_asked old asked wire read x y told adds =
-    told_weaker (AddsFronts old (taking (message_kept asked))) (AddsTurn old wire) x y (λ s t a. inr (asked, read, told, a)) adds
+  -- whether it is closed or not
+  pub goes_serving : (mid : Kept) (closed : Bool) (was is : Tally) (f g : ℕ) → LeavesTurn
+      → Goes name_in stands (λ name. Holding (HoldsIn tells) (TakesTurn post_alone PostsOut (keeping name)) old shelf mid later)
+      (at_of old was before f) (at_of mid is after g)
+      → GoesOnServing (at_of old was before f) (at_of (record mid { is_closed = closed }) is after g) (tells shelf) (tells later)
+  goes_serving mid closed was is f g leaves goes = record {
+    name = goes.keeps;
+    goes = λ h s.
+        let one = (goes_kept mid was is f g leaves goes).goes h s in (
+          one.0,
+          one.1,
+          one.2,
+          told_weaker (λ s t. Holds old s.rows h → Holds mid t.rows one.0)
+              (λ s t. Holds old s.rows h → Holds (record mid { is_closed = closed }) t.rows one.0) (tells shelf) (tells later)
+              (λ s t on holds. let left = on holds in record { left = left.left; stands = left.stands; proper = left.proper }) one.3,
+        );
+  }

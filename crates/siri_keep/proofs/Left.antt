@@ -1,8 +1,8 @@
 -- What a shelf keeps is decided by what its producer knows.
-use Rattle.std.proofs.Common.{◌≡◌, ℕ, List, map, subst, sym}
-use Rattle.siri_records.specs.Keyed.{Items, living}
+use Rattle.std.proofs.Common.{List, map, subst}
+use Rattle.siri_records.specs.Keyed.{living}
 use Rattle.siri_subs.specs.declared.entry.Row.{Row}
-use Rattle.siri_model.specs.Held.{Held, held_of}
+use Rattle.siri_model.specs.Held.{held_of}
 use Rattle.siri_model.specs.History.{History, current, now_of, start_of}
 use Rattle.siri_model.specs.Rows.{KeptLife}
 use Rattle.siri_shelf.specs.Rows.{Rows}

@@ -1,11 +1,11 @@
 -- What is planned makes of the rows what they are to be.
-use Rattle.std.proofs.Common.{◌≡◌, ◌≤◌, ◌⊎◌, ℕ, List, [], ◌∷◌, ◌++◌, length, map, flat_map, fold, Bool, true, false, cond, not, Option, None, Some, refl, sym, ap, ◌∙◌, subst, inl, inr, append-nil, arith}
+use Rattle.std.proofs.Common.{◌≡◌, ◌≤◌, ℕ, List, [], ◌∷◌, ◌++◌, length, map, fold, Bool, true, false, cond, not, Option, None, Some, refl, sym, ap, ◌∙◌, subst, inl, inr, append-nil, arith}
 use Rattle.std.specs.List.{AllByRecursion as All}
 use Rattle.std.specs.Map.{keys_of}
 use Rattle.std.proofs.lemmas.List.{length-map, map-append}
 use Rattle.std.proofs.lemmas.List.Sums.{fold-append}
 use Rattle.std.proofs.lemmas.Map.Entries.{option_filter}
-use Rattle.siri_model_laws.proofs.Entries.{sorted_passing}
+use Rattle.siri_model.proofs.Entries.{sorted_passing}
 use Rattle.siri_records.specs.declared.item.Item.{Item}
 use Rattle.siri_records.specs.declared.key.Key.{Key}
 use Rattle.siri_records.specs.Ends.{is_dead}
@@ -22,20 +22,20 @@ use Rattle.siri_model.specs.Held.{Held, held_of}
 use Rattle.siri_model.specs.History.{Clock, Entry, Step, after_entry, fed, History, State, Take, after_step, current, entries_fed, entries_of, now_of, state_of}
 use Rattle.siri_model.specs.Last.{entry_key}
 use Rattle.siri_model.specs.Rows.{KeptLife, rows_after, rows_taken}
-use Rattle.siri_model_laws.proofs.Current.{few_live}
-use Rattle.siri_model_laws.proofs.InOrder.{current_in_order, in_order_all}
+use Rattle.siri_model.proofs.Current.{few_live}
+use Rattle.siri_model.proofs.InOrder.{current_in_order, in_order_all}
 use Rattle.siri_producer.proofs.Stands.{fed_all}
 use Rattle.siri_producer.specs.Known.{GoesOn, Known, SameButReads, StandsFor}
 use Rattle.siri_responder.specs.Known as responder
 use Rattle.siri_shelf.specs.declared.rows.Put.{Put}
-use Rattle.siri_shelf.specs.Rows.{Rows, with_put, with_puts}
-use Rattle.siri_wire_laws.specs.ProperMessages.{IsProper}
-use Rattle.siri_keeping.specs.Keeping.{Covers, IsProperKey, change_to, changes_to, live_after, live_of, moment_put, places_to, put_to, puts_to, subscription_puts}
-use Rattle.siri_keeping.specs.Keeps.{KeepsThese, ReadsBack}
+use Rattle.siri_shelf.specs.Rows.{Rows, with_puts}
+use Rattle.siri_wire.specs.laws.ProperMessages.{IsProper}
+use Rattle.siri_keeping.specs.Keeping.{Covers, HasItems, IsProperKey, change_to, changes_to, live_after, live_of, moment_put, most_rows, places_to, put_to, puts_to, subscription_puts}
+use Rattle.siri_keeping.specs.Keeps.{KeepsThese}
 use Rattle.siri_keeping.proofs.Kept.{changes_leave, covers_after, covers_still, is_named}
 use Rattle.siri_keeping.proofs.LiveItems.{live_at}
 use Rattle.siri_keep.specs.declared.kept.Kept.{Kept}
-use Rattle.siri_keep.specs.Calls.{Holds, Left}
+use Rattle.siri_keep.specs.Calls.{Holds, LeavesLive, Left}
 use Rattle.siri_keep.specs.Planning.{Plans, ReadsMoment}
 use Rattle.siri_keep.specs.Puts.{changes_rows, has_long_row}
 use Rattle.siri_keep.proofs.Alls.{all_filtered, all_mapped, all_unmapped, all_weaker}
@@ -100,7 +100,7 @@ subscriptions_left kept rows before these few all =
 live_in_order : (known : Known) (h : History) → StandsFor known h → InOrder known.responder.held
 live_in_order known h s = subst InOrder (sym s.responder.held) (sorted_passing key_cmp (λ (i : Item). not (is_dead i (now_of h))) (current h) (current_in_order h))
 
-live_few : (known : Known) (h : History) → StandsFor known h → length known.responder.held ≤ 100000
+live_few : (known : Known) (h : History) → StandsFor known h → length known.responder.held ≤ most_rows
 live_few known h s =
     let few : length known.responder.held ≤ most_live = rw s.responder.held (few_live h) in
     omega (arith, few)
@@ -292,7 +292,7 @@ clean_plans old new reads mirror places = record {
       items_kept known.name known.moment known.start known.held old.mirror old.places (helds old.producer) rows holds.left dead known.held
       (dead_proper known.moment old.mirror all)
       (covers_still known.moment known.held old.mirror dead holds.left.ordered holds.left.covers)
-      (subst (λ items. length items ≤ 100000) (sym is) (live_few old.producer h holds.stands))
+      (subst (λ items. length items ≤ most_rows) (sym is) (live_few old.producer h holds.stands))
       (subst (All ReadsItem) (sym is) live) in
       rw (append-nil h) (record {
         left = rw (
@@ -308,6 +308,18 @@ clean_plans old new reads mirror places = record {
         proper = holds.proper;
       });
 }
+
+-- the rows that are left are those of live items
+pub clean_leaves : (old new : Kept) → SameButReads old.producer new.producer
+    → new.mirror ≡ apply old.mirror (changes_to old.producer.responder.held (keys_of (dead_of old.producer.responder.moment old.mirror)))
+    → new.places ≡ old.places → (rows : Rows)
+    → LeavesLive old rows (with_puts rows (puts_to old.producer.responder.held (keys_of (dead_of old.producer.responder.moment old.mirror))))
+clean_leaves old new reads mirror places rows = λ h holds.
+    let known = old.producer.responder in
+    let after : Rows = with_puts rows (puts_to known.held (keys_of (dead_of known.moment old.mirror))) in
+    let is = live_left known.moment known.held old.mirror (live_in_order old.producer h holds.stands) holds.left.ordered holds.left.covers in
+    let left = (clean_plans old new reads mirror places).holds rows h holds in
+    subst (HasItems after) (mirror ∙ is ∙ holds.stands.responder.held) left.left.items
 
 -- ---- a feed
 
@@ -345,8 +357,8 @@ module _ (old : Kept) (mid : Known) (d : ServiceDelivery) (more : List Key) wher
 
   -- there are few enough of them, seeing that what is live is few
   abbrev AreFew : Type 0
-  AreFew = Covers mid.responder.moment live fed_mirror → InOrder live → InOrder fed_mirror → length live ≤ 100000
-      → length all_mirror ≤ 100000
+  AreFew = Covers mid.responder.moment live fed_mirror → InOrder live → InOrder fed_mirror → length live ≤ most_rows
+      → length all_mirror ≤ most_rows
 
   split : all_mirror ≡ apply fed_mirror (changes_to live more)
   split = ap (apply old.mirror) (map-append (change_to live) named more)
@@ -470,7 +482,7 @@ pub fed_plans : (old : Kept) (mid : Known) (m : Message) (d : ServiceDelivery) (
     → has_round d ≡ false → IsProper m → has_long_row m ≡ false → mid.responder.name ≡ old.producer.responder.name
     → GoesOn old.producer mid (Take m) → SameButReads mid new.producer
     → new.mirror ≡ apply old.mirror (changes_to mid.responder.held (map entry_key (entries_of d))) → new.places ≡ old.places
-    → length new.mirror ≤ 100000
+    → length new.mirror ≤ most_rows
     → Plans old new (Take m ∷ []) (puts_to mid.responder.held (map entry_key (entries_of d)))
 fed_plans old mid m d new of none proper short name goes reads mirror places few =
     let keys = map entry_key (entries_of d) in
@@ -482,7 +494,7 @@ fed_plans old mid m d new of none proper short name goes reads mirror places few
     (subst (λ all. Plans old new (Take (message.ServiceDelivery d) ∷ []) (puts_to live all)) more
     (feed_plans old mid d [] new none (subst IsProper of proper) (subst (λ x. has_long_row x ≡ false) of short) name
     (subst (λ x. GoesOn old.producer mid (Take x)) of goes) reads whole places
-    (λ covers one two small. subst (λ items. length items ≤ 100000) whole few) (λ all. tt)))
+    (λ covers one two small. subst (λ items. length items ≤ most_rows) whole few) (λ all. tt)))
 
 reads_twice : (a b c : Known) → SameButReads a b → SameButReads b c → SameButReads a c
 reads_twice a b c first second =
@@ -520,6 +532,6 @@ fed_plans_dead old mid m d one new of none proper short name goes reads more_rea
     (feed_plans old mid d dead new none (subst IsProper of proper) (subst (λ x. has_long_row x ≡ false) of short) name
     (subst (λ x. GoesOn old.producer mid (Take x)) of goes) (reads_twice mid one.producer new.producer reads more_reads) all
     (same_places ∙ places)
-    (λ covers ordered sorted small. subst (λ items. length items ≤ 100000)
+    (λ covers ordered sorted small. subst (λ items. length items ≤ most_rows)
     (sym (whole ∙ live_left mid.responder.moment live mirror ordered sorted covers)) small)
     (λ each. dead_proper mid.responder.moment mirror each)))

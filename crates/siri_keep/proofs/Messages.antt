@@ -1,5 +1,5 @@
 -- What a message leaves of what is kept of subscriptions.
-use Rattle.std.proofs.Common.{◌≡◌, ◌≤◌, ℕ, List, [], ◌∷◌, map, Bool, true, false, cond, ◌&&◌, not, Option, None, Some, refl, sym, ap, ◌∙◌, subst, arith}
+use Rattle.std.proofs.Common.{◌≡◌, ◌≤◌, ℕ, List, [], ◌∷◌, map, Bool, true, false, cond, Option, None, Some, refl, sym, subst, arith}
 use Rattle.std.specs.Prelude.{length, nat_lt, ◌==◌}
 use Rattle.std.specs.List.{AllByRecursion as All, list_any}
 use Rattle.std.specs.Cmp.Lexicographic.{bytes_decides}
@@ -8,7 +8,6 @@ use Rattle.std.proofs.lemmas.Bool.{and_parts, eqb-true, ltb-false, ltb-true, or_
 use Rattle.siri_json.specs.Tree.{longest_document}
 use Rattle.siri_tables.specs.Proper.{IsName, IsNumber}
 use Rattle.siri_messages.specs.Asked.{Asked, asked_in}
-use Rattle.siri_messages.specs.Rounds.{has_round}
 use Rattle.siri_messages.specs.declared.message.Message.{Message}
 use Rattle.siri_messages.specs.declared.message.Message.TheVariants as message
 use Rattle.siri_messages.specs.declared.supplies.DataSupplyRequest.{DataSupplyRequest}
@@ -17,16 +16,16 @@ use Rattle.siri_messages.specs.declared.subscriptions.SubscriptionRequest.{Subsc
 use Rattle.siri_subs.specs.declared.entry.Row.{Row}
 use Rattle.siri_subs.specs.Table.{is_of, is_renumbered_by}
 use Rattle.siri_model.specs.Held.{Held, held_of}
-use Rattle.siri_model.specs.History.{State, Take, after_step, entries_fed}
+use Rattle.siri_model.specs.History.{entries_fed}
 use Rattle.siri_life.specs.Slot.{with_acknowledgement, with_supply}
 use Rattle.siri_model.specs.Lives.{mark_of}
-use Rattle.siri_model.specs.Rows.{KeptLife, acknowledged_row, asked_of, is_numbered, new_row, nothing_kept, renewed_row, rows_acknowledged, rows_after}
-use Rattle.siri_model.specs.Rows.{rows_asked, rows_ended, rows_supplied, rows_taken, supplied_row, with_row_of, with_rounds}
+use Rattle.siri_model.specs.Rows.{KeptLife, acknowledged_row, asked_of, is_numbered, new_row, nothing_kept, renewed_row, rows_acknowledged}
+use Rattle.siri_model.specs.Rows.{rows_supplied, rows_taken, supplied_row, with_row_of, with_rounds}
 use Rattle.siri_row_texts.specs.SubscriptionRows.{renewal_of, renewal_text, request_of, request_text}
 use Rattle.siri_row_texts.specs.Reading.{renewal_of_row, request_of_row}
 use Rattle.siri_row_texts.proofs.Asked.{each_alone}
 use Rattle.siri_row_texts.proofs.Requests.{renewal_row_read, request_row_read}
-use Rattle.siri_wire_laws.specs.ProperMessages.{IsProper}
+use Rattle.siri_wire.specs.laws.ProperMessages.{IsProper}
 use Rattle.siri_keep.specs.Puts.{changes_rows, has_long_row, is_long}
 use Rattle.siri_keep.proofs.Alls.{accepted_each, all_mapped, all_unmapped, ended_each}
 

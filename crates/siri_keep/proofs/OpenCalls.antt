@@ -12,7 +12,7 @@ use Rattle.siri_keep.specs.declared.errors.KeepError.{KeepError}
 use Rattle.siri_keep.specs.declared.errors.KeepError.TheVariants as errors
 use Rattle.siri_keep.specs.declared.opening.WhatIsRead.{WhatIsRead}
 use Rattle.siri_keep.specs.declared.reopening.Opened.{Opened}
-use Rattle.siri_keep.specs.Calls.{AddsReopened, ClosesBy, HasKeepCause, Holds, RefusesToOpen, Reopens}
+use Rattle.siri_keep.specs.Calls.{AddsReopened, ClosesBy, HasKeepCause, Holds, IsEarlier, RefusesToOpen, Reopens}
 use Rattle.siri_keep.specs.Planning.{Opens, PlansOpening, WritesAll}
 use Rattle.siri_keep.specs.Walking.{SaysAll}
 use Rattle.siri_keep.proofs.Fronts.{adds_weaker}
@@ -69,11 +69,12 @@ module _ (name : List ℕ) (start now : ℕ) (opened : Opened) where
       → WritesAll opened.puts s t result → AddsReopened name start now s t
   adds_planned s t result plans writes =
       adds_weaker (λ rows. rows ≡ s.rows) (λ rows. rows ≡ with_puts s.rows opened.puts) (λ rows. rows ≡ s.rows)
-      (λ rows. (what : Said) × (said s.rows ≡ Ok what) × Keeps name rows (reopened start now what))
+      (λ rows. (what : Said) × (said s.rows ≡ Ok what) × IsEarlier name start what × Keeps name rows (reopened start now what))
       (λ rows is. is)
       (λ rows is. (
         plans.what,
         plans.says,
+        plans.earlier,
         subst (λ (r : Rows). Keeps name r (reopened start now plans.what)) (sym is)
             (keeps_planned name (reopened start now plans.what) s.rows opened plans.opens),
       )) s t writes.trail

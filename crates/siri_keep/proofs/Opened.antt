@@ -11,7 +11,7 @@ use Rattle.siri_producer.specs.Known.{Known, StandsFor}
 use Rattle.siri_shelf.specs.Rows.{Rows, text_at, with_puts}
 use Rattle.siri_row_texts.specs.ItemRows.{moment_row}
 use Rattle.siri_row_texts.specs.Reading.{began_of_row}
-use Rattle.siri_keeping.specs.Keeping.{Covers, HasItems, moment_put, places_to, subscription_puts}
+use Rattle.siri_keeping.specs.Keeping.{Covers, HasItems, moment_put, places_to, subscription_puts, most_rows}
 use Rattle.siri_keeping.specs.Keeps.{IsProperStep, KeepsThese}
 use Rattle.siri_keeping.proofs.WrittenWhole.{HasOnly, moment_alone, moment_elsewhere, moment_there, subscriptions_elsewhere, written_over}
 use Rattle.siri_keep.specs.declared.reopening.Opened.{Opened}
@@ -20,12 +20,13 @@ use Rattle.siri_keep.specs.Planning.{Begins, Opens}
 use Rattle.siri_keep.proofs.Alls.{all_weaker}
 use Rattle.siri_keep.proofs.Fed.{ReadsItem}
 use Rattle.siri_keep.proofs.Messages.{Reads}
+use Rattle.siri_subs.specs.Table.{most_subscriptions}
 
 -- rows over which a producer can be opened that keeps these items, with requests at these places
 pub record Fits (rows : Rows) (kept : Items) (places : List (List ℕ)) : Type 0 where
   pub one_moment : (key : List ℕ) → IsSome (text_at rows 0 key) → key ≡ []
   pub ordered : InOrder kept
-  pub few : length kept ≤ 100000
+  pub few : length kept ≤ most_rows
   pub items : HasItems rows kept
   pub read : All ReadsItem kept
   pub requests : HasOnly rows places 2
@@ -50,7 +51,7 @@ module _ (name : List ℕ) (moment start : ℕ) (live kept : Items) (places : Li
 
   pub opened_keeps : Fits rows kept places → Covers moment live kept
       → began_of_row (moment_row moment start name) ≡ Some (record { moment = moment; start = start; name = name })
-      → length helds ≤ 200 → All Reads helds
+      → length helds ≤ most_subscriptions → All Reads helds
       → KeepsThese name moment start live kept (places_to (length helds)) helds
       (with_puts rows (moment_put moment start name ∷ subscription_puts places helds))
   opened_keeps fits covers began few read = record {
@@ -90,7 +91,7 @@ opens_over p mirror places opened name h rows begins stands named proper fits co
     let helds = map held_of p.table in
     let count : length helds ≡ length p.table = length-map p.table held_of in
     let puts = moment_put known.moment known.start known.name ∷ subscription_puts places helds in
-    let few : length helds ≤ 200 = omega (arith, count, begins.few) in
+    let few : length helds ≤ most_subscriptions = omega (arith, count, begins.few) in
     let these : KeepsThese known.name known.moment known.start known.held mirror (places_to (length p.table)) helds (with_puts rows puts) =
     subst (λ n. KeepsThese known.name known.moment known.start known.held mirror (places_to n) helds (with_puts rows puts)) count
     (opened_keeps known.name known.moment known.start known.held mirror places helds rows fits covers (begins.read from_one number) few

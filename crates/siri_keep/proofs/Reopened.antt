@@ -4,12 +4,12 @@ use Rattle.std.specs.Prelude.{IsSome, is_none, ◌==◌}
 use Rattle.std.specs.List.{AllByRecursion as All, Contains, filter, filter_map}
 use Rattle.std.proofs.lemmas.Bool.{or_parts}
 use Rattle.std.proofs.lemmas.List.{length-map, map-append}
-use Rattle.siri_model_laws.proofs.Entries.{sorted_passing}
-use Rattle.siri_model_laws.proofs.Histories.{rows_go_on}
-use Rattle.siri_model_laws.proofs.InOrder.{none_in_order}
+use Rattle.siri_model.proofs.Entries.{sorted_passing}
+use Rattle.siri_model.proofs.Histories.{rows_go_on}
+use Rattle.siri_model.proofs.InOrder.{none_in_order}
 use Rattle.siri_records.specs.declared.item.Item.{Item}
 use Rattle.siri_records.specs.declared.key.Key.{Key}
-use Rattle.siri_records.specs.Keyed.{Items, living}
+use Rattle.siri_records.specs.Keyed.{Items, living, most_live}
 use Rattle.siri_records.specs.Order.{key_cmp}
 use Rattle.siri_base.specs.Numbers.{greatest_number}
 use Rattle.siri_tables.specs.Proper.{IsNumber}
@@ -25,7 +25,7 @@ use Rattle.siri_shelf.specs.Rows.{InOrder as RowsInOrder, Rows, of_table, text_a
 use Rattle.siri_shelf.proofs.Order.{order_kept}
 use Rattle.siri_row_texts.specs.ItemRows.{key_text}
 use Rattle.siri_row_texts.specs.Reading.{item_of_row}
-use Rattle.siri_keeping.specs.Keeping.{Covers, IsProperKey}
+use Rattle.siri_keeping.specs.Keeping.{Covers, IsProperKey, most_rows}
 use Rattle.siri_keeping.specs.Keeps.{IsProperEntry, IsProperStep}
 use Rattle.siri_keeping.specs.Opening.{Kept as SaysKept, Nothing, WhatIsKept, by_service, item_in, live_items, reopened, said}
 use Rattle.siri_keeping.proofs.LiveItems.{alive}
@@ -109,14 +109,14 @@ module _ (rows : Rows) (what : WhatIsKept) (s : Says rows what) (order : RowsInO
   apart : AreApart what.items
   apart = apart_in_order what.items (subst RowsInOrder table_is table_in_order)
 
-  few_items : length what.items ≤ 100000
+  few_items : length what.items ≤ most_rows
   few_items =
       let count : length table ≡ length what.items = ap (λ (r : Rows). length r) table_is ∙ length-map what.items item_row in
       let few = few_rows rows what s table_in_order in
       omega (arith, count, few)
 
-  few_live : length (filter (alive moment) what.items) ≤ 20000
-  few_live = subst (λ (items : List Item). length (filter (alive moment) items) ≤ 20000) items_are (few_live_items rows what s table_in_order)
+  few_live : length (filter (alive moment) what.items) ≤ most_live
+  few_live = subst (λ (items : List Item). length (filter (alive moment) items) ≤ most_live) items_are (few_live_items rows what s table_in_order)
 
   key_known : (key : List ℕ) → IsSome (text_at rows 1 key) → (k : Key) × IsProperKey k × (key ≡ key_text k)
   key_known key some =

@@ -16,15 +16,15 @@ use Rattle.siri_records.specs.declared.item.Item.TheVariants as item
 use Rattle.siri_records.specs.declared.item.Service.TheVariants as service
 use Rattle.siri_records.specs.declared.key.Key.{Key}
 use Rattle.siri_records.specs.Ends.{is_dead}
-use Rattle.siri_records.specs.Keyed.{InOrder, Items, KeyChange, apply, item_of, living}
+use Rattle.siri_records.specs.Keyed.{InOrder, Items, KeyChange, apply, item_of, living, most_live}
 use Rattle.siri_records.specs.Keys.{key_of}
 use Rattle.siri_records.specs.Order.{key_cmp, key_cmp_total}
 use Rattle.siri_records.proofs.KeyLists.{one_key}
 use Rattle.siri_change.proofs.Leads.{order_applied}
 use Rattle.siri_items.specs.Proper.{IsProper}
 use Rattle.siri_model.specs.History.{Observed, after_entry}
-use Rattle.siri_model_laws.proofs.Entries.{sorted_inserted}
-use Rattle.siri_model_laws.proofs.InOrder.{none_in_order}
+use Rattle.siri_model.proofs.Entries.{sorted_inserted}
+use Rattle.siri_model.proofs.InOrder.{none_in_order}
 use Rattle.siri_shelf.specs.declared.rows.StoredRow.{StoredRow}
 use Rattle.siri_shelf.specs.Rows.{InOrder as RowsInOrder, RowPlace, Rows, of_table, place_cmp, place_of, text_at}
 use Rattle.siri_shelf.proofs.Order.{place_total}
@@ -344,12 +344,12 @@ has_one (j ∷ items) i there = elim (first_or j i items there) [
 ]
 
 -- a feed of those that aren't dead at a moment, in the order of one delivery, leaves those of what is kept that aren't
-pub fed_again : (now m : ℕ) (items : List Item) → AreApart items → length (filter (alive m) items) ≤ 20000
+pub fed_again : (now m : ℕ) (items : List Item) → AreApart items → length (filter (alive m) items) ≤ most_live
     → fold (after_entry now) [] (map Observed (by_service (filter (alive m) items))) ≡ living m (kept_of items)
 fed_again now m items apart few =
     let live = filter (alive m) items in
     let kept = kept_of items in
-    let few_ : length (by_service live) ≤ 20000 = let less = few_served live in omega (arith, less, few) in
+    let few_ : length (by_service live) ≤ most_live = let less = few_served live in omega (arith, less, few) in
     let each : All (IsKept m kept) live = all_passing (λ i. item_of kept (key_of i) ≡ Some i) (IsKept m kept) (alive m)
     (λ i passes_ own. record { under = own; living_ = not_dead i m (is_dead i m) refl passes_ }) items (own_kept items apart) in
     let every : HasAll m kept (by_service live) = λ k i at alive_.

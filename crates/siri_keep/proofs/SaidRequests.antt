@@ -22,13 +22,13 @@ use Rattle.siri_messages.specs.declared.message.Message.TheVariants as message
 use Rattle.siri_messages.specs.declared.subscriptions.SubscriptionRequest.{SubscriptionRequest}
 use Rattle.siri_tables.specs.Refusals.{Refusal, refused}
 use Rattle.siri_wire.specs.Documents.{message_in, message_of}
-use Rattle.siri_wire_laws.specs.ProperMessages.{IsProper}
-use Rattle.siri_wire_laws.proofs.BackDocuments.{canonical_read}
+use Rattle.siri_wire.specs.laws.ProperMessages.{IsProper}
+use Rattle.siri_wire.proofs.BackDocuments.{canonical_read}
 use Rattle.siri_model.specs.History.{Clock, Feed, History, Start, State, Step, Take, after_entry, after_step, entries_fed, state_of}
 use Rattle.siri_model.specs.History.{Entry}
 use Rattle.siri_model.specs.Lives.{table_of}
 use Rattle.siri_model.specs.Rows.{rows_after, rows_of}
-use Rattle.siri_model_laws.proofs.Histories.{rows_go_on}
+use Rattle.siri_model.proofs.Histories.{rows_go_on}
 use Rattle.siri_producer.specs.Known.{GoesOn, Known, StandsFor}
 use Rattle.siri_shelf.specs.Rows.{Rows, of_table, text_at}
 use Rattle.siri_row_texts.specs.Reading.{first_asked, first_of_four, if_holds, is_asked, is_renewal, is_request, renewal_of_row, request_of_row}

@@ -1,6 +1,6 @@
 -- Steps that leave what a shelf keeps of a history: settles, and messages that change no row.
 use Rattle.std.specs.Prelude.{⊤, if◌then◌else◌}
-use Rattle.std.proofs.Common.{◌≡◌, ℕ, zero, suc, List, [], ◌∷◌, ◌++◌, map, Bool, true, false, Option, None, Some, Result, Ok, Err, refl, sym, ap, ◌∙◌, subst, append_assoc}
+use Rattle.std.proofs.Common.{◌≡◌, ℕ, List, [], ◌∷◌, ◌++◌, map, Bool, true, false, Option, None, Some, Result, Ok, Err, refl, sym, ap, ◌∙◌, subst, append_assoc}
 use Rattle.std.specs.List.{AllByRecursion as All}
 use Rattle.siri_records.specs.Keyed.{living}
 use Rattle.siri_tables.specs.Refusals.{Refusal}
@@ -10,20 +10,14 @@ use Rattle.siri_model.specs.Held.{held_of, helds_of}
 use Rattle.siri_model.specs.History.{History, Settle, State, Step, Take, after_step, state_of}
 use Rattle.siri_model.specs.Lives.{table_of}
 use Rattle.siri_producer.specs.Known.{StandsFor}
-use Rattle.siri_subscriptions.specs.declared.outs.Out.{Out}
 use Rattle.siri_http.specs.declared.asked.Asked.{Asked}
 use Rattle.siri_http.specs.declared.asked.Asked.TheVariants as asked
-use Rattle.siri_http.specs.declared.posting.Sent.{Sent}
-use Rattle.siri_http.specs.declared.posting.Sent.TheVariants as sent
-use Rattle.siri_ends.specs.At.{At}
-use Rattle.siri_ends.specs.InTurn.{InTurn}
-use Rattle.siri_ends.specs.Manners.{after_hearing, brings_of, message_answered}
 use Rattle.siri_ends.specs.Responses.{message_asked, message_in, turn_steps}
-use Rattle.siri_ends.specs.Serving.{PostsOut, acknowledging, after_acknowledging, serving}
+use Rattle.siri_ends.specs.Serving.{acknowledging, after_acknowledging}
 use Rattle.siri_shelf.specs.Rows.{Rows}
 use Rattle.siri_wire.specs.Documents.{message_of}
-use Rattle.siri_wire_laws.specs.ProperMessages.{IsProper}
-use Rattle.siri_wire_laws.proofs.ProperReadMessages.{document_proper}
+use Rattle.siri_wire.specs.laws.ProperMessages.{IsProper}
+use Rattle.siri_wire.proofs.ProperReadMessages.{document_proper}
 use Rattle.siri_keeping.specs.Keeps.{IsProperStep, Keeps, KeepsThese}
 use Rattle.siri_keeping.specs.Subscribed.{is_about_rounds, leaves_held}
 use Rattle.siri_keeping.proofs.Helds.{helds_stay, state_more}
@@ -121,38 +115,18 @@ kept_proper asked = by (has_long_asked asked)
 pub brought_proper : (asked : Asked) (m : Message) → message_asked asked ≡ Some m → IsProper m
 brought_proper asked m is = subst IsProperIf is (asked_proper asked)
 
-answered_proper : (outcome : Sent) → IsProperIf (message_answered outcome)
-unfolding message_answered
-answered_proper (sent.Accepted body) = in_proper body (message_of body) refl
-answered_proper other = tt
-
 -- so are the steps of a turn
 pub turn_proper : (h : History) (m : Option Message) → IsProperIf m → All IsProperStep h → All IsProperStep (h ++ turn_steps m)
 turn_proper h None proper all = proper_more h Settle all tt
 turn_proper h (Some m) proper all = subst (All IsProperStep) (append_assoc h (Take m ∷ []) (Settle ∷ []))
     (proper_more (h ++ Take m ∷ []) Settle (proper_more h (Take m) all proper) tt)
 
--- ---- what is sent
+-- ---- what is heard
 
-heard_kept : (name : List ℕ) (out : Out) (h : History) (m : Option Message) → IsProperIf m
-    → SameKept h (after_hearing (serving name) out m h)
-heard_kept name out h None proper = same_none h
-heard_kept name out h (Some m) proper = by m proper
-  where
-    by : (m : Message) → IsProper m → SameKept h (after_acknowledging (acknowledging m) h)
-    by (message.DataReceivedAcknowledgement a) proper =
-        let ack : Message = message.DataReceivedAcknowledgement a in
-        subst (SameKept h) (append_assoc h (Take ack ∷ []) (Settle ∷ []))
-        (same_then h (h ++ Take ack ∷ []) ((h ++ Take ack ∷ []) ++ Settle ∷ []) (same_taken h ack proper refl)
-        (same_settled (h ++ Take ack ∷ [])))
-    by other proper = same_none h
-
-pub sends_kept : (name : List ℕ) (limit : ℕ) (list : List Out) (at end : At History) → InTurn PostsOut (serving name) limit list at end
-    → SameKept at.state end.state
-unfolding InTurn
-sends_kept name zero list at end is = subst (λ (e : At History). SameKept at.state e.state) (sym is) (same_none at.state)
-sends_kept name (suc limit) [] at end is = subst (λ (e : At History). SameKept at.state e.state) (sym is) (same_none at.state)
-sends_kept name (suc limit) (first ∷ rest) at end some =
-    let heard = heard_kept name first at.state (message_answered some.0) (answered_proper some.0) in
-    same_then at.state some.1.state end.state (subst (SameKept at.state) (sym some.2.state) heard)
-    (sends_kept name limit (rest ++ brings_of (serving name) first (message_answered some.0) at.state) some.1 end some.3)
+pub heard_kept : (h : History) (m : Message) → IsProper m → SameKept h (after_acknowledging (acknowledging m) h)
+heard_kept h (message.DataReceivedAcknowledgement a) proper =
+    let ack : Message = message.DataReceivedAcknowledgement a in
+    subst (SameKept h) (append_assoc h (Take ack ∷ []) (Settle ∷ []))
+    (same_then h (h ++ Take ack ∷ []) ((h ++ Take ack ∷ []) ++ Settle ∷ []) (same_taken h ack proper refl)
+    (same_settled (h ++ Take ack ∷ [])))
+heard_kept h other proper = same_none h

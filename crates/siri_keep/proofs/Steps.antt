@@ -1,18 +1,18 @@
 -- What a step leaves of what a producer knows.
-use Rattle.std.proofs.Common.{◌≡◌, ℕ, List, [], ◌∷◌, ◌++◌, map, refl, sym, ap, ◌∙◌, subst}
+use Rattle.std.proofs.Common.{◌≡◌, List, [], ◌∷◌, ◌++◌, map, refl, sym, ap, ◌∙◌, subst}
 use Rattle.std.specs.List.{AllByRecursion as All}
 use Rattle.siri_records.specs.Keyed.{living}
 use Rattle.siri_subs.specs.declared.entry.Row.{Row}
 use Rattle.siri_model.specs.Held.{held_of}
 use Rattle.siri_model.specs.History.{History, State, Step, Settle, after_step, state_of}
 use Rattle.siri_model.specs.Rows.{KeptLife, rows_after, settled_row}
-use Rattle.siri_model_laws.proofs.Histories.{rows_go_on}
-use Rattle.siri_model_laws.proofs.InOrder.{more_steps}
+use Rattle.siri_model.proofs.Histories.{rows_go_on}
+use Rattle.siri_model.proofs.InOrder.{more_steps}
 use Rattle.siri_producer.specs.Known.{Known, GoesOn, SameButReads, StandsFor}
 use Rattle.siri_shelf.specs.Rows.{Rows}
 use Rattle.siri_keeping.specs.Keeps.{IsProperStep, Keeps}
 use Rattle.siri_keep.specs.declared.kept.Kept.{Kept}
-use Rattle.siri_keep.specs.Calls.{GoesOnAs, GoesOnKept, Holds, Left}
+use Rattle.siri_keep.specs.Calls.{GoesOnKept, Holds, Left}
 use Rattle.siri_keep.proofs.Left.{keeps_of}
 
 -- one more proper step

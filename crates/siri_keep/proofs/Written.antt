@@ -1,5 +1,5 @@
 -- What puts make of what is kept.
-use Rattle.std.proofs.Common.{◌≡◌, ◌≢◌, ◌≤◌, ◌<◌, ℕ, List, [], ◌∷◌, ◌++◌, length, Bool, true, false, not, cond, ◌⊎◌, Option, None, Some, refl, sym, ap, ◌∙◌, subst, arith, inl, inr}
+use Rattle.std.proofs.Common.{◌≡◌, ◌≢◌, ◌≤◌, ℕ, List, [], ◌∷◌, length, Bool, true, false, not, cond, ◌⊎◌, Option, None, Some, refl, sym, ap, ◌∙◌, subst, arith, inl, inr}
 use Rattle.std.specs.Prelude.{◌||◌, nat_lt, IsSome}
 use Rattle.std.specs.Option.{option_map_or}
 use Rattle.std.proofs.lemmas.Bool.{lt-ltb, ltb-true}
@@ -11,13 +11,12 @@ use Rattle.siri_records.specs.Ends.{end_of, is_closed, is_dead}
 use Rattle.siri_records.specs.Keyed.{InOrder, Items, apply, item_of, living}
 use Rattle.siri_change.proofs.Leads.{order_applied}
 use Rattle.siri_model.specs.Held.{Held}
-use Rattle.siri_shelf.specs.declared.rows.Put.{Put}
 use Rattle.siri_shelf.specs.Rows.{RowPlace, Rows, text_at, with_put, with_puts}
 use Rattle.siri_row_texts.specs.ItemRows.{moment_row}
 use Rattle.siri_row_texts.specs.SubscriptionRows.{renewal_text, request_text}
 use Rattle.siri_row_texts.specs.Reading.{began_of_row}
-use Rattle.siri_keeping.specs.Keeping.{Covers, IsProperKey, changes_to, moment_put, places_to, puts_to, subscription_puts}
-use Rattle.siri_keeping.specs.Keeps.{HasSubscriptions, KeepsThese, ReadsBack}
+use Rattle.siri_keeping.specs.Keeping.{Covers, IsProperKey, changes_to, moment_put, places_to, puts_to, subscription_puts, most_rows}
+use Rattle.siri_keeping.specs.Keeps.{HasSubscriptions, KeepsThese}
 use Rattle.siri_keeping.proofs.Found.{text_elsewhere, text_there}
 use Rattle.siri_keeping.proofs.Kept.{has_items_after, others_stay}
 use Rattle.siri_keeping.proofs.LiveItems.{live_at}
@@ -25,6 +24,7 @@ use Rattle.siri_keeping.proofs.WrittenWhole.{subscriptions_elsewhere, written_ha
 use Rattle.siri_keep.proofs.Alls.{all_weaker}
 use Rattle.siri_keep.proofs.Fed.{ReadsItem}
 use Rattle.siri_keep.proofs.Messages.{Reads}
+use Rattle.siri_subs.specs.Table.{most_subscriptions}
 
 zip_weaker : {A B : Type 0} (R S : A → B → Type 0) → ((a : A) (b : B) → R a b → S a b) → (xs : List A) (ys : List B)
     → AllZip R xs ys → AllZip S xs ys
@@ -92,7 +92,7 @@ module _ (name : List ℕ) (m s : ℕ) (live kept : Items) (places : List (List 
   -- ---- rows of items
 
   pub items_kept : (keys : List Key) (then : Items) → All IsProperKey keys → Covers m then (apply kept (changes_to then keys))
-      → length (apply kept (changes_to then keys)) ≤ 100000 → All ReadsItem (apply kept (changes_to then keys))
+      → length (apply kept (changes_to then keys)) ≤ most_rows → All ReadsItem (apply kept (changes_to then keys))
       → KeepsThese name m s then (apply kept (changes_to then keys)) places helds (with_puts rows (puts_to then keys))
   items_kept keys then proper covers few read =
       let after = apply kept (changes_to then keys) in
@@ -121,7 +121,7 @@ module _ (name : List ℕ) (m s : ℕ) (live kept : Items) (places : List (List 
 
   -- ---- rows of subscriptions
 
-  pub subscriptions_kept : (then : List Held) → length then ≤ 200 → All Reads then
+  pub subscriptions_kept : (then : List Held) → length then ≤ most_subscriptions → All Reads then
       → KeepsThese name m s live kept (places_to (length then)) then (with_puts rows (subscription_puts places then))
   subscriptions_kept then few read =
       let elsewhere : (table : ℕ) (key : List ℕ) → table ≢ 2 → table ≢ 3

@@ -2,12 +2,13 @@
 use Rattle.std.specs.Prelude.{◌≡◌, ◌≢◌, ◌<◌, ◌≤◌, ⊤, ℕ, List, ◌++◌, map, take, Bool, true, false, Result, Ok, Err, IsErrOf}
 use Rattle.std.specs.List.{AllByRecursion}
 use Rattle.siri_base.specs.Causes.{Rose}
+use Rattle.siri_records.specs.Keyed.{living}
 use Rattle.siri_model.specs.Held.{held_of}
-use Rattle.siri_model.specs.History.{History}
+use Rattle.siri_model.specs.History.{History, current, now_of}
 use Rattle.siri_producer.specs.Known.{Known, StandsFor}
 use Rattle.siri_shelf.specs.Rows.{Rows}
 use Rattle.siri_shelf.specs.Shelves.{ShelfState}
-use Rattle.siri_keeping.specs.Keeping.{AddsOnly}
+use Rattle.siri_keeping.specs.Keeping.{AddsOnly, HasItems}
 use Rattle.siri_keeping.specs.Keeps.{IsProperStep, Keeps, KeepsThese}
 use Rattle.siri_keeping.specs.Opening.{Kept as SaysKept, Nothing, Said, WhatIsKept, reopened, said}
 use Rattle.siri_keep.specs.declared.errors.KeepError.{KeepError}
@@ -38,6 +39,14 @@ pub record GoesOnAs (old new : Kept) (steps : History) (before after : Rows) (h 
 
 abbrev pub GoesOnKept : Kept → Kept → History → Rows → Rows → Type 0
 GoesOnKept old new steps before after = (h : History) → Holds old before h → GoesOnAs old new steps before after h
+
+-- table 1 has a row for each item that is live after a history, and no others: the rows of dead ones have left
+abbrev pub HasLiveAlone : History → Rows → Type 0
+HasLiveAlone h rows = HasItems rows (living (now_of h) (current h))
+
+-- it is so of whatever history the producer stood for before a call over the shelf that it left
+abbrev pub LeavesLive : Kept → Rows → Rows → Type 0
+LeavesLive old before after = (h : History) → Holds old before h → HasLiveAlone h after
 
 -- rows keep a history with some first of these steps after it
 abbrev pub KeepsFront : (name : List ℕ) → History → History → Rows → Type 0
@@ -96,8 +105,9 @@ RefusesToOpen name start errors.ShelfFault rows = ⊤
 RefusesToOpen name start errors.OutOfMemory rows = ⊤
 RefusesToOpen name start other rows = ⊥
 
--- each of the rows that a stop may have left are as they were, or keep the history that they make
+-- each of the rows that a stop may have left are as they were; or they keep the history that these make, which were of this
+-- name and of an earlier start
 abbrev pub AddsReopened : (name : List ℕ) → (start now : ℕ) → ShelfState → ShelfState → Type 0
 AddsReopened name start now before after =
     AddsOnly (λ rows. rows ≡ before.rows)
-    (λ rows. (what : Said) × (said before.rows ≡ Ok what) × Keeps name rows (reopened start now what)) before after
+    (λ rows. (what : Said) × (said before.rows ≡ Ok what) × IsEarlier name start what × Keeps name rows (reopened start now what)) before after

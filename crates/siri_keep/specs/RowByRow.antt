@@ -9,11 +9,12 @@ use Rattle.siri_records.specs.declared.item.Item.{Item}
 use Rattle.siri_records.specs.declared.item.Item.TheVariants as item
 use Rattle.siri_records.specs.declared.item.Service.TheVariants as service
 use Rattle.siri_records.specs.Ends.{is_dead}
-use Rattle.siri_records.specs.Keyed.{Items, apply, with_item}
+use Rattle.siri_records.specs.Keyed.{Items, apply, most_live, with_item}
 use Rattle.siri_records.specs.Keys.{key_of}
 use Rattle.siri_messages.specs.Blank.{blank_service_delivery}
 use Rattle.siri_messages.specs.declared.deliveries.ServiceDelivery.{ServiceDelivery}
 use Rattle.siri_messages.specs.declared.message.Message.{Message}
+use Rattle.siri_subs.specs.Table.{most_subscriptions}
 use Rattle.siri_row_texts.specs.declared.moments.Began.{Began}
 use Rattle.siri_row_texts.specs.ItemRows.{functional_of}
 use Rattle.siri_row_texts.specs.Reading.{began_of_row, item_of_row, request_of_row}
@@ -21,7 +22,7 @@ use Rattle.siri_shelf.specs.declared.rows.Row.{Row}
 use Rattle.siri_shelf.specs.declared.rows.StoredRow.{StoredRow}
 use Rattle.siri_shelf.specs.Rows.{HasByteTables, InOrder, Rows, is_next, next_row, of_table}
 use Rattle.siri_shelf.specs.Shelves.{ShelfState}
-use Rattle.siri_keeping.specs.Keeping.{is_place}
+use Rattle.siri_keeping.specs.Keeping.{is_place, most_rows}
 use Rattle.siri_keeping.specs.Opening.{Nothing, are_same, began_in, is_bad, is_live_at, is_told_by, item_in, renewal_in, renewal_of_request, request_in, said, subscription_in}
 use Rattle.siri_keep.specs.declared.by_service.ByService.{ByService}
 use Rattle.siri_keep.specs.declared.errors.KeepError.{KeepError}
@@ -71,13 +72,13 @@ abbrev pub with_kept : RowsRead → Item → RowsRead
 with_kept read i = record (with_live read i) { count = read.count + 1; all = with_item read.all (key_of i, i) }
 
 abbrev pub has_room : RowsRead → Item → Bool
-has_room read i = nat_lt read.count 100000 && (is_dead i read.began.moment || nat_lt read.living 20000)
+has_room read i = nat_lt read.count most_rows && (is_dead i read.began.moment || nat_lt read.living most_live)
 
 abbrev pub with_request : RowsRead → List ℕ → Message → RowsRead
 with_request read key m = record read { requests = read.requests ++ record { place = key; request = m } ∷ [] }
 
 abbrev pub has_place : RowsRead → List ℕ → Message → Bool
-has_place read key m = is_place key && nat_lt (length read.requests) 200 && not (asks_again read.requests m)
+has_place read key m = is_place key && nat_lt (length read.requests) most_subscriptions && not (asks_again read.requests m)
 
 abbrev pub with_renewal : RowsRead → Message → RowsRead
 with_renewal read m = record read { renewals = read.renewals ++ m ∷ [] }

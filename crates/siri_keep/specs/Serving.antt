@@ -1,17 +1,18 @@
 -- One turn of a producer over a shelf, as an end of the exchange (EN 15531-2 for what is said, RFC 9112 for how).
-use Rattle.std.specs.Prelude.{◌≡◌, ◌⊎◌, ℕ, List, [], ◌∷◌, ◌++◌, length, slice_get, codes, Bool, false, if◌then◌else◌, Option, None, Some}
+use Rattle.std.specs.Prelude.{◌≡◌, ◌⊎◌, ◌*◌, ℕ, List, [], ◌∷◌, ◌++◌, length, slice_get, codes, Bool, false, if◌then◌else◌, Option, None, Some}
 use Rattle.siri_base.specs.OutsideCalls.{WhereTold}
 use Rattle.siri_base.specs.Wires.{Present, WireState, texts}
 use Rattle.siri_http.specs.Connections.{OnConnection}
 use Rattle.siri_http.specs.Requests.{Asks, post_alone}
 use Rattle.siri_http.specs.declared.asked.Asked.{Asked}
 use Rattle.siri_messages.specs.declared.message.Message.{Message}
-use Rattle.siri_model.specs.History.{History, Take}
+use Rattle.siri_model.specs.History.{Clock, History, Take}
 use Rattle.siri_producer.specs.Known.{StandsFor}
 use Rattle.siri_producer.specs.Sends.{sends}
 use Rattle.siri_subscriptions.specs.declared.outs.Out.{Out}
 use Rattle.siri_ends.specs.At.{At, stood_for}
 use Rattle.siri_ends.specs.Manners.{Manner}
+use Rattle.siri_ends.specs.Occasions.{AfterTurn, Occasion, OfConnection, OfMoment}
 use Rattle.siri_ends.specs.Responses.{message_asked, refusing, response_to, taking, turn_steps}
 use Rattle.siri_ends.specs.Serving.{PostsOut, serving}
 use Rattle.siri_ends.specs.TurnsTaken.{StopsTurn, TakesTurn}
@@ -20,7 +21,7 @@ use Rattle.siri_shelf.specs.Rows.{Rows}
 use Rattle.siri_shelf.specs.Shelves.{ShelfState}
 use Rattle.siri_keeping.specs.Keeps.{Keeps}
 use Rattle.siri_keep.specs.declared.kept.Kept.{Kept}
-use Rattle.siri_keep.specs.Calls.{AddsFronts, Holds}
+use Rattle.siri_keep.specs.Calls.{AddsFronts, Holds, LeavesLive}
 use Rattle.siri_keep.specs.Puts.{has_long_row}
 
 -- ---- a message with a row that is too long
@@ -54,6 +55,20 @@ keeping name = record (serving name) {
   after = λ h asked. h ++ turn_steps (message_kept asked);
   sends = λ h asked. sends name (h ++ taking (message_kept asked));
 }
+
+-- what a producer takes where it is called for this
+abbrev pub steps_of : Occasion → History
+steps_of (OfMoment now) = Clock now ∷ []
+steps_of (OfConnection asked) = taking (message_kept asked)
+steps_of AfterTurn = []
+
+-- after how many turns of a run the rows of dead items leave
+abbrev pub turns_to_clean : ℕ
+turns_to_clean = 1000
+
+-- after each 1,000 turns, so many in all, they have left
+abbrev pub LeavesLiveAt : Kept → (made : ℕ) → Rows → Rows → Type 0
+LeavesLiveAt old made before after = (n : ℕ) → made ≡ n * turns_to_clean → LeavesLive old before after
 
 -- a connection is answered, and what was settled is sent out
 abbrev pub ServesKept : (name : List ℕ) → (at end : At History) → Type 0
@@ -97,8 +112,8 @@ pub record KeepsAnswered (name : List ℕ) (wire : WireState) (rows : Rows) (h :
   pub message_is : message_kept asked ≡ Some message
   pub keeps : Keeps name rows (h ++ Take message ∷ [])
 
--- Whatever the turn comes to, over a wire that tells its bytes: where what was written to its connection begins a response of status 200, the rows keep each history
--- that they kept before, with the message of that connection taken after it.
+-- Whatever the turn comes to, over a wire that tells its bytes: where what was written to its connection begins a response of
+-- status 200, the rows keep each history that they kept before, with the message of that connection taken after it.
 abbrev pub KeepsWhatIsAnswered : Kept → (from to : Option WireState) → ShelfState → ShelfState → Type 0
 KeepsWhatIsAnswered old from to before after =
     (x y : WireState) → from ≡ Some x → to ≡ Some y → AnswersOk x y → (h : History) → Holds old before.rows h

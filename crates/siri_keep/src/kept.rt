@@ -1,18 +1,18 @@
 //! A producer over a shelf.
 
-ghost use Rattle.std.specs.Prelude.{◌≡◌, ◌∷◌, [], false, true, IfOk, OnOk, OnErr, IsErrOf, MatchBool};
+ghost use Rattle.std.specs.Prelude.{◌≡◌, ◌∷◌, [], false, true, IfOk, OnOk, OnErr, IsErrOf};
 ghost use Rattle.siri_base.specs.OutsideCalls.{WhereTold};
-ghost use Rattle.siri_model.specs.History.{History, Clock, Take, Settle};
+ghost use Rattle.siri_model.specs.History.{Clock, Take, Settle};
 ghost use Rattle.siri_producer.specs.Known.{AnswerFor, SameButReads, SendsFor};
 ghost use Rattle.siri_shelf.specs.Rows.{Rows};
-ghost use Rattle.siri_wire_laws.specs.ProperMessages.{IsProper};
+ghost use Rattle.siri_wire.specs.laws.ProperMessages.{IsProper};
 ghost use Rattle.siri_keep.specs.declared.errors.KeepError.TheVariants as error;
-ghost use Rattle.siri_keep.specs.Calls.{AddsFronts, ClosesBy, GoesOnKept, HasKeepCause, StandsOn};
+ghost use Rattle.siri_keep.specs.Calls.{AddsFronts, ClosesBy, GoesOnKept, HasKeepCause, LeavesLive, StandsOn};
 ghost use Rattle.siri_keep.specs.Planning.{WritesAll};
 ghost use Rattle.siri_keep.specs.Puts.{has_long_row};
 
 use crate::KeepError;
-use crate::rows::has_long_row;
+use crate::rows::short_copy;
 use crate::writing::write_all;
 use siri_base::{List, Moment, OutOfMemory};
 use siri_messages::Message;
@@ -79,6 +79,7 @@ impl Kept {
         ensures stands { OnOk result (StandsOn self.old.producer self.new.producer (Clock now ∷ [])) }
         ensures name { OnOk result (self.new.producer.responder.name ≡ self.old.producer.responder.name) }
         ensures trail { WhereTold (B.tells shelf.old) (B.tells shelf.new) (AddsFronts self.old (Clock now ∷ [])) }
+        ensures too_long { ¬ IsErrOf result error.RowTooLong }
         ensures closes { ClosesBy self.old.is_closed self.new.is_closed result }
         ensures cause { HasKeepCause (B.faults shelf.old) (B.faults shelf.new) result }
     {
@@ -116,9 +117,9 @@ impl Kept {
         if self.is_closed {
             return Err(KeepError::Closed);
         }
-        match has_long_row(self.alloc, message) {
-            Ok(false) => self.take_short(shelf, message),
-            Ok(true) => Err(KeepError::RowTooLong),
+        match short_copy(self.alloc, message) {
+            Ok(Some(message)) => self.take_short(shelf, message),
+            Ok(None) => Err(KeepError::RowTooLong),
             Err(OutOfMemory) => {
                 self.is_closed = true;
                 Err(KeepError::OutOfMemory)
@@ -130,18 +131,18 @@ impl Kept {
     pub(crate) fn take_short<B: Shelf>(
         &mut self,
         shelf: &mut B,
-        message: &Message,
+        message: Message,
     ) -> Result<Answer, KeepError>
         requires there { B.is_open shelf.old }
         requires open { self.old.is_closed ≡ false }
-        requires proper { IsProper message.now }
-        requires short { has_long_row message.now ≡ false }
+        requires proper { IsProper message }
+        requires short { has_long_row message ≡ false }
         ensures open { B.is_open shelf.new }
-        ensures ok { OnOk result (WhereTold (B.tells shelf.old) (B.tells shelf.new) (λ old new. GoesOnKept self.old self.new (Take message.now ∷ []) old.rows new.rows)) }
-        ensures stands { OnOk result (StandsOn self.old.producer self.new.producer (Take message.now ∷ [])) }
+        ensures ok { OnOk result (WhereTold (B.tells shelf.old) (B.tells shelf.new) (λ old new. GoesOnKept self.old self.new (Take message ∷ []) old.rows new.rows)) }
+        ensures stands { OnOk result (StandsOn self.old.producer self.new.producer (Take message ∷ [])) }
         ensures name { OnOk result (self.new.producer.responder.name ≡ self.old.producer.responder.name) }
-        ensures answer { IfOk result (AnswerFor self.old.producer message.now) }
-        ensures trail { WhereTold (B.tells shelf.old) (B.tells shelf.new) (AddsFronts self.old (Take message.now ∷ [])) }
+        ensures answer { IfOk result (AnswerFor self.old.producer message) }
+        ensures trail { WhereTold (B.tells shelf.old) (B.tells shelf.new) (AddsFronts self.old (Take message ∷ [])) }
         ensures too_long { ¬ IsErrOf result error.RowTooLong }
         ensures closes { ClosesBy self.old.is_closed self.new.is_closed result }
         ensures cause { HasKeepCause (B.faults shelf.old) (B.faults shelf.new) result }
@@ -158,14 +159,16 @@ impl Kept {
         }
     }
 
-    /// Removes the rows of dead items. Refused as `clock` is.
+    /// Removes the rows of dead items: table 1 has the live ones alone then. Refused as `clock` is.
     pub fn clean<B: Shelf>(&mut self, shelf: &mut B) -> Result<(), KeepError>
         requires { B.is_open shelf.old }
         ensures open { B.is_open shelf.new }
         ensures ok { OnOk result (WhereTold (B.tells shelf.old) (B.tells shelf.new) (λ old new. GoesOnKept self.old self.new [] old.rows new.rows)) }
+        ensures cleaned { OnOk result (WhereTold (B.tells shelf.old) (B.tells shelf.new) (λ old new. LeavesLive self.old old.rows new.rows)) }
         ensures stands { OnOk result (StandsOn self.old.producer self.new.producer []) }
         ensures name { OnOk result (self.new.producer.responder.name ≡ self.old.producer.responder.name) }
         ensures trail { WhereTold (B.tells shelf.old) (B.tells shelf.new) (AddsFronts self.old []) }
+        ensures too_long { ¬ IsErrOf result error.RowTooLong }
         ensures closes { ClosesBy self.old.is_closed self.new.is_closed result }
         ensures cause { HasKeepCause (B.faults shelf.old) (B.faults shelf.new) result }
     {

@@ -11,9 +11,9 @@
 //! ```
 //!
 //! What a shelf keeps is written before it is answered, in one write: so a stop at any moment leaves rows that keep the
-//! history of all that was answered, or that and the step that was stopped. Who is opened over such rows stands for a
-//! history of its own: its start, the kept moment, a feed of the items that weren't dead then, the requests of the
-//! subscriptions. It goes on as the other would.
+//! history before the step that was stopped, or that and the step; and where a call returns, whatever it returns, what was
+//! answered is kept. Who is opened over such rows stands for a history of its own: its start, the kept moment, a feed of
+//! the items that weren't dead then, the requests of the subscriptions. It goes on as the other would.
 //!
 //! Rows are read through `Shelf::next` alone, table by table. No row is guessed at: one that this crate wouldn't have
 //! written, byte by byte, is told as bad.

@@ -2,7 +2,7 @@
 
 ghost use Rattle.std.specs.Prelude.{◌≡◌, ◌≤◌, ◌++◌, ◌∷◌, [], false, length, map, option_map, flat_map, zip, IfOk, OnOk};
 ghost use Rattle.std.specs.Map.{keys_of};
-ghost use Rattle.siri_wire_laws.specs.ProperMessages.{IsProper};
+ghost use Rattle.siri_wire.specs.laws.ProperMessages.{IsProper};
 ghost use Rattle.siri_records.specs.Keyed.{dead_of, item_of};
 ghost use Rattle.siri_model.specs.Held.{held_of};
 ghost use Rattle.siri_messages.specs.Rounds.{has_round};
@@ -12,13 +12,15 @@ ghost use Rattle.siri_subs.specs.Table.{most_subscriptions};
 ghost use Rattle.siri_producer.specs.Holding.{subscribed_of};
 ghost use Rattle.siri_producer.specs.Known.{AnswerFor, SameButReads};
 ghost use Rattle.siri_row_texts.specs.ItemRows.{item_text};
+ghost use Rattle.siri_shelf.specs.Rows.{Rows, with_puts};
 ghost use Rattle.siri_keeping.specs.Keeping.{kept_at, moment_put, places_to, removed_at, subscription_puts};
+ghost use Rattle.siri_keep.specs.Calls.{LeavesLive};
 ghost use Rattle.siri_keep.specs.Puts.{changes_rows, has_long_row};
 ghost use Rattle.siri_keep.specs.Planning.{Plans, PutsKeys, ReadsMoment};
 
 use crate::Kept;
 use crate::keys::{dead_keys, named_keys};
-use siri_base::{Copies, List, Moment, OutOfMemory};
+use siri_base::{Copies, List, Moment, OutOfMemory, beside};
 use siri_messages::{Message, ServiceDelivery};
 use siri_producer::{Answer, Producer, Subscribed};
 use siri_records::{Change, Item, Key, SharedKey};
@@ -28,7 +30,7 @@ use std::alloc::Global;
 use std::rc::Rc;
 
 /// The most rows of items, those of dead ones among them.
-const MOST_ROWS: usize = 100_000;
+pub(crate) const MOST_ROWS: usize = 100_000;
 
 /// An answer, and what is to be written before it is given.
 #[derive(Drop)]
@@ -206,6 +208,7 @@ impl Kept {
     /// What is removed where the dead items leave.
     pub(crate) fn plan_clean(&mut self) -> Result<List<Put>, OutOfMemory>
         ensures ok { IfOk result (Plans self.old self.new []) }
+        ensures cleaned { IfOk result (λ puts. (rows : Rows) → LeavesLive self.old rows (with_puts rows puts)) }
         ensures open { self.new.is_closed ≡ self.old.is_closed }
     {
         let mut puts = List::new(self.alloc);
@@ -214,22 +217,20 @@ impl Kept {
     }
 
     /// A feed: the rows of the keys that it names. Where table 1 would have too many rows, those of dead items leave.
-    fn plan_feed(
-        &mut self,
-        message: &Message,
-        delivery: &ServiceDelivery,
-    ) -> Result<Planned, OutOfMemory>
-        requires of { message.now ≡ messages.ServiceDelivery delivery.now }
-        requires fed { has_round delivery.now ≡ false }
-        requires proper { IsProper message.now }
-        requires short { has_long_row message.now ≡ false }
-        ensures ok { IfOk result (λ planned. Plans self.old self.new (Take message.now ∷ []) planned.puts) }
-        ensures answer { IfOk result (λ planned. AnswerFor self.old.producer message.now planned.answer) }
+    fn plan_feed(&mut self, delivery: ServiceDelivery) -> Result<Planned, OutOfMemory>
+        requires fed { has_round delivery ≡ false }
+        requires proper { IsProper (messages.ServiceDelivery delivery) }
+        requires short { has_long_row (messages.ServiceDelivery delivery) ≡ false }
+        ensures ok { IfOk result (λ planned. Plans self.old self.new (Take (messages.ServiceDelivery delivery) ∷ []) planned.puts) }
+        ensures answer { IfOk result (λ planned. AnswerFor self.old.producer (messages.ServiceDelivery delivery) planned.answer) }
         ensures open { self.new.is_closed ≡ self.old.is_closed }
     {
-        let answer = self.producer.take(message)?;
+        let keys = named_keys(self.alloc, &delivery);
+        let (keys, delivery) = beside(keys, delivery)?;
+        let answer = self
+            .producer
+            .take_owned(Message::ServiceDelivery(delivery))?;
         let mut puts = List::new(self.alloc);
-        let keys = named_keys(self.alloc, delivery)?;
         self.put_keys(keys.slice(), &mut puts)?;
         if self.mirror.len() > MOST_ROWS {
             self.put_dead(&mut puts)?;
@@ -238,44 +239,47 @@ impl Kept {
     }
 
     /// A message about subscriptions: all their rows.
-    fn plan_subscriptions(&mut self, message: &Message) -> Result<Planned, OutOfMemory>
-        requires fed { entries_fed message.now ≡ [] }
-        requires proper { IsProper message.now }
-        requires short { has_long_row message.now ≡ false }
-        ensures ok { IfOk result (λ planned. Plans self.old self.new (Take message.now ∷ []) planned.puts) }
-        ensures answer { IfOk result (λ planned. AnswerFor self.old.producer message.now planned.answer) }
+    fn plan_subscriptions(&mut self, message: Message) -> Result<Planned, OutOfMemory>
+        requires fed { entries_fed message ≡ [] }
+        requires proper { IsProper message }
+        requires short { has_long_row message ≡ false }
+        ensures ok { IfOk result (λ planned. Plans self.old self.new (Take message ∷ []) planned.puts) }
+        ensures answer { IfOk result (λ planned. AnswerFor self.old.producer message planned.answer) }
         ensures open { self.new.is_closed ≡ self.old.is_closed }
     {
-        let answer = self.producer.take(message)?;
+        let answer = self.producer.take_owned(message)?;
         let mut puts = List::new(self.alloc);
         self.put_subscriptions(&mut puts)?;
         Ok(Planned { answer, puts })
     }
 
     /// Any other message, which changes no row.
-    fn plan_nothing(&mut self, message: &Message) -> Result<Planned, OutOfMemory>
-        requires proper { IsProper message.now }
-        requires rowless { changes_rows message.now ≡ false }
-        ensures ok { IfOk result (λ planned. Plans self.old self.new (Take message.now ∷ []) planned.puts) }
-        ensures answer { IfOk result (λ planned. AnswerFor self.old.producer message.now planned.answer) }
+    fn plan_nothing(&mut self, message: Message) -> Result<Planned, OutOfMemory>
+        requires proper { IsProper message }
+        requires rowless { changes_rows message ≡ false }
+        ensures ok { IfOk result (λ planned. Plans self.old self.new (Take message ∷ []) planned.puts) }
+        ensures answer { IfOk result (λ planned. AnswerFor self.old.producer message planned.answer) }
         ensures open { self.new.is_closed ≡ self.old.is_closed }
     {
-        let answer = self.producer.take(message)?;
+        let answer = self.producer.take_owned(message)?;
         let puts = List::new(self.alloc);
         Ok(Planned { answer, puts })
     }
 
     /// What a message changes.
-    pub(crate) fn plan_take(&mut self, message: &Message) -> Result<Planned, OutOfMemory>
-        requires proper { IsProper message.now }
-        requires short { has_long_row message.now ≡ false }
-        ensures ok { IfOk result (λ planned. Plans self.old self.new (Take message.now ∷ []) planned.puts) }
-        ensures answer { IfOk result (λ planned. AnswerFor self.old.producer message.now planned.answer) }
+    pub(crate) fn plan_take(&mut self, message: Message) -> Result<Planned, OutOfMemory>
+        requires proper { IsProper message }
+        requires short { has_long_row message ≡ false }
+        ensures ok { IfOk result (λ planned. Plans self.old self.new (Take message ∷ []) planned.puts) }
+        ensures answer { IfOk result (λ planned. AnswerFor self.old.producer message planned.answer) }
         ensures open { self.new.is_closed ≡ self.old.is_closed }
     {
-        match message {
+        match &message {
             Message::ServiceDelivery(delivery) if !delivery.has_round() => {
-                self.plan_feed(message, delivery)
+                let Some(delivery) = message.into_service_delivery() else {
+                    unreachable!()
+                };
+                self.plan_feed(delivery)
             }
             Message::SubscriptionRequest(_) | Message::TerminateSubscriptionRequest(_) => {
                 self.plan_subscriptions(message)

@@ -1,6 +1,6 @@
 //! The rows of a message's items and subscriptions, before they are put: whether one is too long.
 
-ghost use Rattle.std.specs.Prelude.{◌≡◌, IfOk};
+ghost use Rattle.std.specs.Prelude.{◌≡◌, is_none, IfOk, IfSome};
 ghost use Rattle.std.specs.List.{list_any};
 ghost use Rattle.siri_messages.specs.Asked.{asked_with};
 ghost use Rattle.siri_messages.specs.declared.message.Message.TheVariants as message;
@@ -8,7 +8,7 @@ ghost use Rattle.siri_row_texts.specs.ItemRows.{item_text};
 ghost use Rattle.siri_row_texts.specs.SubscriptionRows.{request_text};
 ghost use Rattle.siri_keep.specs.Puts.{changes_rows, has_long_row, is_long};
 
-use siri_base::{List, OutOfMemory, Span};
+use siri_base::{Copies, List, OutOfMemory, Span};
 use siri_messages::{FunctionalDelivery, Message, ServiceDelivery, SubscriptionRequest};
 use siri_records::Item;
 use siri_row_texts::{item_text, request_text};
@@ -126,4 +126,15 @@ pub(crate) fn has_long_row(alloc: Global, message: &Message) -> Result<bool, Out
         Message::SubscriptionRequest(request) => asks_long(alloc, request),
         _ => Ok(false),
     }
+}
+
+/// A copy of a message, or none exactly where it has a row that is too long.
+pub(crate) fn short_copy(alloc: Global, message: &Message) -> Result<Option<Message>, OutOfMemory>
+    ensures short { IfOk result (λ copy. is_none copy ≡ has_long_row message.now) }
+    ensures copy { IfOk result (λ copy. IfSome copy (λ m. m ≡ message.now)) }
+{
+    if has_long_row(alloc, message)? {
+        return Ok(None);
+    }
+    Ok(Some(message.copy()?))
 }

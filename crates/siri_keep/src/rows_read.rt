@@ -8,20 +8,15 @@ use crate::KeepError;
 use crate::by_service::ByService;
 use crate::kept_requests::{asks_again, is_place, renewal_at};
 use crate::opening::{KeptItems, KeptRequest, WhatIsRead};
+use crate::plans::MOST_ROWS;
 use siri_base::{Copies, List, OutOfMemory};
 use siri_messages::Message;
+use siri_producer::{MOST_LIVE, MOST_SUBSCRIPTIONS};
 use siri_records::{Item, KeyedItems, SharedKey, dead};
 use siri_row_texts::{Began, item_of_row, request_of_row};
 use siri_shelf::Row;
 use std::alloc::Global;
 use std::rc::Rc;
-
-/// The most rows of items, and how many of these may be live.
-const MOST_ITEMS: usize = 100_000;
-
-const MOST_LIVE: usize = 20_000;
-/// The most subscriptions.
-const MOST_SUBSCRIPTIONS: usize = 200;
 
 /// What the rows so far say, of those in order of table and key.
 #[derive(Drop)]
@@ -87,7 +82,7 @@ impl RowsRead {
     fn has_room(&self, item: &Item) -> bool
         ensures { result ≡ has_room self.now item.now }
     {
-        self.count < MOST_ITEMS && (dead(item, self.began.moment) || self.living < MOST_LIVE)
+        self.count < MOST_ROWS && (dead(item, self.began.moment) || self.living < MOST_LIVE)
     }
 
     /// Adds an item to the live ones, where it isn't dead at the kept moment.

@@ -1,35 +1,39 @@
 //! One turn over a shelf.
 
-ghost use Rattle.std.specs.Prelude.{◌≡◌, ◌⊎◌, ◌∷◌, [], ◌++◌, true, false, IfOk, IfErr, OnOk, OnErr, IsErrOf, Some, Err};
+ghost use Rattle.std.specs.Prelude.{◌≡◌, ◌∷◌, ◌++◌, [], ℕ, List, true, false, IfOk, OnOk, OnErr, IsErrOf, IsSomeAnd, Some, Err};
+ghost use Rattle.siri_base.specs.Causes.{HasOutsideCause};
 ghost use Rattle.siri_base.specs.OutsideCalls.{WhereTold};
 ghost use Rattle.siri_http.specs.Texts.{is_written};
-ghost use Rattle.siri_model.specs.History.{History, Take};
+ghost use Rattle.siri_model.specs.History.{Clock, History, Take};
 ghost use Rattle.siri_producer.specs.Known.{StandsFor};
 ghost use Rattle.siri_ends.specs.At.{at_of};
-ghost use Rattle.siri_ends.specs.EndCalls.{StopsAsked};
-ghost use Rattle.siri_ends.specs.Lending.{CanBeWritten, Prepares, PreparesFor, message_response};
+ghost use Rattle.siri_ends.specs.Lending.{CanBeWritten, IsReply, Prepares, PreparesFor, message_response};
 ghost use Rattle.siri_ends.specs.Responses.{producer_reply, replying, taking};
+ghost use Rattle.siri_ends.specs.Serving.{PostsOut, none_posted_out};
 ghost use Rattle.siri_ends.specs.Turns.{Brings};
 ghost use Rattle.siri_ends.specs.declared.answering.Brought.TheVariants as brings;
 ghost use Rattle.siri_ends.specs.declared.reply.Reply.TheVariants as reply;
-ghost use Rattle.siri_wire_laws.specs.ProperMessages.{IsProper};
+ghost use Rattle.siri_wire.specs.laws.ProperMessages.{IsProper};
 ghost use Rattle.siri_keep.specs.declared.errors.KeepError.TheVariants as error;
-ghost use Rattle.siri_keep.specs.Calls.{AddsFronts, ClosesBy, GoesOnKept, HasKeepCause, StandsOn};
-ghost use Rattle.siri_keep.specs.KeptTurns.{AnswersKept, EndsTurn, KeepsOn, LeavesKept, TurnedKept};
+ghost use Rattle.siri_keep.specs.Calls.{AddsFronts, ClosesBy, GoesOnKept, HasKeepCause, Holds, StandsOn};
+ghost use Rattle.siri_keep.specs.KeptTurns.{KeepsOn, LeavesKept, outside_error};
 ghost use Rattle.siri_keep.specs.Puts.{changes_rows, has_long_row};
-ghost use Rattle.siri_keep.specs.Serving.{AddsTurn, GoesOnServing, KeepsWhatIsAnswered, ServesKeptSome, has_long_asked, keeping, message_kept, row_too_long};
+ghost use Rattle.siri_keep.specs.Serving.{AddsTurn, GoesOnServing, KeepsWhatIsAnswered, LeavesLiveAt, ServesKeptSome, has_long_asked, keeping, message_kept, row_too_long, steps_of};
 
 use crate::rows::{changes_rows, has_long_row};
 use crate::{KeepError, Kept};
-use siri_base::{List, OutOfMemory, Wire, append};
+use siri_base::{List, Moment, OutOfMemory, OutsideError, Wire, append};
 use siri_ends::{
-    Brought, Reply, Response, Taker, brought_by, refusing, reply_to, replying, send_all,
+    Brought, Reply, Response, Taker, brought_by, refusing, reply_to, replying, take_turn,
 };
-use siri_http::{Asked, PostAlone, Tally, read_asked};
+use siri_http::{Asked, PostAlone, Sent, Tally};
 use siri_messages::Message;
-use siri_producer::Out;
+use siri_producer::{Out, Producer};
 use siri_shelf::Shelf;
 use std::alloc::Global;
+
+/// After how many turns dead items leave the shelf.
+const TURNS_TO_CLEAN: u64 = 1_000;
 
 /// The answer to a message with a row that is too long.
 fn refuse_row(alloc: Global) -> Result<Response, OutOfMemory>
@@ -41,29 +45,41 @@ fn refuse_row(alloc: Global) -> Result<Response, OutOfMemory>
     refusing(413, reason)
 }
 
+/// What a turn ends with where a call of it didn't succeed.
+fn outside_error(error: &KeepError) -> OutsideError
+    ensures { result ≡ outside_error error.now }
+{
+    match error {
+        KeepError::ShelfFault => OutsideError::Failed,
+        _ => OutsideError::OutOfMemory,
+    }
+}
+
 impl Kept {
     /// Takes a message that changes rows, and makes its answer.
-    #[tactic(auto, using(crate::proofs::KeptTurns::ends_of))]
+    #[tactic(auto, using(crate::proofs::KeptTurns::outside_cause))]
     fn answer_kept<B: Shelf>(
         &mut self,
         shelf: &mut B,
-        message: &Message,
-    ) -> Result<Response, KeepError>
+        message: Message,
+    ) -> Result<Response, OutsideError>
         requires there { B.is_open shelf.old }
         requires open { self.old.is_closed ≡ false }
-        requires proper { IsProper message.now }
-        requires short { has_long_row message.now ≡ false }
+        requires proper { IsProper message }
+        requires short { has_long_row message ≡ false }
         ensures open { B.is_open shelf.new }
-        ensures stands { OnOk result (StandsOn self.old.producer self.new.producer (Take message.now ∷ [])) }
-        ensures response { IfOk result (λ response. (h : History) → StandsFor self.old.producer h → response ≡ replying (producer_reply self.old.producer.responder.name h message.now)) }
+        ensures stands { OnOk result (StandsOn self.old.producer self.new.producer (Take message ∷ [])) }
+        ensures response { IfOk result (λ response. (h : History) → StandsFor self.old.producer h → response ≡ replying (producer_reply self.old.producer.responder.name h message)) }
         ensures written { IfOk result (λ response. is_written response.status ≡ true) }
         ensures name { OnOk result (self.new.producer.responder.name ≡ self.old.producer.responder.name) }
-        ensures ok { OnOk result (WhereTold (B.tells shelf.old) (B.tells shelf.new) (λ old new. GoesOnKept self.old self.new (Take message.now ∷ []) old.rows new.rows)) }
-        ensures trail { WhereTold (B.tells shelf.old) (B.tells shelf.new) (AddsFronts self.old (Take message.now ∷ [])) }
-        ensures ends { IfErr result EndsTurn }
-        ensures cause { HasKeepCause (B.faults shelf.old) (B.faults shelf.new) result }
+        ensures ok { OnOk result (WhereTold (B.tells shelf.old) (B.tells shelf.new) (λ old new. GoesOnKept self.old self.new (Take message ∷ []) old.rows new.rows)) }
+        ensures trail { WhereTold (B.tells shelf.old) (B.tells shelf.new) (AddsFronts self.old (Take message ∷ [])) }
+        ensures cause { HasOutsideCause (B.faults shelf.old) (B.faults shelf.new) result }
     {
-        let answer = self.take_short(shelf, message)?;
+        let answer = match self.take_short(shelf, message) {
+            Ok(answer) => answer,
+            Err(error) => return Err(outside_error(&error)),
+        };
         let response = replying(self.alloc, answer.reply.as_ref());
         drop(answer);
         Ok(response?)
@@ -72,7 +88,11 @@ impl Kept {
     /// What a message is to be answered whose rows can be written. It is taken, but for a request for items whose answer
     /// is lent.
     #[tactic(auto, using(siri_ends::proofs::Lends::makes, crate::proofs::KeptTurns::told_keeps, crate::proofs::KeptTurns::told_leaves, crate::proofs::KeptTurns::told_unwritten))]
-    fn reply_short<B: Shelf>(&mut self, shelf: &mut B, message: Message) -> Result<Reply, KeepError>
+    fn reply_short<B: Shelf>(
+        &mut self,
+        shelf: &mut B,
+        message: Message,
+    ) -> Result<Reply, OutsideError>
         requires there { B.is_open shelf.old }
         requires open { self.old.is_closed ≡ false }
         requires proper { IsProper message }
@@ -83,13 +103,11 @@ impl Kept {
         ensures name { OnOk result (self.new.producer.responder.name ≡ self.old.producer.responder.name) }
         ensures ok { OnOk result (WhereTold (B.tells shelf.old) (B.tells shelf.new) (λ old new. LeavesKept self.old self.new (Take message ∷ []) old.rows new.rows)) }
         ensures trail { WhereTold (B.tells shelf.old) (B.tells shelf.new) (AddsFronts self.old (Take message ∷ [])) }
-        ensures ends { IfErr result EndsTurn }
-        ensures cause { HasKeepCause (B.faults shelf.old) (B.faults shelf.new) result }
+        ensures cause { HasOutsideCause (B.faults shelf.old) (B.faults shelf.new) result }
     {
         if changes_rows(&message) {
-            let response = self.answer_kept(shelf, &message);
-            drop(message);
-            return Ok(Reply::Made(Some(response?)));
+            let response = self.answer_kept(shelf, message)?;
+            return Ok(Reply::Made(Some(response)));
         }
         let reply = reply_to(self.alloc, &mut self.producer, message)?;
         Ok(reply)
@@ -97,7 +115,11 @@ impl Kept {
 
     /// What a message is to be answered.
     #[tactic(auto, using(crate::proofs::KeptTurns::told_unwritten))]
-    fn reply_kept<B: Shelf>(&mut self, shelf: &mut B, message: Message) -> Result<Reply, KeepError>
+    fn reply_kept<B: Shelf>(
+        &mut self,
+        shelf: &mut B,
+        message: Message,
+    ) -> Result<Reply, OutsideError>
         requires there { B.is_open shelf.old }
         requires open { self.old.is_closed ≡ false }
         requires proper { IsProper message }
@@ -109,8 +131,7 @@ impl Kept {
         ensures ok { has_long_row message ≡ false → OnOk result (WhereTold (B.tells shelf.old) (B.tells shelf.new) (λ old new. LeavesKept self.old self.new (Take message ∷ []) old.rows new.rows)) }
         ensures same { has_long_row message ≡ true → shelf.new ≡ shelf.old }
         ensures trail { has_long_row message ≡ false → WhereTold (B.tells shelf.old) (B.tells shelf.new) (AddsFronts self.old (Take message ∷ [])) }
-        ensures ends { IfErr result EndsTurn }
-        ensures cause { HasKeepCause (B.faults shelf.old) (B.faults shelf.new) result }
+        ensures cause { HasOutsideCause (B.faults shelf.old) (B.faults shelf.new) result }
     {
         if has_long_row(self.alloc, &message)? {
             drop(message);
@@ -125,7 +146,7 @@ impl Kept {
         shelf: &mut B,
         asked: &Asked,
         message: Message,
-    ) -> Result<Reply, KeepError>
+    ) -> Result<Reply, OutsideError>
         requires there { B.is_open shelf.old }
         requires open { self.old.is_closed ≡ false }
         requires asks { Brings asked.now (brings.Message message) }
@@ -136,8 +157,7 @@ impl Kept {
         ensures name { OnOk result (self.new.producer.responder.name ≡ self.old.producer.responder.name) }
         ensures ok { OnOk result (WhereTold (B.tells shelf.old) (B.tells shelf.new) (λ old new. LeavesKept self.old self.new (taking (message_kept asked.now)) old.rows new.rows)) }
         ensures trail { WhereTold (B.tells shelf.old) (B.tells shelf.new) (AddsFronts self.old (taking (message_kept asked.now))) }
-        ensures ends { IfErr result EndsTurn }
-        ensures cause { HasKeepCause (B.faults shelf.old) (B.faults shelf.new) result }
+        ensures cause { HasOutsideCause (B.faults shelf.old) (B.faults shelf.new) result }
     {
         let _ = asked;
         self.reply_kept(shelf, message)
@@ -146,7 +166,7 @@ impl Kept {
     /// Takes the message that a connection brings, where it brings one that can be kept and isn't answered directly, and
     /// tells what the connection is to be answered.
     #[tactic(auto, using(siri_ends::proofs::Lends::prepares_refusal, siri_ends::proofs::Lends::prepares_nothing, crate::proofs::KeptTurns::told_unwritten))]
-    fn reply_for<B: Shelf>(&mut self, shelf: &mut B, asked: &Asked) -> Result<Reply, KeepError>
+    fn reply_for<B: Shelf>(&mut self, shelf: &mut B, asked: &Asked) -> Result<Reply, OutsideError>
         requires there { B.is_open shelf.old }
         requires open { self.old.is_closed ≡ false }
         ensures open { B.is_open shelf.new }
@@ -156,8 +176,7 @@ impl Kept {
         ensures name { OnOk result (self.new.producer.responder.name ≡ self.old.producer.responder.name) }
         ensures ok { OnOk result (WhereTold (B.tells shelf.old) (B.tells shelf.new) (λ old new. LeavesKept self.old self.new (taking (message_kept asked.now)) old.rows new.rows)) }
         ensures trail { WhereTold (B.tells shelf.old) (B.tells shelf.new) (AddsFronts self.old (taking (message_kept asked.now))) }
-        ensures ends { IfErr result EndsTurn }
-        ensures cause { HasKeepCause (B.faults shelf.old) (B.faults shelf.new) result }
+        ensures cause { HasOutsideCause (B.faults shelf.old) (B.faults shelf.new) result }
     {
         match brought_by(self.alloc, asked)? {
             Brought::Message(message) => self.reply_brought(shelf, asked, message),
@@ -165,83 +184,115 @@ impl Kept {
             Brought::Nothing => Ok(Reply::Made(None)),
         }
     }
+}
 
-    /// Takes what a connection asks, and settles: what the connection is to be answered, and what is to be sent then.
-    fn take_asked<B: Shelf>(
+impl<B: Shelf> Taker<B> for Kept {
+    type Reply = Reply;
+
+    type Message = Out;
+
+    type Target = ();
+
+    ghost Kept = { List ℕ };
+
+    ghost kept = { λ kept. kept.producer.responder.name };
+
+    ghost State = { History };
+
+    ghost stands = { λ kept h. StandsFor kept.producer h };
+
+    ghost is_ready = { λ shelf. B.is_open shelf };
+
+    ghost holds = { λ kept shelf h. IsSomeAnd (B.tells shelf) (λ state. Holds kept state.rows h) };
+
+    ghost may_leave = { λ kept occasion before after. WhereTold (B.tells before) (B.tells after) (AddsFronts kept (steps_of occasion)) };
+
+    ghost has_left = { λ kept asked before after. WhereTold (B.tells before) (B.tells after) (λ old new. KeepsOn kept (taking (message_kept asked)) old.rows new.rows) };
+
+    ghost has_ended = { λ kept made before after. WhereTold (B.tells before) (B.tells after) (λ old new. LeavesLiveAt kept made old.rows new.rows) };
+
+    ghost faults = { λ shelf. B.faults shelf };
+
+    ghost given = { λ now h. h ++ Clock now ∷ [] };
+
+    ghost refuses = { λ _ _. Unit {0} };
+
+    ghost manner = { keeping };
+
+    ghost posts = { λ _. PostsOut };
+
+    ghost can_be_written = { CanBeWritten };
+
+    ghost is_reply = { λ name reply h response. IsReply reply name h response };
+
+    #[tactic(auto, using(crate::proofs::KeptTurns::outside_cause))]
+    fn clock(&mut self, shelf: &mut B, now: Moment) -> Result<(), OutsideError> {
+        match self.clock(shelf, now) {
+            Ok(()) => Ok(()),
+            Err(error) => Err(outside_error(&error)),
+        }
+    }
+
+    /// One that is closed takes nothing.
+    #[tactic(auto, using(crate::proofs::KeptTurns::told_unwritten))]
+    fn take(
         &mut self,
+        _alloc: Global,
         shelf: &mut B,
         asked: &Asked,
-    ) -> Result<(Reply, List<Out>), KeepError>
-        requires there { B.is_open shelf.old }
-        requires open { self.old.is_closed ≡ false }
-        ensures open { B.is_open shelf.new }
-        ensures turned { IfOk result (λ taken. TurnedKept asked.now taken.1 taken.0 self.old.producer self.new.producer) }
-        ensures written { IfOk result (λ taken. CanBeWritten taken.0) }
-        ensures ok { OnOk result (WhereTold (B.tells shelf.old) (B.tells shelf.new) (λ old new. LeavesKept self.old self.new (taking (message_kept asked.now)) old.rows new.rows)) }
-        ensures trail { WhereTold (B.tells shelf.old) (B.tells shelf.new) (AddsFronts self.old (taking (message_kept asked.now))) }
-        ensures ends { IfErr result EndsTurn }
-        ensures cause { HasKeepCause (B.faults shelf.old) (B.faults shelf.new) result }
-    {
+    ) -> Result<(Reply, List<Out>), OutsideError> {
+        if self.is_closed {
+            return Err(OutsideError::OutOfMemory);
+        }
         let reply = self.reply_for(shelf, asked)?;
         let outs = self.producer.settle()?;
         Ok((reply, outs))
     }
 
-    /// Answers the connection that is there, of which this was read, and gives what is to be sent then. Nothing is
-    /// written to it before its message is kept.
-    fn answer_asked<W: Wire, B: Shelf>(
+    fn write_reply<W: Wire>(
         &mut self,
+        alloc: Global,
         wire: &mut W,
-        shelf: &mut B,
-        asked: &Asked,
+        reply: &Reply,
         tally: &mut Tally,
-    ) -> Result<List<Out>, KeepError>
-        requires there { W.is_open wire.old }
-        requires shelf { B.is_open shelf.old }
-        requires open { self.old.is_closed ≡ false }
-        ensures open { B.is_open shelf.new }
-        ensures answers { IfOk result (λ list. AnswersKept asked.now list (at_of self.old.producer tally.old (W.tells wire.old) (W.faults wire.old)) (at_of self.new.producer tally.new (W.tells wire.new) (W.faults wire.new))) }
-        ensures err { OnErr result ((h : History) → StandsFor self.old.producer h → StopsAsked ((keeping self.old.producer.responder.name).responds h asked.now) (W.tells wire.old) (W.tells wire.new)) }
-        ensures ok { OnOk result (WhereTold (B.tells shelf.old) (B.tells shelf.new) (λ old new. LeavesKept self.old self.new (taking (message_kept asked.now)) old.rows new.rows)) }
-        ensures before { (W.tells wire.new ≡ W.tells wire.old) ⊎ WhereTold (B.tells shelf.old) (B.tells shelf.new) (λ old new. KeepsOn self.old (taking (message_kept asked.now)) old.rows new.rows) }
-        ensures trail { WhereTold (B.tells shelf.old) (B.tells shelf.new) (AddsFronts self.old (taking (message_kept asked.now))) }
-        ensures ends { IfErr result EndsTurn }
-        ensures cause { HasKeepCause (B.faults shelf.old) (B.faults shelf.new) result }
-    {
-        let (reply, outs) = self.take_asked(shelf, asked)?;
-        match self.producer.write_reply(self.alloc, wire, &reply, tally) {
-            Ok(()) => Ok(outs),
-            Err(OutOfMemory) => {
-                drop(outs);
-                Err(KeepError::OutOfMemory)
-            }
+    ) -> Result<(), OutOfMemory> {
+        self.producer.write_reply(alloc, wire, reply, tally)
+    }
+
+    fn post<W: Wire>(
+        alloc: Global,
+        wire: &mut W,
+        out: &Out,
+        target: &(),
+    ) -> Result<Sent, OutOfMemory> {
+        Producer::post(alloc, wire, out, target)
+    }
+
+    fn hear(
+        &mut self,
+        alloc: Global,
+        sent: &Out,
+        message: Message,
+    ) -> Result<List<Out>, OutOfMemory> {
+        self.producer.hear(alloc, sent, message)
+    }
+
+    /// After each 1,000 turns the rows of dead items leave.
+    #[tactic(auto, using(crate::proofs::KeptTurns::outside_cause, crate::proofs::KeptTurns::told_unwritten))]
+    fn end_turn(&mut self, shelf: &mut B, made: u64) -> Result<(), OutsideError> {
+        if made % TURNS_TO_CLEAN > 0 {
+            return Ok(());
+        }
+        match self.clean(shelf) {
+            Ok(()) => Ok(()),
+            Err(error) => Err(outside_error(&error)),
         }
     }
 
-    /// The turn of one that isn't closed.
-    fn serve_open<W: Wire, B: Shelf>(
-        &mut self,
-        wire: &mut W,
-        shelf: &mut B,
-        tally: &mut Tally,
-    ) -> Result<(), KeepError>
-        requires there { W.is_open wire.old }
-        requires shelf { B.is_open shelf.old }
-        requires open { self.old.is_closed ≡ false }
-        ensures open { B.is_open shelf.new }
-        ensures ok { OnOk result (GoesOnServing (at_of self.old tally.old (W.tells wire.old) (W.faults wire.old)) (at_of self.new tally.new (W.tells wire.new) (W.faults wire.new)) (B.tells shelf.old) (B.tells shelf.new)) }
-        ensures err { OnErr result ((h : History) → StandsFor self.old.producer h → ServesKeptSome self.old.producer.responder.name (at_of h tally.old (W.tells wire.old) (W.faults wire.old)) (W.tells wire.new)) }
-        ensures answered { WhereTold (B.tells shelf.old) (B.tells shelf.new) (KeepsWhatIsAnswered self.old (W.tells wire.old) (W.tells wire.new)) }
-        ensures trail { WhereTold (B.tells shelf.old) (B.tells shelf.new) (AddsTurn self.old (W.tells wire.old)) }
-        ensures ends { IfErr result EndsTurn }
-        ensures cause { HasKeepCause (B.faults shelf.old) (B.faults shelf.new) result }
-    {
-        let asked = read_asked::<W, PostAlone>(self.alloc, wire)?;
-        let list = self.answer_asked(wire, shelf, &asked, tally)?;
-        send_all(self.alloc, wire, list, &(), &mut self.producer, tally)?;
-        Ok(())
-    }
+    ghost none_posted = { λ _ out wire. none_posted_out out wire };
+}
 
+impl Kept {
     /// Serves the connection that was accepted, as a producer without a shelf does, but that what is kept of its message is
     /// written before anything is answered. A message of which the row of an item or of a subscription would have more than
     /// 8,388,608 bytes isn't taken: it is answered 413 and `RowTooLong`, and counted as refused.
@@ -269,8 +320,13 @@ impl Kept {
         if self.is_closed {
             return Err(KeepError::Closed);
         }
-        let served = self.serve_open(wire, shelf, tally);
+        let alloc = self.alloc;
+        let served = take_turn::<W, PostAlone, B, Kept>(alloc, wire, &(), self, shelf, tally);
         self.is_closed = served.is_err();
-        served
+        match served {
+            Ok(()) => Ok(()),
+            Err(OutsideError::Failed) => Err(KeepError::ShelfFault),
+            Err(OutsideError::OutOfMemory) => Err(KeepError::OutOfMemory),
+        }
     }
 }

@@ -1,4 +1,7 @@
+pub mod Trails
 pub mod Over
+pub mod Views
 pub mod Opened
-pub mod Causes
+pub mod Sound
 pub mod Whole
+pub mod LeftRun

@@ -1,32 +1,101 @@
 -- A shelf that was opened, or wasn't.
-use Rattle.std.proofs.Common.{◌≡◌, ℕ, List, Option, None, Some, Ok, refl, sym, ap, ◌∙◌}
-use Rattle.std.specs.Prelude.{is_some}
+use Rattle.std.specs.List.{AllByRecursion as All}
+use Rattle.std.proofs.Common.{◌≡◌, ◌⊎◌, ℕ, List, ◌++◌, Option, None, Some, Ok, Err, refl, sym, ap, ◌∙◌, subst, append-nil, inl, inr}
 use Rattle.siri_base.specs.OutsideCalls.{WhereTold}
+use Rattle.siri_base.specs.declared.errors.OutsideError.{OutsideError}
 use Rattle.siri_http.specs.Tallies.{nothing_yet}
 use Rattle.siri_model.specs.History.{History}
+use Rattle.siri_producer.specs.Known.{StandsFor}
+use Rattle.siri_shelf.specs.Rows.{Rows}
 use Rattle.siri_shelf.specs.Shelves.{Opens, ShelfState}
+use Rattle.siri_keeping.specs.Keeps.{Keeps}
 use Rattle.siri_keeping.specs.Opening.{Said, reopened, said}
-use Rattle.siri_keep.specs.Calls.{Holds, IsBegun, RefusesToOpen, Reopens}
+use Rattle.siri_keep.specs.Calls.{AddsReopened, Holds, IsBegun, IsEarlier, RefusesToOpen, Reopens}
 use Rattle.siri_keep.specs.declared.errors.KeepError.{KeepError}
 use Rattle.siri_keep.specs.declared.errors.KeepError.TheVariants as keep
 use Rattle.siri_keep.specs.declared.kept.Kept.{Kept}
-use Rattle.siri_keep_run.specs.Opening.{BeginsWith, EndsOpening, IsOpened, opening_end}
+use Rattle.siri_keep.proofs.Alls.{all_weaker}
+use Rattle.siri_keep.proofs.Told.{told_weaker}
+use Rattle.siri_runs.specs.Calls.{Outside}
+use Rattle.siri_keep_run.specs.Opening.{AreAsOpened, BeginsBy, BeginsWith, EndsOpening, IsOpened, LeavesUnopened, begun, opening_end}
 use Rattle.siri_keep_run.specs.Serving.{StandsOver}
+use Rattle.siri_keep_run.proofs.Over.{since_begun}
+use Rattle.siri_keep_run.proofs.Trails.{told_pair, told_then}
 
 -- the file is opened, and then its rows
 abbrev pub OpensFile : Option ShelfState → Option ShelfState → Type 0
 OpensFile x y = WhereTold x y (λ s t. Opens {T = Unit {0}} s t (Ok tt))
 
-pub opened_over : (name : List ℕ) (start moment : ℕ) (kept : Kept) (x y z : Option ShelfState) → OpensFile x y → IsBegun name kept
-    → WhereTold y z (λ s t. Reopens name start moment kept s.rows t.rows) → IsOpened name start moment kept x z
-opened_over name start moment kept x y z file begun opens = record { begun = begun; over = by x y z file opens }
-  where
-    by : (x y z : Option ShelfState) → OpensFile x y → WhereTold y z (λ s t. Reopens name start moment kept s.rows t.rows)
-        → WhereTold x z (λ s t. (what : Said) × (said s.rows ≡ Ok what) × Holds kept t.rows (reopened start moment what))
-    by None y z file opens = tt
-    by (Some s) None z file opens = absurd file
-    by (Some s) (Some t) None file opens = absurd opens
-    by (Some s) (Some t) (Some u) file opens = (opens.what, ap said (sym file.rows) ∙ opens.says, opens.holds)
+module _ (name : List ℕ) (start moment : ℕ) (kept : Kept) where
+  -- what may have been left since the file was opened
+  opened_row : (s t : ShelfState) (what : Said) → t.rows ≡ s.rows → said t.rows ≡ Ok what → (r : Rows)
+      → ((r ≡ t.rows) ⊎ ((other : Said) × (said t.rows ≡ Ok other) × IsEarlier name start other × Keeps name r (reopened start moment other)))
+      → (r ≡ s.rows) ⊎ Keeps name r (reopened start moment what)
+  opened_row s t what same says r (inl is) = inl (is ∙ same)
+  opened_row s t what same says r (inr (other, also, earlier, keeps)) =
+      let one : other ≡ what = cc in
+      inr (subst (λ w. Keeps name r (reopened start moment w)) one keeps)
+
+  opened_by : (s t u : ShelfState) → Opens {T = Unit {0}} s t (Ok tt) → (opens : Reopens name start moment kept t.rows u.rows)
+      → AddsReopened name start moment t u → BeginsBy name start moment s u (reopened start moment opens.what)
+  opened_by s t u file opens adds =
+      let h = reopened start moment opens.what in
+      record {
+        what = opens.what;
+        says = ap said (sym file.rows) ∙ opens.says;
+        earlier = opens.earlier;
+        history = refl;
+        keeps = opens.keeps;
+        trail = subst (All (λ r. (r ≡ s.rows) ⊎ Keeps name r h)) (sym (adds.trail ∙ ap (λ l. l ++ adds.added) file.trail)) (
+          inl refl,
+          all_weaker
+              (λ r. (r ≡ t.rows) ⊎ ((other : Said) × (said t.rows ≡ Ok other) × IsEarlier name start other × Keeps name r (reopened start moment other)))
+              (λ r. (r ≡ s.rows) ⊎ Keeps name r h) (opened_row s t opens.what file.rows opens.says) adds.added adds.each,
+        );
+      }
+
+  pub opened_over : (x y z : Option ShelfState) → OpensFile x y → IsBegun name kept
+      → WhereTold y z (λ s t. Reopens name start moment kept s.rows t.rows) → WhereTold y z (AddsReopened name start moment)
+      → IsOpened name start moment kept x z
+  opened_over x y z file begun opens adds = record {
+    begun = begun;
+    over = told_then (λ s t. Opens {T = Unit {0}} s t (Ok tt)) (λ t u. Reopens name start moment kept t.rows u.rows × AddsReopened name start moment t u)
+        (λ s u. (h : History) × BeginsBy name start moment s u h × Holds kept u.rows h) x y z
+        (λ s t u is both. (reopened start moment both.0.what, opened_by s t u is both.0 both.1, both.0.holds)) file
+        (told_pair (λ t u. Reopens name start moment kept t.rows u.rows) (AddsReopened name start moment) y z opens adds);
+  }
+
+-- ---- where it isn't opened
+
+unopened_row : (name : List ℕ) (start moment : ℕ) (s t : ShelfState) → t.rows ≡ s.rows → (r : Rows)
+    → ((r ≡ t.rows) ⊎ ((what : Said) × (said t.rows ≡ Ok what) × IsEarlier name start what × Keeps name r (reopened start moment what)))
+    → AreAsOpened name start moment s.rows r
+unopened_row name start moment s t same r (inl is) = inl (is ∙ same)
+unopened_row name start moment s t same r (inr (what, says, earlier, keeps)) = inr (what, ap said (sym same) ∙ says, earlier, keeps)
+
+unopened_by : (name : List ℕ) (start moment : ℕ) (s t u : ShelfState) → Opens {T = Unit {0}} s t (Ok tt) → AddsReopened name start moment t u
+    → LeavesUnopened name start moment s u
+unopened_by name start moment s t u file adds =
+    let As : Rows → Type 0 = AreAsOpened name start moment s.rows in
+    inr (
+      subst (All As) (sym (adds.trail ∙ ap (λ l. l ++ adds.added) file.trail)) (
+        inl refl,
+        all_weaker
+            (λ r. (r ≡ t.rows) ⊎ ((what : Said) × (said t.rows ≡ Ok what) × IsEarlier name start what × Keeps name r (reopened start moment what)))
+            As (unopened_row name start moment s t file.rows) adds.added adds.each,
+      ),
+      unopened_row name start moment s t file.rows u.rows adds.present,
+    )
+
+pub unopened_over : (name : List ℕ) (start moment : ℕ) (x y z : Option ShelfState) → OpensFile x y → WhereTold y z (AddsReopened name start moment)
+    → WhereTold x z (LeavesUnopened name start moment)
+unopened_over name start moment x y z file adds = told_then (λ s t. Opens {T = Unit {0}} s t (Ok tt)) (AddsReopened name start moment)
+    (LeavesUnopened name start moment) x y z (unopened_by name start moment) file adds
+
+pub unopened_file : (name : List ℕ) (start moment : ℕ) (x y : Option ShelfState) (error : OutsideError)
+    → WhereTold x y (λ s t. Opens {T = Unit {0}} s t (Err error)) → WhereTold x y (LeavesUnopened name start moment)
+unopened_file name start moment x y error told = told_weaker (λ s t. Opens {T = Unit {0}} s t (Err error)) (LeavesUnopened name start moment) x y
+    (λ s t is. inl is) told
 
 -- its rows are refused
 pub refused_over : (name : List ℕ) (start : ℕ) (e : KeepError) (x y z : Option ShelfState) → OpensFile x y
@@ -50,23 +119,35 @@ refused_over name start keep.RowTooLong x y z file refuses = tt
 refused_over name start keep.OutOfMemory x y z file refuses = tt
 
 -- what a run begins with, over a shelf that was opened
-pub begins_over : (name : List ℕ) (start moment : ℕ) (kept : Kept) (x y : Option ShelfState) → IsOpened name start moment kept x y
-    → (h : History) × BeginsWith start moment x h
-    × StandsOver kept nothing_yet y (record { history = h; tally = nothing_yet; is_told = is_some x })
-begins_over name start moment kept x y opened = by x y opened.over
+pub begins_over : (name : List ℕ) (start moment : ℕ) (kept : Kept) (x y : Option ShelfState) (outside : Outside)
+    → IsOpened name start moment kept x y
+    → (shelf : Option ShelfState) × (h : History) × BeginsWith name start moment x shelf h
+    × StandsOver kept nothing_yet 0 y (begun h shelf outside).state
+begins_over name start moment kept x y outside opened = by x y opened.over
   where
-    by : (x y : Option ShelfState)
-        → WhereTold x y (λ s t. (what : Said) × (said s.rows ≡ Ok what) × Holds kept t.rows (reopened start moment what))
-        → (h : History) × BeginsWith start moment x h
-        × StandsOver kept nothing_yet y (record { history = h; tally = nothing_yet; is_told = is_some x })
+    by : (x y : Option ShelfState) → WhereTold x y (λ s t. (h : History) × BeginsBy name start moment s t h × Holds kept t.rows h)
+        → (shelf : Option ShelfState) × (h : History) × BeginsWith name start moment x shelf h
+        × StandsOver kept nothing_yet 0 y (begun h shelf outside).state
     by None y over = (
+      None,
       opened.begun.stands.0,
       tt,
-      record { history = opened.begun.stands.1; tally_is = refl; rows = λ told. absurd (cc told) },
+      record {
+        history = subst (StandsFor kept.producer) (sym (append-nil opened.begun.stands.0)) opened.begun.stands.1;
+        tally_is = refl;
+        turns_are = refl;
+        over = tt;
+      },
     )
     by (Some s) None over = absurd over
     by (Some s) (Some t) over = (
-      reopened start moment over.0,
-      (over.0, over.1, refl),
-      record { history = over.2.stands; tally_is = refl; rows = λ told. over.2 },
+      Some t,
+      over.0,
+      over.1,
+      record {
+        history = subst (StandsFor kept.producer) (sym (append-nil over.0)) over.2.stands;
+        tally_is = refl;
+        turns_are = refl;
+        over = since_begun kept over.0 t over.2;
+      },
     )

@@ -2,3 +2,4 @@
 pub mod Serving
 pub mod Opening
 pub mod Runs
+pub mod Left

@@ -1,6 +1,7 @@
 -- How a run of `keep` opens: the number of its start is raised, it listens, the clock tells its first moment, and then the rows of its
 -- file are read, which say what it begins with.
-use Rattle.std.specs.Prelude.{◌≡◌, ◌≢◌, ◌⊎◌, ⊤, ◌≤◌, ℕ, List, Option, None, Some, is_some, Ok, Err}
+use Rattle.std.specs.Prelude.{◌≡◌, ◌≢◌, ◌⊎◌, ⊤, ◌≤◌, ℕ, List, [], Option, None, Some, Ok, Err}
+use Rattle.std.specs.List.{AllByRecursion}
 use Rattle.siri_base.specs.OutsideCalls.{WhereTold}
 use Rattle.siri_base.specs.declared.reason.ShelfReason.{ShelfReason}
 use Rattle.siri_base.specs.declared.reason.ShelfReason.TheVariants as reason
@@ -10,8 +11,9 @@ use Rattle.siri_http.specs.Tallies.{nothing_yet}
 use Rattle.siri_model.specs.History.{History}
 use Rattle.siri_shelf.specs.Rows.{Rows}
 use Rattle.siri_shelf.specs.Shelves.{ShelfState}
+use Rattle.siri_keeping.specs.Keeps.{Keeps}
 use Rattle.siri_keeping.specs.Opening.{Kept as SaysKept, Said, WhatIsKept, reopened, said}
-use Rattle.siri_keep.specs.Calls.{Holds, IsBegun}
+use Rattle.siri_keep.specs.Calls.{Holds, IsBegun, IsEarlier}
 use Rattle.siri_keep.specs.declared.errors.KeepError.{KeepError}
 use Rattle.siri_keep.specs.declared.errors.KeepError.TheVariants as keep
 use Rattle.siri_keep.specs.declared.kept.Kept.{Kept}
@@ -25,14 +27,35 @@ use Rattle.siri_keep_run.specs.Serving.{Keeping}
 
 -- ---- what the rows say
 
--- a producer begins so at this start and moment, by the rows that the shelf had, where it tells them
-abbrev pub BeginsWith : (start moment : ℕ) → Option ShelfState → History → Type 0
-BeginsWith start moment None h = ⊤
-BeginsWith start moment (Some shelf) h = (what : Said) × (said shelf.rows ≡ Ok what) × (h ≡ reopened start moment what)
+-- A producer of this name begins so at this start and moment, by the rows that a shelf had, which are of this name and of an
+-- earlier start: they make its history. It leaves the shelf so: its rows keep that history, and each of those that a stop may have
+-- left since the file was opened are as they were, or keep it.
+pub record BeginsBy (name : List ℕ) (start moment : ℕ) (before after : ShelfState) (h : History) : Type 0 where
+  pub what : Said
+  pub says : said before.rows ≡ Ok what
+  pub earlier : IsEarlier name start what
+  pub history : h ≡ reopened start moment what
+  pub keeps : Keeps name after.rows h
+  pub trail : AllByRecursion (λ rows. (rows ≡ before.rows) ⊎ Keeps name rows h) after.trail
+
+-- the same of a shelf that tells its rows
+abbrev pub BeginsWith : (name : List ℕ) → (start moment : ℕ) → (before after : Option ShelfState) → History → Type 0
+BeginsWith name start moment before after h = WhereTold before after (λ s t. BeginsBy name start moment s t h)
 
 -- the run after it: nothing was counted yet
 abbrev pub begun : History → Option ShelfState → Outside → Running Keeping
-begun h shelf outside = record { state = record { history = h; tally = nothing_yet; is_told = is_some shelf }; outside = outside }
+begun h shelf outside =
+    record { state = record { history = h; tally = nothing_yet; turns = 0; shelf = shelf; since = [] }; outside = outside }
+
+-- it opened, and such a producer runs over a shelf that it left so
+pub record BeginsKeeping (name listen : List ℕ) (before : Option ShelfState) (from : Outside) (first : Running Keeping) : Type 0 where
+  pub start : ℕ
+  pub moment : ℕ
+  pub opens : Opens listen start moment from first.outside
+  pub shelf : Option ShelfState
+  pub history : History
+  pub begins : BeginsWith name start moment before shelf history
+  pub first_is : first ≡ begun history shelf first.outside
 
 -- why rows are refused: one of a table is the first that is bad, they are of another name, or of a start that isn't earlier
 abbrev pub Refused : (name : List ℕ) → (start : ℕ) → ShelfReason → Rows → Type 0
@@ -45,6 +68,19 @@ abbrev pub RefusedBy : (name : List ℕ) → (start : ℕ) → ShelfReason → O
 RefusedBy name start why None = ⊤
 RefusedBy name start why (Some shelf) = Refused name start why shelf.rows
 
+-- Rows are as they were, or they keep the history that these make, which were of this name and of an earlier start.
+abbrev pub AreAsOpened : (name : List ℕ) → (start moment : ℕ) → (before : Rows) → Rows → Type 0
+AreAsOpened name start moment before rows =
+    (rows ≡ before)
+    ⊎ ((what : Said) × (said before ≡ Ok what) × IsEarlier name start what × Keeps name rows (reopened start moment what))
+
+-- An opening that ended leaves a shelf so: the file wasn't opened, and nothing changed; or the rows, and each of those that a stop may
+-- have left since, are so.
+abbrev pub LeavesUnopened : (name : List ℕ) → (start moment : ℕ) → ShelfState → ShelfState → Type 0
+LeavesUnopened name start moment before after =
+    (after ≡ before)
+    ⊎ (AllByRecursion (AreAsOpened name start moment before.rows) after.trail × AreAsOpened name start moment before.rows after.rows)
+
 -- the statuses that a shelf ends the opening with
 abbrev pub EndsOpening : (name : List ℕ) → (start : ℕ) → Status → Option ShelfState → Type 0
 EndsOpening name start status.ShelfFault shelf = ⊤
@@ -54,21 +90,24 @@ EndsOpening name start other shelf = ⊥
 
 -- ---- how it ends there
 
--- the keeper, the wire or the clock failed
-pub record FailsBefore (listen : List ℕ) (end : Status) (from to : Outside) : Type 0 where
+-- the keeper, the wire or the clock failed, and nothing was done to the shelf
+pub record FailsBefore (listen : List ℕ) (end : Status) (before after : Option ShelfState) (from to : Outside) : Type 0 where
   pub error : NetworkError
   pub end_is : end ≡ status_of error
   pub fails : serving.FailsToRaise error from to ⊎ (serving.FailsToListen listen error from to ⊎ serving.FailsToTell listen error from to)
+  pub same : after ≡ before
 
 -- it listens and the clock told its moment, and the file wasn't opened, or its rows
-pub record FailsOverShelf (name listen : List ℕ) (end : Status) (shelf : Option ShelfState) (from to : Outside) : Type 0 where
+pub record FailsOverShelf (name listen : List ℕ) (end : Status) (before after : Option ShelfState) (from to : Outside) : Type 0 where
   pub start : ℕ
   pub moment : ℕ
   pub opens : Opens listen start moment from to
-  pub ends : EndsOpening name start end shelf
+  pub ends : EndsOpening name start end before
+  pub leaves : WhereTold before after (LeavesUnopened name start moment)
 
-abbrev pub FailsToOpen : (name listen : List ℕ) → Status → Option ShelfState → Outside → Outside → Type 0
-FailsToOpen name listen end shelf from to = FailsBefore listen end from to ⊎ FailsOverShelf name listen end shelf from to
+abbrev pub FailsToOpen : (name listen : List ℕ) → Status → (before after : Option ShelfState) → Outside → Outside → Type 0
+FailsToOpen name listen end before after from to =
+    FailsBefore listen end before after from to ⊎ FailsOverShelf name listen end before after from to
 
 -- ---- inner words, cited by private functions alone
 
@@ -83,7 +122,7 @@ opening_end other = status.OutOfMemory
 -- a producer that was opened over a shelf stands for what it begins with, and the shelf is as it left it
 pub record IsOpened (name : List ℕ) (start moment : ℕ) (kept : Kept) (before after : Option ShelfState) : Type 0 where
   pub begun : IsBegun name kept
-  pub over : WhereTold before after (λ s t. (what : Said) × (said s.rows ≡ Ok what) × Holds kept t.rows (reopened start moment what))
+  pub over : WhereTold before after (λ s t. (h : History) × BeginsBy name start moment s t h × Holds kept t.rows h)
 
 pub record OpensKept (name listen : List ℕ) (kept : Kept) (before after : Option ShelfState) (from to : Outside) : Type 0 where
   pub start : ℕ

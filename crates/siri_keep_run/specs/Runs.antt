@@ -1,80 +1,41 @@
--- A run of `keep`, whole: what it does to the outside, what it writes, what the shelf keeps, and how it ends. It is a run of
--- `serve` that begins with the history which the rows of the shelf make, in the place of its start alone.
-use Rattle.std.specs.Prelude.{◌≡◌, ◌⊎◌, ℕ, List, Option}
-use Rattle.std.specs.Io.KnownBytes.{Appends}
+-- A run of `keep`, whole: a run of `serve` that begins with the history which the rows of the shelf make, in the place of its start
+-- alone, and leaves its own on the shelf.
+use Rattle.std.specs.Prelude.{◌≡◌, ℕ, List, Bool, true, false, Option, Some}
 use Rattle.siri_base.specs.OutsideCalls.{WhereTold}
 use Rattle.siri_base.specs.declared.status.Status.{Status}
 use Rattle.siri_base.specs.declared.status.Status.TheVariants as status
-use Rattle.siri_http.specs.declared.tally.Tally.{Tally}
-use Rattle.siri_lines.specs.Ends.{AppendsFront, Bytes}
-use Rattle.siri_model.specs.History.{History}
+use Rattle.siri_lines.specs.Ends.{Bytes}
 use Rattle.siri_shelf.specs.Shelves.{ShelfState}
 use Rattle.siri_keeping.specs.Keeps.{Keeps}
 use Rattle.siri_runs.specs.Calls.{Outside}
-use Rattle.siri_runs.specs.Errors.{status_of}
+use Rattle.siri_runs.specs.Run.{Procedure, Run}
 use Rattle.siri_runs.specs.Summaries.{summary_text}
-use Rattle.siri_runs.specs.Turns.{Running}
-use Rattle.siri_runs.specs.declared.network_error.NetworkError.{NetworkError}
-use Rattle.siri_runs.specs.producers.Opening.{Opens}
-use Rattle.siri_keep_run.specs.Opening.{BeginsWith, FailsToOpen, begun}
-use Rattle.siri_keep_run.specs.Serving.{EndsInTurns, Keeping, KeepsTurns}
+use Rattle.siri_keep_run.specs.Opening.{BeginsKeeping, FailsToOpen}
+use Rattle.siri_keep_run.specs.Serving.{Keeping, LeavesAtTurn, turning}
 
--- it opened, and every connection was served: this was counted; and the shelf, where it tells its rows, keeps the history of all turns
-pub record KeepsAll (name listen : List ℕ) (count : ℕ) (tally : Tally) (before after : Option ShelfState) (from to : Outside) : Type 0 where
-  pub start : ℕ
-  pub moment : ℕ
-  pub open_ : Outside
-  pub opens : Opens listen start moment from open_
-  pub first : History
-  pub begins : BeginsWith start moment before first
-  pub end : Running Keeping
-  pub turns : KeepsTurns name count (begun first before open_) end
-  pub tally_is : tally ≡ end.state.tally
-  pub outside_is : to ≡ end.outside
-  pub keeps : WhereTold before after (λ s t. Keeps name t.rows end.state.history)
+-- a shelf ends a run with one of these
+abbrev pub is_of_shelf : Status → Bool
+is_of_shelf status.ShelfFault = true
+is_of_shelf (status.BadShelf why) = true
+is_of_shelf other = false
 
--- it opened, and a turn ended it
-pub record FailsToKeep (name listen : List ℕ) (count : ℕ) (end : Status) (before : Option ShelfState) (from to : Outside) : Type 0 where
-  pub error : NetworkError
-  pub end_is : end ≡ status_of error
-  pub start : ℕ
-  pub moment : ℕ
-  pub open_ : Outside
-  pub opens : Opens listen start moment from open_
-  pub first : History
-  pub begins : BeginsWith start moment before first
-  pub fails : EndsInTurns name count error (begun first before open_) to
+-- Under this name, at this address, of a shelf that tells this before and after it. After every turn it keeps the history of all of
+-- them, and is as the last one left it.
+abbrev pub keep_procedure : (name listen : List ℕ) → (before after : Option ShelfState) → Procedure Keeping
+keep_procedure name listen before after = record {
+  Opens = BeginsKeeping name listen before;
+  FailsToOpen = λ end from to. FailsToOpen name listen end before after from to;
+  turning = turning name;
+  Leaves = λ keeping. WhereTold before after (λ s t. Keeps name t.rows keeping.history) × WhereTold before after (λ s t. keeping.shelf ≡ Some t);
+  LeavesInTurn = LeavesAtTurn name after;
+  text = λ keeping. summary_text keeping.tally;
+  is_own = is_of_shelf;
+}
 
--- it ended before every connection was served
-abbrev pub KeepsNot : (name listen : List ℕ) → ℕ → Status → Option ShelfState → Outside → Outside → Type 0
-KeepsNot name listen count end before from to =
-    FailsToOpen name listen end before from to ⊎ FailsToKeep name listen count end before from to
-
--- it ended so, and nothing was written
-abbrev pub EndsUnwritten : (name listen : List ℕ) → ℕ → Status → Option ShelfState → Outside → Outside → Bytes → Bytes → Type 0
-EndsUnwritten name listen count end before from to old new = KeepsNot name listen count end before from to × (new ≡ old)
-
--- every connection was served, and this much of the summary was written
-pub record Summarizes (Writes : Bytes → Bytes → List ℕ → Type 0) (name listen : List ℕ) (count : ℕ) (before after : Option ShelfState)
-    (from to : Outside) (old new : Bytes) : Type 0 where
-  pub tally : Tally
-  pub serves : KeepsAll name listen count tally before after from to
-  pub writes : Writes old new (summary_text tally)
-
--- What a run under this name, at this address, over so many connections does to a shelf, by the status that it ends with. Want of
--- memory and a failure of the shelf leave the first of its steps.
+-- What it does to the outside and to the shelf over so many connections, what it writes, and how it ends. Want of memory and a failure
+-- of the shelf leave the first of its steps.
 abbrev pub KeepRun : (name listen : List ℕ) → ℕ → (before after : Option ShelfState) → Outside → Outside → Bytes → Bytes → Status → Type 0
-KeepRun name listen count before after from to old new status.Done = Summarizes Appends name listen count before after from to old new
-KeepRun name listen count before after from to old new status.WriteFault = Summarizes AppendsFront name listen count before after from to old new
-KeepRun name listen count before after from to old new status.OutOfMemory =
-    Summarizes AppendsFront name listen count before after from to old new
-    ⊎ EndsUnwritten name listen count status.OutOfMemory before from to old new
-KeepRun name listen count before after from to old new status.WireFault = EndsUnwritten name listen count status.WireFault before from to old new
-KeepRun name listen count before after from to old new status.ClockFault = EndsUnwritten name listen count status.ClockFault before from to old new
-KeepRun name listen count before after from to old new status.KeeperFault = EndsUnwritten name listen count status.KeeperFault before from to old new
-KeepRun name listen count before after from to old new status.ShelfFault = EndsUnwritten name listen count status.ShelfFault before from to old new
-KeepRun name listen count before after from to old new (status.BadShelf why) = EndsUnwritten name listen count (status.BadShelf why) before from to old new
-KeepRun name listen count before after from to old new other = ⊥
+KeepRun name listen count before after from to old new end = Run (keep_procedure name listen before after) count from to old new end
 
 -- the statuses of a run in which nothing was written
 abbrev pub EndsKeeping : Status → Type 0

@@ -3,15 +3,19 @@
 ghost use Rattle.std.specs.Prelude.{◌≡◌, IfErr, IfOk, Some, []};
 ghost use Rattle.siri_base.specs.Causes.{Rose};
 ghost use Rattle.siri_base.specs.MetFailures.{SinkMeets, is_write_fault};
+ghost use Rattle.siri_base.specs.OutsideCalls.{WhereTold};
 ghost use Rattle.siri_base.specs.declared.status.Status.TheVariants as status;
 ghost use Rattle.siri_runs.specs.Calls.{outside_told};
 ghost use Rattle.siri_runs.specs.Enough.{HasEnough};
-ghost use Rattle.siri_keep_run.specs.Runs.{EndsKeeping, EndsWholeOrByShelf, KeepRun, KeepsAll, KeepsNot};
+ghost use Rattle.siri_keep_run.specs.Left.{KeepAnswered, KeepTrail};
+ghost use Rattle.siri_keep_run.specs.Runs.{EndsKeeping, EndsWholeOrByShelf, KeepRun, keep_procedure};
+ghost use Rattle.siri_runs.specs.Run.{Completes, EndsBefore};
+ghost use Rattle.siri_runs.specs.Summaries.{summary_text};
 
 use crate::opening::open;
-use crate::server::Server;
 use siri_base::{Clock, Keeper, Name, OutsideError, Sink, Status, Wire};
-use siri_http::Tally;
+use siri_http::{PostAlone, Tally};
+use siri_keep::Kept;
 use siri_runs::{run_turns, write_summary};
 use siri_shelf::Shelf;
 use std::alloc::Global;
@@ -20,6 +24,10 @@ use std::alloc::Global;
 /// start, listens, reads the clock for its first moment, opens the file, and begins with what its rows keep; then it
 /// serves each connection at the clock's moment. What a message changes is in the file before it is answered. After each
 /// 1,000 connections the rows of dead items leave. Then it writes `served N refused R dropped D unsent U`.
+///
+/// However it ends, and wherever it is cut off, the rows are as they were before, or keep what it opened with, or all that
+/// so many of its turns made, with a front of the next. Where it ends, they keep each message whose connection was
+/// answered 200.
 ///
 /// `KeeperFault`, `WireFault`, `ClockFault` and `ShelfFault` only where the keeper, the wire, the clock or the shelf failed,
 /// the wire to listen or to accept; `BadShelf` where the rows aren't those of a producer of this name and an earlier
@@ -41,6 +49,12 @@ pub fn keep<K: Sink, W: Wire, C: Clock, E: Keeper, B: Shelf>(
         (outside_told W.Wire C.Clock E.Keeper wire.old clock.old keeper.old)
         (outside_told W.Wire C.Clock E.Keeper wire.new clock.new keeper.new)
         (K.held sink.old) (K.held sink.new) result }
+    // What it leaves on the shelf, at every moment and at whatever status.
+    ensures keep_trail { WhereTold (B.tells shelf.old) (B.tells shelf.new) (KeepTrail name address.now count
+        (outside_told W.Wire C.Clock E.Keeper wire.old clock.old keeper.old)) }
+    ensures keep_answered { WhereTold (B.tells shelf.old) (B.tells shelf.new) (KeepAnswered name address.now count result
+        (outside_told W.Wire C.Clock E.Keeper wire.old clock.old keeper.old)
+        (outside_told W.Wire C.Clock E.Keeper wire.new clock.new keeper.new)) }
     ensures unwritten { EndsKeeping result → sink.new ≡ sink.old }
     ensures meets { SinkMeets (is_write_fault result) (K.held sink.old) (K.held sink.new) (K.fails sink.old) (K.fails sink.new) }
     // Where there is enough for so many connections, and no failure is named for the sink.
@@ -77,16 +91,25 @@ fn keep_all<W: Wire, C: Clock, E: Keeper, B: Shelf>(
     keeper: &mut E,
     shelf: &mut B,
 ) -> Result<Tally, Status>
-    ensures ok { IfOk result (λ tally. KeepsAll name address.now count tally (B.tells shelf.old) (B.tells shelf.new)
+    ensures ok { IfOk result (λ tally. Completes (keep_procedure name address.now (B.tells shelf.old) (B.tells shelf.new)) count (summary_text tally)
         (outside_told W.Wire C.Clock E.Keeper wire.old clock.old keeper.old)
         (outside_told W.Wire C.Clock E.Keeper wire.new clock.new keeper.new)) }
-    ensures err { IfErr result (λ end. KeepsNot name address.now count end (B.tells shelf.old)
+    ensures err { IfErr result (λ end. EndsBefore (keep_procedure name address.now (B.tells shelf.old) (B.tells shelf.new)) count end
         (outside_told W.Wire C.Clock E.Keeper wire.old clock.old keeper.old)
         (outside_told W.Wire C.Clock E.Keeper wire.new clock.new keeper.new)) }
     ensures fault { IfErr result (λ end. end ≡ status.ShelfFault → Rose (B.faults shelf.old) (B.faults shelf.new)) }
 {
-    let kept = open(alloc, name, address, file, wire, clock, keeper, shelf)?;
-    let mut server: Server<B> = Server::new(kept);
-    run_turns(count, wire, clock, &mut server, shelf)?;
-    Ok(server.tally())
+    let mut kept = open(alloc, name, address, file, wire, clock, keeper, shelf)?;
+    let mut tally = Tally::new();
+    run_turns::<PostAlone, W, C, B, Kept>(
+        alloc,
+        count,
+        &(),
+        wire,
+        clock,
+        &mut kept,
+        shelf,
+        &mut tally,
+    )?;
+    Ok(tally)
 }

@@ -1,10 +1,11 @@
 //! How a run opens.
 
-ghost use Rattle.std.specs.Prelude.{◌≡◌, ◌≤◌, IfErr, IfOk, OnOk};
+ghost use Rattle.std.specs.Prelude.{◌≡◌, ◌≤◌, IfErr, IfOk, OnErr, OnOk};
 ghost use Rattle.siri_base.specs.Causes.{Rose};
+ghost use Rattle.siri_base.specs.OutsideCalls.{WhereTold};
 ghost use Rattle.siri_base.specs.declared.status.Status.TheVariants as status;
 ghost use Rattle.siri_runs.specs.Calls.{outside_told};
-ghost use Rattle.siri_keep_run.specs.Opening.{EndsOpening, FailsToOpen, IsOpened, OpensKept, opening_end};
+ghost use Rattle.siri_keep_run.specs.Opening.{EndsOpening, FailsToOpen, IsOpened, LeavesUnopened, OpensKept, opening_end};
 
 use siri_base::{Clock, Keeper, Moment, Name, OutsideError, ShelfReason, Status, Wire};
 use siri_keep::{KeepError, Kept};
@@ -44,6 +45,7 @@ fn open_shelf<B: Shelf>(
     requires small { start ≤ 99999999999 }
     ensures ok { IfOk result (λ kept. IsOpened name start moment kept (B.tells shelf.old) (B.tells shelf.new)) }
     ensures err { IfErr result (λ end. EndsOpening name start end (B.tells shelf.old)) }
+    ensures leaves { OnErr result (WhereTold (B.tells shelf.old) (B.tells shelf.new) (LeavesUnopened name start moment)) }
     ensures open { OnOk result (B.is_open shelf.new) }
     ensures later { B.faults shelf.old ≤ B.faults shelf.new }
     ensures fault { IfErr result (λ end. end ≡ status.ShelfFault → Rose (B.faults shelf.old) (B.faults shelf.new)) }
@@ -73,7 +75,7 @@ pub(crate) fn open<W: Wire, C: Clock, E: Keeper, B: Shelf>(
     ensures ok { IfOk result (λ kept. OpensKept name address.now kept (B.tells shelf.old) (B.tells shelf.new)
         (outside_told W.Wire C.Clock E.Keeper wire.old clock.old keeper.old)
         (outside_told W.Wire C.Clock E.Keeper wire.new clock.new keeper.new)) }
-    ensures err { IfErr result (λ end. FailsToOpen name address.now end (B.tells shelf.old)
+    ensures err { IfErr result (λ end. FailsToOpen name address.now end (B.tells shelf.old) (B.tells shelf.new)
         (outside_told W.Wire C.Clock E.Keeper wire.old clock.old keeper.old)
         (outside_told W.Wire C.Clock E.Keeper wire.new clock.new keeper.new)) }
     ensures open { OnOk result (B.is_open shelf.new) }

@@ -13,9 +13,9 @@ use Rattle.siri_records.specs.Keys.{key_of}
 use Rattle.siri_records.specs.Order.{key_cmp, key_cmp_total}
 use Rattle.siri_records.proofs.Order.{key_cmp_exact}
 use Rattle.siri_model.specs.History.{Observed, after_entry, is_live, is_refused}
-use Rattle.siri_model_laws.proofs.Current.{length_inserted, lookup_inserted}
-use Rattle.siri_model_laws.proofs.Entries.{sorted_inserted, sorted_passing}
-use Rattle.siri_model_laws.proofs.InOrder.{in_order_all, none_in_order}
+use Rattle.siri_model.proofs.Current.{length_inserted, lookup_inserted}
+use Rattle.siri_model.proofs.Entries.{sorted_inserted, sorted_passing}
+use Rattle.siri_model.proofs.InOrder.{in_order_all, none_in_order}
 use Rattle.siri_keeping.proofs.Found.{tied_is}
 use Rattle.siri_keeping.proofs.LiveItems.{alive, live_at}
 use Rattle.siri_keeping.proofs.SameItems.{same_items}
@@ -31,7 +31,7 @@ one_longer items i s = omega (arith, length_inserted key_cmp_total key_cmp_exact
 pub few_passing : {X : Type 0} (p : X → Bool) (xs : List X) → length (filter p xs) ≤ length xs
 few_passing p xs = omega (arith, length-filter_both p (λ x. not (p x)) (λ x. refl) xs)
 
-below_most : (count : ℕ) → count < 20000 → nat_le most_live count ≡ false
+below_most : (count : ℕ) → count < most_live → nat_le most_live count ≡ false
 below_most count few = grind (arith, nat_tests)
 
 last_of_three : (a b c : Bool) → c ≡ false → (a && (b && c)) ≡ false
@@ -39,13 +39,13 @@ last_of_three true true c e = e
 last_of_three true false c e = refl
 last_of_three false b c e = refl
 
-is_taken : (now : ℕ) (items : Items) (i : Item) → length items < 20000 → is_refused now items i ≡ false
+is_taken : (now : ℕ) (items : Items) (i : Item) → length items < most_live → is_refused now items i ≡ false
 is_taken now items i few =
     let less = few_passing (λ (e : Key × Item). not (is_dead e.1 now)) items in
     last_of_three (not (is_dead i now)) (not (is_live now items (key_of i))) (nat_le most_live (length (living now items)))
     (below_most (length (living now items)) (omega arith))
 
-all_taken : (now : ℕ) (es : List Item) (items : Items) → InOrder items → length items + length es ≤ 20000
+all_taken : (now : ℕ) (es : List Item) (items : Items) → InOrder items → length items + length es ≤ most_live
     → fold (after_entry now) items (map Observed es) ≡ fold with_one items es
 all_taken now [] items s few = refl
 all_taken now (i ∷ es) items s few =
@@ -100,7 +100,7 @@ latest_found P k (i ∷ es) held all some =
 
 -- ---- the kept items that aren't dead
 
-from_none : (count : ℕ) → count ≤ 20000 → 0 + count ≤ 20000
+from_none : (count : ℕ) → count ≤ most_live → 0 + count ≤ most_live
 from_none count few = omega arith
 
 module _ (m : ℕ) (kept : Items) where
@@ -127,7 +127,7 @@ module _ (m : ℕ) (kept : Items) where
       found.is ∙ sym alone ∙ sym (ap (option_filter (alive m)) there)
   of_key es all every k false none = latest_none k es None none ∙ sym (none_of es every k (item_of kept k) refl none)
 
-  pub fed_items : (now : ℕ) (es : List Item) → InOrder kept → length es ≤ 20000 → All IsKept es → HasAll es
+  pub fed_items : (now : ℕ) (es : List Item) → InOrder kept → length es ≤ most_live → All IsKept es → HasAll es
       → fold (after_entry now) [] (map Observed es) ≡ living m kept
   fed_items now es s few all every =
       same_items (fold (after_entry now) [] (map Observed es)) (living m kept) (in_order_all now [] (map Observed es) none_in_order)

@@ -15,14 +15,14 @@ use Rattle.siri_subs.specs.Table.{accepted, after, answer_of, ended, is_ended_by
 use Rattle.siri_model.specs.History.{History, State, Step, Start, Clock, Feed, Take, Settle, state_of}
 use Rattle.siri_model.specs.Lives.{mark_of, table_of}
 use Rattle.siri_model.specs.Rows.{KeptLife, acknowledged_row, new_row, renewed_row, rows_acknowledged, rows_after, rows_asked, rows_ended, rows_of, rows_supplied, rows_taken, settled_row, supplied_row, with_row_of}
-use Rattle.siri_model_laws.proofs.Histories.{rows_go_on}
+use Rattle.siri_model.proofs.Histories.{rows_go_on}
 use Rattle.siri_keeping.proofs.Feeding.{few_passing}
 
 abbrev Rows : Type 0
 Rows = List (Row KeptLife)
 
 abbrev AreFew : Rows → Type 0
-AreFew rows = length rows ≤ 200
+AreFew rows = length rows ≤ most_subscriptions
 
 -- ---- a request
 
@@ -98,7 +98,7 @@ few_ended number subscriber (identifier ∷ identifiers) rows few =
     (few_ended_by subscriber identifier rows (is_ended_by number subscriber identifier rows) few)
 
 few_mapped : (change : Row KeptLife → Row KeptLife) (rows : Rows) → AreFew rows → AreFew (map change rows)
-few_mapped change rows few = subst (λ n. n ≤ 200) (sym (length-map rows change)) few
+few_mapped change rows few = subst (λ n. n ≤ most_subscriptions) (sym (length-map rows change)) few
 
 few_with : (subscriber identifier : Name) (change : Row KeptLife → Row KeptLife) (rows : Rows) → AreFew rows → AreFew (with_row_of subscriber identifier change rows)
 few_with subscriber identifier change rows few = few_mapped (λ row. cond (is_of subscriber identifier row) (change row) row) rows few
@@ -139,5 +139,5 @@ few_from h (step ∷ steps) few =
     subst (λ g. AreFew (rows_of (table_of g))) (append_assoc h (step ∷ []) steps)
     (few_from (h ++ step ∷ []) steps (subst AreFew (sym (rows_go_on h step)) (few_after (state_of h) step (rows_of (table_of h)) few)))
 
-pub few_rows : (h : History) → length (rows_of (table_of h)) ≤ 200
+pub few_rows : (h : History) → length (rows_of (table_of h)) ≤ most_subscriptions
 few_rows h = few_from [] h (omega arith)

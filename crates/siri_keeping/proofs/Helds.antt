@@ -14,7 +14,7 @@ use Rattle.siri_model.specs.Held.{Held, held_of, helds_of}
 use Rattle.siri_model.specs.History.{History, State, Step, Start, Clock, Feed, Take, Settle, after_step, nothing, now_of, state_of}
 use Rattle.siri_model.specs.Lives.{mark_of, table_of}
 use Rattle.siri_model.specs.Rows.{KeptLife, acknowledged_row, is_numbered, rows_acknowledged, rows_after, rows_of, rows_supplied, rows_taken, settled_row, supplied_row, with_row_of}
-use Rattle.siri_model_laws.proofs.Histories.{rows_go_on}
+use Rattle.siri_model.proofs.Histories.{rows_go_on}
 use Rattle.siri_keeping.specs.Subscribed.{is_about_rounds, leaves_held, unexpired}
 
 -- ---- a change of one row that leaves what is held

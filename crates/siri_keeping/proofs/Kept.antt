@@ -17,9 +17,9 @@ use Rattle.siri_records.proofs.KeyLists.{one_key}
 use Rattle.siri_records.proofs.Order.{key_cmp_exact}
 use Rattle.siri_model.specs.History.{Entry, after_entry}
 use Rattle.siri_model.specs.Last.{after_one, entry_key, is_of}
-use Rattle.siri_model_laws.proofs.Current.{entry_leaves, lookup_inserted, lookup_removed}
-use Rattle.siri_model_laws.proofs.Entries.{sorted_inserted, sorted_removed}
-use Rattle.siri_model_laws.proofs.InOrder.{in_order_after, in_order_all}
+use Rattle.siri_model.proofs.Current.{entry_leaves, lookup_inserted, lookup_removed}
+use Rattle.siri_model.proofs.Entries.{sorted_inserted, sorted_removed}
+use Rattle.siri_model.proofs.InOrder.{in_order_after, in_order_all}
 use Rattle.siri_shelf.specs.declared.rows.Put.{Put}
 use Rattle.siri_shelf.specs.Rows.{RowPlace, Rows, place_cmp, text_at, with_put, with_puts}
 use Rattle.siri_shelf.proofs.Order.{place_total}

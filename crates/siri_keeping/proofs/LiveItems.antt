@@ -9,7 +9,7 @@ use Rattle.siri_records.specs.declared.key.Key.{Key}
 use Rattle.siri_records.specs.Ends.{is_dead}
 use Rattle.siri_records.specs.Keyed.{InOrder, Items, item_of, living}
 use Rattle.siri_records.specs.Order.{key_cmp, key_cmp_total}
-use Rattle.siri_model_laws.proofs.Entries.{sorted_passing}
+use Rattle.siri_model.proofs.Entries.{sorted_passing}
 use Rattle.siri_keeping.specs.Keeping.{Covers}
 use Rattle.siri_keeping.proofs.SameItems.{same_items}
 

@@ -19,8 +19,8 @@ use Rattle.siri_tables.specs.Refusals.{Refusal}
 use Rattle.siri_items.specs.Proper.{IsProper}
 use Rattle.siri_deliveries.specs.Deliveries.{IsProperDelivery, IsProperOf}
 use Rattle.siri_wire.specs.Documents.{message_of}
-use Rattle.siri_wire_laws.specs.ProperMessages.{IsProper as IsProperMessage}
-use Rattle.siri_wire_laws.proofs.ProperReadMessages.{document_proper}
+use Rattle.siri_wire.specs.laws.ProperMessages.{IsProper as IsProperMessage}
+use Rattle.siri_wire.proofs.ProperReadMessages.{document_proper}
 use Rattle.siri_row_texts.specs.ItemRows.{item_text, key_text}
 use Rattle.siri_row_texts.specs.Reading.{first_item, first_of_four, if_holds, if_written, is_renewal, is_request, item_in, item_of_row, renewal_of_row, request_of_row}
 use Rattle.siri_keeping.specs.Keeping.{IsProperKey}

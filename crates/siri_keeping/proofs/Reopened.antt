@@ -8,7 +8,7 @@ use Rattle.std.proofs.lemmas.Map.Entries.{option_filter}
 use Rattle.std.proofs.lemmas.Option.{none-some, same_Some}
 use Rattle.siri_records.specs.declared.item.Item.{Item}
 use Rattle.siri_records.specs.Ends.{is_dead}
-use Rattle.siri_records.specs.Keyed.{Items, item_of, living}
+use Rattle.siri_records.specs.Keyed.{Items, item_of, living, most_live}
 use Rattle.siri_records.specs.Order.{key_cmp}
 use Rattle.siri_topic.specs.declared.topics.Topic.{Topic}
 use Rattle.siri_messages.specs.declared.message.Message.{Message}
@@ -20,11 +20,11 @@ use Rattle.siri_model.specs.Held.{Held, held_of, helds_of}
 use Rattle.siri_model.specs.History.{Clock, Feed, History, Observed, Start, State, Take, after_entry, after_step, current, entries_fed, fed, now_of, start_of, state_of}
 use Rattle.siri_model.specs.Lives.{table_of}
 use Rattle.siri_model.specs.Rows.{KeptLife, rows_after, rows_of, rows_taken}
-use Rattle.siri_model_laws.proofs.Current.{few_live}
-use Rattle.siri_model_laws.proofs.Entries.{sorted_passing}
-use Rattle.siri_model_laws.proofs.Histories.{rows_go_on, well_after}
-use Rattle.siri_model_laws.proofs.InOrder.{current_in_order, live_later, more_steps}
-use Rattle.siri_model_laws.proofs.Lawful.{direct_live}
+use Rattle.siri_model.proofs.Current.{few_live}
+use Rattle.siri_model.proofs.Entries.{sorted_passing}
+use Rattle.siri_model.proofs.Histories.{rows_go_on, well_after}
+use Rattle.siri_model.proofs.InOrder.{current_in_order, live_later, more_steps}
+use Rattle.siri_model.proofs.Lawful.{direct_live}
 use Rattle.siri_row_texts.specs.declared.moments.Began.{Began}
 use Rattle.siri_row_texts.specs.SubscriptionRows.{renewal_of}
 use Rattle.siri_shelf.specs.Rows.{InOrder, RowPlace, Rows}
@@ -123,8 +123,8 @@ module _ (name : List ℕ) (rows : Rows) (h : History) (ordered : InOrder rows) 
       (λ k i is. lives moment i (item_of (current h) k) (sym (live_at moment (current h) k (current_in_order h)) ∙ is))
       (sorted_passing key_cmp (alive moment) (current h) (current_in_order h)) keeps.these.ordered
 
-  few : length (living moment keeps.kept) ≤ 20000
-  few = subst (λ (items : Items). length items ≤ 20000) (sym live_is) (few_live h)
+  few : length (living moment keeps.kept) ≤ most_live
+  few = subst (λ (items : Items). length items ≤ most_live) (sym live_is) (few_live h)
 
   once : EachOnce old
   once = (well_after h).once

@@ -60,11 +60,11 @@ begun : (row : Row KeptLife) (rows : Rows) (over : Bool) → IsNew rows row
 begun row rows true new = refl
 begun row rows false new = sym (put_last row rows new)
 
-not_full : (count : ℕ) → count < 200 → nat_le most_subscriptions count ≡ false
+not_full : (count : ℕ) → count < most_subscriptions → nat_le most_subscriptions count ≡ false
 not_full count room = grind (arith, nat_tests)
 
 -- it is held at the end, unless its termination has come
-accepted_new : (now : ℕ) (row : Row KeptLife) (rows : Rows) → IsNew rows row → length rows < 200
+accepted_new : (now : ℕ) (row : Row KeptLife) (rows : Rows) → IsNew rows row → length rows < most_subscriptions
     → accepted now row rows ≡ cond (is_terminated now row) rows (rows ++ row ∷ [])
 accepted_new now row rows new room =
     (λ i. after (answer_of (is_terminated now row) (not_full (length rows) room i) row.number (number_none row.wanted.subscriber row.wanted.identifier rows new i)) row rows)
@@ -92,7 +92,7 @@ anew now row = new_row now row.base (asked_of row)
 abbrev asked_anew : ℕ → Rows → Rows → Rows
 asked_anew now rows todo = fold (λ rs row. accepted now (anew now row) rs) rows todo
 
-all_asked : (now : ℕ) (todo rows : Rows) → EachOnce todo → All (IsNew rows) todo → length rows + length todo ≤ 200
+all_asked : (now : ℕ) (todo rows : Rows) → EachOnce todo → All (IsNew rows) todo → length rows + length todo ≤ most_subscriptions
     → map held_of (asked_anew now rows todo) ≡ map held_of rows ++ unexpired now (map based (map held_of todo))
 all_asked now [] rows once new few = sym (append-nil (map held_of rows))
 all_asked now (row ∷ todo) rows once new few =
@@ -239,7 +239,7 @@ taken_append : (start now : ℕ) (first more : List Message) (rows : Rows) → t
 taken_append start now [] more rows = refl
 taken_append start now (m ∷ first) more rows = taken_append start now first more (rows_taken start now m rows)
 
-pub held_again : (start now : ℕ) (old : Rows) → EachOnce old → All (λ (row : Row KeptLife). row.base ≤ row.number) old → length old ≤ 200
+pub held_again : (start now : ℕ) (old : Rows) → EachOnce old → All (λ (row : Row KeptLife). row.base ≤ row.number) old → length old ≤ most_subscriptions
     → map held_of (taken_all start now (map request_message (map held_of old) ++ filter_map renewal_message (map held_of old)) []) ≡ unexpired now (map held_of old)
 held_again start now old once le few =
     ap (map held_of) (taken_append start now (map request_message (map held_of old)) (filter_map renewal_message (map held_of old)) [])

@@ -30,7 +30,7 @@ use Rattle.siri_shelf.proofs.Order.{order_kept, place_total}
 use Rattle.siri_row_texts.specs.ItemRows.{item_text, key_text}
 use Rattle.siri_row_texts.specs.Reading.{item_of_row}
 use Rattle.siri_tables.proofs.TableLaws.{all_joined}
-use Rattle.siri_wire_laws.proofs.MessageValues.{all_map}
+use Rattle.siri_wire.proofs.MessageValues.{all_map}
 use Rattle.siri_keeping.specs.Keeping.{HasItems, IsProperKey}
 use Rattle.siri_keeping.specs.Opening.{by_service, is_live_at, is_told_by, item_in}
 use Rattle.siri_keeping.proofs.Feeding.{HasAll, IsKept, has}

@@ -8,13 +8,13 @@ use Rattle.std.specs.Ordering.{is_gt, nat_cmp}
 use Rattle.std.proofs.lemmas.Bool.{eqb-false, eqb-true, le-ltb, or_parts}
 use Rattle.std.proofs.lemmas.List.{length-map}
 use Rattle.std.proofs.lemmas.Option.{none-some, same_Some}
-use Rattle.siri_records.specs.Keyed.{Items, living}
+use Rattle.siri_records.specs.Keyed.{Items, living, most_live}
 use Rattle.siri_topic.specs.declared.subscription.Subscription.{Subscription}
 use Rattle.siri_messages.specs.declared.message.Message.{Message}
 use Rattle.siri_messages.specs.declared.message.Message.TheVariants as message
 use Rattle.siri_wire.specs.Canonical.{canonical}
 use Rattle.siri_subs.specs.declared.entry.Row.{Row}
-use Rattle.siri_subs.specs.Table.{EachOnce, is_held, is_of}
+use Rattle.siri_subs.specs.Table.{EachOnce, is_held, is_of, most_subscriptions}
 use Rattle.siri_subs.proofs.Once.{held_like}
 use Rattle.siri_model.specs.Held.{Held, held_of}
 use Rattle.siri_model.specs.Rows.{KeptLife}
@@ -25,8 +25,8 @@ use Rattle.siri_row_texts.specs.declared.moments.Began.{Began}
 use Rattle.siri_row_texts.specs.ItemRows.{moment_row}
 use Rattle.siri_row_texts.specs.SubscriptionRows.{renewal_of, renewal_text, request_of, request_text}
 use Rattle.siri_row_texts.specs.Reading.{began_of_row, renewal_of_row, request_of_row}
-use Rattle.siri_wire_laws.proofs.MessageValues.{all_map}
-use Rattle.siri_keeping.specs.Keeping.{is_place}
+use Rattle.siri_wire.proofs.MessageValues.{all_map}
+use Rattle.siri_keeping.specs.Keeping.{is_place, most_rows}
 use Rattle.siri_keeping.specs.Keeps.{KeepsThese}
 use Rattle.siri_keeping.specs.Opening.{Kept, Said, are_same, began_in, exceeds, is_any, is_bad, is_bad_beginning, is_bad_item, is_bad_request, is_live_at, is_live_in, is_of_same, item_in, kept_in, renewal_in, renewal_of_request, request_in, said, said_unless, subscription_in, up_to}
 use Rattle.siri_keeping.proofs.Feeding.{few_passing}
@@ -179,7 +179,7 @@ module _ (g : List ℕ → Bool) (subscriber identifier : List ℕ) where
 
 module _ (name : List ℕ) (moment start : ℕ) (live kept : Items) (places : List (List ℕ)) (old : List (Row KeptLife)) (rows : Rows)
     (these : KeepsThese name moment start live kept places (map held_of old) rows) (ordered : InOrder rows)
-    (few_live : length (living moment kept) ≤ 20000) (once : EachOnce old) (few_held : length old ≤ 200) where
+    (few_live : length (living moment kept) ≤ most_live) (once : EachOnce old) (few_held : length old ≤ most_subscriptions) where
   abbrev began : Began
   began = record { moment = moment; start = start; name = name }
 
@@ -220,7 +220,7 @@ module _ (name : List ℕ) (moment start : ℕ) (live kept : Items) (places : Li
   items_up : (row : StoredRow) → row.table ≡ 1 → All (IsItemRow kept) (up_to row rows)
   items_up row own = all_map (IsIn 1 rows) (IsItemRow kept) says_item (up_to row rows) (up_in 1 row own)
 
-  few_any : (row : StoredRow) → row.table ≡ 1 → length (filter is_any (up_to row rows)) ≤ 100000
+  few_any : (row : StoredRow) → row.table ≡ 1 → length (filter is_any (up_to row rows)) ≤ most_rows
   few_any row own =
       let one = few_items kept (up_to row rows) (up_ordered row) (items_up row own) in
       let two = few_passing is_any (up_to row rows) in
@@ -234,7 +234,7 @@ module _ (name : List ℕ) (moment start : ℕ) (live kept : Items) (places : Li
   same_filter p q [] same = refl
   same_filter p q (row ∷ rs) same = λ i. cond (same row i) (row ∷ same_filter p q rs same i) (same_filter p q rs same i)
 
-  few_alive : (row : StoredRow) → row.table ≡ 1 → length (filter (is_live_in rows) (up_to row rows)) ≤ 20000
+  few_alive : (row : StoredRow) → row.table ≡ 1 → length (filter (is_live_in rows) (up_to row rows)) ≤ most_live
   few_alive row own =
       let one =
       few_live_rows moment kept rows ordered these.ordered these.items these.reads.keyed these.reads.proper these.reads.items (up_to row rows)
@@ -244,10 +244,10 @@ module _ (name : List ℕ) (moment start : ℕ) (live kept : Items) (places : Li
 
   no_bad_item : (row : StoredRow) → IsIn 1 rows row → is_bad_item rows row ≡ false
   no_bad_item row here =
-      three (is_none (item_in row)) (is_live_in rows row) (exceeds 20000 (is_live_in rows) row rows) (exceeds 100000 is_any row rows)
+      three (is_none (item_in row)) (is_live_in rows row) (exceeds most_live (is_live_in rows) row rows) (exceeds most_rows is_any row rows)
       (ap is_none (says_item row here).says)
-      (le-ltb 20000 (length (filter (is_live_in rows) (up_to row rows))) (few_alive row here.own))
-      (le-ltb 100000 (length (filter is_any (up_to row rows))) (few_any row here.own))
+      (le-ltb most_live (length (filter (is_live_in rows) (up_to row rows))) (few_alive row here.own))
+      (le-ltb most_rows (length (filter is_any (up_to row rows))) (few_any row here.own))
 
   -- ---- rows of requests
 
@@ -267,7 +267,7 @@ module _ (name : List ℕ) (moment start : ℕ) (live kept : Items) (places : Li
   renewals_are : map pair_of (of_table 3 rows) ≡ entries_at renewal places helds
   renewals_are = table_is renewal 3 rows places helds ordered these.subscriptions.ascend these.subscriptions.renewals these.subscriptions.only_renewals
 
-  few_requests : (row : StoredRow) → row.table ≡ 2 → length (filter is_any (up_to row rows)) ≤ 200
+  few_requests : (row : StoredRow) → row.table ≡ 2 → length (filter is_any (up_to row rows)) ≤ most_subscriptions
   few_requests row own =
       let one = few_passing is_any (up_to row rows) in
       let two = few_passing (λ (other : StoredRow). not (is_gt (slice_cmp nat_cmp other.key row.key))) (of_table row.table rows) in
@@ -297,11 +297,11 @@ module _ (name : List ℕ) (moment start : ℕ) (live kept : Items) (places : Li
       let among = these.subscriptions.only_requests row.key (subst IsSome (sym here.there) refl) in
       let its = one_beside IsAt Reads places helds row.key these.subscriptions.requests reads among in
       let text_is : row.text ≡ request its.0 = same_Some row.text (request its.0) (sym here.there ∙ its.1) in
-      four (not (is_place row.key)) (is_none (request_in row)) (exceeds 1 (is_of_same row) row rows) (exceeds 200 is_any row rows)
+      four (not (is_place row.key)) (is_none (request_in row)) (exceeds 1 (is_of_same row) row rows) (exceeds most_subscriptions is_any row rows)
       (ap not (one_of (λ place. is_place place ≡ true) places row.key these.subscriptions.digits among))
       (ap is_none (ap request_of_row text_is ∙ its.2.0))
       (le-ltb 1 (length (filter (is_of_same row) (up_to row rows))) (one_request row here.own its.0 text_is its.2))
-      (le-ltb 200 (length (filter is_any (up_to row rows))) (few_requests row here.own))
+      (le-ltb most_subscriptions (length (filter is_any (up_to row rows))) (few_requests row here.own))
 
   -- ---- rows of numbers
 

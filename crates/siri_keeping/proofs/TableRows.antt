@@ -16,7 +16,7 @@ use Rattle.std.proofs.lemmas.Cmp.{eq_by_cmp_equiv, nat_cmp_total, nat_list_cmp_t
 use Rattle.siri_shelf.specs.declared.rows.StoredRow.{StoredRow}
 use Rattle.siri_shelf.specs.Rows.{InOrder, Rows, of_table, place_cmp, place_of, text_at}
 use Rattle.siri_shelf.proofs.Order.{order_kept, place_total}
-use Rattle.siri_wire_laws.proofs.MessageValues.{all_map}
+use Rattle.siri_wire.proofs.MessageValues.{all_map}
 use Rattle.siri_keeping.proofs.Found.{tied_is}
 use Rattle.siri_keeping.proofs.SameItems.{same_entries}
 use Rattle.siri_keeping.proofs.Written.{first_or, none_in, nothing_there}

@@ -15,6 +15,7 @@ use Rattle.siri_keeping.specs.Keeping.{is_place, kept_at, moment_put, places_to,
 use Rattle.siri_keeping.specs.Keeps.{HasSubscriptions}
 use Rattle.siri_keeping.proofs.Found.{text_elsewhere, text_there}
 use Rattle.siri_keeping.proofs.Written.{all_gone, at, only_there, renewals_there, requests_there}
+use Rattle.siri_subs.specs.Table.{most_subscriptions}
 
 -- ---- places
 
@@ -41,7 +42,7 @@ abbrev pub HasOnly : Rows → List (List ℕ) → ℕ → Type 0
 HasOnly rows places table = (key : List ℕ) → IsSome (text_at rows table key) → Contains places key
 
 module _ (rows : Rows) (places : List (List ℕ)) (helds : List Held) (requests : HasOnly rows places 2) (renewals : HasOnly rows places 3)
-    (few : length helds ≤ 200) where
+    (few : length helds ≤ most_subscriptions) where
   abbrev cleared : Rows
   cleared = with_puts rows (flat_map removed_at places)
 
@@ -78,7 +79,7 @@ module _ (rows : Rows) (places : List (List ℕ)) (helds : List Held) (requests 
   pub written_over : HasSubscriptions written new_places helds
   written_over = subst (λ r. HasSubscriptions r new_places helds) filled_is filled_has
 
-pub written_has : (rows : Rows) (places : List (List ℕ)) (old helds : List Held) → HasSubscriptions rows places old → length helds ≤ 200
+pub written_has : (rows : Rows) (places : List (List ℕ)) (old helds : List Held) → HasSubscriptions rows places old → length helds ≤ most_subscriptions
     → HasSubscriptions (with_puts rows (subscription_puts places helds)) (places_to (length helds)) helds
 written_has rows places old helds has few = written_over rows places helds has.only_requests has.only_renewals few
 

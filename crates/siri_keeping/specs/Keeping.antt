@@ -16,6 +16,10 @@ use Rattle.siri_shelf.specs.declared.rows.Put.{Put}
 use Rattle.siri_shelf.specs.Rows.{Rows, text_at}
 use Rattle.siri_shelf.specs.Shelves.{ShelfState}
 
+-- the most items that have rows, dead ones among them
+abbrev pub most_rows : ℕ
+most_rows = 100000
+
 -- a key that a document can name: of an item that a service tells of, by names of 1 to 255 bytes
 abbrev pub IsProperKey : Key → Type 0
 IsProperKey k = (s : Service) × IsProperRemoval s k

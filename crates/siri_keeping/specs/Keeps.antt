@@ -8,7 +8,7 @@ use Rattle.siri_records.specs.Keyed.{InOrder, Items, living}
 use Rattle.siri_records.specs.Keys.{key_of}
 use Rattle.siri_messages.specs.declared.message.Message.TheVariants as message
 use Rattle.siri_items.specs.Proper.{IsProper}
-use Rattle.siri_wire_laws.specs.ProperMessages.{IsProper as IsProperMessage}
+use Rattle.siri_wire.specs.laws.ProperMessages.{IsProper as IsProperMessage}
 use Rattle.siri_model.specs.History.{Entry, Observed, Withdrawn, Step, Feed, Take, History, current, now_of, start_of}
 use Rattle.siri_model.specs.Held.{Held, helds_of}
 use Rattle.siri_model.specs.Lives.{table_of}
@@ -16,7 +16,7 @@ use Rattle.siri_row_texts.specs.ItemRows.{item_text, key_text, moment_row}
 use Rattle.siri_row_texts.specs.SubscriptionRows.{renewal_of, renewal_text, request_of, request_text}
 use Rattle.siri_row_texts.specs.Reading.{began_of_row, item_of_row, renewal_of_row, request_of_row}
 use Rattle.siri_shelf.specs.Rows.{Rows, text_at}
-use Rattle.siri_keeping.specs.Keeping.{Covers, HasItems, IsProperKey, is_place}
+use Rattle.siri_keeping.specs.Keeping.{Covers, HasItems, IsProperKey, is_place, most_rows}
 
 -- ---- proper steps: each message and each item of them is one that a document can spell
 
@@ -51,13 +51,13 @@ pub record ReadsBack (name : List ℕ) (moment start : ℕ) (kept : Items) (held
   pub renewals : AllByRecursion (λ s. (text : List ℕ) → renewal_text s.asked.subscription s.number s.base ≡ Some text
       → renewal_of_row s.asked.subscription s.base text ≡ Some (message.DataSupplyRequest (renewal_of s.asked.subscription s.number s.base))) helds
 
--- A shelf keeps these of a producer of this name: its moment and start; its live items, and besides only dead ones, at most
--- 100,000 in all; its subscriptions.
+-- A shelf keeps these of a producer of this name: its moment and start; its live items, and besides only dead ones, in all
+-- as many as may have rows; its subscriptions.
 pub record KeepsThese (name : List ℕ) (moment start : ℕ) (live kept : Items) (places : List (List ℕ)) (helds : List Held) (rows : Rows) : Type 0 where
   pub moment_is : text_at rows 0 [] ≡ Some (moment_row moment start name)
   pub only_moment : (key : List ℕ) → IsSome (text_at rows 0 key) → key ≡ []
   pub ordered : InOrder kept
-  pub few : length kept ≤ 100000
+  pub few : length kept ≤ most_rows
   pub items : HasItems rows kept
   pub covers : Covers moment live kept
   pub subscriptions : HasSubscriptions rows places helds

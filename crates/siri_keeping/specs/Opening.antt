@@ -10,6 +10,8 @@ use Rattle.siri_records.specs.declared.item.Item.TheVariants as item
 use Rattle.siri_records.specs.declared.item.Service.{Service}
 use Rattle.siri_records.specs.declared.item.Service.TheVariants as service
 use Rattle.siri_records.specs.Ends.{is_dead}
+use Rattle.siri_records.specs.Keyed.{most_live}
+use Rattle.siri_subs.specs.Table.{most_subscriptions}
 use Rattle.siri_topic.specs.Agreement.{same_name}
 use Rattle.siri_topic.specs.declared.subscription.Subscription.{Subscription}
 use Rattle.siri_messages.specs.declared.message.Message.{Message}
@@ -19,7 +21,7 @@ use Rattle.siri_row_texts.specs.declared.moments.Began.{Began}
 use Rattle.siri_row_texts.specs.Reading.{began_of_row, first_asked, item_of_row, renewal_of_row, request_of_row}
 use Rattle.siri_shelf.specs.declared.rows.StoredRow.{StoredRow}
 use Rattle.siri_shelf.specs.Rows.{RowPlace, Rows, of_table, place_of, text_at}
-use Rattle.siri_keeping.specs.Keeping.{is_place}
+use Rattle.siri_keeping.specs.Keeping.{is_place, most_rows}
 
 -- ---- what a row says
 
@@ -81,15 +83,15 @@ is_of_same row other =
 abbrev pub is_bad_beginning : StoredRow → Bool
 is_bad_beginning row = not (length row.key == 0) || is_none (began_of_row row.text)
 
--- At most 100,000 items are kept, of which at most 20,000 aren't dead.
+-- So many items are kept at most, and of those that aren't dead as many as may be live.
 abbrev pub is_bad_item : Rows → StoredRow → Bool
 is_bad_item rows row =
-    is_none (item_in row) || (is_live_in rows row && exceeds 20000 (is_live_in rows) row rows) || exceeds 100000 is_any row rows
+    is_none (item_in row) || (is_live_in rows row && exceeds most_live (is_live_in rows) row rows) || exceeds most_rows is_any row rows
 
--- At most 200 subscriptions are kept, each once.
+-- As many subscriptions are kept as a table may have, each once.
 abbrev pub is_bad_request : Rows → StoredRow → Bool
 is_bad_request rows row =
-    not (is_place row.key) || is_none (request_in row) || exceeds 1 (is_of_same row) row rows || exceeds 200 is_any row rows
+    not (is_place row.key) || is_none (request_in row) || exceeds 1 (is_of_same row) row rows || exceeds most_subscriptions is_any row rows
 
 -- a row that isn't of its table's form, or is one too many
 abbrev pub is_bad : Rows → StoredRow → Bool

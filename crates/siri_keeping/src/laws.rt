@@ -16,7 +16,7 @@ ghost use Rattle.siri_model.specs.Held.{Held};
 ghost use Rattle.siri_topic.specs.declared.subscription.Subscription.{Subscription};
 ghost use Rattle.siri_messages.specs.declared.message.Message.{Message};
 ghost use Rattle.siri_items.specs.Proper.{IsProper};
-ghost use Rattle.siri_wire_laws.specs.ProperMessages.{IsProper as IsProperMessage};
+ghost use Rattle.siri_wire.specs.laws.ProperMessages.{IsProper as IsProperMessage};
 ghost use Rattle.siri_row_texts.specs.Reading.{item_of_row, renewal_of_row, request_of_row};
 ghost use Rattle.siri_row_texts.specs.ItemRows.{key_text, moment_row};
 ghost use Rattle.siri_keeping.specs.Keeping.{AddsOnly, Covers, HasItems, IsProperKey, changes_to, live_after, live_of, moment_put, places_to, puts_to, subscription_puts};

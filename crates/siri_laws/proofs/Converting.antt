@@ -5,7 +5,7 @@ use Rattle.siri_messages.specs.declared.message.Message.{Message}
 use Rattle.siri_tables.specs.Refusals.{Refusal}
 use Rattle.siri_wire.specs.Canonical.{canonical}
 use Rattle.siri_wire.specs.Documents.{message_of}
-use Rattle.siri_wire_laws.proofs.ProperReadMessages.{converted_line_read}
+use Rattle.siri_wire.proofs.ProperReadMessages.{converted_line_read}
 use Rattle.siri_document.specs.OneDocument.{told_of, told_by, convert_text}
 use Rattle.siri_json.specs.Tree.{longest_document}
 

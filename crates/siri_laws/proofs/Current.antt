@@ -21,8 +21,8 @@ use Rattle.siri_model.specs.History.{Entry, Observed, Withdrawn, Step, Start, Cl
 use Rattle.siri_model.specs.History.{is_refused, after_entry, after_step, entries_in, entries_of, entries_fed, now_of, current}
 use Rattle.siri_tables.specs.Proper.{IsMoment}
 use Rattle.siri_items.specs.Proper.{IsProper as IsProperItem}
-use Rattle.siri_wire_laws.specs.ProperDeliveries.{IsProperOf, IsProperDelivery, IsProperServiceDelivery}
-use Rattle.siri_wire_laws.specs.ProperMessages.{IsProper}
+use Rattle.siri_wire.specs.laws.ProperDeliveries.{IsProperOf, IsProperDelivery, IsProperServiceDelivery}
+use Rattle.siri_wire.specs.laws.ProperMessages.{IsProper}
 use Rattle.siri_laws.specs.ProperHistories.{IsProperEntry, IsProperStep, IsProperHistory}
 
 -- each item is proper

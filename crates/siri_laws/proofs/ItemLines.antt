@@ -20,8 +20,8 @@ use Rattle.siri_items.specs.Situations.{situation_table, written_situation}
 use Rattle.siri_items.specs.Vehicles.{vehicle_table, written_vehicle}
 use Rattle.siri_items.specs.Visits.{visit_table, written_visit}
 use Rattle.siri_items.proofs.ItemTables.{journey_laws, situation_laws, vehicle_laws, visit_laws}
-use Rattle.siri_script.specs.Items.{item_line, item_members, item_name, item_object, item_text}
-use Rattle.siri_script.proofs.ItemTexts.{members_of_journey}
+use Rattle.siri_document.specs.script.Items.{item_line, item_members, item_name, item_object, item_text}
+use Rattle.siri_document.proofs.ItemTexts.{members_of_journey}
 
 -- ---- what stands in a line
 

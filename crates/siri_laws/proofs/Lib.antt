@@ -4,3 +4,6 @@ pub mod ItemLines
 pub mod Refused
 pub mod Responses
 pub mod Settles
+pub mod http
+pub mod queries
+pub mod lite

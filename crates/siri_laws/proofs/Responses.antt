@@ -17,17 +17,17 @@ use Rattle.siri_messages.specs.declared.message.Message.TheVariants as message
 use Rattle.siri_messages.specs.declared.requests.ServiceRequest.{ServiceRequest}
 use Rattle.siri_model.specs.Direct.{shown, at_most, most_of, answering, answer, response}
 use Rattle.siri_model.specs.History.{History, entries_of, now_of, current}
-use Rattle.siri_model_laws.proofs.Current.{few_live}
+use Rattle.siri_model.proofs.Current.{few_live}
 use Rattle.siri_responder.proofs.Shown.{response_live}
 use Rattle.siri_tables.specs.Proper.{IsName, IsMoment, IsListWithin}
 use Rattle.siri_items.specs.Proper.{IsProper as IsProperItem, service_of}
 use Rattle.siri_wire.specs.Canonical.{canonical}
 use Rattle.siri_wire.specs.Documents.{message_of}
-use Rattle.siri_wire_laws.specs.ProperDeliveries.{IsProperOf, IsProperDelivery, IsProperServiceDelivery}
-use Rattle.siri_wire_laws.specs.ProperMessages.{IsProper}
-use Rattle.siri_wire_laws.specs.ProperRequests.{IsProperTopic, IsProperServiceRequest}
-use Rattle.siri_wire_laws.proofs.BackDocuments.{canonical_read}
-use Rattle.siri_wire_laws.proofs.ProperReadMessages.{document_proper}
+use Rattle.siri_wire.specs.laws.ProperDeliveries.{IsProperOf, IsProperDelivery, IsProperServiceDelivery}
+use Rattle.siri_wire.specs.laws.ProperMessages.{IsProper}
+use Rattle.siri_wire.specs.laws.ProperRequests.{IsProperTopic, IsProperServiceRequest}
+use Rattle.siri_wire.proofs.BackDocuments.{canonical_read}
+use Rattle.siri_wire.proofs.ProperReadMessages.{document_proper}
 use Rattle.siri_laws.specs.ProperHistories.{IsProperEntry, IsProperHistory}
 use Rattle.siri_laws.proofs.Current.{AreProper, entries_proper, moment_proper, current_proper}
 use Rattle.siri_deliveries.specs.Limits.{most_entries}

@@ -6,7 +6,7 @@ use Rattle.std.proofs.lemmas.Bool.{lt-leb, lt-ltb}
 use Rattle.siri_records.specs.Keyed.{Items}
 use Rattle.siri_change.specs.Parts.{Carried}
 use Rattle.siri_messages.specs.Asked.{Asked}
-use Rattle.siri_status.specs.Beats as status
+use Rattle.siri_subs.specs.Beats as status
 use Rattle.siri_life.specs.Life.{Outstanding, is_due, resend_interval}
 use Rattle.siri_life.specs.Slot.{Slot, is_message_due, opens_round}
 use Rattle.siri_subs.specs.declared.entry.Row.{Row}
@@ -15,7 +15,7 @@ use Rattle.siri_model.specs.History.{History, State, Settle, nothing, after_step
 use Rattle.siri_model.specs.Lives.{table_of}
 use Rattle.siri_model.specs.Meaning.{meaning}
 use Rattle.siri_model.specs.Rows.{KeptLife, asked_of, looked, sent_if_due, is_heartbeat_due, settled_row, rows_of, rows_after}
-use Rattle.siri_model_laws.proofs.Histories.{rows_go_on}
+use Rattle.siri_model.proofs.Histories.{rows_go_on}
 use Rattle.siri_subscriptions.specs.Sends.{At, row_sends, table_sends}
 use Rattle.siri_producer.specs.Sends.{sends}
 

@@ -1,1 +1,4 @@
 pub mod ProperHistories
+pub mod http
+pub mod queries
+pub mod lite

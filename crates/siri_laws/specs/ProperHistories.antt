@@ -4,7 +4,7 @@ use Rattle.std.specs.List.{AllByRecursion}
 use Rattle.siri_model.specs.History.{Entry, Observed, Withdrawn, Step, Start, Clock, Feed, Take, Settle, History}
 use Rattle.siri_tables.specs.Proper.{IsMoment}
 use Rattle.siri_items.specs.Proper.{IsProper as IsProperItem}
-use Rattle.siri_wire_laws.specs.ProperMessages.{IsProper}
+use Rattle.siri_wire.specs.laws.ProperMessages.{IsProper}
 
 -- an item that is observed is proper; of a key that is withdrawn nothing is shown
 abbrev pub IsProperEntry : Entry → Type 0

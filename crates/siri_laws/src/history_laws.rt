@@ -9,8 +9,8 @@ ghost use Rattle.siri_model.specs.History.{History, Feed, entries_of, now_of, cu
 ghost use Rattle.siri_tables.specs.Proper.{IsName};
 ghost use Rattle.siri_wire.specs.Canonical.{canonical};
 ghost use Rattle.siri_wire.specs.Documents.{message_of};
-ghost use Rattle.siri_wire_laws.specs.ProperMessages.{IsProper};
-ghost use Rattle.siri_wire_laws.specs.ProperRequests.{IsProperServiceRequest};
+ghost use Rattle.siri_wire.specs.laws.ProperMessages.{IsProper};
+ghost use Rattle.siri_wire.specs.laws.ProperRequests.{IsProperServiceRequest};
 ghost use Rattle.siri_laws.specs.ProperHistories.{IsProperStep, IsProperHistory};
 ghost use Rattle.siri_json.specs.Tree.{longest_document};
 

@@ -3,7 +3,7 @@
 ghost use Rattle.std.specs.Prelude.{◌≡◌};
 ghost use Rattle.siri_records.specs.declared.item.Item.{Item};
 ghost use Rattle.siri_items.specs.Proper.{IsProper};
-ghost use Rattle.siri_script.specs.Items.{item_line};
+ghost use Rattle.siri_document.specs.script.Items.{item_line};
 
 /// The line by which a view lists an item says all of it: two proper items that have the same line are equal in every
 /// field.

@@ -9,3 +9,4 @@ pub mod Held
 pub mod Looks
 pub mod Followed
 pub mod Facts
+pub mod laws

@@ -6,7 +6,7 @@ use Rattle.siri_change.specs.Changes as change
 use Rattle.siri_change.specs.Parts as part
 use Rattle.siri_change.specs.Parts.{Carried, carried, changes_in, parts_of}
 use Rattle.siri_change.specs.Views.{is_view}
-use Rattle.siri_status.specs.Beats.{is_due}
+use Rattle.siri_subs.specs.Beats.{is_due}
 use Rattle.siri_life.specs.Meaning.{Meaning}
 use Rattle.siri_model.specs.Direct.{direct_to}
 use Rattle.siri_model.specs.History.{Entry, Start, Clock, Feed, History, now_of, current}

@@ -6,12 +6,12 @@ use Rattle.siri_records.specs.declared.key.Key.{Key}
 use Rattle.siri_records.specs.Keyed.{Items, living}
 use Rattle.siri_subs.specs.declared.entry.Row.{Row}
 use Rattle.siri_subs.specs.Mapped.{mapped_row}
-use Rattle.siri_marks.specs.Marked.{Marked}
+use Rattle.siri_store.specs.Marked.{Marked}
 use Rattle.siri_model.specs.Followed.{Followed, Look, followed_after, followed_of, life_row, look_bounds, touch, touched_look}
 use Rattle.siri_model.specs.History.{Step, History, state_of, now_of, current}
-use Rattle.siri_model_laws.specs.Followed.{HoldsBy, RowHolds, AllHold}
-use Rattle.siri_model_laws.proofs.FactsHold.{facts_hold}
-use Rattle.siri_model_laws.proofs.FollowedRows.{are_the_rows, go_on}
+use Rattle.siri_model.specs.laws.Followed.{HoldsBy, RowHolds, AllHold}
+use Rattle.siri_model.proofs.FactsHold.{facts_hold}
+use Rattle.siri_model.proofs.FollowedRows.{are_the_rows, go_on}
 use Rattle.siri_responder.specs.Known as responder
 use Rattle.siri_subscriptions.specs.declared.course.Course.{Course}
 use Rattle.siri_subscriptions.specs.declared.course.Looked.{Looked}

@@ -18,9 +18,9 @@ use Rattle.siri_change.specs.Parts.{Carried}
 use Rattle.siri_life.specs.Life.{Mark, Outstanding, sent_at}
 use Rattle.siri_life.specs.Named.{Name}
 use Rattle.siri_life.specs.Slot.{is_message_due, opens_round, sent, sent_of, supply_if, supply_of, with_supply, begun}
-use Rattle.siri_rounds.specs.Wanted.{KeptRounds, WantedPart, wanted_part, wanted_part_of}
-use Rattle.siri_rounds.specs.declared.answers.SupplyError.{SupplyError}
-use Rattle.siri_rounds.specs.declared.answers.SupplyError.TheVariants as refused_as
+use Rattle.siri_subs.specs.rounds.Wanted.{KeptRounds, WantedPart, wanted_part, wanted_part_of}
+use Rattle.siri_subs.specs.declared.rounds.answers.SupplyError.{SupplyError}
+use Rattle.siri_subs.specs.declared.rounds.answers.SupplyError.TheVariants as refused_as
 use Rattle.siri_subs.specs.declared.entry.Row.{Row}
 use Rattle.siri_subs.specs.declared.errors.Accepted.{Accepted}
 use Rattle.siri_subs.specs.declared.errors.RenumberError.{RenumberError}
@@ -35,11 +35,11 @@ use Rattle.siri_model.specs.Meaning.{meaning}
 use Rattle.siri_model.specs.Rows.{KeptLife, asked_of, is_numbered, looked, next_round, rows_after, rows_of}
 use Rattle.siri_model.specs.Rows.{rows_supplied, rows_taken, sent_if_due, settled_row, supplied_row, with_rounds}
 use Rattle.siri_model.specs.Rows.{with_row_of}
-use Rattle.siri_model_laws.proofs.Current.{last_appended}
-use Rattle.siri_model_laws.proofs.FollowedRows.{go_on}
-use Rattle.siri_model_laws.proofs.Histories.{rows_go_on}
-use Rattle.siri_model_laws.proofs.InOrder.{more_steps}
-use Rattle.siri_replies.specs.Parts.{part_delivery, refused_supply}
+use Rattle.siri_model.proofs.Current.{last_appended}
+use Rattle.siri_model.proofs.FollowedRows.{go_on}
+use Rattle.siri_model.proofs.Histories.{rows_go_on}
+use Rattle.siri_model.proofs.InOrder.{more_steps}
+use Rattle.siri_subscriptions.specs.replies.Parts.{part_delivery, refused_supply}
 use Rattle.siri_responder.proofs.Stands.{stands_alike}
 use Rattle.siri_subscriptions.specs.Acknowledgements.{names_wanted}
 use Rattle.siri_subscriptions.specs.Sends.{table_sends}

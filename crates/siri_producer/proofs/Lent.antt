@@ -5,15 +5,15 @@ use Rattle.siri_records.specs.Keyed.{Items, KeyChange}
 use Rattle.siri_topic.specs.declared.topics.Topic.{Topic}
 use Rattle.siri_messages.specs.declared.requests.ServiceRequest.{ServiceRequest}
 use Rattle.siri_life.specs.Life.{Outstanding}
-use Rattle.siri_rounds.specs.Wanted.{WantedPart, outstanding_carried, part_sent, rounds_carried, wanted_part}
-use Rattle.siri_rounds.specs.declared.parts.Part.{Part}
+use Rattle.siri_subs.specs.rounds.Wanted.{WantedPart, outstanding_carried, part_sent, rounds_carried, wanted_part}
+use Rattle.siri_subs.specs.declared.rounds.parts.Part.{Part}
 use Rattle.siri_subs.specs.declared.entry.Row.{Row}
 use Rattle.siri_subs.specs.Table.{is_of}
 use Rattle.siri_model.specs.Direct.{answer, response, shown}
 use Rattle.siri_model.specs.History.{History, current, now_of}
 use Rattle.siri_model.specs.Lives.{table_of}
 use Rattle.siri_model.specs.Rows.{rows_of}
-use Rattle.siri_model_laws.proofs.Lawful.{shown_live}
+use Rattle.siri_model.proofs.Lawful.{shown_live}
 use Rattle.siri_responder.specs.Known as responder
 use Rattle.siri_subscriptions.specs.Courses.{kept_row}
 use Rattle.siri_subscriptions.specs.declared.course.Course.{Course}

@@ -11,7 +11,7 @@ use Rattle.siri_messages.specs.declared.supplies.DataSupplyRequest.{DataSupplyRe
 use Rattle.siri_messages.specs.declared.supplies.Mark.{Mark}
 use Rattle.siri_messages.specs.declared.terminations.TerminateSubscriptionRequest.{TerminateSubscriptionRequest}
 use Rattle.siri_life.specs.Named.{Name}
-use Rattle.siri_marks.specs.Marked.{Marked}
+use Rattle.siri_store.specs.Marked.{Marked}
 use Rattle.siri_subs.specs.declared.entry.Row.{Row}
 use Rattle.siri_subs.specs.Mapped.{mapped_row, with_mapped_slots}
 use Rattle.siri_subs.specs.Table.{is_of, accepted, ended, is_renumbered_by}
@@ -22,8 +22,8 @@ use Rattle.siri_model.specs.Rows as taken
 use Rattle.siri_model.specs.Rows.{KeptLife, acknowledged_row, asked_of, nothing_kept, rows_acknowledged, rows_taken}
 use Rattle.siri_model.specs.Rows.{supplied_row}
 use Rattle.siri_model.specs.Lives.{mark_of}
-use Rattle.siri_model_laws.proofs.AllRows.{accepted_all, ended_all}
-use Rattle.siri_model_laws.proofs.FollowedRows.{taken_lives}
+use Rattle.siri_model.proofs.AllRows.{accepted_all, ended_all}
+use Rattle.siri_model.proofs.FollowedRows.{taken_lives}
 use Rattle.siri_subscriptions.specs.declared.course.Course.{Course}
 use Rattle.siri_subscriptions.specs.declared.course.Looked.{Looked}
 use Rattle.siri_subscriptions.specs.Courses.{kept_rows}

@@ -7,7 +7,7 @@ use Rattle.siri_change.specs.Changes as change
 use Rattle.siri_change.specs.Parts.{Carried}
 use Rattle.siri_life.specs.Life as life
 use Rattle.siri_life.specs.Life.{Outstanding}
-use Rattle.siri_rounds.specs.Wanted.{outstanding_carried}
+use Rattle.siri_subs.specs.rounds.Wanted.{outstanding_carried}
 use Rattle.siri_subs.specs.declared.entry.Row.{Row}
 use Rattle.siri_subs.specs.Table.{is_of}
 use Rattle.siri_model.specs.Direct.{direct_to}
@@ -15,8 +15,8 @@ use Rattle.siri_model.specs.History.{History, now_of, current}
 use Rattle.siri_model.specs.Lives.{Living, life_of, number_if_quiet, quiet_number}
 use Rattle.siri_model.specs.Meaning.{direct_of, meaning}
 use Rattle.siri_model.specs.Rows.{KeptLife, row_of}
-use Rattle.siri_model_laws.proofs.Histories.{row_of_life}
-use Rattle.siri_model_laws.proofs.Lawful.{direct_live}
+use Rattle.siri_model.proofs.Histories.{row_of_life}
+use Rattle.siri_model.proofs.Lawful.{direct_live}
 use Rattle.siri_subscriptions.specs.declared.course.Course.{Course}
 use Rattle.siri_subscriptions.specs.Courses.{kept_row, KnowsLevel, KnowLevels}
 use Rattle.siri_responder.specs.Known as responder

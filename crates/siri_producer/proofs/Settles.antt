@@ -10,14 +10,14 @@ use Rattle.siri_records.specs.Keyed.{Items, KeyChange, living}
 use Rattle.siri_life.specs.Life.{Outstanding}
 use Rattle.siri_subs.specs.declared.entry.Row.{Row}
 use Rattle.siri_subs.specs.Mapped.{mapped_row}
-use Rattle.siri_marks.specs.Marked.{Marked, SameFrom, keys_since}
-use Rattle.siri_rounds.specs.Wanted.{outstanding_carried}
+use Rattle.siri_store.specs.Marked.{Marked, SameFrom, keys_since}
+use Rattle.siri_subs.specs.rounds.Wanted.{outstanding_carried}
 use Rattle.siri_model.specs.Followed.{Followed, followed_after, followed_of, followed_settled, keys_apart, life_row, look_at, look_bounds, look_by, opens}
 use Rattle.siri_model.specs.History.{Settle, History, State, now_of, current, state_of}
 use Rattle.siri_model.specs.Lives.{table_of}
 use Rattle.siri_model.specs.Rows as model
 use Rattle.siri_model.specs.Rows.{rows_after, rows_of}
-use Rattle.siri_model_laws.proofs.Lawful.{direct_live}
+use Rattle.siri_model.proofs.Lawful.{direct_live}
 use Rattle.siri_responder.specs.Known as responder
 use Rattle.siri_responder.proofs.Stands.{stands_named}
 use Rattle.siri_subscriptions.specs.declared.course.Course.{Course}

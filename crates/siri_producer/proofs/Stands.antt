@@ -17,10 +17,10 @@ use Rattle.siri_model.specs.Last.{entry_key}
 use Rattle.siri_model.specs.History.{Entry, Step, Start, Clock, Feed, Take, Settle, History, State, after_step, entries_fed, entries_of, state_of, now_of}
 use Rattle.siri_model.specs.Lives.{is_settle, served_after, table_of}
 use Rattle.siri_model.specs.Rows.{KeptLife, rows_after, rows_of, settled_row}
-use Rattle.siri_model_laws.proofs.Current.{last_appended}
-use Rattle.siri_model_laws.proofs.Histories.{rows_go_on}
-use Rattle.siri_model_laws.proofs.InOrder.{more_steps}
-use Rattle.siri_model_laws.proofs.Lawful.{direct_live}
+use Rattle.siri_model.proofs.Current.{last_appended}
+use Rattle.siri_model.proofs.Histories.{rows_go_on}
+use Rattle.siri_model.proofs.InOrder.{more_steps}
+use Rattle.siri_model.proofs.Lawful.{direct_live}
 use Rattle.siri_responder.specs.Known as responder
 use Rattle.siri_responder.proofs.Stands.{stands_alike, stands_named}
 use Rattle.siri_subscriptions.specs.declared.course.Course.{Course}

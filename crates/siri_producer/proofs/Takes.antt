@@ -25,11 +25,11 @@ use Rattle.siri_model.specs.History.{Entry, Feed, Take, History, State, after_st
 use Rattle.siri_model.specs.Lives.{is_settle, table_of}
 use Rattle.siri_model.specs.Rows as taken
 use Rattle.siri_model.specs.Rows.{KeptLife, rows_of, rows_after, rows_acknowledged, rows_asked, rows_ended, rows_taken}
-use Rattle.siri_model_laws.proofs.Current.{last_appended}
-use Rattle.siri_model_laws.proofs.FollowedRows.{go_on}
-use Rattle.siri_model_laws.proofs.Histories.{rows_go_on}
-use Rattle.siri_model_laws.proofs.InOrder.{more_steps}
-use Rattle.siri_replies.specs.Statuses.{status_response}
+use Rattle.siri_model.proofs.Current.{last_appended}
+use Rattle.siri_model.proofs.FollowedRows.{go_on}
+use Rattle.siri_model.proofs.Histories.{rows_go_on}
+use Rattle.siri_model.proofs.InOrder.{more_steps}
+use Rattle.siri_subscriptions.specs.replies.Statuses.{status_response}
 use Rattle.siri_responder.specs.declared.feeding.Fed.{Fed}
 use Rattle.siri_responder.specs.FedCounts.{fed_counts}
 use Rattle.siri_responder.specs.Known as responder
@@ -442,6 +442,22 @@ still known h s = stands_alike known h (h ++ Feed [] ∷ []) (more_steps h (Feed
 
 touches_none : (known : responder.Known) → responder.Touches known known []
 touches_none known = record { number = refl; touched = λ n le. refl }
+
+-- none of some entries was taken
+pub took_none : (known : responder.Known) (entries : List Entry) → responder.TookSome known known entries
+took_none known entries = record { n = 0; goes_on = still known; touched = touches_none known }
+
+-- memory was wanting before anything of a feed was taken
+pub refused_whole : (known : responder.Known) (rows : List (Row Course)) (settled : Bool)
+    → AreNumbered known.marks.number rows → (d : ServiceDelivery) → has_round d ≡ false
+    → RefusedAt (known_of known rows settled) (known_of known rows false) (message.ServiceDelivery d)
+refused_whole known rows settled numbered d none =
+    let m = message.ServiceDelivery d in
+    let old = known_of known rows settled in
+    let new = known_of known rows false in
+    let some : TookSome old new (entries_fed m) =
+    (0, goes_fed known known rows settled numbered [] (still known) (touches_none known)) in
+    subst (λ b. RefusedIf (not b) old new m) (sym none) some
 
 pub some_ignored : (known : responder.Known) (rows : List (Row Course)) (settled : Bool) → IsProducer known rows settled
     → IsProducer known rows false

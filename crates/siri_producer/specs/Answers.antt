@@ -10,11 +10,11 @@ use Rattle.siri_model.specs.Fed.{counts_of}
 use Rattle.siri_model.specs.History.{History, entries_of, now_of, start_of, started_of, current}
 use Rattle.siri_model.specs.Lives.{table_of}
 use Rattle.siri_model.specs.Rows.{KeptLife, rows_of}
-use Rattle.siri_replies.specs.Statuses.{feed_acknowledgement, status_response}
+use Rattle.siri_subscriptions.specs.replies.Statuses.{feed_acknowledgement, status_response}
 use Rattle.siri_responder.specs.declared.feeding.Fed.{Fed}
 use Rattle.siri_responder.specs.FedCounts.{fed_counts}
-use Rattle.siri_rounds.specs.declared.answers.SupplyError.{SupplyError}
-use Rattle.siri_rounds.specs.declared.answers.SupplyError.TheVariants as refused_as
+use Rattle.siri_subs.specs.declared.rounds.answers.SupplyError.{SupplyError}
+use Rattle.siri_subs.specs.declared.rounds.answers.SupplyError.TheVariants as refused_as
 use Rattle.siri_subs.specs.declared.entry.Row.{Row}
 use Rattle.siri_subs.specs.declared.errors.Accepted.{Accepted}
 use Rattle.siri_subs.specs.declared.errors.RenumberError.{RenumberError}

@@ -11,7 +11,7 @@ use Rattle.siri_model.specs.Direct.{most_of}
 use Rattle.siri_model.specs.Rows.{KeptLife}
 use Rattle.siri_records.specs.declared.item.Service.{Service}
 use Rattle.siri_records.specs.declared.item.Service.TheVariants as service
-use Rattle.siri_rounds.specs.Wanted.{WantedPart, part_sent, wanted_part}
+use Rattle.siri_subs.specs.rounds.Wanted.{WantedPart, part_sent, wanted_part}
 use Rattle.siri_subs.specs.declared.entry.Row.{Row}
 use Rattle.siri_subs.specs.Table.{is_of}
 use Rattle.siri_topic.specs.declared.subscription.Subscription.{Subscription}

@@ -4,7 +4,7 @@
 use Rattle.std.specs.Prelude.{◌≡◌, ℕ, ◌≤◌, List, map, Bool, true, Option, Some, option_map}
 use Rattle.std.specs.List.{All}
 use Rattle.siri_subs.specs.declared.entry.Row.{Row}
-use Rattle.siri_marks.specs.Marked.{Marked}
+use Rattle.siri_store.specs.Marked.{Marked}
 use Rattle.siri_subscriptions.specs.declared.course.Course.{Course}
 use Rattle.siri_subscriptions.specs.declared.course.Looked.{Looked}
 use Rattle.siri_subscriptions.specs.Courses.{kept_rows, KnowLevels}

@@ -18,10 +18,9 @@
 //! subscription it knows the last look, and which keys were touched since then, so that a settle reads few items. An
 //! event is a `clock`, a `feed` or a `take`, and a `settle` after it.
 //!
-//! Stands on `siri_base`, `siri_records`, `siri_topic`, `siri_messages`, `siri_store`, `siri_subs`, `siri_rounds`,
-//! `siri_replies`, `siri_responder` and `siri_subscriptions`; its contracts cite the histories and lives of
-//! `siri_model`, and its proofs what follows of them in `siri_model_laws`. It reads and writes no text, and knows no
-//! wire and no clock.
+//! Stands on `siri_base`, `siri_records`, `siri_topic`, `siri_messages`, `siri_store`, `siri_subs`, `siri_responder`
+//! and `siri_subscriptions`; its contracts cite the histories and lives of `siri_model`, and its proofs what follows of
+//! them there. It reads and writes no text, and knows no wire and no clock.
 #![tactic(auto)]
 
 mod answers;
@@ -35,4 +34,6 @@ pub use holding::Subscribed;
 pub use lending::{LentPart, Supplied, is_lent, lent_topic};
 pub use producer::Producer;
 pub use siri_responder::Fed;
+pub use siri_store::MOST_LIVE;
+pub use siri_subs::MOST_SUBSCRIPTIONS;
 pub use siri_subscriptions::Out;

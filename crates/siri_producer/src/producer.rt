@@ -14,7 +14,7 @@ ghost use Rattle.siri_base.specs.Numbers.{greatest_number};
 ghost use Rattle.siri_subs.specs.Table.{most_subscriptions};
 
 use crate::{Answer, Fed, Out};
-use siri_base::{List, Moment, Name, OutOfMemory};
+use siri_base::{Copies, List, Moment, Name, OutOfMemory};
 use siri_messages::{Message, ServiceDelivery, ServiceRequest};
 use siri_responder::Responder;
 use siri_subs::Table;
@@ -86,8 +86,9 @@ impl Producer {
     }
 
     /// Takes the items and removals of a delivery, in the order Stop Monitoring, Estimated Timetable, Vehicle
-    /// Monitoring, Situation Exchange, delivery by delivery, items before removals, and tells how many. Each item is
-    /// copied as it comes. After want of memory the entries before the refused one stand.
+    /// Monitoring, Situation Exchange, delivery by delivery, items before removals, and tells how many. The delivery is
+    /// copied first, so that its items can be kept. After want of memory the entries before the refused one stand, and none
+    /// of them where it was wanting for the copy.
     pub fn feed(&mut self, delivery: &ServiceDelivery) -> Result<Fed, OutOfMemory>
         ensures ok { OnOk result (GoesOn self.old self.new (Feed (entries_of delivery.now))) }
         ensures counts { IfOk result (CountsFor self.old (entries_of delivery.now)) }
@@ -96,6 +97,7 @@ impl Producer {
         ensures reads { self.new.responder.reads ≡ self.old.responder.reads }
     {
         self.is_settled = false;
+        let delivery = delivery.copy()?;
         self.responder.feed(delivery)
     }
 
@@ -108,7 +110,7 @@ impl Producer {
         ensures reads { self.new.responder.reads ≡ self.old.responder.reads }
     {
         self.is_settled = false;
-        self.responder.feed_owned(delivery)
+        self.responder.feed(delivery)
     }
 
     /// The direct response to a request: one functional delivery for each of its topics, in the order Stop Monitoring,
@@ -124,9 +126,12 @@ impl Producer {
     }
 
     /// Takes a message, and answers what became of it, with the reply. A ServiceDelivery of no round is a feed; after
-    /// want of memory its entries before the refused one stand, and all of them where only the reply found none. After
-    /// want of memory for any other message nothing but the counter of steps changed. The counter rises for a
-    /// ServiceRequest alone, as `direct` says: by at most as many steps as items are held, for each topic.
+    /// want of memory its entries before the refused one stand, none of them where it was wanting for the copy, and all of
+    /// them where only the reply found none. After want of memory for any other message nothing but the counter of steps
+    /// changed. The counter rises for a ServiceRequest alone, as `direct` says: by at most as many steps as items are held,
+    /// for each topic.
+    ///
+    /// A feed is copied first, so that its items can be kept; `take_owned` takes one that is handed over.
     pub fn take(&mut self, message: &Message) -> Result<Answer, OutOfMemory>
         ensures ok { OnOk result (GoesOn self.old self.new (Take message.now)) }
         ensures answer { IfOk result (AnswerFor self.old message.now) }
@@ -142,7 +147,7 @@ impl Producer {
             Message::DataSupplyRequest(request) => self.take_supply_request(request),
             Message::DataReceivedAcknowledgement(message) => Ok(self.take_acknowledgement(message)),
             Message::CheckStatusRequest(request) => self.take_status_request(request),
-            Message::ServiceDelivery(delivery) => self.take_delivery(delivery),
+            Message::ServiceDelivery(delivery) => self.take_lent_delivery(delivery),
             _ => Ok(self.ignore()),
         }
     }
@@ -160,7 +165,7 @@ impl Producer {
             let Some(delivery) = message.into_service_delivery() else {
                 unreachable!()
             };
-            return self.take_delivery_owned(delivery);
+            return self.take_delivery(delivery);
         }
         let answer = self.take(&message);
         drop(message);

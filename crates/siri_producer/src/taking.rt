@@ -15,10 +15,10 @@ use siri_messages::{
     CheckStatusRequest, DataReceivedAcknowledgement, DataSupplyRequest, Message, ServiceDelivery,
     ServiceRequest, SubscriptionRequest, TerminateSubscriptionRequest,
 };
-use siri_replies::{feed_acknowledgement, status_response};
-use siri_rounds::{SupplyError, Taken};
-use siri_subs::{Accepted, RenumberError};
-use siri_subscriptions::{acknowledge, renew, subscribe, supply, terminate};
+use siri_subs::{Accepted, RenumberError, SupplyError, Taken};
+use siri_subscriptions::{
+    acknowledge, feed_acknowledgement, renew, status_response, subscribe, supply, terminate,
+};
 
 impl Producer {
     /// A ServiceRequest, which is answered by the direct response of its topics.
@@ -149,8 +149,8 @@ impl Producer {
         Ok(Answer::replied(Note::Checked, Message::CheckStatusResponse(response)))
     }
 
-    /// A ServiceDelivery, which is a feed where it is of no round.
-    pub(crate) fn take_delivery(
+    /// A ServiceDelivery that is lent. A feed is copied; where there is no memory for that, none of its entries is taken.
+    pub(crate) fn take_lent_delivery(
         &mut self,
         delivery: &ServiceDelivery,
     ) -> Result<Answer, OutOfMemory>
@@ -160,14 +160,17 @@ impl Producer {
         if delivery.has_round() {
             return Ok(self.ignore());
         }
-        self.take_feed(delivery)
+        match delivery.copy() {
+            Ok(delivery) => self.take_feed(delivery),
+            Err(OutOfMemory) => {
+                self.is_settled = false;
+                Err(OutOfMemory)
+            }
+        }
     }
 
-    /// As `take_delivery`, of one that is handed over.
-    pub(crate) fn take_delivery_owned(
-        &mut self,
-        delivery: ServiceDelivery,
-    ) -> Result<Answer, OutOfMemory>
+    /// A ServiceDelivery, which is a feed where it is of no round.
+    pub(crate) fn take_delivery(&mut self, delivery: ServiceDelivery) -> Result<Answer, OutOfMemory>
         ensures takes { Takes self.old self.new (message.ServiceDelivery delivery) result }
         ensures reads { self.new.responder.reads ≡ self.old.responder.reads }
     {
@@ -175,22 +178,11 @@ impl Producer {
             drop(delivery);
             return Ok(self.ignore());
         }
-        self.take_feed_owned(delivery)
-    }
-
-    /// A ServiceDelivery of no round, whose items are copied.
-    fn take_feed(&mut self, delivery: &ServiceDelivery) -> Result<Answer, OutOfMemory>
-        requires { has_round delivery.now ≡ false }
-        ensures takes { Takes self.old self.new (message.ServiceDelivery delivery.now) result }
-        ensures reads { self.new.responder.reads ≡ self.old.responder.reads }
-    {
-        let fed = self.feed(delivery)?;
-        let identifier = delivery.response_message_identifier.copy()?;
-        self.acknowledge_feed(identifier, fed)
+        self.take_feed(delivery)
     }
 
     /// A ServiceDelivery of no round, whose items are kept.
-    fn take_feed_owned(&mut self, mut delivery: ServiceDelivery) -> Result<Answer, OutOfMemory>
+    fn take_feed(&mut self, mut delivery: ServiceDelivery) -> Result<Answer, OutOfMemory>
         requires { has_round delivery ≡ false }
         ensures takes { Takes self.old self.new (message.ServiceDelivery delivery) result }
         ensures reads { self.new.responder.reads ≡ self.old.responder.reads }

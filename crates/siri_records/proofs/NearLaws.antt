@@ -1,485 +1,190 @@
--- Every item is near itself, and items that are near differ in nothing but their record times and predicted times.
-use Rattle.std.proofs.Common.{◌≡◌, ℤ, pos, List, [], ◌∷◌, map, fold, Option, None, Some, Bool, true, false, ◌&&◌, nat_eq, refl, ap, eqb-true, eq-eqb}
-use Rattle.std.specs.Bool.{beq}
-use Rattle.std.specs.Ordering.{int_eq}
-use Rattle.std.specs.Option.{option_eq, option_map}
-use Rattle.std.specs.Cmp.{signed_Decides}
-use Rattle.std.specs.Cmp.Lexicographic.{pointwise}
-use Rattle.siri_records.specs.declared.call.StopCall.{StopCall}
+-- Every item is near itself, items that are near differ in nothing but their record times and predicted times, with no
+-- slack they are equal but for the former, and slacks add up along a chain: by induction over the tables, of the laws of
+-- their rows.
+use Rattle.std.proofs.Common.{◌≡◌, ℕ, ◌+◌, ℤ, pos, [], ◌∷◌, true, refl, ap}
+use Rattle.std.proofs.lemmas.Bool.{and_parts}
 use Rattle.siri_records.specs.declared.item.Item.{Item}
 use Rattle.siri_records.specs.declared.item.Item.TheVariants as item
 use Rattle.siri_records.specs.declared.journey.Journey.{Journey}
 use Rattle.siri_records.specs.declared.situation.Situation.{Situation}
 use Rattle.siri_records.specs.declared.vehicle.Vehicle.{Vehicle}
-use Rattle.siri_records.specs.declared.vehicle.VehicleJourney.{VehicleJourney}
 use Rattle.siri_records.specs.declared.visit.Visit.{Visit}
-use Rattle.siri_records.specs.declared.visit.VisitJourney.{VisitJourney}
-use Rattle.siri_records.specs.Near.{same_text, same_location, same_period, is_close, are_close_moments, is_near_call, is_near_visit_journey}
-use Rattle.siri_records.specs.Near.{is_near_visit, is_near_journey, is_near_vehicle_journey, is_near_vehicle, is_near_situation, is_near}
-use Rattle.siri_records.specs.Near.{steady_call, steady_visit_journey, steady_visit, steady_journey, steady_vehicle_journey, steady_vehicle}
-use Rattle.siri_records.specs.Near.{steady}
+use Rattle.siri_records.specs.Near.{Table, all_pass, call_table, visit_journey_table, visit_table, journey_table, vehicle_journey_table}
+use Rattle.siri_records.specs.Near.{vehicle_table, situation_table, is_near_call, is_near_visit_journey, is_near_visit, is_near_journey}
+use Rattle.siri_records.specs.Near.{is_near_vehicle_journey, is_near_vehicle, is_near_situation, is_near}
+use Rattle.siri_records.specs.Near.{steady_call, steady_visit_journey, steady_visit, steady_journey, steady_vehicle_journey, steady_vehicle, steady}
+use Rattle.siri_records.proofs.NearTests.{TestLaws, PassesSteady, number_laws, flag_laws, text_laws, location_laws, period_laws}
+use Rattle.siri_records.proofs.NearTests.{optional_laws, optional_passes_steady, each_laws, each_passes_steady, close_laws, close_moments_laws}
 
--- ---- tests that hold of equal values alone
+-- ---- tables
 
--- a test is exact where it holds of equal values alone
-abbrev IsExact : {A : Type 0} → (A → A → Bool) → Type 0
-IsExact {A} E = (a b : A) → E a b ≡ true → a ≡ b
+abbrev AllLaws : {S : Type 0} → Table S → Type 0
+AllLaws [] = Unit {0}
+AllLaws (r ∷ t) = TestLaws r.test × AllLaws t
 
-both : (p q : Bool) → (p && q) ≡ true → (p ≡ true) × (q ≡ true)
-both true q e = (refl, e)
-both false q e = cc
+-- the two values of each row are equal
+abbrev AllEqual : {S : Type 0} → Table S → S → S → Type 0
+AllEqual [] a b = Unit {0}
+AllEqual (r ∷ t) a b = (r.of a ≡ r.of b) × AllEqual t a b
 
-number_exact : IsExact nat_eq
-number_exact a b e = eqb-true a b e
+-- where the two values of a row pass, what is steady of them passes with no slack
+abbrev AllPassSteady : {S : Type 0} → Table S → (S → S) → Type 0
+AllPassSteady [] rest = Unit {0}
+AllPassSteady {S} (r ∷ t) rest =
+    ((slack : ℤ) (a b : S) → r.test slack (r.of a) (r.of b) ≡ true → r.test (pos 0) (r.of (rest a)) (r.of (rest b)) ≡ true)
+    × AllPassSteady t rest
 
-signed_exact : IsExact int_eq
-signed_exact a b e = (signed_Decides a b).0 e
+all_itself : {S : Type 0} (t : Table S) → AllLaws t → (slack : ℤ) (a : S) → all_pass t slack a a ≡ true
+all_itself [] laws slack a = refl
+all_itself (r ∷ t) laws slack a = rw (laws.0.itself slack (r.of a)) (all_itself t laws.1 slack a)
 
-flag_exact : IsExact beq
-flag_exact true true e = refl
-flag_exact false false e = refl
-flag_exact true false e = cc
-flag_exact false true e = cc
+all_equal : {S : Type 0} (t : Table S) → AllLaws t → (a b : S) → all_pass t (pos 0) a b ≡ true → AllEqual t a b
+all_equal [] laws a b e = tt
+all_equal (r ∷ t) laws a b e =
+    let parts = and_parts (r.test (pos 0) (r.of a) (r.of b)) (all_pass t (pos 0) a b) e in
+    (laws.0.exact (r.of a) (r.of b) parts.0, all_equal t laws.1 a b parts.1)
 
-option_exact : {A : Type 0} {E : A → A → Bool} → IsExact E → IsExact (option_eq E)
-option_exact h None None e = refl
-option_exact h (Some a) (Some b) e = ap Some (h a b e)
-option_exact h None (Some b) e = cc
-option_exact h (Some a) None e = cc
+all_join : {S : Type 0} (t : Table S) → AllLaws t → (p q : ℕ) (a b c : S)
+    → all_pass t (pos p) a b ≡ true → all_pass t (pos q) b c ≡ true → all_pass t (pos (p + q)) a c ≡ true
+all_join [] laws p q a b c h k = refl
+all_join (r ∷ t) laws p q a b c h k =
+    let first = and_parts (r.test (pos p) (r.of a) (r.of b)) (all_pass t (pos p) a b) h in
+    let second = and_parts (r.test (pos q) (r.of b) (r.of c)) (all_pass t (pos q) b c) k in
+    rw (laws.0.joins p q (r.of a) (r.of b) (r.of c) first.0 second.0) (all_join t laws.1 p q a b c first.1 second.1)
 
-list_exact : {A : Type 0} {E : A → A → Bool} → IsExact E → IsExact (pointwise E)
-list_exact h [] [] e = refl
-list_exact {E = E} h (a ∷ as') (b ∷ bs) e = let f = both (E a b) (pointwise E as' bs) e in λ i. h a b f.0 i ∷ list_exact h as' bs f.1 i
-list_exact h [] (b ∷ bs) e = cc
-list_exact h (a ∷ as') [] e = cc
+all_pass_steady : {S : Type 0} (t : Table S) (rest : S → S) → AllPassSteady t rest → PassesSteady (all_pass t) rest
+all_pass_steady [] rest passes slack a b e = refl
+all_pass_steady (r ∷ t) rest passes slack a b e =
+    let parts = and_parts (r.test slack (r.of a) (r.of b)) (all_pass t slack a b) e in
+    rw (passes.0 slack a b parts.0) (all_pass_steady t rest passes.1 slack a b parts.1)
 
-text_exact : IsExact same_text
-text_exact = list_exact number_exact
+-- a table that has each field of S
+table_laws : {S : Type 0} (t : Table S) → AllLaws t → ((a b : S) → AllEqual t a b → a ≡ b) → TestLaws (all_pass t)
+table_laws t laws whole = record {
+  itself = all_itself t laws;
+  exact = λ a b e. whole a b (all_equal t laws a b e);
+  joins = all_join t laws;
+}
 
-location_exact : IsExact same_location
-location_exact a b e =
-    let f = both (option_eq int_eq a.longitude b.longitude) (option_eq int_eq a.latitude b.latitude) e in
-    λ i. record { longitude = option_exact signed_exact a.longitude b.longitude f.0 i; latitude = option_exact signed_exact a.latitude b.latitude f.1 i }
+-- ---- calls
 
-period_exact : IsExact same_period
-period_exact a b e =
-    let f = both (nat_eq a.start_time b.start_time) (option_eq nat_eq a.end_time b.end_time) e in
-    λ i. record { start_time = number_exact a.start_time b.start_time f.0 i; end_time = option_exact number_exact a.end_time b.end_time f.1 i }
-
--- every test of a list holds
-abbrev AllHold : List Bool → Type 0
-AllHold [] = Unit {0}
-AllHold (t ∷ ts) = (t ≡ true) × AllHold ts
-
--- the tests of a list, one after the other
-abbrev conjunction : List Bool → Bool
-conjunction [] = true
-conjunction (t ∷ ts) = fold ◌&&◌ t ts
-
-from : (t : Bool) (ts : List Bool) → fold ◌&&◌ t ts ≡ true → (t ≡ true) × AllHold ts
-from t [] e = (e, tt)
-from t (u ∷ us) e = let h = from (t && u) us e in let f = both t u h.0 in (f.0, (f.1, h.1))
-
-each : (ts : List Bool) → conjunction ts ≡ true → AllHold ts
-each [] e = tt
-each (t ∷ ts) e = from t ts e
-
--- ---- items that are near agree in what is steady
-
-call_agrees : (slack : ℤ) (a b : StopCall) → is_near_call slack a b ≡ true → steady_call a ≡ steady_call b
+-- (a record with one of its fields put in again is shown field by field, so that `cc` finds it equal where each of them
+-- is)
+call_laws : TestLaws is_near_call
 unfolding is_near_call
-call_agrees slack a b e =
-    let h = each (
-    option_eq same_text a.stop_point_ref b.stop_point_ref ∷
-    option_eq nat_eq a.order b.order ∷
-    option_eq same_text a.stop_point_name b.stop_point_name ∷
-    option_eq beq a.vehicle_at_stop b.vehicle_at_stop ∷
-    option_eq nat_eq a.aimed_arrival_time b.aimed_arrival_time ∷
-    option_eq (are_close_moments slack) a.expected_arrival_time b.expected_arrival_time ∷
-    option_eq nat_eq a.actual_arrival_time b.actual_arrival_time ∷
-    option_eq same_text a.arrival_status b.arrival_status ∷
-    option_eq same_text a.arrival_platform_name b.arrival_platform_name ∷
-    option_eq nat_eq a.aimed_departure_time b.aimed_departure_time ∷
-    option_eq (are_close_moments slack) a.expected_departure_time b.expected_departure_time ∷
-    option_eq nat_eq a.actual_departure_time b.actual_departure_time ∷
-    option_eq same_text a.departure_status b.departure_status ∷
-    option_eq same_text a.departure_platform_name b.departure_platform_name ∷
-    []) e in
-    λ i. record {
-      stop_point_ref = option_exact text_exact a.stop_point_ref b.stop_point_ref h.0 i;
-      order = option_exact number_exact a.order b.order h.1.0 i;
-      stop_point_name = option_exact text_exact a.stop_point_name b.stop_point_name h.1.1.0 i;
-      vehicle_at_stop = option_exact flag_exact a.vehicle_at_stop b.vehicle_at_stop h.1.1.1.0 i;
-      aimed_arrival_time = option_exact number_exact a.aimed_arrival_time b.aimed_arrival_time h.1.1.1.1.0 i;
-      actual_arrival_time = option_exact number_exact a.actual_arrival_time b.actual_arrival_time h.1.1.1.1.1.1.0 i;
-      arrival_status = option_exact text_exact a.arrival_status b.arrival_status h.1.1.1.1.1.1.1.0 i;
-      arrival_platform_name = option_exact text_exact a.arrival_platform_name b.arrival_platform_name h.1.1.1.1.1.1.1.1.0 i;
-      aimed_departure_time = option_exact number_exact a.aimed_departure_time b.aimed_departure_time h.1.1.1.1.1.1.1.1.1.0 i;
-      actual_departure_time = option_exact number_exact a.actual_departure_time b.actual_departure_time h.1.1.1.1.1.1.1.1.1.1.1.0 i;
-      departure_status = option_exact text_exact a.departure_status b.departure_status h.1.1.1.1.1.1.1.1.1.1.1.1.0 i;
-      departure_platform_name = option_exact text_exact a.departure_platform_name b.departure_platform_name h.1.1.1.1.1.1.1.1.1.1.1.1.1.0 i;
-      expected_arrival_time = None;
-      expected_departure_time = None;
-    }
+call_laws = table_laws call_table
+    (search (optional_laws, number_laws, flag_laws, text_laws, close_moments_laws))
+    (λ a b h. let whole : record a { order = a.order } ≡ record b { order = b.order } = cc in whole)
 
-calls_agree : (slack : ℤ) (as' bs : List StopCall) → pointwise (is_near_call slack) as' bs ≡ true → map steady_call as' ≡ map steady_call bs
-calls_agree slack [] [] e = refl
-calls_agree slack (a ∷ as') (b ∷ bs) e = let f = both (is_near_call slack a b)
-    (pointwise (is_near_call slack) as' bs) e in λ i. call_agrees slack a b f.0 i ∷ calls_agree slack as' bs f.1 i
-calls_agree slack [] (b ∷ bs) e = cc
-calls_agree slack (a ∷ as') [] e = cc
+call_passes_steady : PassesSteady is_near_call steady_call
+unfolding is_near_call
+call_passes_steady = all_pass_steady call_table steady_call search
 
-optional_call_agrees : (slack : ℤ) (a b : Option StopCall) → option_eq (is_near_call slack) a b ≡ true → option_map steady_call a ≡ option_map steady_call b
-optional_call_agrees slack None None e = refl
-optional_call_agrees slack (Some a) (Some b) e = ap Some (call_agrees slack a b e)
-optional_call_agrees slack None (Some b) e = cc
-optional_call_agrees slack (Some a) None e = cc
+-- ---- journeys
 
-visit_journey_agrees : (slack : ℤ) (a b : VisitJourney) → is_near_visit_journey slack a b ≡ true → steady_visit_journey a ≡ steady_visit_journey b
+visit_journey_laws : TestLaws is_near_visit_journey
 unfolding is_near_visit_journey
-visit_journey_agrees slack a b e =
-    let h = each (
-    option_eq same_text a.line_ref b.line_ref ∷
-    option_eq same_text a.direction_ref b.direction_ref ∷
-    option_eq same_text a.data_frame_ref b.data_frame_ref ∷
-    option_eq same_text a.dated_vehicle_journey_ref b.dated_vehicle_journey_ref ∷
-    option_eq same_text a.published_line_name b.published_line_name ∷
-    option_eq same_text a.operator_ref b.operator_ref ∷
-    option_eq same_text a.destination_ref b.destination_ref ∷
-    option_eq same_text a.destination_name b.destination_name ∷
-    option_eq same_text a.vehicle_ref b.vehicle_ref ∷
-    option_eq beq a.monitored b.monitored ∷
-    option_eq same_text a.occupancy b.occupancy ∷
-    option_eq (is_close slack) a.delay b.delay ∷
-    option_eq same_location a.vehicle_location b.vehicle_location ∷
-    is_near_call slack a.monitored_call b.monitored_call ∷
-    []) e in
-    λ i. record {
-      line_ref = option_exact text_exact a.line_ref b.line_ref h.0 i;
-      direction_ref = option_exact text_exact a.direction_ref b.direction_ref h.1.0 i;
-      data_frame_ref = option_exact text_exact a.data_frame_ref b.data_frame_ref h.1.1.0 i;
-      dated_vehicle_journey_ref = option_exact text_exact a.dated_vehicle_journey_ref b.dated_vehicle_journey_ref h.1.1.1.0 i;
-      published_line_name = option_exact text_exact a.published_line_name b.published_line_name h.1.1.1.1.0 i;
-      operator_ref = option_exact text_exact a.operator_ref b.operator_ref h.1.1.1.1.1.0 i;
-      destination_ref = option_exact text_exact a.destination_ref b.destination_ref h.1.1.1.1.1.1.0 i;
-      destination_name = option_exact text_exact a.destination_name b.destination_name h.1.1.1.1.1.1.1.0 i;
-      vehicle_ref = option_exact text_exact a.vehicle_ref b.vehicle_ref h.1.1.1.1.1.1.1.1.0 i;
-      monitored = option_exact flag_exact a.monitored b.monitored h.1.1.1.1.1.1.1.1.1.0 i;
-      occupancy = option_exact text_exact a.occupancy b.occupancy h.1.1.1.1.1.1.1.1.1.1.0 i;
-      vehicle_location = option_exact location_exact a.vehicle_location b.vehicle_location h.1.1.1.1.1.1.1.1.1.1.1.1.0 i;
-      monitored_call = call_agrees slack a.monitored_call b.monitored_call h.1.1.1.1.1.1.1.1.1.1.1.1.1.0 i;
-      delay = None;
-    }
+visit_journey_laws = table_laws visit_journey_table
+    (search (optional_laws, flag_laws, text_laws, location_laws, close_laws, call_laws))
+    (λ a b h. let whole : record a { delay = a.delay } ≡ record b { delay = b.delay } = cc in whole)
 
-visit_agrees : (slack : ℤ) (a b : Visit) → is_near_visit slack a b ≡ true → steady_visit a ≡ steady_visit b
-unfolding is_near_visit
-visit_agrees slack a b e =
-    let h = each (
-    same_text a.item_identifier b.item_identifier ∷
-    same_text a.monitoring_ref b.monitoring_ref ∷
-    is_near_visit_journey slack a.monitored_vehicle_journey b.monitored_vehicle_journey ∷
-    []) e in
-    λ i. record {
-      item_identifier = text_exact a.item_identifier b.item_identifier h.0 i;
-      monitoring_ref = text_exact a.monitoring_ref b.monitoring_ref h.1.0 i;
-      monitored_vehicle_journey = visit_journey_agrees slack a.monitored_vehicle_journey b.monitored_vehicle_journey h.1.1.0 i;
-      recorded_at_time = None;
-    }
+visit_journey_passes_steady : PassesSteady is_near_visit_journey steady_visit_journey
+unfolding is_near_visit_journey
+visit_journey_passes_steady = all_pass_steady visit_journey_table steady_visit_journey (search call_passes_steady)
 
-journey_agrees : (slack : ℤ) (a b : Journey) → is_near_journey slack a b ≡ true → steady_journey a ≡ steady_journey b
-unfolding is_near_journey
-journey_agrees slack a b e =
-    let h = each (
-    same_text a.line_ref b.line_ref ∷
-    option_eq same_text a.direction_ref b.direction_ref ∷
-    option_eq same_text a.data_frame_ref b.data_frame_ref ∷
-    same_text a.dated_vehicle_journey_ref b.dated_vehicle_journey_ref ∷
-    option_eq beq a.cancellation b.cancellation ∷
-    option_eq same_text a.published_line_name b.published_line_name ∷
-    option_eq same_text a.operator_ref b.operator_ref ∷
-    option_eq same_text a.destination_ref b.destination_ref ∷
-    option_eq same_text a.destination_name b.destination_name ∷
-    option_eq same_text a.vehicle_ref b.vehicle_ref ∷
-    option_eq beq a.monitored b.monitored ∷
-    option_eq same_text a.occupancy b.occupancy ∷
-    option_eq (is_close slack) a.delay b.delay ∷
-    pointwise (is_near_call slack) a.recorded_calls b.recorded_calls ∷
-    pointwise (is_near_call slack) a.estimated_calls b.estimated_calls ∷
-    []) e in
-    λ i. record {
-      line_ref = text_exact a.line_ref b.line_ref h.0 i;
-      direction_ref = option_exact text_exact a.direction_ref b.direction_ref h.1.0 i;
-      data_frame_ref = option_exact text_exact a.data_frame_ref b.data_frame_ref h.1.1.0 i;
-      dated_vehicle_journey_ref = text_exact a.dated_vehicle_journey_ref b.dated_vehicle_journey_ref h.1.1.1.0 i;
-      cancellation = option_exact flag_exact a.cancellation b.cancellation h.1.1.1.1.0 i;
-      published_line_name = option_exact text_exact a.published_line_name b.published_line_name h.1.1.1.1.1.0 i;
-      operator_ref = option_exact text_exact a.operator_ref b.operator_ref h.1.1.1.1.1.1.0 i;
-      destination_ref = option_exact text_exact a.destination_ref b.destination_ref h.1.1.1.1.1.1.1.0 i;
-      destination_name = option_exact text_exact a.destination_name b.destination_name h.1.1.1.1.1.1.1.1.0 i;
-      vehicle_ref = option_exact text_exact a.vehicle_ref b.vehicle_ref h.1.1.1.1.1.1.1.1.1.0 i;
-      monitored = option_exact flag_exact a.monitored b.monitored h.1.1.1.1.1.1.1.1.1.1.0 i;
-      occupancy = option_exact text_exact a.occupancy b.occupancy h.1.1.1.1.1.1.1.1.1.1.1.0 i;
-      recorded_calls = calls_agree slack a.recorded_calls b.recorded_calls h.1.1.1.1.1.1.1.1.1.1.1.1.1.0 i;
-      estimated_calls = calls_agree slack a.estimated_calls b.estimated_calls h.1.1.1.1.1.1.1.1.1.1.1.1.1.1.0 i;
-      recorded_at_time = None;
-      delay = None;
-    }
-
-vehicle_journey_agrees : (slack : ℤ) (a b : VehicleJourney) → is_near_vehicle_journey slack a b ≡ true → steady_vehicle_journey a ≡ steady_vehicle_journey b
+vehicle_journey_laws : TestLaws is_near_vehicle_journey
 unfolding is_near_vehicle_journey
-vehicle_journey_agrees slack a b e =
-    let h = each (
-    option_eq same_text a.line_ref b.line_ref ∷
-    option_eq same_text a.direction_ref b.direction_ref ∷
-    option_eq same_text a.data_frame_ref b.data_frame_ref ∷
-    option_eq same_text a.dated_vehicle_journey_ref b.dated_vehicle_journey_ref ∷
-    option_eq same_text a.published_line_name b.published_line_name ∷
-    option_eq same_text a.operator_ref b.operator_ref ∷
-    option_eq same_text a.destination_ref b.destination_ref ∷
-    option_eq same_text a.destination_name b.destination_name ∷
-    same_text a.vehicle_ref b.vehicle_ref ∷
-    option_eq beq a.monitored b.monitored ∷
-    option_eq same_text a.occupancy b.occupancy ∷
-    option_eq (is_close slack) a.delay b.delay ∷
-    option_eq same_location a.vehicle_location b.vehicle_location ∷
-    option_eq (is_near_call slack) a.monitored_call b.monitored_call ∷
-    []) e in
-    λ i. record {
-      line_ref = option_exact text_exact a.line_ref b.line_ref h.0 i;
-      direction_ref = option_exact text_exact a.direction_ref b.direction_ref h.1.0 i;
-      data_frame_ref = option_exact text_exact a.data_frame_ref b.data_frame_ref h.1.1.0 i;
-      dated_vehicle_journey_ref = option_exact text_exact a.dated_vehicle_journey_ref b.dated_vehicle_journey_ref h.1.1.1.0 i;
-      published_line_name = option_exact text_exact a.published_line_name b.published_line_name h.1.1.1.1.0 i;
-      operator_ref = option_exact text_exact a.operator_ref b.operator_ref h.1.1.1.1.1.0 i;
-      destination_ref = option_exact text_exact a.destination_ref b.destination_ref h.1.1.1.1.1.1.0 i;
-      destination_name = option_exact text_exact a.destination_name b.destination_name h.1.1.1.1.1.1.1.0 i;
-      vehicle_ref = text_exact a.vehicle_ref b.vehicle_ref h.1.1.1.1.1.1.1.1.0 i;
-      monitored = option_exact flag_exact a.monitored b.monitored h.1.1.1.1.1.1.1.1.1.0 i;
-      occupancy = option_exact text_exact a.occupancy b.occupancy h.1.1.1.1.1.1.1.1.1.1.0 i;
-      vehicle_location = option_exact location_exact a.vehicle_location b.vehicle_location h.1.1.1.1.1.1.1.1.1.1.1.1.0 i;
-      monitored_call = optional_call_agrees slack a.monitored_call b.monitored_call h.1.1.1.1.1.1.1.1.1.1.1.1.1.0 i;
-      delay = None;
-    }
+vehicle_journey_laws = table_laws vehicle_journey_table
+    (search (optional_laws, flag_laws, text_laws, location_laws, close_laws, call_laws))
+    (λ a b h. let whole : record a { delay = a.delay } ≡ record b { delay = b.delay } = cc in whole)
 
-vehicle_agrees : (slack : ℤ) (a b : Vehicle) → is_near_vehicle slack a b ≡ true → steady_vehicle a ≡ steady_vehicle b
+vehicle_journey_passes_steady : PassesSteady is_near_vehicle_journey steady_vehicle_journey
+unfolding is_near_vehicle_journey
+vehicle_journey_passes_steady = all_pass_steady vehicle_journey_table steady_vehicle_journey
+    (search (optional_passes_steady, call_passes_steady))
+
+-- ---- items, each but for the time when it was recorded
+
+visit_rows : AllLaws visit_table
+visit_rows = search (text_laws, visit_journey_laws)
+
+pub visit_equal : (a b : Visit) → a.recorded_at_time ≡ b.recorded_at_time → is_near_visit (pos 0) a b ≡ true → a ≡ b
+unfolding is_near_visit
+visit_equal a b r e =
+    let h = all_equal visit_table visit_rows a b e in
+    let whole : record a { recorded_at_time = a.recorded_at_time } ≡
+    record b { recorded_at_time = b.recorded_at_time } = cc in
+    whole
+
+visit_passes_steady : PassesSteady is_near_visit steady_visit
+unfolding is_near_visit
+visit_passes_steady = all_pass_steady visit_table steady_visit (search visit_journey_passes_steady)
+
+journey_rows : AllLaws journey_table
+journey_rows = search (optional_laws, each_laws, flag_laws, text_laws, close_laws, call_laws)
+
+pub journey_equal : (a b : Journey) → a.recorded_at_time ≡ b.recorded_at_time → is_near_journey (pos 0) a b ≡ true → a ≡ b
+unfolding is_near_journey
+journey_equal a b r e =
+    let h = all_equal journey_table journey_rows a b e in
+    let whole : record a { recorded_at_time = a.recorded_at_time } ≡
+    record b { recorded_at_time = b.recorded_at_time } = cc in
+    whole
+
+journey_passes_steady : PassesSteady is_near_journey steady_journey
+unfolding is_near_journey
+journey_passes_steady = all_pass_steady journey_table steady_journey (search (each_passes_steady, call_passes_steady))
+
+vehicle_rows : AllLaws vehicle_table
+vehicle_rows = search (optional_laws, number_laws, text_laws, vehicle_journey_laws)
+
+pub vehicle_equal : (a b : Vehicle) → a.recorded_at_time ≡ b.recorded_at_time → is_near_vehicle (pos 0) a b ≡ true → a ≡ b
 unfolding is_near_vehicle
-vehicle_agrees slack a b e =
-    let h = each (
-    option_eq same_text a.item_identifier b.item_identifier ∷
-    option_eq nat_eq a.valid_until_time b.valid_until_time ∷
-    is_near_vehicle_journey slack a.monitored_vehicle_journey b.monitored_vehicle_journey ∷
-    []) e in
-    λ i. record {
-      item_identifier = option_exact text_exact a.item_identifier b.item_identifier h.0 i;
-      valid_until_time = option_exact number_exact a.valid_until_time b.valid_until_time h.1.0 i;
-      monitored_vehicle_journey = vehicle_journey_agrees slack a.monitored_vehicle_journey b.monitored_vehicle_journey h.1.1.0 i;
-      recorded_at_time = None;
-    }
+vehicle_equal a b r e =
+    let h = all_equal vehicle_table vehicle_rows a b e in
+    let whole : record a { recorded_at_time = a.recorded_at_time } ≡
+    record b { recorded_at_time = b.recorded_at_time } = cc in
+    whole
 
-situation_agrees : (a b : Situation) → is_near_situation a b ≡ true → a ≡ b
+vehicle_passes_steady : PassesSteady is_near_vehicle steady_vehicle
+unfolding is_near_vehicle
+vehicle_passes_steady = all_pass_steady vehicle_table steady_vehicle (search vehicle_journey_passes_steady)
+
+situation_laws : TestLaws (all_pass situation_table)
+situation_laws = table_laws situation_table
+    (search (optional_laws, each_laws, number_laws, text_laws, period_laws))
+    (λ a b h. let whole : record a { version = a.version } ≡ record b { version = b.version } = cc in whole)
+
+pub situation_equal : (a b : Situation) → is_near_situation a b ≡ true → a ≡ b
 unfolding is_near_situation
-situation_agrees a b e =
-    let h = each (
-    option_eq nat_eq a.creation_time b.creation_time ∷
-    option_eq same_text a.participant_ref b.participant_ref ∷
-    same_text a.situation_number b.situation_number ∷
-    option_eq same_text a.version b.version ∷
-    option_eq nat_eq a.versioned_at_time b.versioned_at_time ∷
-    option_eq same_text a.progress b.progress ∷
-    pointwise same_period a.validity_period b.validity_period ∷
-    option_eq same_text a.severity b.severity ∷
-    option_eq same_text a.summary b.summary ∷
-    option_eq same_text a.description b.description ∷
-    pointwise same_text a.affected_operators b.affected_operators ∷
-    pointwise same_text a.affected_lines b.affected_lines ∷
-    pointwise same_text a.affected_stop_points b.affected_stop_points ∷
-    []) e in
-    λ i. record {
-      creation_time = option_exact number_exact a.creation_time b.creation_time h.0 i;
-      participant_ref = option_exact text_exact a.participant_ref b.participant_ref h.1.0 i;
-      situation_number = text_exact a.situation_number b.situation_number h.1.1.0 i;
-      version = option_exact text_exact a.version b.version h.1.1.1.0 i;
-      versioned_at_time = option_exact number_exact a.versioned_at_time b.versioned_at_time h.1.1.1.1.0 i;
-      progress = option_exact text_exact a.progress b.progress h.1.1.1.1.1.0 i;
-      validity_period = list_exact period_exact a.validity_period b.validity_period h.1.1.1.1.1.1.0 i;
-      severity = option_exact text_exact a.severity b.severity h.1.1.1.1.1.1.1.0 i;
-      summary = option_exact text_exact a.summary b.summary h.1.1.1.1.1.1.1.1.0 i;
-      description = option_exact text_exact a.description b.description h.1.1.1.1.1.1.1.1.1.0 i;
-      affected_operators = list_exact text_exact a.affected_operators b.affected_operators h.1.1.1.1.1.1.1.1.1.1.0 i;
-      affected_lines = list_exact text_exact a.affected_lines b.affected_lines h.1.1.1.1.1.1.1.1.1.1.1.0 i;
-      affected_stop_points = list_exact text_exact a.affected_stop_points b.affected_stop_points h.1.1.1.1.1.1.1.1.1.1.1.1.0 i;
-    }
+situation_equal = situation_laws.exact
 
+-- ---- items
+
+pub near_itself : (slack : ℤ) (a : Item) → is_near slack a a ≡ true
+unfolding is_near_visit is_near_journey is_near_vehicle is_near_situation
+near_itself slack (item.Visit a) = all_itself visit_table visit_rows slack a
+near_itself slack (item.Journey a) = all_itself journey_table journey_rows slack a
+near_itself slack (item.Vehicle a) = all_itself vehicle_table vehicle_rows slack a
+near_itself slack (item.Situation a) = situation_laws.itself (pos 0) a
+
+-- items that are near agree in what is steady
 pub near_agrees : (slack : ℤ) (a b : Item) → is_near slack a b ≡ true → steady a ≡ steady b
-near_agrees slack (item.Visit a) (item.Visit b) e = ap item.Visit (visit_agrees slack a b e)
-near_agrees slack (item.Journey a) (item.Journey b) e = ap item.Journey (journey_agrees slack a b e)
-near_agrees slack (item.Vehicle a) (item.Vehicle b) e = ap item.Vehicle (vehicle_agrees slack a b e)
-near_agrees slack (item.Situation a) (item.Situation b) e = ap item.Situation (situation_agrees a b e)
-near_agrees slack (item.Visit a) (item.Journey b) e = cc
-near_agrees slack (item.Visit a) (item.Vehicle b) e = cc
-near_agrees slack (item.Visit a) (item.Situation b) e = cc
-near_agrees slack (item.Journey a) (item.Visit b) e = cc
-near_agrees slack (item.Journey a) (item.Vehicle b) e = cc
-near_agrees slack (item.Journey a) (item.Situation b) e = cc
-near_agrees slack (item.Vehicle a) (item.Visit b) e = cc
-near_agrees slack (item.Vehicle a) (item.Journey b) e = cc
-near_agrees slack (item.Vehicle a) (item.Situation b) e = cc
-near_agrees slack (item.Situation a) (item.Visit b) e = cc
-near_agrees slack (item.Situation a) (item.Journey b) e = cc
-near_agrees slack (item.Situation a) (item.Vehicle b) e = cc
+near_agrees slack (item.Visit a) (item.Visit b) e = ap item.Visit
+    (visit_equal (steady_visit a) (steady_visit b) refl (visit_passes_steady slack a b e))
+near_agrees slack (item.Journey a) (item.Journey b) e = ap item.Journey
+    (journey_equal (steady_journey a) (steady_journey b) refl (journey_passes_steady slack a b e))
+near_agrees slack (item.Vehicle a) (item.Vehicle b) e = ap item.Vehicle
+    (vehicle_equal (steady_vehicle a) (steady_vehicle b) refl (vehicle_passes_steady slack a b e))
+near_agrees slack (item.Situation a) (item.Situation b) e = ap item.Situation (situation_equal a b e)
+near_agrees slack a b e = cc
 
--- ---- an item is near itself
-
--- a test that holds of each value with itself
-abbrev IsReflexive : {A : Type 0} → (A → A → Bool) → Type 0
-IsReflexive {A} E = (a : A) → E a a ≡ true
-
-number_itself : IsReflexive nat_eq
-number_itself a = eq-eqb a a refl
-
-signed_itself : IsReflexive int_eq
-signed_itself a = (signed_Decides a a).1 refl
-
-flag_itself : IsReflexive beq
-flag_itself true = refl
-flag_itself false = refl
-
-option_itself : {A : Type 0} (E : A → A → Bool) → IsReflexive E → IsReflexive (option_eq E)
-option_itself E h None = refl
-option_itself E h (Some a) = h a
-
-list_itself : {A : Type 0} (E : A → A → Bool) → IsReflexive E → IsReflexive (pointwise E)
-list_itself E h [] = refl
-list_itself E h (a ∷ as') = rw (h a) (list_itself E h as')
-
-text_itself : IsReflexive same_text
-text_itself = list_itself nat_eq number_itself
-
-location_itself : IsReflexive same_location
-location_itself a = rw (option_itself int_eq signed_itself a.longitude, option_itself int_eq signed_itself a.latitude)
-
-period_itself : IsReflexive same_period
-period_itself a = rw (number_itself a.start_time, option_itself nat_eq number_itself a.end_time)
-
-close_itself : (slack : ℤ) → IsReflexive (is_close slack)
-close_itself slack a = rw (signed_itself a)
-
-moments_itself : (slack : ℤ) → IsReflexive (are_close_moments slack)
-moments_itself slack a = close_itself slack (pos a)
-
-call_itself : (slack : ℤ) (a : StopCall) → is_near_call slack a a ≡ true
-unfolding is_near_call
-call_itself slack a = rw (
-  option_itself same_text text_itself a.stop_point_ref,
-  option_itself nat_eq number_itself a.order,
-  option_itself same_text text_itself a.stop_point_name,
-  option_itself beq flag_itself a.vehicle_at_stop,
-  option_itself nat_eq number_itself a.aimed_arrival_time,
-  option_itself (are_close_moments slack) (moments_itself slack) a.expected_arrival_time,
-  option_itself nat_eq number_itself a.actual_arrival_time,
-  option_itself same_text text_itself a.arrival_status,
-  option_itself same_text text_itself a.arrival_platform_name,
-  option_itself nat_eq number_itself a.aimed_departure_time,
-  option_itself (are_close_moments slack) (moments_itself slack) a.expected_departure_time,
-  option_itself nat_eq number_itself a.actual_departure_time,
-  option_itself same_text text_itself a.departure_status,
-  option_itself same_text text_itself a.departure_platform_name,
-)
-
-visit_journey_itself : (slack : ℤ) (a : VisitJourney) → is_near_visit_journey slack a a ≡ true
-unfolding is_near_visit_journey
-visit_journey_itself slack a = rw (
-  option_itself same_text text_itself a.line_ref,
-  option_itself same_text text_itself a.direction_ref,
-  option_itself same_text text_itself a.data_frame_ref,
-  option_itself same_text text_itself a.dated_vehicle_journey_ref,
-  option_itself same_text text_itself a.published_line_name,
-  option_itself same_text text_itself a.operator_ref,
-  option_itself same_text text_itself a.destination_ref,
-  option_itself same_text text_itself a.destination_name,
-  option_itself same_text text_itself a.vehicle_ref,
-  option_itself beq flag_itself a.monitored,
-  option_itself same_text text_itself a.occupancy,
-  option_itself (is_close slack) (close_itself slack) a.delay,
-  option_itself same_location location_itself a.vehicle_location,
-  call_itself slack a.monitored_call,
-)
-
-visit_itself : (slack : ℤ) (a : Visit) → is_near_visit slack a a ≡ true
-unfolding is_near_visit
-visit_itself slack a = rw (
-  text_itself a.item_identifier,
-  text_itself a.monitoring_ref,
-  visit_journey_itself slack a.monitored_vehicle_journey,
-)
-
-journey_itself : (slack : ℤ) (a : Journey) → is_near_journey slack a a ≡ true
-unfolding is_near_journey
-journey_itself slack a = rw (
-  text_itself a.line_ref,
-  option_itself same_text text_itself a.direction_ref,
-  option_itself same_text text_itself a.data_frame_ref,
-  text_itself a.dated_vehicle_journey_ref,
-  option_itself beq flag_itself a.cancellation,
-  option_itself same_text text_itself a.published_line_name,
-  option_itself same_text text_itself a.operator_ref,
-  option_itself same_text text_itself a.destination_ref,
-  option_itself same_text text_itself a.destination_name,
-  option_itself same_text text_itself a.vehicle_ref,
-  option_itself beq flag_itself a.monitored,
-  option_itself same_text text_itself a.occupancy,
-  option_itself (is_close slack) (close_itself slack) a.delay,
-  list_itself (is_near_call slack) (call_itself slack) a.recorded_calls,
-  list_itself (is_near_call slack) (call_itself slack) a.estimated_calls,
-)
-
-vehicle_journey_itself : (slack : ℤ) (a : VehicleJourney) → is_near_vehicle_journey slack a a ≡ true
-unfolding is_near_vehicle_journey
-vehicle_journey_itself slack a = rw (
-  option_itself same_text text_itself a.line_ref,
-  option_itself same_text text_itself a.direction_ref,
-  option_itself same_text text_itself a.data_frame_ref,
-  option_itself same_text text_itself a.dated_vehicle_journey_ref,
-  option_itself same_text text_itself a.published_line_name,
-  option_itself same_text text_itself a.operator_ref,
-  option_itself same_text text_itself a.destination_ref,
-  option_itself same_text text_itself a.destination_name,
-  text_itself a.vehicle_ref,
-  option_itself beq flag_itself a.monitored,
-  option_itself same_text text_itself a.occupancy,
-  option_itself (is_close slack) (close_itself slack) a.delay,
-  option_itself same_location location_itself a.vehicle_location,
-  option_itself (is_near_call slack) (call_itself slack) a.monitored_call,
-)
-
-vehicle_itself : (slack : ℤ) (a : Vehicle) → is_near_vehicle slack a a ≡ true
-unfolding is_near_vehicle
-vehicle_itself slack a = rw (
-  option_itself same_text text_itself a.item_identifier,
-  option_itself nat_eq number_itself a.valid_until_time,
-  vehicle_journey_itself slack a.monitored_vehicle_journey,
-)
-
-situation_itself : (a : Situation) → is_near_situation a a ≡ true
-unfolding is_near_situation
-situation_itself a = rw (
-  option_itself nat_eq number_itself a.creation_time,
-  option_itself same_text text_itself a.participant_ref,
-  text_itself a.situation_number,
-  option_itself same_text text_itself a.version,
-  option_itself nat_eq number_itself a.versioned_at_time,
-  option_itself same_text text_itself a.progress,
-  list_itself same_period period_itself a.validity_period,
-  option_itself same_text text_itself a.severity,
-  option_itself same_text text_itself a.summary,
-  option_itself same_text text_itself a.description,
-  list_itself same_text text_itself a.affected_operators,
-  list_itself same_text text_itself a.affected_lines,
-  list_itself same_text text_itself a.affected_stop_points,
-)
-
-pub near_itself : (slack : ℤ) → IsReflexive (is_near slack)
-near_itself slack (item.Visit a) = visit_itself slack a
-near_itself slack (item.Journey a) = journey_itself slack a
-near_itself slack (item.Vehicle a) = vehicle_itself slack a
-near_itself slack (item.Situation a) = situation_itself a
+-- slacks add up along a chain
+pub near_joins : (p q : ℕ) (a b c : Item)
+    → is_near (pos p) a b ≡ true → is_near (pos q) b c ≡ true → is_near (pos (p + q)) a c ≡ true
+unfolding is_near_visit is_near_journey is_near_vehicle is_near_situation
+near_joins p q (item.Visit a) (item.Visit b) (item.Visit c) h k = all_join visit_table visit_rows p q a b c h k
+near_joins p q (item.Journey a) (item.Journey b) (item.Journey c) h k = all_join journey_table journey_rows p q a b c h k
+near_joins p q (item.Vehicle a) (item.Vehicle b) (item.Vehicle c) h k = all_join vehicle_table vehicle_rows p q a b c h k
+near_joins p q (item.Situation a) (item.Situation b) (item.Situation c) h k = situation_laws.joins 0 0 a b c h k
+near_joins p q a b c h k = cc

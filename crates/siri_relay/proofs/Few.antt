@@ -11,7 +11,7 @@ use Rattle.siri_change.specs.Changes.{agree_on, changes, keys_of_both}
 use Rattle.siri_change.proofs.Leads.{agree_none, held_after, none_of_both, one_key, order_after, order_applied, same_views, tied}
 use Rattle.siri_change.proofs.Levels.{order_both}
 use Rattle.siri_change.proofs.SameItems.{same_itself}
-use Rattle.siri_model_laws.proofs.InOrder.{none_in_order}
+use Rattle.siri_model.proofs.InOrder.{none_in_order}
 use Rattle.siri_relay.specs.Named.{IsRound, changes_to, items_at}
 
 pub none_in : {A : Type 0} (list : List A) → length list ≡ 0 → list ≡ []

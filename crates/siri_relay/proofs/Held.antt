@@ -8,7 +8,7 @@ use Rattle.siri_records.proofs.ItemsPassing.{order_kept, kept_if}
 use Rattle.siri_messages.specs.declared.message.Message.{Message}
 use Rattle.siri_messages.specs.declared.message.Message.TheVariants as message
 use Rattle.siri_model.specs.History.{Entry, History, State, Step, Start, Clock, Feed, Take, Settle, nothing, after_step, entries_fed, state_of, now_of, current}
-use Rattle.siri_model_laws.proofs.InOrder.{current_in_order, in_order_all, live_later}
+use Rattle.siri_model.proofs.InOrder.{current_in_order, in_order_all, live_later}
 use Rattle.siri_producer.specs.Known.{Known, StandsFor}
 use Rattle.siri_relay.specs.Feeds.{feeds_of, items_fed, removals_fed}
 use Rattle.siri_relay.specs.Goes.{GoesBy, GoesSome, IsCut, IsFront}

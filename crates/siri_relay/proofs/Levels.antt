@@ -12,7 +12,7 @@ use Rattle.siri_change.specs.Parts.{carried}
 use Rattle.siri_change.specs.Views.{is_keyed}
 use Rattle.siri_change.proofs.Leads.{tied, one_key, same_views, mentions, Fits, fits_on, without_change}
 use Rattle.siri_change.proofs.Viewed.{item_keyed}
-use Rattle.siri_model_laws.proofs.InOrder.{in_order_all}
+use Rattle.siri_model.proofs.InOrder.{in_order_all}
 use Rattle.siri_relay.specs.Feeds.{known_of, removals_fed, items_fed}
 use Rattle.siri_relay.proofs.Room.{Within, FitsView, names, after_all, left_either, fed_at, live_at, some_kept, removals_taken, items_taken}
 

@@ -1,4 +1,3 @@
-pub mod Chain
 pub mod Few
 pub mod Goings
 pub mod Held

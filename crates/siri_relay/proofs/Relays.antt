@@ -10,7 +10,7 @@ use Rattle.siri_topic.specs.declared.subscription.Subscription.{Subscription}
 use Rattle.siri_messages.specs.declared.message.Message.{Message}
 use Rattle.siri_messages.specs.declared.message.Message.TheVariants as message
 use Rattle.siri_model.specs.History.{Start, Clock, Take, Settle}
-use Rattle.siri_model_laws.proofs.InOrder.{none_in_order}
+use Rattle.siri_model.proofs.InOrder.{none_in_order}
 use Rattle.siri_producer.specs.Answers.{is_feed}
 use Rattle.siri_producer.specs.Known.{GoesOn, Known, RefusedAt, RefusedIf, SameButReads, StandsFor}
 use Rattle.siri_view.specs.Consuming.{Consuming, after_message, after_subscribe, clocked, seen_of}

@@ -21,8 +21,8 @@ use Rattle.siri_model.specs.Fed.{refuses}
 use Rattle.siri_model.specs.Last.{entry_key, is_of, left_by}
 use Rattle.siri_change.proofs.Walks.{Above, none_below, item_here, reversed, above_trans}
 use Rattle.siri_change.proofs.Leads.{tied, one_key, order_with, held_with}
-use Rattle.siri_model_laws.proofs.Current.{entry_leaves}
-use Rattle.siri_model_laws.proofs.InOrder.{in_order_after}
+use Rattle.siri_model.proofs.Current.{entry_leaves}
+use Rattle.siri_model.proofs.InOrder.{in_order_after}
 
 -- ---- how many
 

@@ -7,6 +7,7 @@ use Rattle.siri_records.specs.declared.item.Item.{Item}
 use Rattle.siri_records.specs.declared.key.Key.{Key}
 use Rattle.siri_records.specs.Keyed.{Items, InOrder, item_of, living}
 use Rattle.siri_records.specs.Near.{is_near}
+use Rattle.siri_records.proofs.NearLaws.{near_joins}
 use Rattle.siri_topic.specs.Shown.{is_shown}
 use Rattle.siri_topic.specs.declared.topics.Topic.{Topic}
 use Rattle.siri_change.specs.Changes.{Meets, meets}
@@ -19,10 +20,9 @@ use Rattle.siri_model.specs.Direct.{at_most, direct_to, items_before, most_of, s
 use Rattle.siri_model.specs.History.{History, current, now_of}
 use Rattle.siri_model.specs.Lives.{Living, is_settled, life_of, number_if_quiet, quiet_number}
 use Rattle.siri_model.specs.Meaning.{direct_of, meaning}
-use Rattle.siri_model_laws.proofs.Lawful.{direct_live, shown_in_order}
-use Rattle.siri_model_laws.proofs.InOrder.{current_in_order}
+use Rattle.siri_model.proofs.Lawful.{direct_live, shown_in_order}
+use Rattle.siri_model.proofs.InOrder.{current_in_order}
 use Rattle.siri_relay.specs.Nearness.{IsNearSource, ShowsView}
-use Rattle.siri_relay.proofs.Chain.{near_joins}
 
 -- ---- a level relay
 

@@ -18,8 +18,8 @@ use Rattle.siri_life.specs.Life.{Mark}
 use Rattle.siri_life.specs.Link as life
 use Rattle.siri_life.specs.Link.{taken, taken_as, with_start, with_start_if, base_of}
 use Rattle.siri_life.specs.Meaning.{apply_parts}
-use Rattle.siri_model_laws.proofs.Current.{lookup_inserted}
-use Rattle.siri_model_laws.proofs.InOrder.{none_in_order}
+use Rattle.siri_model.proofs.Current.{lookup_inserted}
+use Rattle.siri_model.proofs.InOrder.{none_in_order}
 use Rattle.siri_view.specs.Consuming.{Consuming, after_delivery, after_heard, after_message, after_subscribe, count_after, is_new, kept_for, most_held, seen_by, seen_in_delivery, seen_of, told_of, told_of_part}
 use Rattle.siri_view.specs.Hearing.{Heard, Delivered, Notified, Noted, Foreign, heard}
 use Rattle.siri_view.specs.Kept.{meaning, Holdings, KeptSubscription, kept_of, name_cmp, with_kept}

@@ -14,13 +14,10 @@ use crate::naming::changes_at;
 use siri_base::{Copies, List, OutOfMemory};
 use siri_change::{Change, View, changes};
 use siri_messages::{FunctionalDelivery, ServiceDelivery};
-use siri_producer::Producer;
+use siri_producer::{MOST_LIVE, Producer};
 use siri_records::{Item, Key, SharedKey};
-use siri_replies::{items_in, removals_in};
+use siri_subscriptions::{items_in, removals_in};
 use std::alloc::Global;
-
-/// The most items of a view that find room at a producer.
-const MOST_LIVE: usize = 20_000;
 
 /// The two feeds of a view.
 #[derive(Drop)]

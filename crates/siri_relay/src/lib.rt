@@ -13,8 +13,9 @@
 //! producer's live items are those of the view that aren't dead. A relay falls behind where memory is wanting on the way,
 //! or where the view has more than 20,000 items; each later `clock` and `take` feeds first what is missing.
 //!
-//! Stands on `siri_base`, `siri_records`, `siri_topic`, `siri_change`, `siri_messages`, `siri_replies`, `siri_producer` and
-//! `siri_view`; its contracts cite the histories of `siri_model`. It reads and writes no text, and knows no wire and no clock.
+//! Stands on `siri_base`, `siri_records`, `siri_topic`, `siri_change`, `siri_messages`, `siri_subscriptions`,
+//! `siri_producer` and `siri_view`; its contracts cite the histories of `siri_model`. It reads and writes no text, and
+//! knows no wire and no clock.
 #![tactic(auto)]
 
 mod answers;

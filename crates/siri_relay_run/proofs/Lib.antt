@@ -1,6 +1,5 @@
 pub mod Takes
 pub mod Lines
 pub mod Passes
-pub mod Causes
-pub mod Enough
+pub mod Sound
 pub mod Whole

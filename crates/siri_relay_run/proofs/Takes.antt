@@ -1,6 +1,8 @@
 -- What a relay does with a message, by whatever it stands for.
-use Rattle.std.proofs.Common.{◌≡◌, ℕ, Bool, false, List, [], ◌∷◌, ◌++◌, Option, None, Some, refl, sym, ap, ◌∙◌, subst}
+use Rattle.std.proofs.Common.{◌≡◌, ℕ, Bool, false, List, [], ◌∷◌, ◌++◌, Option, None, Some, Result, Ok, Err, OnOk, refl, sym, ap, ◌∙◌, subst}
 use Rattle.std.specs.Prelude.{if◌then◌else◌}
+use Rattle.siri_base.specs.Wires.{WireState}
+use Rattle.siri_http.specs.declared.tally.Tally.{Tally}
 use Rattle.siri_http.specs.declared.asked.Asked.{Asked}
 use Rattle.siri_messages.specs.declared.message.Message.{Message}
 use Rattle.siri_model.specs.History.{History, Settle}
@@ -15,6 +17,7 @@ use Rattle.siri_relay.specs.Feeds.{has_room}
 use Rattle.siri_relay.specs.Goes.{GoesBy}
 use Rattle.siri_relay.specs.Relaying.{KnownRelay, UpperSide, consumer_after, is_up, message_steps, missing_steps, take_steps, upper_after, upper_of, view_in, view_of}
 use Rattle.siri_relay.specs.Taken.{AnswersFor}
+use Rattle.siri_ends.specs.At.{Goes, HoldingAny, at_of}
 use Rattle.siri_ends.specs.Consuming.{first_of, further_of}
 use Rattle.siri_ends.specs.EndCalls.{Turned}
 use Rattle.siri_ends.specs.EndCalls as end
@@ -22,7 +25,7 @@ use Rattle.siri_ends.specs.Responses.{message_asked, replying, responding}
 use Rattle.siri_ends.specs.declared.response.Response.{Response}
 use Rattle.siri_relay_run.specs.declared.going.Going.{Going}
 use Rattle.siri_relay_run.specs.declared.taking.RelayTaker.{RelayTaker}
-use Rattle.siri_relay_run.specs.Relays.{Relaying, after_taking, all_up, consumer_replies, further_up, goings, heard_of, producer_answer, relay_reply, relaying, settled}
+use Rattle.siri_relay_run.specs.Relays.{Relaying, after_taking, all_up, consumer_replies, further_up, goings, heard_of, producer_answer, relay_reply, relaying, SendsGoings, settled}
 use Rattle.siri_relay_run.specs.Steps.{Hears, Stands, Takes, name_of}
 
 -- ---- a message was taken
@@ -144,6 +147,10 @@ kept taker = name_of taker.relay
 abbrev stands : RelayTaker → Relaying → Type 0
 stands taker state = Stands taker.relay state
 
+-- nothing stands beside it
+abbrev pub holds : RelayTaker → Unit {0} → Relaying → Type 0
+holds taker beside state = Unit {0}
+
 abbrev IsReply : List ℕ → Option Response → Relaying → Option Response → Type 0
 IsReply name reply state response = response ≡ reply
 
@@ -166,5 +173,23 @@ turned asked first last taken response further list takes made left goes rest is
 
 -- it heard a message that was answered to one that it sent
 pub heard : (first last : RelayTaker) (going : Going) (m : Message) (list : List Going)
-    → Hears first.relay last.relay (heard_of going m) list → end.Hears kept stands relaying going (Some m) list first last
-heard first last going m list hears = record { keeps = hears.name; stands_for = hears.stands; more_are = hears.list_is }
+    → Hears first.relay last.relay (heard_of going m) list → end.Hears kept stands holds relaying going (Some m) list first last
+heard first last going m list hears = record {
+  keeps = hears.name;
+  stands_for = hears.stands;
+  holds_for = λ beside s so holding. tt;
+  more_are = hears.list_is;
+}
+
+-- and messages that it sends at first
+pub sends_first : {T E : Type 0} (result : Result T E) (host path : List ℕ) (list : List Going) (old new : RelayTaker)
+    (was is : Tally) (before after : Option WireState) (f g : ℕ)
+    → OnOk result (Goes kept stands (λ name. HoldingAny holds (SendsGoings host path name list) old new) (at_of old was before f)
+    (at_of new is after g))
+    → OnOk result (Goes name_of Stands (λ name. SendsGoings host path name list) (at_of old.relay was before f)
+    (at_of new.relay is after g))
+sends_first (Ok value) host path list old new was is before after f g goes = record {
+  keeps = goes.keeps;
+  goes = λ s so. let one = goes.goes s so in (one.0, one.1, one.2.0);
+}
+sends_first (Err error) host path list old new was is before after f g goes = tt

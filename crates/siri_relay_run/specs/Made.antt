@@ -4,7 +4,6 @@ use Rattle.siri_base.specs.Wires.{WireState}
 use Rattle.siri_base.specs.declared.reason.ScriptReason.TheVariants as reason
 use Rattle.siri_base.specs.declared.status.Status.{Status}
 use Rattle.siri_base.specs.declared.status.Status.TheVariants as status
-use Rattle.siri_http.specs.declared.tally.Tally.{Tally}
 use Rattle.siri_lines.specs.Ends.{Bytes}
 use Rattle.siri_messages.specs.declared.message.Message.{Message}
 use Rattle.siri_relay.specs.Relaying.{KnownRelay}
@@ -12,10 +11,8 @@ use Rattle.siri_wire.specs.declared.wanted.Wanted.{Wanted}
 use Rattle.siri_runs.specs.Calls.{Outside}
 use Rattle.siri_runs.specs.consumers.Reading.{EndsReading, StopsAt, Wants}
 use Rattle.siri_relay_run.specs.Opening.{Opens, begun, first_request}
-use Rattle.siri_relay_run.specs.Passing.{Passing}
 use Rattle.siri_ends.specs.At.{At, Goes}
 use Rattle.siri_relay_run.specs.Relays.{FirstGoings, Relaying, SendsGoings}
-use Rattle.siri_relay_run.specs.Runs.{PassesAll}
 use Rattle.siri_relay_run.specs.Steps.{Stands, name_of}
 use Rattle.siri_relay_run.specs.declared.going.Going.TheVariants as going
 
@@ -39,11 +36,6 @@ pub record OpensRelay (name listen : List ℕ) (input : Bytes) (relay : KnownRel
   pub opens : Opens name listen input start wanted moment from to
   pub begins : Begins name listen start moment wanted relay request
 
--- a relay as it is stands for whatever it stands for, with what was counted
-pub record StandsWith (relay : KnownRelay) (tally : Tally) (state : Passing) : Type 0 where
-  pub relay_is : Stands relay state.relay
-  pub tally_is : tally ≡ state.tally
-
 -- the request was sent, and what came of its response, whatever the relay stood for
 abbrev pub SendsFirst : (host path : List ℕ) → Message → (old new : At KnownRelay) → Type 0
 SendsFirst host path request old new = Goes name_of Stands (λ name. SendsGoings host path name (going.Up request ∷ [])) old new
@@ -52,10 +44,3 @@ SendsFirst host path request old new = Goes name_of Stands (λ name. SendsGoings
 abbrev pub SendsFirstSome : (host path : List ℕ) → Message → KnownRelay → (before after : Option WireState) → Type 0
 SendsFirstSome host path request relay before after =
     (state : Relaying) → Stands relay state → FirstGoings host path (name_of relay) (going.Up request ∷ []) state before after
-
--- every connection was answered by a relay that is this at the end
-pub record PassedAll (name listen : List ℕ) (target : List ℕ × List ℕ) (count : ℕ) (input : Bytes) (relay : KnownRelay) (tally : Tally)
-    (from to : Outside) : Type 0 where
-  pub end : Passing
-  pub passes : PassesAll name listen target count input end from to
-  pub stands : StandsWith relay tally end

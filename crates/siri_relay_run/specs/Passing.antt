@@ -6,7 +6,8 @@ use Rattle.siri_http.specs.declared.tally.Tally.{Tally}
 use Rattle.siri_relay.specs.Relaying.{moment_steps, upper_clocked}
 use Rattle.siri_ends.specs.At.{At, at_of}
 use Rattle.siri_runs.specs.Calls.{Outside, Told}
-use Rattle.siri_runs.specs.Turns.{Running, StopsForMemory, Turn, TurnFails, Turns, TurnsFail}
+use Rattle.siri_runs.specs.Run.{Turning}
+use Rattle.siri_runs.specs.Turns.{Running, StopsForMemory}
 use Rattle.siri_runs.specs.declared.network_error.NetworkError.{NetworkError}
 use Rattle.siri_runs.specs.declared.network_error.NetworkError.TheVariants as errors
 use Rattle.siri_relay_run.specs.Relays.{FirstGoings, Relaying, RelaysOne, RelaysSome, SendsGoings}
@@ -65,15 +66,5 @@ abbrev pub StopsPassing : Parties → NetworkError → Passing → Told WireStat
 StopsPassing parties error from before after = StopsForMemory
     (λ state old new. RelaysSome parties.host parties.path parties.name (end_at state old) new.tells) error from before after
 
-abbrev pub PassesTurn : Parties → Running Passing → Running Passing → Type 0
-PassesTurn parties from to = Turn given (Passes parties) from to
-
-abbrev pub PassesTurns : Parties → ℕ → Running Passing → Running Passing → Type 0
-PassesTurns parties count from to = Turns (PassesTurn parties) count from to
-
--- a turn that ended the run
-abbrev pub EndsAtTurn : Parties → NetworkError → Running Passing → Outside → Type 0
-EndsAtTurn parties error from to = TurnFails given Refuses (StopsPassing parties) error from to
-
-abbrev pub EndsInTurns : Parties → ℕ → NetworkError → Running Passing → Outside → Type 0
-EndsInTurns parties count error from to = TurnsFail (PassesTurn parties) (EndsAtTurn parties) count error from to
+abbrev pub turning : Parties → Turning Passing
+turning parties = record { given = given; Refuses = Refuses; Answers = Passes parties; Stops = StopsPassing parties }

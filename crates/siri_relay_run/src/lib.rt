@@ -25,7 +25,6 @@
 
 mod going;
 mod opening;
-mod passing;
 mod running;
 mod taking;
 

@@ -1,6 +1,6 @@
 //! How a run opens.
 
-ghost use Rattle.std.specs.Prelude.{◌≡◌, ◌≤◌, ◌*◌, [], ◌∷◌, length, IfErr, IfOk, OnOk};
+ghost use Rattle.std.specs.Prelude.{◌≡◌, ◌≤◌, ◌*◌, length, IfErr, IfOk, OnOk};
 ghost use Rattle.siri_base.specs.Causes.{Rose};
 ghost use Rattle.siri_base.specs.MetFailures.{SourceMeets};
 ghost use Rattle.siri_lines.specs.Ends.{ReadsAll};

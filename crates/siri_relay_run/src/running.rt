@@ -10,23 +10,30 @@ ghost use Rattle.siri_lines.specs.Pieces.{ReadsNoFurther};
 ghost use Rattle.siri_lines.specs.RunResult.{verdict};
 ghost use Rattle.siri_runs.specs.Calls.{outside_told};
 ghost use Rattle.siri_runs.specs.Enough.{EndsWhole, HasEnough};
+ghost use Rattle.siri_runs.specs.Run.{Completes, EndsBefore};
 ghost use Rattle.siri_runs.specs.Summaries.{summary_text};
 ghost use Rattle.siri_runs.specs.consumers.Reading.{has_failed_to_read};
 ghost use Rattle.siri_runs.specs.consumers.Views.{views_text};
 ghost use Rattle.siri_runs.specs.consumers.Wanting.{event, nothing_wanted};
-ghost use Rattle.siri_relay_run.specs.Made.{PassedAll, SendsFirst, SendsFirstSome};
-ghost use Rattle.siri_relay_run.specs.Runs.{EndsRelaying, PassesNot, RelayRun, TellsOne};
+ghost use Rattle.siri_relay_run.specs.Made.{SendsFirst, SendsFirstSome};
+ghost use Rattle.siri_relay_run.specs.Runs.{EndsRelaying, RelayRun, TellsOne, relay_procedure};
 
 use crate::going::Going;
 use crate::opening::{Opened, open};
-use crate::passing::{Hub, Passed};
 use crate::taking::RelayTaker;
 use siri_base::{Clock, Keeper, List, Name, OutOfMemory, OutsideError, Sink, Source, Status, Wire};
 use siri_ends::{Tally, send_all};
-use siri_http::Address;
+use siri_http::{Address, PostAlone};
 use siri_messages::Message;
 use siri_runs::{run_turns, write_summary, write_views};
 use std::alloc::Global;
+
+/// What a run comes to: the relay, and what was counted.
+#[derive(Drop)]
+struct Passed {
+    taker: RelayTaker,
+    tally: Tally,
+}
 
 /// A relay of this name for so many connections at `HOST:PORT`, of at most 247 bytes: it raises the number of its start, reads its
 /// one line, a wanted subscription, listens, reads the clock, and asks its source at the upstream address for what is wanted;
@@ -96,6 +103,7 @@ fn write_end<K: Sink>(alloc: Global, passed: &Passed, sink: &mut K) -> Result<()
 }
 
 /// Sends the request, and what comes of its response.
+#[tactic(auto, using(crate::proofs::Takes::sends_first))]
 fn ask<W: Wire>(
     alloc: Global,
     upstream: &Address,
@@ -111,7 +119,7 @@ fn ask<W: Wire>(
 {
     let mut list = List::new(alloc);
     list.push(Going::Up(request))?;
-    send_all(alloc, wire, list, upstream, taker, tally)
+    send_all::<W, (), RelayTaker>(alloc, wire, list, upstream, taker, tally)
 }
 
 /// Opens, asks, and answers all connections.
@@ -127,10 +135,11 @@ fn relay_all<S: Source, W: Wire, C: Clock, E: Keeper>(
     keeper: &mut E,
 ) -> Result<Passed, Status>
     requires { length address.now ≤ 247 }
-    ensures ok { IfOk result (λ passed. PassedAll name address.now (upstream.now.host, upstream.now.path) count (S.left source.old) passed.taker.relay passed.tally
+    ensures ok { IfOk result (λ passed. Completes (relay_procedure name address.now (upstream.now.host, upstream.now.path) (S.left source.old) (S.left source.new)) count
+        (views_text passed.taker.relay.consumer ++ summary_text passed.tally)
         (outside_told W.Wire C.Clock E.Keeper wire.old clock.old keeper.old)
         (outside_told W.Wire C.Clock E.Keeper wire.new clock.new keeper.new)) }
-    ensures err { IfErr result (λ end. PassesNot name address.now (upstream.now.host, upstream.now.path) count (S.left source.old) (S.left source.new) end
+    ensures err { IfErr result (λ end. EndsBefore (relay_procedure name address.now (upstream.now.host, upstream.now.path) (S.left source.old) (S.left source.new)) count end
         (outside_told W.Wire C.Clock E.Keeper wire.old clock.old keeper.old)
         (outside_told W.Wire C.Clock E.Keeper wire.new clock.new keeper.new)) }
     ensures all { OnOk result (ReadsAll (S.left source.new) Status.Done) }
@@ -144,7 +153,15 @@ fn relay_all<S: Source, W: Wire, C: Clock, E: Keeper>(
         Ok(()) => {}
         Err(OutOfMemory) => return Err(Status::OutOfMemory),
     }
-    let mut hub = Hub::new(alloc, upstream, Passed { taker, tally });
-    run_turns(count, wire, clock, &mut hub, &mut ())?;
-    Ok(hub.passed())
+    run_turns::<PostAlone, W, C, (), RelayTaker>(
+        alloc,
+        count,
+        upstream,
+        wire,
+        clock,
+        &mut taker,
+        &mut (),
+        &mut tally,
+    )?;
+    Ok(Passed { taker, tally })
 }

@@ -1,17 +1,18 @@
 //! A relay as an end of the exchange.
 
-ghost use Rattle.std.specs.Prelude.{◌≡◌, ◌∷◌, ◌++◌, List, ℕ, [], IfOk, OnOk, Option, Some, map};
+ghost use Rattle.std.specs.Prelude.{◌≡◌, ◌∷◌, List, ℕ, [], IfOk, OnOk, Option, Some};
 ghost use Rattle.siri_model.specs.History.{History, Settle};
 ghost use Rattle.siri_producer.specs.Known.{StandsFor};
 ghost use Rattle.siri_producer.specs.Sends.{sends};
 ghost use Rattle.siri_relay.specs.Goes.{GoesBy};
 ghost use Rattle.siri_ends.specs.Responses.{message_asked, replying, responding};
 ghost use Rattle.siri_ends.specs.Turns.{AreWritten};
+ghost use Rattle.siri_relay_run.specs.Passing.{after_moment};
 ghost use Rattle.siri_relay_run.specs.Relays.{PostsGoing, Relaying, all_up, further_up, goings, heard_of, none_posted_going, relay_reply, relaying};
 ghost use Rattle.siri_relay_run.specs.Steps.{Hears, IsAcknowledging, Stands, Takes, name_of};
 
 use crate::going::Going;
-use siri_base::{List, OutOfMemory, Wire};
+use siri_base::{List, Moment, OutOfMemory, OutsideError, Wire};
 use siri_ends::{Brought, Response, Taker, brought_by, finish, replying, split_replies};
 use siri_http::{Address, Asked, Sent, Tally};
 use siri_messages::Message;
@@ -175,7 +176,7 @@ fn hear(
     }
 }
 
-impl Taker for RelayTaker {
+impl Taker<()> for RelayTaker {
     type Reply = Option<Response>;
 
     type Message = Going;
@@ -190,6 +191,12 @@ impl Taker for RelayTaker {
 
     ghost stands = { λ taker state. Stands taker.relay state };
 
+    ghost holds = { λ _ _ _. Unit {0} };
+
+    ghost given = { λ now state. after_moment now state };
+
+    ghost refuses = { λ _ _. Unit {0} };
+
     ghost manner = { relaying };
 
     ghost posts = { λ upstream. PostsGoing upstream.host upstream.path };
@@ -198,11 +205,17 @@ impl Taker for RelayTaker {
 
     ghost is_reply = { λ _ reply _ response. response ≡ reply };
 
+    fn clock(&mut self, _beside: &mut (), now: Moment) -> Result<(), OutsideError> {
+        self.relay.clock(now)?;
+        Ok(())
+    }
+
     fn take(
         &mut self,
         alloc: Global,
+        _beside: &mut (),
         asked: &Asked,
-    ) -> Result<(Option<Response>, List<Going>), OutOfMemory> {
+    ) -> Result<(Option<Response>, List<Going>), OutsideError> {
         let (response, further) = reply_to(alloc, &mut self.relay, asked)?;
         let list = settle(alloc, &mut self.relay, further)?;
         Ok((response, list))
@@ -240,6 +253,10 @@ impl Taker for RelayTaker {
         let heard = heard_of(sent, message);
         let list = hear(alloc, &mut self.relay, heard)?;
         Ok(list)
+    }
+
+    fn end_turn(&mut self, _beside: &mut (), _made: u64) -> Result<(), OutsideError> {
+        Ok(())
     }
 
     ghost none_posted = { λ upstream message wire. none_posted_going upstream.host upstream.path message wire };

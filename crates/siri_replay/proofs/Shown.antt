@@ -16,9 +16,9 @@ use Rattle.siri_world_model.specs.declared.event.Event.TheVariants as event
 use Rattle.siri_world_model.specs.declared.step_error.StepError.{StepError}
 use Rattle.siri_world_model.specs.Lines.{ToldLine}
 use Rattle.siri_world_model.specs.Told.{told, world_after}
-use Rattle.siri_world_laws.specs.Views.{AllHappen}
-use Rattle.siri_world_laws.proofs.Happen.{none_happen, happen_more, told_happens}
-use Rattle.siri_world_laws.proofs.Telling.{views_tell}
+use Rattle.siri_world_model.specs.laws.Views.{AllHappen}
+use Rattle.siri_world_model.proofs.Happen.{none_happen, happen_more, told_happens}
+use Rattle.siri_world_model.proofs.Telling.{views_tell}
 use Rattle.siri_replay.specs.Events.{line_said}
 use Rattle.siri_replay.specs.Report.{World, by_said, by_told, event as event_of, is_started, report, most_lines}
 use Rattle.siri_replay.specs.ReportLines.{lines_text}

@@ -16,7 +16,7 @@ use Rattle.siri_messages.specs.Rounds.{has_round}
 use Rattle.siri_wire.specs.Documents.{message_of}
 use Rattle.siri_wire.specs.Wanted.{wanted_of}
 use Rattle.siri_wire.specs.declared.wanted.Wanted.{Wanted}
-use Rattle.siri_script.specs.Wanted.{bad_document, or_refused, unwanted}
+use Rattle.siri_document.specs.script.Wanted.{bad_document, or_refused, unwanted}
 
 -- what is made of the value
 abbrev pub and_then : {A B : Type 0} → Result A ScriptReason → (A → Result B ScriptReason) → Result B ScriptReason

@@ -7,7 +7,7 @@ use Rattle.siri_world_model.specs.declared.event.Event.TheVariants as event
 use Rattle.siri_replay.specs.declared.script_words.ScriptWord.{ScriptWord}
 use Rattle.siri_replay.specs.declared.script_words.ScriptWord.TheVariants as word
 use Rattle.siri_replay.specs.Lines.{first_word, argument_of, word_of}
-use Rattle.siri_script.specs.Lines.{is_skipped}
+use Rattle.siri_document.specs.script.Lines.{is_skipped}
 use Rattle.siri_replay.specs.Arguments.{and_then, moment_in, consumer_in, identifier_in, number_in, delivery_in, request_in, wanted_in}
 
 -- the event that is made of an argument

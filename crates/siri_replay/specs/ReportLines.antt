@@ -15,9 +15,9 @@ use Rattle.siri_world_model.specs.declared.word.Word.{Word}
 use Rattle.siri_world_model.specs.declared.word.Word.TheVariants as word
 use Rattle.siri_world_model.specs.Lines as line
 use Rattle.siri_world_model.specs.Lines.{ToldLine}
-use Rattle.siri_script.specs.Items.{item_line}
-use Rattle.siri_script.specs.Spaced.{line_feed, space, spaced}
-use Rattle.siri_script.specs.ViewLines.{held_text}
+use Rattle.siri_document.specs.script.Items.{item_line}
+use Rattle.siri_document.specs.script.Spaced.{line_feed, space, spaced}
+use Rattle.siri_document.specs.script.ViewLines.{held_text}
 
 -- ---- what a receiver says of a packet
 

@@ -15,7 +15,7 @@ use Rattle.siri_lines.specs.RunResult.{Events, Goes, report_from, verdict}
 use Rattle.siri_world_model.specs.declared.event.Event.{Event}
 use Rattle.siri_world_model.specs.declared.event.Event.TheVariants as event
 use Rattle.siri_world_model.specs.Lines.{ToldLine}
-use Rattle.siri_world_laws.specs.Views.{TellsView}
+use Rattle.siri_world_model.specs.laws.Views.{TellsView}
 use Rattle.siri_replay.specs.Events.{line_said}
 use Rattle.siri_replay.specs.Report.{World, event as event_of, is_started, report, most_lines}
 use Rattle.siri_replay.specs.ReportLines.{lines_text}

@@ -3,11 +3,11 @@
 ghost use Rattle.std.specs.Prelude.{◌≡◌, option_map};
 ghost use Rattle.std.specs.List.{list_all};
 ghost use Rattle.siri_replay.specs.Arguments.{consumer_in, delivery_in, document_in, identifier_in, is_consumer, is_consumer_byte, is_consumer_word, moment_in, name_of, number_in, request_in, wanted_in};
-ghost use Rattle.siri_script.specs.Reads.{Reads};
+ghost use Rattle.siri_document.specs.script.Reads.{Reads};
 
 use siri_base::{Moment, Name, ScriptReason, TextError, number_of};
+use siri_document::{LineError, bad_document, wanted_said};
 use siri_messages::{Message, ServiceDelivery, ServiceRequest};
-use siri_script::{LineError, bad_document, wanted_said};
 use siri_time::read_moment;
 use siri_wire::{DecodeError, Wanted, decode};
 use std::alloc::Global;

@@ -13,7 +13,7 @@
 //! told of each event in the world after those before it.
 //!
 //! Stands on `siri_lines`, which reads the lines, on `siri_world`, in which the events happen, on `siri_wire`,
-//! `siri_tables` and `siri_messages` for documents, on `siri_script` for what its lines have in common with those of
+//! `siri_tables` and `siri_messages` for documents, on `siri_document` for what its lines have in common with those of
 //! other commands, on `siri_time` for moments, and on `siri_base`, `siri_producer` and `siri_view` for what lines tell.
 #![tactic(auto)]
 

@@ -8,13 +8,13 @@ ghost use Rattle.siri_lines.specs.Ends.{AppendsFront};
 ghost use Rattle.siri_world_model.specs.Lines as line;
 ghost use Rattle.siri_world_model.specs.Lines.{told_line, told_lines};
 ghost use Rattle.siri_replay.specs.ReportLines.{ask_text, line_text, lines_text, packet_text, state_text, told_text, view_text};
-ghost use Rattle.siri_script.specs.Spaced.{line_feed, spaced};
+ghost use Rattle.siri_document.specs.script.Spaced.{line_feed, spaced};
 
 use crate::words_said::{append_fed, append_said};
 use siri_base::{Name, OutOfMemory, OutsideError, Sink, append};
+use siri_document::{append_count, append_word, item_line, view_line, write_whole};
 use siri_lines::write_text;
 use siri_producer::Fed;
-use siri_script::{append_count, append_word, item_line, view_line, write_whole};
 use siri_view::{AskError, Held};
 use siri_wire::encode;
 use siri_world::{Line, Word};

@@ -2,14 +2,14 @@
 
 ghost use Rattle.std.specs.Prelude.{◌≡◌, option_map};
 ghost use Rattle.siri_replay.specs.Events.{event_said, first_of, line_said, rest_of, subscription_said, termination_said, view_said, word_says};
-ghost use Rattle.siri_script.specs.Reads.{Reads};
+ghost use Rattle.siri_document.specs.script.Reads.{Reads};
 
 use crate::arguments::{
     consumer_in, delivery_in, identifier_in, moment_in, number_in, request_in, wanted_in,
 };
 use crate::script_words::{ScriptWord, argument, first_word, word_of};
 use siri_base::ScriptReason;
-use siri_script::{LineError, is_skipped};
+use siri_document::{LineError, is_skipped};
 use siri_world::Event;
 use std::alloc::Global;
 

@@ -6,7 +6,7 @@ ghost use Rattle.std.specs.Map.{lookup};
 ghost use Rattle.siri_replay.specs.Lines.{argument_of, first_word, word_end, word_named, word_of};
 
 use siri_base::ScriptReason;
-use siri_script::is_text;
+use siri_document::is_text;
 
 /// The words that a line may begin with.
 #[derive(Clone, Copy, Debug)]

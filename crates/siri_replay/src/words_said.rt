@@ -4,8 +4,8 @@ ghost use Rattle.std.specs.Prelude.{◌≡◌, ◌++◌, OnOk};
 ghost use Rattle.siri_replay.specs.ReportLines.{fed_text, note_text, outcome_text, place_text, word_text};
 
 use siri_base::{OutOfMemory, Place, append, append_number};
+use siri_document::append_count;
 use siri_producer::{Fed, Note};
-use siri_script::append_count;
 use siri_view::Outcome;
 use siri_world::Word;
 use std::alloc::Global;

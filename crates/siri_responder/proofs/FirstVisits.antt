@@ -31,7 +31,7 @@ use Rattle.siri_change.specs.Parts.{whole}
 use Rattle.siri_change.proofs.Leads.{Fits, mentions, leads}
 use Rattle.siri_model.specs.Direct.{at_most, direct_to, items_before, most_of, shown, soonest, soonest_cmp}
 use Rattle.siri_model.specs.Followed.{comes_up_to, enters_from, enters_in, is_served, visits_to}
-use Rattle.siri_model_laws.proofs.Lawful.{shown_in_order}
+use Rattle.siri_model.proofs.Lawful.{shown_in_order}
 use Rattle.siri_store.specs.Crossing.{is_of}
 use Rattle.siri_store.specs.First.{enters, first_entries, looked_until, visits_for}
 use Rattle.siri_store.specs.Walk.{shown_at}

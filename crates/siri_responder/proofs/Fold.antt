@@ -16,8 +16,8 @@ use Rattle.siri_model.specs.Fed.{Counts, is_observation, refuses as is_refusing,
 use Rattle.siri_store.specs.Calls.{refuses, observed}
 use Rattle.siri_responder.specs.Feeding.{Filling, more, after, after_all}
 use Rattle.siri_responder.specs.FedCounts.{at_most_greatest, fed_counts}
-use Rattle.siri_model_laws.proofs.Entries.{passing_removed, passing_inserted, passing_inserted_failing}
-use Rattle.siri_model_laws.proofs.InOrder.{in_order_after}
+use Rattle.siri_model.proofs.Entries.{passing_removed, passing_inserted, passing_inserted_failing}
+use Rattle.siri_model.proofs.InOrder.{in_order_after}
 
 -- ---- one entry
 

@@ -7,9 +7,9 @@ use Rattle.siri_records.specs.Keyed.{InOrder, most_live}
 use Rattle.siri_messages.specs.declared.requests.ServiceRequest.{ServiceRequest}
 use Rattle.siri_model.specs.Direct.{response}
 use Rattle.siri_model.specs.History.{History, IsKeyed, now_of, current}
-use Rattle.siri_model_laws.proofs.Current.{current_keyed, few_live, keyed_passing}
-use Rattle.siri_model_laws.proofs.Entries.{sorted_passing}
-use Rattle.siri_model_laws.proofs.InOrder.{current_in_order}
+use Rattle.siri_model.proofs.Current.{current_keyed, few_live, keyed_passing}
+use Rattle.siri_model.proofs.Entries.{sorted_passing}
+use Rattle.siri_model.proofs.InOrder.{current_in_order}
 use Rattle.siri_responder.proofs.Shown.{response_live}
 use Rattle.siri_responder.specs.Known.{Known, StandsFor}
 

@@ -17,10 +17,10 @@ use Rattle.siri_records.specs.Order.{key_cmp, key_cmp_total}
 use Rattle.siri_records.proofs.ItemsPassing.{kept_if, item_kept}
 use Rattle.siri_records.proofs.KeyLists.{tied, one_key, same_with, among_keys, order_in_order}
 use Rattle.siri_records.proofs.Order.{key_cmp_exact}
-use Rattle.siri_marks.specs.Marked.{Marked, is_since, keys_since}
-use Rattle.siri_marks.proofs.Touching.{marks_touch}
-use Rattle.siri_model_laws.proofs.Current.{lookup_removed}
-use Rattle.siri_model_laws.proofs.Entries.{passing_removed, sorted_passing, sorted_removed}
+use Rattle.siri_store.specs.Marked.{Marked, is_since, keys_since}
+use Rattle.siri_store.proofs.Touching.{marks_touch}
+use Rattle.siri_model.proofs.Current.{lookup_removed}
+use Rattle.siri_model.proofs.Entries.{passing_removed, sorted_passing, sorted_removed}
 use Rattle.siri_store.specs.Held.{Held}
 use Rattle.siri_store.specs.Calls.{NoneDead, IsNextToLeave, without}
 use Rattle.siri_responder.specs.declared.feeding.Feeding.{Feeding}

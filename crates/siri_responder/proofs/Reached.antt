@@ -10,8 +10,8 @@ use Rattle.siri_records.specs.declared.key.Key.{Key}
 use Rattle.siri_records.specs.Ends.{is_dead}
 use Rattle.siri_records.specs.KeyLists.{with_keys}
 use Rattle.siri_records.specs.Order.{key_cmp}
-use Rattle.siri_marks.specs.Marked.{Marked, keys_since, SameFrom}
-use Rattle.siri_marks.proofs.Touching.{marks_touch}
+use Rattle.siri_store.specs.Marked.{Marked, keys_since, SameFrom}
+use Rattle.siri_store.proofs.Touching.{marks_touch}
 use Rattle.siri_messages.specs.declared.deliveries.FunctionalDelivery.{FunctionalDelivery}
 use Rattle.siri_model.specs.History.{Entry, Observed, Withdrawn, entries_in}
 use Rattle.siri_model.specs.Last.{entry_key}

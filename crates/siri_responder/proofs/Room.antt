@@ -9,7 +9,7 @@ use Rattle.siri_records.specs.Keys.{key_of}
 use Rattle.siri_records.specs.Keyed.{InOrder, item_of, most_live}
 use Rattle.siri_records.specs.Order.{key_cmp_total}
 use Rattle.siri_records.proofs.Order.{key_cmp_exact}
-use Rattle.siri_model_laws.proofs.Current.{length_removed, length_inserted}
+use Rattle.siri_model.proofs.Current.{length_removed, length_inserted}
 use Rattle.siri_store.specs.Held.{Held}
 use Rattle.siri_store.specs.Calls.{refuses, observed, without}
 

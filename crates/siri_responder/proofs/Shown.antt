@@ -6,7 +6,7 @@ use Rattle.siri_messages.specs.declared.deliveries.FunctionalDelivery.{Functiona
 use Rattle.siri_messages.specs.declared.requests.ServiceRequest.{ServiceRequest}
 use Rattle.siri_topic.specs.declared.topics.Topic.{Topic}
 use Rattle.siri_model.specs.Direct.{shown, at_most, most_of, soonest, answering, answer, response}
-use Rattle.siri_model_laws.proofs.Lawful.{shown_live}
+use Rattle.siri_model.proofs.Lawful.{shown_live}
 
 answering_live : (now : ℕ) (items : Items) (topic : Topic) → answering now (living now items) topic ≡ answering now items topic
 unfolding answering

@@ -4,7 +4,7 @@ use Rattle.std.proofs.Math.Seq.{take-append_seam}
 use Rattle.siri_records.specs.Keyed.{Items, living}
 use Rattle.siri_records.specs.declared.key.Key.{Key}
 use Rattle.siri_records.specs.KeyLists.{with_keys}
-use Rattle.siri_marks.specs.Marked.{Marked, keys_since, unmarked}
+use Rattle.siri_store.specs.Marked.{Marked, keys_since, unmarked}
 use Rattle.siri_model.specs.History.{Entry, Start, Clock, Feed, History, State, after_entry, after_step, state_of, now_of, current}
 use Rattle.siri_model.specs.Fed.{counts_of}
 use Rattle.siri_model.specs.Last.{entry_key}
@@ -15,7 +15,7 @@ use Rattle.siri_responder.specs.Feeding.{Filling, filling, after_all, AreMarked,
 use Rattle.siri_responder.specs.Known.{Known, StandsFor, GoesOn, Touches, TookSome, CountsFor}
 use Rattle.siri_responder.specs.Standing.{HasHistory}
 use Rattle.siri_responder.specs.FedCounts.{fed_counts}
-use Rattle.siri_model_laws.proofs.InOrder.{current_in_order, more_steps, live_later}
+use Rattle.siri_model.proofs.InOrder.{current_in_order, more_steps, live_later}
 use Rattle.siri_responder.proofs.Fold.{none_fed, fitting, all_alike}
 
 -- ---- one more step

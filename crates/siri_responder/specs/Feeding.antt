@@ -4,7 +4,7 @@ use Rattle.std.specs.Prelude.{◌≡◌, ℕ, ◌+◌, ◌≤◌, List, ◌++◌
 use Rattle.siri_records.specs.declared.key.Key.{Key}
 use Rattle.siri_records.specs.Keyed.{most_live}
 use Rattle.siri_records.specs.KeyLists.{with_keys}
-use Rattle.siri_marks.specs.Marked.{Marked, keys_since}
+use Rattle.siri_store.specs.Marked.{Marked, keys_since}
 use Rattle.siri_model.specs.History.{Entry, Observed, Withdrawn}
 use Rattle.siri_model.specs.Last.{entry_key}
 use Rattle.siri_store.specs.Held.{Held}

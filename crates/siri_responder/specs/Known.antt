@@ -4,7 +4,7 @@ use Rattle.siri_messages.specs.declared.requests.ServiceRequest.{ServiceRequest}
 use Rattle.siri_records.specs.declared.key.Key.{Key}
 use Rattle.siri_records.specs.Keyed.{Items, living}
 use Rattle.siri_records.specs.KeyLists.{with_keys}
-use Rattle.siri_marks.specs.Marked.{Marked, keys_since}
+use Rattle.siri_store.specs.Marked.{Marked, keys_since}
 use Rattle.siri_messages.specs.declared.deliveries.ServiceDelivery.{ServiceDelivery}
 use Rattle.siri_model.specs.Direct.{response}
 use Rattle.siri_model.specs.Fed.{counts_of}

@@ -3,7 +3,7 @@
 use Rattle.std.specs.Prelude.{ℕ, []}
 use Rattle.siri_records.specs.Keyed.{Items}
 use Rattle.siri_model.specs.History.{History}
-use Rattle.siri_marks.specs.Marked.{unmarked}
+use Rattle.siri_store.specs.Marked.{unmarked}
 use Rattle.siri_responder.specs.Known.{StandsFor}
 
 -- some history has this start number, moment of its start, moment and live current items

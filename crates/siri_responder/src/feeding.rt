@@ -7,11 +7,10 @@ ghost use Rattle.siri_model.specs.History.{Observed, Withdrawn, entries_in, entr
 ghost use Rattle.siri_store.specs.Calls.{NoneDead};
 ghost use Rattle.siri_responder.specs.Feeding.{AreMarked, HasRoom, ReachesSome, Takes};
 
-use siri_base::{Copies, OutOfMemory};
-use siri_marks::Marks;
+use siri_base::{Copies, List, OutOfMemory};
 use siri_messages::{FunctionalDelivery, ServiceDelivery};
 use siri_records::{Item, Key, SharedKey};
-use siri_store::{ObserveError, Store};
+use siri_store::{Marks, ObserveError, Store};
 use std::alloc::Global;
 use std::rc::Rc;
 
@@ -88,23 +87,30 @@ impl Feeding {
     }
 
     /// The entries of a delivery, in the order Stop Monitoring, Estimated Timetable, Vehicle Monitoring, Situation
-    /// Exchange. Each item is copied as it comes.
+    /// Exchange. Its items are kept and none is copied.
     pub(crate) fn feed(
         &mut self,
         alloc: Global,
-        delivery: &ServiceDelivery,
+        delivery: ServiceDelivery,
     ) -> Result<(), OutOfMemory>
         requires alive { NoneDead self.old.store }
         requires room { HasRoom self.old }
-        ensures ok { OnOk result (Takes self.old self.new (entries_of delivery.now)) }
-        ensures err { OnErr result (ReachesSome self.old self.new (entries_of delivery.now)) }
+        ensures ok { OnOk result (Takes self.old self.new (entries_of delivery)) }
+        ensures err { OnErr result (ReachesSome self.old self.new (entries_of delivery)) }
         ensures alive { NoneDead self.new.store }
         ensures room { HasRoom self.new }
     {
-        self.feed_all(alloc, delivery.stop_monitoring_delivery.slice())?;
-        self.feed_all(alloc, delivery.estimated_timetable_delivery.slice())?;
-        self.feed_all(alloc, delivery.vehicle_monitoring_delivery.slice())?;
-        self.feed_all(alloc, delivery.situation_exchange_delivery.slice())?;
+        let ServiceDelivery {
+            stop_monitoring_delivery,
+            estimated_timetable_delivery,
+            vehicle_monitoring_delivery,
+            situation_exchange_delivery,
+            ..
+        } = delivery;
+        self.feed_all(alloc, stop_monitoring_delivery)?;
+        self.feed_all(alloc, estimated_timetable_delivery)?;
+        self.feed_all(alloc, vehicle_monitoring_delivery)?;
+        self.feed_all(alloc, situation_exchange_delivery)?;
         Ok(())
     }
 
@@ -112,46 +118,46 @@ impl Feeding {
     fn feed_all(
         &mut self,
         alloc: Global,
-        deliveries: &[FunctionalDelivery],
+        deliveries: List<FunctionalDelivery>,
     ) -> Result<(), OutOfMemory>
         requires alive { NoneDead self.old.store }
         requires room { HasRoom self.old }
-        ensures ok { OnOk result (Takes self.old self.new (flat_map entries_in deliveries.now)) }
-        ensures err { OnErr result (ReachesSome self.old self.new (flat_map entries_in deliveries.now)) }
+        ensures ok { OnOk result (Takes self.old self.new (flat_map entries_in deliveries)) }
+        ensures err { OnErr result (ReachesSome self.old self.new (flat_map entries_in deliveries)) }
         ensures alive { NoneDead self.new.store }
         ensures room { HasRoom self.new }
     {
-        for delivery in deliveries {
+        for delivery in deliveries.into_vec() {
             self.feed_one(alloc, delivery)?;
         }
         Ok(())
     }
 
     /// Items before removals.
-    fn feed_one(&mut self, alloc: Global, delivery: &FunctionalDelivery) -> Result<(), OutOfMemory>
+    fn feed_one(&mut self, alloc: Global, delivery: FunctionalDelivery) -> Result<(), OutOfMemory>
         requires alive { NoneDead self.old.store }
         requires room { HasRoom self.old }
-        ensures ok { OnOk result (Takes self.old self.new (entries_in delivery.now)) }
-        ensures err { OnErr result (ReachesSome self.old self.new (entries_in delivery.now)) }
+        ensures ok { OnOk result (Takes self.old self.new (entries_in delivery)) }
+        ensures err { OnErr result (ReachesSome self.old self.new (entries_in delivery)) }
         ensures alive { NoneDead self.new.store }
         ensures room { HasRoom self.new }
     {
-        self.observe_all(alloc, delivery.items.slice())?;
-        self.withdraw_all(alloc, delivery.removals.slice())
+        let (items, removals) = delivery.into_entries();
+        self.observe_all(alloc, items)?;
+        self.withdraw_all(alloc, removals.slice())
     }
 
-    /// Copies of the items are observed in order; after want of memory the first few of them are.
-    fn observe_all(&mut self, alloc: Global, items: &[Item]) -> Result<(), OutOfMemory>
+    /// The items are observed in order; after want of memory the first few of them are.
+    fn observe_all(&mut self, alloc: Global, items: List<Item>) -> Result<(), OutOfMemory>
         requires alive { NoneDead self.old.store }
         requires room { HasRoom self.old }
-        ensures ok { OnOk result (Takes self.old self.new (map Observed items.now)) }
-        ensures err { OnErr result (ReachesSome self.old self.new (map Observed items.now)) }
+        ensures ok { OnOk result (Takes self.old self.new (map Observed items)) }
+        ensures err { OnErr result (ReachesSome self.old self.new (map Observed items)) }
         ensures alive { NoneDead self.new.store }
         ensures room { HasRoom self.new }
     {
-        for item in items {
-            let copy = item.copy()?;
-            self.observe(alloc, copy)?;
+        for item in items.into_vec() {
+            self.observe(alloc, item)?;
         }
         Ok(())
     }

@@ -19,16 +19,15 @@
 //! A key is marked where an entry of a feed names it, be the entry taken or refused, and where its item dies: under a
 //! number, which `turn` raises. What memory a mark may want is taken while the entry is: `clock` takes none.
 //!
-//! Stands on `siri_base`, `siri_records`, `siri_topic`, `siri_messages`, `siri_store` and `siri_marks`; its contracts cite the
-//! histories of `siri_model`, and its proofs what follows of them in `siri_model_laws`. It reads and writes no text,
-//! and knows no wire and no clock.
+//! Stands on `siri_base`, `siri_records`, `siri_topic`, `siri_messages` and `siri_store`; its contracts cite the
+//! histories of `siri_model`, and its proofs what follows of them there. It reads and writes no text, and knows no wire
+//! and no clock.
 #![tactic(auto)]
 
 mod answers;
 mod directs;
 mod feeding;
 mod looks;
-mod owned;
 mod responder;
 mod response;
 mod soonest;

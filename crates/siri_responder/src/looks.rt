@@ -1,9 +1,7 @@
 //! What a look at a subscription reads of the store.
 
-ghost use Rattle.std.specs.Prelude.{◌≡◌, ◌+◌, ◌≤◌, [], length, option_map, IfOk, OnOk};
-ghost use Rattle.std.specs.List.Sorted.{IsStrictlySortedBy};
+ghost use Rattle.std.specs.Prelude.{◌≡◌, ◌+◌, ◌≤◌, length, option_map, IfOk, OnOk};
 ghost use Rattle.siri_records.specs.Keyed.{InOrder, entries_view, item_of};
-ghost use Rattle.siri_topic.specs.Shown.{window_of};
 ghost use Rattle.siri_model.specs.Followed.{items_passed};
 ghost use Rattle.siri_model.specs.Looks.{crossed_items, found_of};
 ghost use Rattle.siri_store.specs.Crossing.{crossed_entries};

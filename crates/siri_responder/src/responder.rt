@@ -3,7 +3,7 @@
 ghost use Rattle.std.specs.Prelude.{◌≡◌, ◌+◌, ◌*◌, ◌^◌, ◌<◌, ◌≤◌, [], ◌∷◌, length, map, option_map, IfOk, OnOk, OnErr, ⊤};
 ghost use Rattle.std.specs.Map.{keys_of};
 ghost use Rattle.siri_records.specs.Keyed.{InOrder, dead_of, item_of, most_live};
-ghost use Rattle.siri_marks.specs.Marked.{SameFrom, keys_since, unmarked};
+ghost use Rattle.siri_store.specs.Marked.{SameFrom, keys_since, unmarked};
 ghost use Rattle.siri_model.specs.Looks.{crossed_items, found_of};
 ghost use Rattle.siri_model.specs.Followed.{items_passed};
 ghost use Rattle.siri_responder.specs.Topics.{topics_in};
@@ -25,10 +25,9 @@ use crate::feeding::{Fed, Feeding};
 use crate::looks::{crossed, found, held_item};
 use crate::response::response_to;
 use siri_base::{List, Moment, Name, OutOfMemory};
-use siri_marks::Marks;
 use siri_messages::{ServiceDelivery, ServiceRequest};
 use siri_records::{Change, Item, Key, KeyedItems};
-use siri_store::{Selected, Store};
+use siri_store::{Marks, Selected, Store};
 use siri_topic::Topic;
 use std::alloc::Global;
 use std::marker::Model;
@@ -101,23 +100,9 @@ impl Responder {
     }
 
     /// Takes the items and removals of a delivery, in the order Stop Monitoring, Estimated Timetable, Vehicle
-    /// Monitoring, Situation Exchange, delivery by delivery, items before removals, and tells how many. Each item is
-    /// copied as it comes. After want of memory the entries before the refused one stand.
-    pub fn feed(&mut self, delivery: &ServiceDelivery) -> Result<Fed, OutOfMemory>
-        ensures ok { OnOk result (GoesOn self.old self.new (Feed (entries_of delivery.now))) }
-        ensures touched { OnOk result (Touches self.old self.new (map entry_key (entries_of delivery.now))) }
-        ensures counts { IfOk result (CountsFor self.old (entries_of delivery.now)) }
-        ensures err { OnErr result (TookSome self.old self.new (entries_of delivery.now)) }
-        ensures name { self.new.name ≡ self.old.name }
-        ensures reads { self.new.reads ≡ self.old.reads }
-    {
-        self.feeding.begin();
-        self.feeding.feed(self.alloc, delivery)?;
-        Ok(self.feeding.fed)
-    }
-
-    /// As `feed`, of a delivery that is handed over: its items are kept and none is copied.
-    pub fn feed_owned(&mut self, delivery: ServiceDelivery) -> Result<Fed, OutOfMemory>
+    /// Monitoring, Situation Exchange, delivery by delivery, items before removals, and tells how many. Its items are
+    /// kept and none is copied. After want of memory the entries before the refused one stand.
+    pub fn feed(&mut self, delivery: ServiceDelivery) -> Result<Fed, OutOfMemory>
         ensures ok { OnOk result (GoesOn self.old self.new (Feed (entries_of delivery))) }
         ensures touched { OnOk result (Touches self.old self.new (map entry_key (entries_of delivery))) }
         ensures counts { IfOk result (CountsFor self.old (entries_of delivery)) }
@@ -126,7 +111,7 @@ impl Responder {
         ensures reads { self.new.reads ≡ self.old.reads }
     {
         self.feeding.begin();
-        self.feeding.feed_owned(self.alloc, delivery)?;
+        self.feeding.feed(self.alloc, delivery)?;
         Ok(self.feeding.fed)
     }
 

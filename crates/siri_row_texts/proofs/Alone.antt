@@ -17,7 +17,7 @@ use Rattle.siri_deliveries.specs.Limits.{most_entries}
 use Rattle.siri_deliveries.specs.Parts.{IsPlaced, no_round}
 use Rattle.siri_deliveries.specs.Removals.{IsProperRemoval}
 use Rattle.siri_deliveries.specs.Deliveries.{IsProperDelivery, IsProperOf, service_delivery_table}
-use Rattle.siri_wire_laws.specs.ProperMessages.{IsProper as IsProperMessage}
+use Rattle.siri_wire.specs.laws.ProperMessages.{IsProper as IsProperMessage}
 use Rattle.siri_row_texts.specs.ItemRows.{functional_of, item_delivery, removal_delivery}
 
 -- ---- one entry

@@ -1,5 +1,5 @@
 -- The request of one subscription of a proper request is proper.
-use Rattle.std.proofs.Common.{◌≡◌, ◌≤◌, ℕ, zero, suc, ℤ, pos, negsuc, Bool, true, false, List, [], ◌∷◌, ◌++◌, map, Option, Some, None, refl, arith}
+use Rattle.std.proofs.Common.{ℕ, ℤ, pos, Bool, true, false, List, [], ◌∷◌, ◌++◌, map, Option, Some, None, refl, arith}
 use Rattle.std.specs.Prelude.{IfSome, if◌then◌else◌, unwrap_or}
 use Rattle.std.specs.List.{AllByRecursion as All}
 use Rattle.std.specs.Ordering.{int_eq}
@@ -8,16 +8,16 @@ use Rattle.siri_records.specs.declared.item.Service.TheVariants as service
 use Rattle.siri_topic.specs.declared.subscription.Subscription.{Subscription}
 use Rattle.siri_topic.specs.declared.topics.Topic.{Topic}
 use Rattle.siri_topic.specs.declared.topics.Topic.TheVariants as topic
-use Rattle.siri_messages.specs.Asked.{Asked, asked_in, asked_with, subscriptions_in}
+use Rattle.siri_messages.specs.Asked.{Asked, asked_in, asked_with}
 use Rattle.siri_messages.specs.Blank.{blank_subscription_request}
 use Rattle.siri_messages.specs.declared.message.Message.TheVariants as message
 use Rattle.siri_messages.specs.declared.subscriptions.SubscriptionRequest.{SubscriptionRequest}
-use Rattle.siri_tables.specs.Proper.{IsListWithin, IsName, IsNumber}
+use Rattle.siri_tables.specs.Proper.{IsName, IsNumber}
 use Rattle.siri_tables.specs.Tables.{AllProper}
 use Rattle.siri_deliveries.specs.Rows.{a_whole_span}
 use Rattle.siri_deliveries.specs.Topics.{IsProperTopic}
 use Rattle.siri_wire.specs.Subscriptions.{subscription_table}
-use Rattle.siri_wire_laws.specs.ProperMessages.{IsProper as IsProperMessage}
+use Rattle.siri_wire.specs.laws.ProperMessages.{IsProper as IsProperMessage}
 use Rattle.siri_row_texts.specs.SubscriptionRows.{asks_for, interval_of, request_of}
 use Rattle.siri_row_texts.proofs.Alone.{no_entry, one_entry}
 

@@ -1,15 +1,14 @@
 -- The row of a moment is read as the moment, the start and the name that it is written of.
-use Rattle.std.proofs.Common.{◌≡◌, ◌≤◌, ◌<◌, ℕ, suc, ◌+◌, ◌/◌, ◌%◌, Bool, true, false, ◌&&◌, List, [], ◌∷◌, ◌++◌, length, take, drop, Option, Some, None, Ok, refl, sym, ap, ◌∙◌, subst, arith, append_assoc}
-use Rattle.std.specs.Prelude.{◌^◌, ◌==◌, IsUtf8, nat_le, if◌then◌else◌}
+use Rattle.std.proofs.Common.{◌≡◌, ◌≤◌, ◌<◌, ℕ, ◌+◌, ◌/◌, ◌%◌, Bool, true, false, List, [], ◌∷◌, ◌++◌, length, take, drop, Option, Some, refl, sym, ap, ◌∙◌, subst, arith, append_assoc}
+use Rattle.std.specs.Prelude.{◌^◌, ◌==◌, IsUtf8, nat_le}
 use Rattle.std.specs.Char.{is_ascii_digit}
 use Rattle.std.specs.Fmt.{decimal}
 use Rattle.std.specs.List.{AllByRecursion as All, after_first, before_first, list_all, position_or_len}
-use Rattle.std.specs.Option.{option_and_then}
 use Rattle.std.specs.Result.{result_ok}
-use Rattle.std.specs.Str.{all_ascii_digits, bytes_eq, is_utf8}
+use Rattle.std.specs.Str.{all_ascii_digits, is_utf8}
 use Rattle.std.specs.Str.Parse.{digits_value}
 use Rattle.std.proofs.Math.Seq.{drop-append-add, take-append_seam}
-use Rattle.std.proofs.lemmas.Bool.{cases_lt, le-leb}
+use Rattle.std.proofs.lemmas.Bool.{le-leb}
 use Rattle.std.proofs.lemmas.Bool.Decides.{nat_tests}
 use Rattle.std.proofs.lemmas.Fmt.{IsAscii-decimal, decimal_nonempty, digits_decimal, digits_value-decimal, length-decimal-le}
 use Rattle.std.proofs.lemmas.Str.{IsUtf8-append, IsUtf8-from_ascii, is_utf8-from_IsUtf8}
@@ -26,7 +25,7 @@ use Rattle.siri_tables.specs.Proper.{IsMoment, IsName, IsNumber}
 use Rattle.siri_tables.proofs.DecimalRead.{digits_are}
 use Rattle.siri_row_texts.specs.declared.moments.Began.{Began}
 use Rattle.siri_row_texts.specs.ItemRows.{moment_row}
-use Rattle.siri_row_texts.specs.Reading.{began_of_row, if_begun, is_space, name_in, parted}
+use Rattle.siri_row_texts.specs.Reading.{began_of_row, is_space, name_in, parted}
 use Rattle.siri_row_texts.proofs.Rows.{itself}
 
 -- ---- texts without a space

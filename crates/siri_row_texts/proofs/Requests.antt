@@ -1,7 +1,7 @@
 -- The rows of a subscription are read as the requests that they are written of.
-use Rattle.std.proofs.Common.{◌≡◌, ◌≤◌, ◌<◌, ℕ, zero, suc, ℤ, pos, negsuc, Bool, true, false, ◌&&◌, List, [], ◌∷◌, length, Option, Some, None, Ok, refl, sym, ap, ◌∙◌, subst, arith}
-use Rattle.std.specs.Prelude.{if◌then◌else◌, ◌==◌, ◌^◌, nat_lt, unwrap_or}
-use Rattle.std.specs.Option.{option_and_then, option_eq}
+use Rattle.std.proofs.Common.{◌≡◌, ◌≤◌, ◌<◌, ℕ, ℤ, pos, Bool, true, false, List, length, Some, None, refl, sym, ap, ◌∙◌, arith}
+use Rattle.std.specs.Prelude.{if◌then◌else◌, ◌==◌, nat_lt, unwrap_or}
+use Rattle.std.specs.Option.{option_and_then}
 use Rattle.std.specs.Ordering.{int_eq}
 use Rattle.std.specs.Result.{result_ok}
 use Rattle.std.specs.Str.{bytes_eq}
@@ -20,10 +20,10 @@ use Rattle.siri_messages.specs.declared.message.Message.TheVariants as message
 use Rattle.siri_tables.specs.Proper.{IsName, IsNumber}
 use Rattle.siri_wire.specs.Canonical.{canonical, written_body, written_message}
 use Rattle.siri_wire.specs.Supplies.{written_mark, written_supply}
-use Rattle.siri_wire_laws.specs.ProperMessages.{IsProper as IsProperMessage}
-use Rattle.siri_wire_laws.proofs.BackDocuments.{canonical_read}
+use Rattle.siri_wire.specs.laws.ProperMessages.{IsProper as IsProperMessage}
+use Rattle.siri_wire.proofs.BackDocuments.{canonical_read}
 use Rattle.siri_row_texts.specs.SubscriptionRows.{asks_for, interval_of, renewal_of, renewal_text, request_of, request_text}
-use Rattle.siri_row_texts.specs.Reading.{if_holds, is_renewal, is_request, renewal_of_row, renews, request_of_row}
+use Rattle.siri_row_texts.specs.Reading.{if_holds, is_renewal, is_request, renewal_of_row, request_of_row}
 use Rattle.siri_row_texts.proofs.Bounds.{decimal_within, text_within, weight}
 use Rattle.siri_row_texts.proofs.Rows.{itself}
 

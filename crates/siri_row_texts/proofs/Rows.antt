@@ -1,5 +1,5 @@
 -- The row of an item is read as that item, and keys with one text are equal.
-use Rattle.std.proofs.Common.{◌≡◌, ◌≤◌, ℕ, Bool, true, false, ◌&&◌, List, length, Option, Some, None, Ok, refl, sym, ap, ◌∙◌, subst}
+use Rattle.std.proofs.Common.{◌≡◌, ◌≤◌, ℕ, Bool, true, false, ◌&&◌, List, length, Option, Some, None, refl, sym, ap, ◌∙◌}
 use Rattle.std.specs.Prelude.{if◌then◌else◌, slice_get}
 use Rattle.std.specs.Option.{option_and_then}
 use Rattle.std.specs.Result.{result_ok}
@@ -21,8 +21,8 @@ use Rattle.siri_items.specs.Proper.{IsProper}
 use Rattle.siri_deliveries.specs.Removals.{IsProperRemoval}
 use Rattle.siri_wire.specs.Canonical.{canonical, written_message}
 use Rattle.siri_wire.specs.Documents.{message_of, root}
-use Rattle.siri_wire_laws.specs.ProperMessages.{IsProper as IsProperMessage}
-use Rattle.siri_wire_laws.proofs.BackDocuments.{canonical_read, message_back, message_text}
+use Rattle.siri_wire.specs.laws.ProperMessages.{IsProper as IsProperMessage}
+use Rattle.siri_wire.proofs.BackDocuments.{canonical_read, message_back, message_text}
 use Rattle.siri_row_texts.specs.ItemRows.{item_delivery, item_text, key_text, removal_delivery}
 use Rattle.siri_row_texts.specs.Reading.{first_of_four, if_written, item_in, item_of_row}
 use Rattle.siri_row_texts.proofs.Alone.{item_alone, key_alone}

@@ -18,7 +18,7 @@ ghost use Rattle.siri_messages.specs.declared.message.Message.TheVariants as mes
 ghost use Rattle.siri_messages.specs.declared.subscriptions.SubscriptionRequest.{SubscriptionRequest};
 ghost use Rattle.siri_topic.specs.declared.subscription.Subscription.{Subscription};
 ghost use Rattle.siri_tables.specs.Proper.{IsMoment, IsName, IsNumber};
-ghost use Rattle.siri_wire_laws.specs.ProperMessages.{IsProper as IsProperMessage};
+ghost use Rattle.siri_wire.specs.laws.ProperMessages.{IsProper as IsProperMessage};
 ghost use Rattle.siri_row_texts.specs.ItemRows.{item_text, key_text, moment_row};
 ghost use Rattle.siri_row_texts.specs.SubscriptionRows.{place_text, renewal_of, renewal_text, request_of, request_text};
 ghost use Rattle.siri_row_texts.specs.Reading.{began_of_row, item_of_row, renewal_of_row, request_of_row};

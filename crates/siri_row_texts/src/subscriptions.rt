@@ -1,6 +1,6 @@
 //! The rows of subscriptions.
 
-ghost use Rattle.std.specs.Prelude.{◌≡◌, ◌∷◌, [], IfOk, option_map};
+ghost use Rattle.std.specs.Prelude.{◌≡◌, IfOk, option_map};
 ghost use Rattle.siri_wire.specs.Canonical.{canonical};
 ghost use Rattle.siri_row_texts.specs.SubscriptionRows.{interval_of, renewal_of, renewal_text, request_of, request_text};
 

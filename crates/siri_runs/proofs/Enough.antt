@@ -8,14 +8,14 @@ use Rattle.siri_base.specs.OutsideCalls.{ClockState, GivesMoment, KeeperState, R
 use Rattle.siri_base.specs.Wires.{Accepts, Connection, Listens, TakesComing, WireState, accept_called}
 use Rattle.siri_base.specs.declared.errors.OutsideError.{OutsideError}
 use Rattle.siri_base.specs.declared.errors.OutsideError.TheVariants as outside
-use Rattle.siri_base.specs.declared.status.Status.{Status}
 use Rattle.siri_runs.specs.Calls.{Call, Fails, Outside, Told}
-use Rattle.siri_runs.specs.Enough.{EndsWhole, HasConnections, HasEnough, HasMoments, HasNumber, NoneFails}
-use Rattle.siri_runs.specs.Errors.{clock_error, keeper_error, status_of, wire_error}
-use Rattle.siri_runs.specs.Turns.{Running, Turn, TurnFails, Turns}
+use Rattle.siri_runs.specs.Enough.{HasConnections, HasEnough, HasMoments, HasNumber, NoneFails}
+use Rattle.siri_runs.specs.Errors.{clock_error, keeper_error, wire_error}
+use Rattle.siri_runs.specs.Run.{EndsAtTurn, EndsInTurns, MakesTurn, MakesTurns, Turning}
+use Rattle.siri_runs.specs.Turns.{Running, Turns}
 use Rattle.siri_runs.specs.declared.network_error.NetworkError.{NetworkError}
 use Rattle.siri_runs.specs.declared.network_error.NetworkError.TheVariants as error
-use Rattle.siri_runs.proofs.Causes.{AnyTurnsFail, EndsBy}
+use Rattle.siri_runs.proofs.Causes.{CallFails, EndsBy}
 
 -- ---- failures that are named
 
@@ -52,7 +52,7 @@ raise_wanting outside.Failed (Some old) (Some new) has told = absurd (by told.0)
 raise_wanting outside.OutOfMemory (Some old) (Some new) has told = refl
 
 -- a number that can be raised is raised, or there is no memory
-pub fails_to_raise : (e : NetworkError) (old new : Told KeeperState) → IsSomeAnd old.tells HasNumber
+fails_to_raise : (e : NetworkError) (old new : Told KeeperState) → IsSomeAnd old.tells HasNumber
     → Fails RaisesNumber keeper_error e old new → e ≡ error.OutOfMemory
 fails_to_raise e old new has fails = keeper_wanting fails.failure e fails.error_is (raise_wanting fails.failure old.tells new.tells has fails.call.does)
 
@@ -66,7 +66,7 @@ listen_wanting listen outside.Failed (Some old) (Some new) has told = absurd (no
 listen_wanting listen outside.OutOfMemory (Some old) (Some new) has told = refl
 
 -- a wire that can listen does, or there is no memory
-pub fails_to_listen : (listen : List ℕ) (e : NetworkError) (old new : Told WireState)
+fails_to_listen : (listen : List ℕ) (e : NetworkError) (old new : Told WireState)
     → IsSomeAnd old.tells (λ wire. NoneFails 1 wire.listen_fails)
     → Fails {T = Unit {0}} (Listens listen) wire_error e old new → e ≡ error.OutOfMemory
 fails_to_listen listen e old new has fails = wire_wanting fails.failure e fails.error_is
@@ -99,7 +99,7 @@ tells_anyway n failure (Some old) (Some new) has told = by told.0
     by (inr none) = omega (arith, ap length none, has.moments)
 
 -- a clock that has a moment tells it
-pub fails_to_tell : (n : ℕ) (e : NetworkError) (old new : Told ClockState) → IsSomeAnd old.tells (HasMoments (n + 1))
+fails_to_tell : (n : ℕ) (e : NetworkError) (old new : Told ClockState) → IsSomeAnd old.tells (HasMoments (n + 1))
     → Fails GivesMoment clock_error e old new → e ≡ error.OutOfMemory
 fails_to_tell n e old new has fails = absurd (tells_anyway n fails.failure old.tells new.tells has fails.call.does)
 
@@ -156,49 +156,49 @@ opened_with n moment listen from to has listens tells = record {
 }
 
 -- answering a connection takes none of those that are still to come
-abbrev pub AnswersOnly : {State : Type 0} → (State → Told WireState → State → Told WireState → Type 0) → Type 0
-AnswersOnly Answers = (n : ℕ) (s : _) (before : Told WireState) (t : _) (after : Told WireState)
-    → IsSomeAnd before.tells (HasAccepted n) → Answers s before t after → IsSomeAnd after.tells (HasConnections n)
+abbrev pub AnswersOnly : {State : Type 0} → Turning State → Type 0
+AnswersOnly turning = (n : ℕ) (s : _) (before : Told WireState) (t : _) (after : Told WireState)
+    → IsSomeAnd before.tells (HasAccepted n) → turning.Answers s before t after → IsSomeAnd after.tells (HasConnections n)
 
-turn_leaves : {State : Type 0} (given : ℕ → State → State) (Answers : State → Told WireState → State → Told WireState → Type 0) → AnswersOnly Answers
-    → (n : ℕ) (from to : Running State) → HasTurns (n + 1) from.outside → Turn given Answers from to → HasTurns n to.outside
-turn_leaves given Answers only n from to has turn = record {
-  connections = only n (given turn.moment from.state) turn.wire to.state to.outside.wire
-      (accepted_on n from.outside.wire.tells turn.wire.tells has.connections turn.accepts.does) turn.answers;
-  moments = told_on n turn.moment from.outside.clock.tells to.outside.clock.tells has.moments turn.tells.does;
-}
+module _ {State : Type 0} (turning : Turning State) (only : AnswersOnly turning) where
+  turn_leaves : (n : ℕ) (from to : Running State) → HasTurns (n + 1) from.outside → MakesTurn turning from to → HasTurns n to.outside
+  turn_leaves n from to has turn = record {
+    connections = only n (turning.given turn.moment from.state) turn.wire to.state to.outside.wire
+        (accepted_on n from.outside.wire.tells turn.wire.tells has.connections turn.accepts.does) turn.answers;
+    moments = told_on n turn.moment from.outside.clock.tells to.outside.clock.tells has.moments turn.tells.does;
+  }
 
-turns_leave : {State : Type 0} (given : ℕ → State → State) (Answers : State → Told WireState → State → Told WireState → Type 0) → AnswersOnly Answers
-    → (made n all : ℕ) (from to : Running State) → all ≡ made + n → HasTurns all from.outside → Turns (Turn given Answers) made from to → HasTurns n to.outside
-unfolding Turns
-turns_leave given Answers only zero n all from to is has turns =
-    let same : all ≡ n = omega (arith, is) in
-    subst (λ (r : Running _). HasTurns n r.outside) (sym turns) (subst (λ k. HasTurns k from.outside) same has)
-turns_leave given Answers only (suc made) n all from to is has turns =
-    let more : all ≡ made + (n + 1) = omega (arith, is) in
-    turn_leaves given Answers only n turns.0 to (turns_leave given Answers only made (n + 1) all from turns.0 more has turns.1) turns.2
+  turns_leave : (made n all : ℕ) (from to : Running State) → all ≡ made + n → HasTurns all from.outside
+      → MakesTurns turning made from to → HasTurns n to.outside
+  unfolding Turns
+  turns_leave zero n all from to is has turns =
+      let same : all ≡ n = omega (arith, is) in
+      subst (λ (r : Running _). HasTurns n r.outside) (sym turns) (subst (λ k. HasTurns k from.outside) same has)
+  turns_leave (suc made) n all from to is has turns =
+      let more : all ≡ made + (n + 1) = omega (arith, is) in
+      turn_leaves n turns.0 to (turns_leave made (n + 1) all from turns.0 more has turns.1) turns.2
 
-module _ {State : Type 0} (given : ℕ → State → State) (Refuses : NetworkError → State → Type 0)
-    (Stops : NetworkError → State → Told WireState → Told WireState → Type 0) (Own : NetworkError → Type 0)
-    (own : EndsBy Own Refuses Stops) (memory : Own error.OutOfMemory) where
-  turn_fails : (n : ℕ) (e : NetworkError) (from : Running State) (to : Outside)
-      → HasTurns (n + 1) from.outside → TurnFails given Refuses Stops e from to → Own e
-  turn_fails n e from to has (inl accept) =
-      subst Own (sym (fails_to_accept n e from.outside.wire to.wire has.connections accept.accepts)) memory
-  turn_fails n e from to has (inr (inl tell)) =
-      subst Own (sym (fails_to_tell n e from.outside.clock to.clock has.moments tell.tells)) memory
-  turn_fails n e from to has (inr (inr (inl give))) = own.refuses e from.state give.refuses
-  turn_fails n e from to has (inr (inr (inr stop))) = own.stops e (given stop.moment from.state) stop.wire to.wire stop.stops
+  module _ (Own : NetworkError → Type 0) (own : EndsBy Own turning) (memory : Own error.OutOfMemory) where
+    turn_fails : (n : ℕ) (e : NetworkError) (from : Running State) (to : Outside)
+        → HasTurns (n + 1) from.outside → EndsAtTurn turning e from to → Own e
+    turn_fails n e from to has (inl accept) =
+        subst Own (sym (fails_to_accept n e from.outside.wire to.wire has.connections accept.accepts)) memory
+    turn_fails n e from to has (inr (inl tell)) =
+        subst Own (sym (fails_to_tell n e from.outside.clock to.clock has.moments tell.tells)) memory
+    turn_fails n e from to has (inr (inr (inl give))) = own.refuses e from.state give.refuses
+    turn_fails n e from to has (inr (inr (inr stop))) = own.stops e (turning.given stop.moment from.state) stop.wire to.wire stop.stops
 
-  -- a run that has enough for its turns ends in them by its end's own errors alone
-  pub turns_fail : (Answers : State → Told WireState → State → Told WireState → Type 0) → AnswersOnly Answers
-      → (count : ℕ) (e : NetworkError) (from : Running State) (to : Outside) → HasTurns count from.outside
-      → AnyTurnsFail given Refuses Stops Own own Answers count e from to → Own e
-  turns_fail Answers only count e from to has fails =
-      let left : ℕ = count - fails.made - 1 in
-      let all : count ≡ fails.made + (left + 1) = omega (arith, fails.fewer) in
-      turn_fails left e fails.last to (turns_leave given Answers only fails.made (left + 1) count from fails.last all has fails.turns) fails.ends
+    -- a run that has enough for its turns ends in them by its end's own errors alone
+    pub turns_fail : (count : ℕ) (e : NetworkError) (from : Running State) (to : Outside) → HasTurns count from.outside
+        → EndsInTurns turning count e from to → Own e
+    turns_fail count e from to has fails =
+        let left : ℕ = count - fails.made - 1 in
+        let all : count ≡ fails.made + (left + 1) = omega (arith, fails.fewer) in
+        turn_fails left e fails.last to (turns_leave fails.made (left + 1) count from fails.last all has fails.turns) fails.ends
 
--- such a run ends so
-pub ends_wanting : (e : NetworkError) (end : Status) → end ≡ status_of e → e ≡ error.OutOfMemory → EndsWhole end
-ends_wanting e end is wanting = subst EndsWhole (sym (is ∙ ap status_of wanting)) tt
+-- as it opens, a call fails for want of memory alone
+pub call_fails : (listen : List ℕ) (count : ℕ) (e : NetworkError) (from to : Outside) → HasEnough count from
+    → CallFails listen e from to → e ≡ error.OutOfMemory
+call_fails listen count e from to has (inl raise) = fails_to_raise e from.keeper to.keeper has.number raise
+call_fails listen count e from to has (inr (inl fails)) = fails_to_listen listen e from.wire to.wire has.listens fails
+call_fails listen count e from to has (inr (inr tell)) = fails_to_tell count e from.clock to.clock has.moments tell

@@ -1,9 +1,9 @@
--- Runs over the network that end before their connections are served.
+-- What a status says of a run: whether a source or a sink ended it, and whether its work was done.
 use Rattle.std.proofs.Common.{◌≡◌, [], None, Some, true, false, refl, subst}
 use Rattle.siri_base.specs.MetFailures.{SinkMeets, SourceMeets, is_read_fault, is_write_fault}
 use Rattle.siri_base.specs.declared.status.Status.{Status}
 use Rattle.siri_base.specs.declared.status.Status.TheVariants as status
-use Rattle.siri_lines.specs.Ends.{Bytes}
+use Rattle.siri_lines.specs.Ends.{Bytes, ReadsAll}
 use Rattle.siri_runs.specs.Errors.{status_of}
 use Rattle.siri_runs.specs.declared.network_error.NetworkError.{NetworkError}
 use Rattle.siri_runs.specs.declared.network_error.NetworkError.TheVariants as error
@@ -15,39 +15,6 @@ no_read_fault error.ClockFault = refl
 no_read_fault error.KeeperFault = refl
 no_read_fault error.ShelfFault = refl
 no_read_fault error.OutOfMemory = refl
-
--- no sink ended it
-pub no_write_fault : (e : NetworkError) → is_write_fault (status_of e) ≡ false
-no_write_fault error.WireFault = refl
-no_write_fault error.ClockFault = refl
-no_write_fault error.KeeperFault = refl
-no_write_fault error.ShelfFault = refl
-no_write_fault error.OutOfMemory = refl
-
--- which error a status is of
-
-pub wire_is : (e : NetworkError) → status.WireFault ≡ status_of e → e ≡ error.WireFault
-wire_is error.WireFault is = refl
-wire_is error.ClockFault is = absurd (cc is)
-wire_is error.KeeperFault is = absurd (cc is)
-wire_is error.ShelfFault is = absurd (cc is)
-wire_is error.OutOfMemory is = absurd (cc is)
-
-pub clock_is : (e : NetworkError) → status.ClockFault ≡ status_of e → e ≡ error.ClockFault
-clock_is error.WireFault is = absurd (cc is)
-clock_is error.ClockFault is = refl
-clock_is error.KeeperFault is = absurd (cc is)
-clock_is error.ShelfFault is = absurd (cc is)
-clock_is error.OutOfMemory is = absurd (cc is)
-
-pub keeper_is : (e : NetworkError) → status.KeeperFault ≡ status_of e → e ≡ error.KeeperFault
-keeper_is error.WireFault is = absurd (cc is)
-keeper_is error.ClockFault is = absurd (cc is)
-keeper_is error.KeeperFault is = refl
-keeper_is error.ShelfFault is = absurd (cc is)
-keeper_is error.OutOfMemory is = absurd (cc is)
-
--- ---- a run by its status
 
 -- one that ended otherwise than by its sink
 pub written_unless : (end : Status) → (end ≡ status.WriteFault → ⊥) → is_write_fault end ≡ false
@@ -81,3 +48,20 @@ pub read_unless_named : (end : Status) (left later old new : Bytes) → old ≡ 
     → SourceMeets (is_read_fault end) left later old new → end ≡ status.ReadFault → ⊥
 read_unless_named end left later old new is met e = no_source_failure left later old new is
     (subst (λ s. SourceMeets (is_read_fault s) left later old new) e met)
+
+-- nothing is said of what is left where the work wasn't done
+pub reads_unless : (left : Bytes) (end : Status) → (end ≡ status.Done → ⊥) → ReadsAll left end
+reads_unless None end not = tt
+reads_unless (Some left) status.Done not = absurd (not refl)
+reads_unless (Some left) status.Refused not = tt
+reads_unless (Some left) status.Usage not = tt
+reads_unless (Some left) (status.Script n why) not = tt
+reads_unless (Some left) status.ReadFault not = tt
+reads_unless (Some left) (status.Limit n) not = tt
+reads_unless (Some left) status.WireFault not = tt
+reads_unless (Some left) status.OutOfMemory not = tt
+reads_unless (Some left) status.WriteFault not = tt
+reads_unless (Some left) status.ClockFault not = tt
+reads_unless (Some left) status.KeeperFault not = tt
+reads_unless (Some left) status.ShelfFault not = tt
+reads_unless (Some left) (status.BadShelf shelf) not = tt

@@ -7,7 +7,7 @@ pub turns_none : {State : Type 0} (Does : Running State → Running State → Ty
 unfolding Turns
 turns_none Does from = refl
 
-turns_suc : {State : Type 0} (Does : Running State → Running State → Type 0) (n : ℕ) (from mid to : Running State)
+pub turns_suc : {State : Type 0} (Does : Running State → Running State → Type 0) (n : ℕ) (from mid to : Running State)
     → Turns Does n from mid → Does mid to → Turns Does (suc n) from to
 unfolding Turns
 turns_suc Does n from mid to turns turn = (mid, turns, turn)

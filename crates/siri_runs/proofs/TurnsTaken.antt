@@ -3,7 +3,6 @@ use Rattle.std.proofs.Common.{◌≤◌, ℕ, zero, suc, List, [], ◌∷◌, �
 use Rattle.std.specs.Prelude.{IsSomeAnd}
 use Rattle.siri_base.specs.Wires.{WireState}
 use Rattle.siri_http.specs.Requests.{Asks, Meaning}
-use Rattle.siri_http.specs.declared.asked.Asked.{Asked}
 use Rattle.siri_http.specs.Texts.{response_text}
 use Rattle.siri_http.specs.declared.posting.Sent.{Sent}
 use Rattle.siri_ends.specs.declared.response.Response.{Response}

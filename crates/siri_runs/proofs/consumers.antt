@@ -3,7 +3,5 @@ pub mod Pieces
 pub mod Held
 pub mod Shown
 pub mod Asked
-pub mod Causes
-pub mod Enough
-pub mod Made
+pub mod Sound
 pub mod Whole

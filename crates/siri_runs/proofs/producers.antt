@@ -1,3 +1,2 @@
-pub mod Causes
-pub mod Enough
+pub mod Sound
 pub mod Runs

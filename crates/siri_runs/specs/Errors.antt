@@ -21,6 +21,11 @@ abbrev pub keeper_error : OutsideError → NetworkError
 keeper_error outside.Failed = error.KeeperFault
 keeper_error outside.OutOfMemory = error.OutOfMemory
 
+-- what stands beside an end, a shelf, that fails
+abbrev pub shelf_error : OutsideError → NetworkError
+shelf_error outside.Failed = error.ShelfFault
+shelf_error outside.OutOfMemory = error.OutOfMemory
+
 -- the status that a run ends with
 abbrev pub status_of : NetworkError → Status
 status_of error.WireFault = status.WireFault

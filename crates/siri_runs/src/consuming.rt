@@ -11,10 +11,10 @@ ghost use Rattle.siri_runs.specs.Calls.{outside_told};
 ghost use Rattle.siri_runs.specs.consumers.Wanting.{event, nothing_wanted, most_wanted};
 ghost use Rattle.siri_runs.specs.Enough.{EndsWhole, HasEnough};
 ghost use Rattle.siri_runs.specs.consumers.Reading.{TellsWanted, has_failed_to_read};
-ghost use Rattle.siri_runs.specs.consumers.Runs.{ConsumeRun, ConsumesAll, ConsumesNot, EndsConsuming, end_text};
+ghost use Rattle.siri_runs.specs.Run.{Completes, EndsBefore};
+ghost use Rattle.siri_runs.specs.consumers.Runs.{ConsumeRun, EndsConsuming, consume_procedure, end_text};
 
 mod asking;
-mod client;
 mod opening;
 mod reading;
 mod views;
@@ -23,15 +23,22 @@ mod wanted_lines;
 use crate::summary::write_summary;
 use crate::turns::run_turns;
 use asking::ask_all;
-use client::{Client, Consumed};
 pub use opening::own_address;
 use opening::{Opened, open};
 pub use reading::read_wanted;
 use siri_base::{Clock, Keeper, Name, OutOfMemory, OutsideError, Sink, Source, Status, Wire};
 use siri_ends::Tally;
-use siri_http::Address;
+use siri_http::{Address, PostAlone};
+use siri_view::Consumer;
 use std::alloc::Global;
 pub use views::write_views;
+
+/// What a run comes to: the consumer, and what was counted.
+#[derive(Drop)]
+struct Consumed {
+    consumer: Consumer,
+    tally: Tally,
+}
 
 /// A consumer of this name for so many connections at `HOST:PORT`, of at most 247 bytes: it raises the number of its
 /// start, reads its lines, each a wanted subscription, reads the clock, listens, and asks the producer for all that is
@@ -113,10 +120,11 @@ fn consume_all<S: Source, W: Wire, C: Clock, E: Keeper>(
     keeper: &mut E,
 ) -> Result<Consumed, Status>
     requires { length address.now ≤ 247 }
-    ensures ok { IfOk result (λ consumed. ConsumesAll name address.now (producer.now.host, producer.now.path) count (S.left source.old) (record { consumer = consumed.consumer; tally = consumed.tally })
+    ensures ok { IfOk result (λ consumed. Completes (consume_procedure name address.now (producer.now.host, producer.now.path) (S.left source.old) (S.left source.new)) count
+        (end_text (record { consumer = consumed.consumer; tally = consumed.tally }))
         (outside_told W.Wire C.Clock E.Keeper wire.old clock.old keeper.old)
         (outside_told W.Wire C.Clock E.Keeper wire.new clock.new keeper.new)) }
-    ensures err { IfErr result (λ end. ConsumesNot name address.now (producer.now.host, producer.now.path) count (S.left source.old) (S.left source.new) end
+    ensures err { IfErr result (λ end. EndsBefore (consume_procedure name address.now (producer.now.host, producer.now.path) (S.left source.old) (S.left source.new)) count end
         (outside_told W.Wire C.Clock E.Keeper wire.old clock.old keeper.old)
         (outside_told W.Wire C.Clock E.Keeper wire.new clock.new keeper.new)) }
     ensures all { OnOk result (ReadsAll (S.left source.new) Status.Done) }
@@ -133,7 +141,15 @@ fn consume_all<S: Source, W: Wire, C: Clock, E: Keeper>(
         Ok(()) => {}
         Err(OutOfMemory) => return Err(Status::OutOfMemory),
     }
-    let mut client = Client::new(alloc, producer, Consumed { consumer, tally });
-    run_turns(count, wire, clock, &mut client, &mut ())?;
-    Ok(client.consumed())
+    run_turns::<PostAlone, W, C, (), Consumer>(
+        alloc,
+        count,
+        producer,
+        wire,
+        clock,
+        &mut consumer,
+        &mut (),
+        &mut tally,
+    )?;
+    Ok(Consumed { consumer, tally })
 }

@@ -5,7 +5,7 @@
 //!   wire   -> listen                              +--> a producer       (serving), or a consumer that has asked for
 //!   clock  -> now    -- its first moment ---------+         |            what the lines of its source want  (consuming)
 //!                                                           v
-//!   wire -> accept, clock -> now   --------------->  serve_one or consume_one of siri_ends, COUNT times
+//!   wire -> accept, clock -> now   --------------->  the turns of siri_ends (take_turn), COUNT of them
 //!                                                           |
 //!                                                           v
 //!                     the views of a consumer, and the counts (write_summary) --> sink
@@ -17,17 +17,18 @@
 //! status.
 //!
 //! A run of another end, also of one that a shelf stands beside, is made of the same parts: it opens by `raise`, `listen`
-//! and `now`, answers by `run_turns` over its own [`End`], and ends by `write_summary`.
+//! and `now`, answers by `run_turns` over its own [`Taker`](siri_ends::Taker), and ends by `write_summary`. What a run
+//! does is said once, of whichever command (`Run` in specs/): a command says how its run opens or fails to, how its end
+//! takes a turn, and what is written and left at the end, which is its `Procedure`.
 //!
 //! Stands on `siri_ends` for a turn of a `siri_producer` or of a consumer (`siri_view`), on `siri_lines` and
-//! `siri_script` for lines and for the texts of views and items, on `siri_wire` and `siri_messages` for what is wanted,
-//! and on `siri_base`, `siri_http`, `siri_topic` and `siri_change` for what these speak of. It knows no socket and no
-//! file.
+//! `siri_document` for lines and for the texts of views and items, on `siri_wire` and `siri_messages` for what is
+//! wanted, and on `siri_base`, `siri_http`, `siri_topic` and `siri_change` for what these speak of. It knows no socket
+//! and no file.
 #![tactic(auto)]
 
 mod calls;
 mod consuming;
-mod end;
 mod network_error;
 mod serving;
 mod summary;
@@ -35,7 +36,6 @@ mod turns;
 
 pub use calls::{listen, now, raise};
 pub use consuming::{consume, own_address, read_wanted, write_views};
-pub use end::End;
 pub use network_error::NetworkError;
 pub use serving::serve;
 pub use summary::write_summary;

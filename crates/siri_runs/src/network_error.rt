@@ -1,7 +1,7 @@
 //! Why a run over the network ends before its connections are served.
 
 ghost use Rattle.std.specs.Prelude.{◌≡◌, ◌≢◌};
-ghost use Rattle.siri_runs.specs.Errors.{keeper_error, status_of, wire_error};
+ghost use Rattle.siri_runs.specs.Errors.{keeper_error, shelf_error, status_of, wire_error};
 ghost use Rattle.siri_runs.specs.declared.network_error.NetworkError.TheVariants as variant;
 
 use siri_base::{OutOfMemory, OutsideError, Status};
@@ -39,6 +39,18 @@ impl NetworkError {
     {
         match error {
             OutsideError::Failed => NetworkError::KeeperFault,
+            OutsideError::OutOfMemory => NetworkError::OutOfMemory,
+        }
+    }
+}
+
+/// What an end ends a run with where a call of it didn't succeed: what failed is the shelf beside it.
+impl From<OutsideError> for NetworkError {
+    ghost from_gives = { λ e error. error ≡ shelf_error e };
+
+    fn from(error: OutsideError) -> Self {
+        match error {
+            OutsideError::Failed => NetworkError::ShelfFault,
             OutsideError::OutOfMemory => NetworkError::OutOfMemory,
         }
     }

@@ -5,18 +5,18 @@ ghost use Rattle.siri_base.specs.Causes.{Rose};
 ghost use Rattle.siri_base.specs.MetFailures.{SinkMeets, is_write_fault};
 ghost use Rattle.siri_runs.specs.Calls.{outside_told};
 ghost use Rattle.siri_runs.specs.Enough.{EndsWhole, HasEnough};
-ghost use Rattle.siri_runs.specs.producers.Runs.{EndsServing, ServeRun, ServesAll, ServesNot};
+ghost use Rattle.siri_runs.specs.Run.{Completes, EndsBefore};
+ghost use Rattle.siri_runs.specs.Summaries.{summary_text};
+ghost use Rattle.siri_runs.specs.producers.Runs.{EndsServing, ServeRun, serve_procedure};
 
 mod opening;
-mod server;
 
-use crate::NetworkError;
 use crate::summary::write_summary;
 use crate::turns::run_turns;
 use opening::open;
-use server::Server;
 use siri_base::{Clock, Keeper, Name, OutsideError, Sink, Status, Wire};
 use siri_http::{Asking, Tally};
+use siri_producer::Producer;
 use std::alloc::Global;
 
 /// A producer of this name for so many connections at `HOST:PORT`: it raises the number of its start, listens, reads
@@ -58,7 +58,7 @@ pub fn serve<A: Asking, K: Sink, W: Wire, C: Clock, E: Keeper>(
             Err(OutsideError::Failed) => Status::WriteFault,
             Err(OutsideError::OutOfMemory) => Status::OutOfMemory,
         },
-        Err(error) => Status::from(error),
+        Err(end) => end,
     }
 }
 
@@ -71,16 +71,25 @@ fn serve_all<A: Asking, W: Wire, C: Clock, E: Keeper>(
     wire: &mut W,
     clock: &mut C,
     keeper: &mut E,
-) -> Result<Tally, NetworkError>
-    ensures ok { IfOk result (λ tally. ServesAll A.asks name address.now count tally
+) -> Result<Tally, Status>
+    ensures ok { IfOk result (λ tally. Completes (serve_procedure A.asks name address.now) count (summary_text tally)
         (outside_told W.Wire C.Clock E.Keeper wire.old clock.old keeper.old)
         (outside_told W.Wire C.Clock E.Keeper wire.new clock.new keeper.new)) }
-    ensures err { IfErr result (λ error. ServesNot A.asks name address.now count error
+    ensures err { IfErr result (λ end. EndsBefore (serve_procedure A.asks name address.now) count end
         (outside_told W.Wire C.Clock E.Keeper wire.old clock.old keeper.old)
         (outside_told W.Wire C.Clock E.Keeper wire.new clock.new keeper.new)) }
 {
-    let producer = open(alloc, name, address, wire, clock, keeper)?;
-    let mut server: Server<A> = Server::new(alloc, producer);
-    run_turns(count, wire, clock, &mut server, &mut ())?;
-    Ok(server.tally())
+    let mut producer = open(alloc, name, address, wire, clock, keeper)?;
+    let mut tally = Tally::new();
+    run_turns::<A, W, C, (), Producer>(
+        alloc,
+        count,
+        &(),
+        wire,
+        clock,
+        &mut producer,
+        &mut (),
+        &mut tally,
+    )?;
+    Ok(tally)
 }

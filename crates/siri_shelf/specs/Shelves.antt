@@ -18,9 +18,10 @@ pub record Opened (old new : ShelfState) : Type 0 where
   pub rows : new.rows ≡ old.rows
   pub trail : new.trail ≡ old.rows ∷ []
 
+-- where it isn't opened nothing changes
 abbrev pub Opens : {T : Type 0} → ShelfState → ShelfState → Result T OutsideError → Type 0
 Opens old new (Ok done) = Opened old new
-Opens old new (Err error) = new.rows ≡ old.rows
+Opens old new (Err error) = new ≡ old
 
 abbrev pub key_after : Option (Bor (List ℕ)) → Option (List ℕ)
 key_after after = option_map (λ key. key.now) after

@@ -15,3 +15,7 @@ pub mod Crossed
 pub mod Lent
 pub mod Firsts
 pub mod Leads
+pub mod Lasting
+pub mod Marking
+pub mod Touching
+mod Few

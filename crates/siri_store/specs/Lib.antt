@@ -12,3 +12,4 @@ pub mod CrossWalk
 pub mod First
 pub mod Visits
 pub mod FirstWalk
+pub mod Marked

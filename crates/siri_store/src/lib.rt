@@ -23,6 +23,8 @@
 //! the only calls that lend an item count it, and which lends both to the walks that it makes (`selected`, `crossing`,
 //! `first`).
 //!
+//! Beside the store, `marks` has which keys were touched since a look.
+//!
 //! Stands on `siri_base`, `siri_records` and `siri_topic`. It knows no subscription, no message and no clock.
 #![tactic(auto)]
 
@@ -32,6 +34,7 @@ mod counter;
 mod crossing;
 mod first;
 mod indexed;
+mod marks;
 mod selected;
 mod stamps;
 mod store;
@@ -39,5 +42,6 @@ mod walk;
 
 pub use crossing::Crossing;
 pub use first::First;
+pub use marks::{Marks, marks_touch_their_keys};
 pub use selected::Selected;
 pub use store::{MOST_LIVE, ObserveError, Store};

@@ -4,3 +4,5 @@ pub mod Numbered
 pub mod Once
 pub mod Placed
 pub mod Renumbered
+pub mod Carriage
+pub mod Parted

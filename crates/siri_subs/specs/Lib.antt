@@ -3,3 +3,5 @@ pub mod Loans
 pub mod Mapped
 pub mod Numbered
 pub mod Table
+pub mod Beats
+pub mod rounds

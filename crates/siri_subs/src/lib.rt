@@ -18,15 +18,23 @@
 //!
 //! With each entry the table keeps a slot, which is its owner's own: the table never looks into it.
 //!
-//! Stands on `siri_base` and `siri_topic`. It knows no item, no message and no clock: moments are handed in.
+//! When the next heartbeat of a subscription is due is said by its [`Beats`]; what its consumer has acknowledged and
+//! what is on its way are its [`Rounds`].
+//!
+//! Stands on `siri_base` and `siri_topic`, and for rounds on `siri_records`, `siri_change` and `siri_life`. It knows no
+//! message and no clock: moments are handed in; the table and the heartbeats know no item.
 #![tactic(auto)]
 
+mod beats;
 mod entry;
 mod errors;
 mod laws;
+mod rounds;
 mod table;
 
+pub use beats::Beats;
 pub use entry::{Entry, Row};
 pub use errors::{AcceptError, Accepted, EndError, RenumberError};
 pub use laws::slots_decide_nothing;
+pub use rounds::{GREATEST_ROUND, Part, Rounds, SupplyError, Taken};
 pub use table::{MOST_SUBSCRIPTIONS, Table};

@@ -19,9 +19,9 @@ use Rattle.siri_model.specs.Rows.{KeptLife, new_row, nothing_kept, row_with, row
 use Rattle.siri_subscriptions.specs.declared.course.Course.{Course}
 use Rattle.siri_subscriptions.specs.Courses.{kept, kept_rows}
 use Rattle.siri_subscriptions.specs.Noted.{Noted, noted, noted_rows, new_noted, noted_asked}
-use Rattle.siri_replies.specs.declared.refusal.Refusal.TheVariants as refused
-use Rattle.siri_replies.specs.Refusals.{not_accepted_as}
-use Rattle.siri_replies.specs.Responses.{accepted_status, refused_status}
+use Rattle.siri_subscriptions.specs.declared.replies.refusal.Refusal.TheVariants as refused
+use Rattle.siri_subscriptions.specs.replies.Refusals.{not_accepted_as}
+use Rattle.siri_subscriptions.specs.replies.Responses.{accepted_status, refused_status}
 use Rattle.siri_subscriptions.specs.declared.prepared.Candidate.{Candidate}
 use Rattle.siri_subscriptions.specs.Requests.{termination_in, status_by, status_of, rows_with, statuses_of}
 use Rattle.siri_subscriptions.specs.Prepared.{asked_by, accept_status, accept_rows, refusal_by, refusal_of, candidate_of, candidate_status, accept_noted, all_noted}

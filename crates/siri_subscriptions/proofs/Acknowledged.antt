@@ -14,10 +14,10 @@ use Rattle.siri_subs.specs.Loans.{with_slot}
 use Rattle.siri_subs.proofs.Placed.{find_none, none_found}
 use Rattle.siri_model.specs.Lives.{mark_of}
 use Rattle.siri_model.specs.Rows.{is_numbered, rows_acknowledged}
-use Rattle.siri_rounds.specs.declared.answers.Taken.{Taken}
-use Rattle.siri_rounds.specs.declared.answers.Taken.TheVariants as answered_as
-use Rattle.siri_rounds.specs.Wanted.{KeptRounds, RoundsOfChanges, rounds_carried, place_in, wanted_place}
-use Rattle.siri_rounds.proofs.Carriage.{acknowledgement_carried, wants_carried}
+use Rattle.siri_subs.specs.declared.rounds.answers.Taken.{Taken}
+use Rattle.siri_subs.specs.declared.rounds.answers.Taken.TheVariants as answered_as
+use Rattle.siri_subs.specs.rounds.Wanted.{KeptRounds, RoundsOfChanges, rounds_carried, place_in, wanted_place}
+use Rattle.siri_subs.proofs.Carriage.{acknowledgement_carried, wants_carried}
 use Rattle.siri_subscriptions.specs.declared.course.Course.{Course}
 use Rattle.siri_subscriptions.specs.Courses.{kept_row, kept_rows}
 use Rattle.siri_subscriptions.specs.Acknowledgements.{names_wanted, counts_by}

@@ -3,10 +3,10 @@ use Rattle.std.proofs.Common.{◌≡◌, ℕ, ◌+◌, ◌≤◌, zero, suc, Lis
 use Rattle.std.proofs.Common.{◌∙◌, subst}
 use Rattle.std.specs.Prelude.{option_map}
 use Rattle.siri_records.specs.Keyed.{Items}
-use Rattle.siri_marks.specs.Marked.{Marked}
+use Rattle.siri_store.specs.Marked.{Marked}
 use Rattle.siri_subs.specs.declared.entry.Row.{Row}
 use Rattle.siri_model.specs.Followed.{Followed, look_bound, look_bounds}
-use Rattle.siri_model_laws.proofs.Apart.{bounds_add, bounds_are_within}
+use Rattle.siri_model.proofs.Apart.{bounds_add, bounds_are_within}
 use Rattle.siri_subscriptions.specs.declared.course.Course.{Course}
 use Rattle.siri_subscriptions.specs.Looked.{followed_row, followed_rows}
 

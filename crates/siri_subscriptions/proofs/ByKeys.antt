@@ -15,10 +15,10 @@ use Rattle.siri_topic.specs.declared.topics.Topic.{Topic}
 use Rattle.siri_topic.specs.Crossed.{is_crossed}
 use Rattle.siri_change.specs.Changes.{agree_on, meets}
 use Rattle.siri_change.specs.Looks.{AgreeOutside, changes_among}
-use Rattle.siri_marks.specs.Marked.{is_since, keys_since}
+use Rattle.siri_store.specs.Marked.{is_since, keys_since}
 use Rattle.siri_subs.specs.declared.entry.Row.{Row}
 use Rattle.siri_model.specs.Direct.{direct_to, most_of}
-use Rattle.siri_model_laws.proofs.Lawful.{unlimited}
+use Rattle.siri_model.proofs.Lawful.{unlimited}
 use Rattle.siri_model.specs.Followed.{goal_of, keys_apart}
 use Rattle.siri_model.specs.Looks.{IsUncrossed, crossed_items, found_of, changes_found}
 use Rattle.siri_responder.specs.Known.{Known}
@@ -27,9 +27,9 @@ use Rattle.siri_subscriptions.specs.declared.course.Looked.{Looked}
 use Rattle.siri_subscriptions.specs.Again.{AreLive, is_other, keys_looked_at}
 use Rattle.siri_subscriptions.specs.Courses.{kept}
 use Rattle.siri_subscriptions.specs.Looked.{FollowsLook}
-use Rattle.siri_model_laws.proofs.Apart.{looks_tell_apart}
-use Rattle.siri_model_laws.proofs.Outside.{same_shown, found_tell}
-use Rattle.siri_model_laws.specs.Apart.{AgreeElsewhere, TellApart, still_apart}
+use Rattle.siri_model.proofs.Apart.{looks_tell_apart}
+use Rattle.siri_model.proofs.Outside.{same_shown, found_tell}
+use Rattle.siri_model.specs.laws.Apart.{AgreeElsewhere, TellApart, still_apart}
 
 -- ---- lists of keys
 

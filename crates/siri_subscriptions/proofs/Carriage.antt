@@ -7,8 +7,8 @@ use Rattle.siri_subs.specs.declared.entry.Row.{Row}
 use Rattle.siri_model.specs.Direct.{direct_to}
 use Rattle.siri_model.specs.Meaning.{meaning}
 use Rattle.siri_model.specs.Rows as model
-use Rattle.siri_rounds.specs.Wanted.{KeptRounds, RoundsOfChanges, rounds_carried}
-use Rattle.siri_rounds.proofs.Carriage.{due_carried, sent_carried}
+use Rattle.siri_subs.specs.rounds.Wanted.{KeptRounds, RoundsOfChanges, rounds_carried}
+use Rattle.siri_subs.proofs.Carriage.{due_carried, sent_carried}
 use Rattle.siri_subscriptions.specs.declared.course.Course.{Course}
 use Rattle.siri_subscriptions.specs.Courses.{kept_row}
 use Rattle.siri_subscriptions.specs.declared.looks.Finding.{Finding}

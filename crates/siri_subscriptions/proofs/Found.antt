@@ -8,7 +8,7 @@ use Rattle.siri_records.specs.Keyed.{Items}
 use Rattle.siri_change.specs.Changes as change
 use Rattle.siri_change.specs.Parts as part
 use Rattle.siri_life.specs.Life.{greatest_round}
-use Rattle.siri_rounds.specs.Wanted.{KeptRounds, RoundsOfChanges, WantedPart, rounds_carried, wanted_part, round_on}
+use Rattle.siri_subs.specs.rounds.Wanted.{KeptRounds, RoundsOfChanges, WantedPart, rounds_carried, wanted_part, round_on}
 use Rattle.siri_life.specs.Slot.{begun, is_message_due}
 use Rattle.siri_subscriptions.specs.declared.looks.Opening.{Opening}
 use Rattle.siri_subscriptions.specs.Openings.{with_opening}

@@ -26,3 +26,4 @@ pub mod Others
 pub mod LookAt
 pub mod Still
 pub mod LookedWhole
+pub mod Texts

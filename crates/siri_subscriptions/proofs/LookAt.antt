@@ -4,7 +4,7 @@ use Rattle.std.specs.Prelude.{◌==◌, if◌then◌else◌}
 use Rattle.siri_records.specs.Keyed.{Items, InOrder, KeyChange}
 use Rattle.siri_topic.specs.declared.topics.Topic.{Topic}
 use Rattle.siri_topic.specs.Crossed.{is_crossed}
-use Rattle.siri_marks.specs.Marked.{keys_since}
+use Rattle.siri_store.specs.Marked.{keys_since}
 use Rattle.siri_model.specs.Direct.{direct_to, most_of}
 use Rattle.siri_model.specs.Followed.{bound_since, changed_since, complete_set, first_visits, items_passed}
 use Rattle.siri_model.specs.Looks.{crossed_items, found_of}

@@ -19,8 +19,8 @@ use Rattle.siri_change.specs.Changes.{agree_on, changes, keys_of_both, target}
 use Rattle.siri_change.specs.Parts.{load}
 use Rattle.siri_change.proofs.Leads.{none_of_both, agree_none}
 use Rattle.siri_change.proofs.Levels.{looks_by_keys, order_both}
-use Rattle.siri_marks.specs.Marked.{keys_since}
-use Rattle.siri_rounds.specs.Wanted.{RoundsOfChanges}
+use Rattle.siri_store.specs.Marked.{keys_since}
+use Rattle.siri_subs.specs.rounds.Wanted.{RoundsOfChanges}
 use Rattle.siri_subs.specs.declared.entry.Row.{Row}
 use Rattle.siri_model.specs.Direct.{direct_to, most_of}
 use Rattle.siri_model.specs.Followed.{changed_since, far_edges_passed, first_visits, is_served, items_passed, keys_apart}

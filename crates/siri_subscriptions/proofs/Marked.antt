@@ -9,7 +9,7 @@ use Rattle.siri_subs.specs.Loans.{with_slot}
 use Rattle.siri_subs.proofs.Placed.{IsFirst, found, none_found}
 use Rattle.siri_model.specs.Lives.{mark_of}
 use Rattle.siri_model.specs.Rows.{KeptLife, is_numbered, with_rounds, with_row_of}
-use Rattle.siri_rounds.specs.Wanted.{KeptRounds, RoundsOfChanges, rounds_carried}
+use Rattle.siri_subs.specs.rounds.Wanted.{KeptRounds, RoundsOfChanges, rounds_carried}
 use Rattle.siri_subscriptions.specs.declared.course.Course.{Course}
 use Rattle.siri_subscriptions.specs.Courses.{kept, kept_row, kept_rows}
 use Rattle.siri_subscriptions.specs.Noted.{looked_in}

@@ -9,8 +9,8 @@ use Rattle.siri_change.specs.Looks.{AgreeOutside, IsLook, changes_among}
 use Rattle.siri_change.proofs.Levels.{looks_by_keys}
 use Rattle.siri_model.specs.Direct.{shown}
 use Rattle.siri_model.specs.Looks.{changes_found, found_of}
-use Rattle.siri_model_laws.proofs.Lawful.{shown_in_order}
-use Rattle.siri_model_laws.proofs.Outside.{found_tell}
+use Rattle.siri_model.proofs.Lawful.{shown_in_order}
+use Rattle.siri_model.proofs.Outside.{found_tell}
 
 module _ (now : ℕ) (held : Items) (topic : Topic) (slack : ℤ) (view : Items) (keys : List Key) (ordered : InOrder held)
     (s : InOrder view) (t : KeysInOrder keys) (outside : AgreeOutside slack view (shown now held topic) keys)

@@ -16,8 +16,8 @@ use Rattle.siri_subs.specs.Table.{renumbered}
 use Rattle.siri_subs.proofs.Mapped.{renumbered_mapped}
 use Rattle.siri_subs.proofs.Numbered.{unnumbered}
 use Rattle.siri_subs.proofs.Once.{held_like}
-use Rattle.siri_replies.specs.Parts.{all_data_response}
-use Rattle.siri_replies.specs.Refusals.{not_renewed_as}
+use Rattle.siri_subscriptions.specs.replies.Parts.{all_data_response}
+use Rattle.siri_subscriptions.specs.replies.Refusals.{not_renewed_as}
 use Rattle.siri_model.specs.Rows.{KeptLife}
 use Rattle.siri_subscriptions.specs.declared.course.Course.{Course}
 use Rattle.siri_subscriptions.specs.Courses.{kept, kept_row, kept_rows}

@@ -5,7 +5,7 @@ use Rattle.siri_records.specs.Keyed.{Items, KeyChange}
 use Rattle.siri_change.specs.Changes as change
 use Rattle.siri_life.specs.Life.{Outstanding, is_due, first_part_wanted}
 use Rattle.siri_life.specs.Slot.{begun, sent, is_message_due, opens_round}
-use Rattle.siri_rounds.specs.Wanted.{RoundsOfChanges, rounds_carried}
+use Rattle.siri_subs.specs.rounds.Wanted.{RoundsOfChanges, rounds_carried}
 use Rattle.siri_subs.specs.declared.entry.Row.{Row}
 use Rattle.siri_model.specs.Direct.{direct_to}
 use Rattle.siri_model.specs.Meaning.{meaning}

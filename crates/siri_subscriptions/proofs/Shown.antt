@@ -21,8 +21,8 @@ use Rattle.siri_model.specs.Looks.{found_of}
 use Rattle.siri_responder.specs.Known.{Known}
 use Rattle.siri_subscriptions.specs.Again.{is_other, shown_again, shown_found, shown_of}
 use Rattle.siri_subscriptions.proofs.ByKeys.{keys_found}
-use Rattle.siri_model_laws.proofs.Lawful.{shown_in_order}
-use Rattle.siri_model_laws.proofs.Outside.{shown_found as item_shown}
+use Rattle.siri_model.proofs.Lawful.{shown_in_order}
+use Rattle.siri_model.proofs.Outside.{shown_found as item_shown}
 
 or_none : (a b : Bool) → (a || b) ≡ false → (a ≡ false) × (b ≡ false)
 or_none false b h = (refl, h)

@@ -12,15 +12,15 @@ use Rattle.siri_records.proofs.ItemsPassing.{item_kept}
 use Rattle.siri_topic.specs.Crossed.{is_crossed}
 use Rattle.siri_change.specs.Changes.{agree_on, meets}
 use Rattle.siri_life.specs.Life.{greatest_round}
-use Rattle.siri_marks.specs.Marked.{keys_since}
+use Rattle.siri_store.specs.Marked.{keys_since}
 use Rattle.siri_subs.specs.declared.entry.Row.{Row}
 use Rattle.siri_model.specs.Direct.{direct_to}
 use Rattle.siri_model.specs.Followed.{goal_of, keys_apart}
 use Rattle.siri_model.specs.Looks.{IsUncrossed, crossed_items}
 use Rattle.siri_model.specs.Rows.{asked_of}
-use Rattle.siri_model_laws.proofs.Apart.{looks_tell_apart}
-use Rattle.siri_model_laws.proofs.Facts.{direct_stays}
-use Rattle.siri_model_laws.specs.Apart.{AgreeElsewhere, TellApart}
+use Rattle.siri_model.proofs.Apart.{looks_tell_apart}
+use Rattle.siri_model.proofs.Facts.{direct_stays}
+use Rattle.siri_model.specs.laws.Apart.{AgreeElsewhere, TellApart}
 use Rattle.siri_responder.specs.Known.{Known}
 use Rattle.siri_subscriptions.specs.declared.course.Course.{Course}
 use Rattle.siri_subscriptions.specs.declared.course.Looked.{Looked}

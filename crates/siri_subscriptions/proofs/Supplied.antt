@@ -12,8 +12,8 @@ use Rattle.siri_subs.specs.Loans.{with_slot}
 use Rattle.siri_subs.specs.Table.{is_of, place_of}
 use Rattle.siri_model.specs.Lives.{mark_of}
 use Rattle.siri_model.specs.Rows.{KeptLife, is_numbered, supplied_row, with_rounds}
-use Rattle.siri_rounds.specs.Wanted.{KeptRounds}
-use Rattle.siri_rounds.proofs.Carriage.{supply_carried}
+use Rattle.siri_subs.specs.rounds.Wanted.{KeptRounds}
+use Rattle.siri_subs.proofs.Carriage.{supply_carried}
 use Rattle.siri_subscriptions.specs.declared.course.Course.{Course}
 use Rattle.siri_subscriptions.specs.Courses.{kept_row, kept_rows}
 use Rattle.siri_subscriptions.specs.Acknowledgements.{names_wanted}

@@ -10,7 +10,7 @@ use Rattle.siri_records.specs.KeyLists.{is_among, with_keys}
 use Rattle.siri_records.specs.Keyed.{Items, InOrder, KeyChange, apply, item_of}
 use Rattle.siri_records.specs.Order.{key_cmp}
 use Rattle.siri_topic.specs.declared.topics.Topic.{Topic}
-use Rattle.siri_marks.specs.Marked.{keys_since}
+use Rattle.siri_store.specs.Marked.{keys_since}
 use Rattle.siri_model.specs.Looks.{crossed_items, found_of, is_unlike, shown_if}
 use Rattle.siri_responder.specs.Known.{Known}
 use Rattle.siri_subscriptions.specs.declared.course.Looked.{Looked}

@@ -3,7 +3,7 @@ use Rattle.std.specs.Prelude.{◌≡◌, ℕ, List, None}
 use Rattle.std.specs.List.{All}
 use Rattle.siri_records.specs.Keyed.{Items}
 use Rattle.siri_change.specs.Changes as change
-use Rattle.siri_rounds.specs.Wanted.{rounds_carried}
+use Rattle.siri_subs.specs.rounds.Wanted.{rounds_carried}
 use Rattle.siri_subs.specs.declared.entry.Row.{Row}
 use Rattle.siri_subs.specs.Mapped.{mapped_row, with_mapped_slots}
 use Rattle.siri_model.specs.Direct.{direct_to}

@@ -6,7 +6,7 @@ use Rattle.siri_messages.specs.declared.terminations.TerminationResponseStatus.{
 use Rattle.siri_subs.specs.declared.entry.Row.{Row}
 use Rattle.siri_subs.specs.Table.{ended, is_ended_by}
 use Rattle.siri_model.specs.Rows.{KeptLife}
-use Rattle.siri_replies.specs.Responses.{ended_status, unknown_status}
+use Rattle.siri_subscriptions.specs.replies.Responses.{ended_status, unknown_status}
 use Rattle.siri_subscriptions.specs.declared.terminations.Ending.{Ending}
 use Rattle.siri_subscriptions.specs.Noted.{Noted}
 

@@ -19,3 +19,4 @@ pub mod Sends
 pub mod Settled
 pub mod Due
 pub mod Again
+pub mod replies

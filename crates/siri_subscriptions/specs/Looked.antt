@@ -2,7 +2,7 @@
 use Rattle.std.specs.Prelude.{◌≡◌, ◌≤◌, ◌⊎◌, List, [], Option, Some, None, option_map}
 use Rattle.std.specs.List.{All}
 use Rattle.siri_life.specs.Life.{greatest_round}
-use Rattle.siri_marks.specs.Marked.{Marked, keys_since}
+use Rattle.siri_store.specs.Marked.{Marked, keys_since}
 use Rattle.siri_subs.specs.declared.entry.Row.{Row}
 use Rattle.siri_subs.specs.Mapped.{mapped_row, with_mapped_slots}
 use Rattle.siri_model.specs.Facts.{Follows}

@@ -5,8 +5,8 @@ use Rattle.siri_topic.specs.declared.subscription.Subscription.{Subscription}
 use Rattle.siri_messages.specs.declared.message.Message.{Message}
 use Rattle.siri_messages.specs.declared.message.Message.TheVariants as message
 use Rattle.siri_life.specs.Slot.{is_message_due}
-use Rattle.siri_rounds.specs.Wanted.{KeptRounds, WantedPart, wanted_part}
-use Rattle.siri_replies.specs.Parts.{part_delivery, part_notification}
+use Rattle.siri_subs.specs.rounds.Wanted.{KeptRounds, WantedPart, wanted_part}
+use Rattle.siri_subscriptions.specs.replies.Parts.{part_delivery, part_notification}
 
 -- the message of a part: its notification where it is to be fetched, else the part itself
 abbrev pub message_of : (producer : List ℕ) → (start : ℕ) → Subscription → (number : ℕ) → WantedPart → Message

@@ -1,7 +1,7 @@
 -- A round that is to open, before it does.
 use Rattle.std.specs.Prelude.{◌≡◌, ℕ, ◌<◌, Option, Some, None}
 use Rattle.siri_life.specs.Slot.{begun}
-use Rattle.siri_rounds.specs.Wanted.{RoundsOfChanges, round_on}
+use Rattle.siri_subs.specs.rounds.Wanted.{RoundsOfChanges, round_on}
 use Rattle.siri_subscriptions.specs.declared.looks.Opening.{Opening}
 use Rattle.siri_life.specs.Life.{greatest_round}
 

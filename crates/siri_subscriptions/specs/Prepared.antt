@@ -11,9 +11,9 @@ use Rattle.siri_subs.specs.declared.errors.Accepted.TheVariants as accepted_as
 use Rattle.siri_subs.specs.declared.errors.AcceptError.{AcceptError}
 use Rattle.siri_subs.specs.Table.{answer, accepted, number_of}
 use Rattle.siri_model.specs.Rows.{KeptLife, new_row}
-use Rattle.siri_replies.specs.declared.refusal.Refusal.{Refusal}
-use Rattle.siri_replies.specs.declared.refusal.Refusal.TheVariants as refused
-use Rattle.siri_replies.specs.Responses.{accepted_status, refused_status}
+use Rattle.siri_subscriptions.specs.declared.replies.refusal.Refusal.{Refusal}
+use Rattle.siri_subscriptions.specs.declared.replies.refusal.Refusal.TheVariants as refused
+use Rattle.siri_subscriptions.specs.replies.Responses.{accepted_status, refused_status}
 use Rattle.siri_subscriptions.specs.declared.prepared.Candidate.{Candidate}
 use Rattle.siri_subscriptions.specs.Noted.{Noted, new_noted}
 use Rattle.siri_subscriptions.specs.Requests.{termination_in}

@@ -9,8 +9,8 @@ use Rattle.siri_subs.specs.declared.errors.Accepted.{Accepted}
 use Rattle.siri_subs.specs.declared.errors.RenumberError.{RenumberError}
 use Rattle.siri_subs.specs.Table.{is_of, renumber_answer}
 use Rattle.siri_model.specs.Rows.{KeptLife, renewed_row, with_row_of}
-use Rattle.siri_replies.specs.Parts.{all_data_response}
-use Rattle.siri_replies.specs.Refusals.{not_renewed_as}
+use Rattle.siri_subscriptions.specs.replies.Parts.{all_data_response}
+use Rattle.siri_subscriptions.specs.replies.Refusals.{not_renewed_as}
 use Rattle.siri_subscriptions.specs.declared.renewals.RenewAnswer.{RenewAnswer}
 
 -- the answer of a producer of this name at a moment, by what the table answers to a request under a number

@@ -12,8 +12,8 @@ use Rattle.siri_subs.specs.declared.errors.Accepted.TheVariants as accepted_as
 use Rattle.siri_subs.specs.declared.errors.AcceptError.{AcceptError}
 use Rattle.siri_subs.specs.Table.{is_of, answer, accepted}
 use Rattle.siri_model.specs.Rows.{KeptLife, new_row}
-use Rattle.siri_replies.specs.Refusals.{not_accepted_as}
-use Rattle.siri_replies.specs.Responses.{accepted_status, refused_status, subscription_response}
+use Rattle.siri_subscriptions.specs.replies.Refusals.{not_accepted_as}
+use Rattle.siri_subscriptions.specs.replies.Responses.{accepted_status, refused_status, subscription_response}
 
 -- the termination time under which a subscription is held
 abbrev pub termination_in : (subscriber identifier : List ℕ) → List (Row KeptLife) → Option ℕ

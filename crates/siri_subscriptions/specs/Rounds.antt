@@ -7,7 +7,7 @@ use Rattle.siri_change.specs.Parts as part
 use Rattle.siri_life.specs.Life.{Round}
 use Rattle.siri_life.specs.Slot.{begun, sent, is_message_due, opens_round}
 use Rattle.siri_model.specs.Meaning.{meaning}
-use Rattle.siri_rounds.specs.Wanted.{RoundsOfChanges, round_on, rounds_carried}
+use Rattle.siri_subs.specs.rounds.Wanted.{RoundsOfChanges, round_on, rounds_carried}
 
 -- the round that a direct response makes at a moment, on the acknowledged view: its target, and what it carries
 abbrev pub next_round : Asked → Items → ℕ → RoundsOfChanges → Round Items (List KeyChange)

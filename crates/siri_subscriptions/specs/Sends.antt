@@ -7,7 +7,7 @@ use Rattle.siri_messages.specs.declared.message.Message.TheVariants as message
 use Rattle.siri_subs.specs.declared.entry.Row.{Row}
 use Rattle.siri_model.specs.Direct.{direct_to}
 use Rattle.siri_model.specs.Rows.{KeptLife, asked_of, looked, is_heartbeat_due}
-use Rattle.siri_replies.specs.Statuses.{heartbeat}
+use Rattle.siri_subscriptions.specs.replies.Statuses.{heartbeat}
 use Rattle.siri_responder.specs.Known.{Known}
 use Rattle.siri_subscriptions.specs.declared.outs.Out.{Out}
 use Rattle.siri_subscriptions.specs.Messages.{message_due}

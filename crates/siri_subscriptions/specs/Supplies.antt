@@ -7,10 +7,10 @@ use Rattle.siri_subs.specs.declared.entry.Row.{Row}
 use Rattle.siri_subs.specs.Table.{is_of}
 use Rattle.siri_model.specs.Lives.{mark_of}
 use Rattle.siri_model.specs.Rows.{KeptLife, supplied_row, with_row_of}
-use Rattle.siri_rounds.specs.declared.answers.SupplyError.{SupplyError}
-use Rattle.siri_rounds.specs.declared.answers.SupplyError.TheVariants as refused_as
-use Rattle.siri_rounds.specs.Wanted.{WantedPart, wanted_part}
-use Rattle.siri_replies.specs.Parts.{part_delivery, refused_supply}
+use Rattle.siri_subs.specs.declared.rounds.answers.SupplyError.{SupplyError}
+use Rattle.siri_subs.specs.declared.rounds.answers.SupplyError.TheVariants as refused_as
+use Rattle.siri_subs.specs.rounds.Wanted.{WantedPart, wanted_part}
+use Rattle.siri_subscriptions.specs.replies.Parts.{part_delivery, refused_supply}
 use Rattle.siri_subscriptions.specs.declared.supplies.SupplyAnswer.{SupplyAnswer}
 use Rattle.siri_subscriptions.specs.Acknowledgements.{names_wanted}
 

@@ -5,9 +5,9 @@ use Rattle.siri_life.specs.Slot.{with_supply}
 use Rattle.siri_messages.specs.declared.supplies.DataSupplyRequest.{DataSupplyRequest}
 use Rattle.siri_messages.specs.declared.supplies.Mark.{Mark}
 use Rattle.siri_model.specs.Rows.{KeptLife}
-use Rattle.siri_rounds.specs.Wanted.{part_sent}
-use Rattle.siri_rounds.specs.declared.answers.SupplyError.{SupplyError}
-use Rattle.siri_rounds.specs.declared.parts.Part.{Part}
+use Rattle.siri_subs.specs.rounds.Wanted.{part_sent}
+use Rattle.siri_subs.specs.declared.rounds.answers.SupplyError.{SupplyError}
+use Rattle.siri_subs.specs.declared.rounds.parts.Part.{Part}
 use Rattle.siri_subs.specs.Lent.{entry_of}
 use Rattle.siri_subs.specs.Loans.{with_slot}
 use Rattle.siri_subs.specs.declared.entry.Row.{Row}

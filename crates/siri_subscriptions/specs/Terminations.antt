@@ -7,7 +7,7 @@ use Rattle.siri_messages.specs.declared.terminations.TerminationResponseStatus.{
 use Rattle.siri_subs.specs.declared.entry.Row.{Row}
 use Rattle.siri_subs.specs.Table.{ended, is_ended_by}
 use Rattle.siri_model.specs.Rows.{KeptLife}
-use Rattle.siri_replies.specs.Responses.{ended_status, unknown_status, termination_response}
+use Rattle.siri_subscriptions.specs.replies.Responses.{ended_status, unknown_status, termination_response}
 
 -- the status of a subscription that is to end under a number
 abbrev pub end_status : (number : ℕ) → (subscriber : List ℕ) → List (Row KeptLife) → (identifier : List ℕ) → TerminationResponseStatus

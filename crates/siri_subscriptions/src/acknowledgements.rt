@@ -9,8 +9,7 @@ ghost use Rattle.siri_subscriptions.specs.Acknowledgements.{counts, counts_by};
 use crate::course::Course;
 use siri_base::{Moment, Name, Place};
 use siri_messages::{DataReceivedAcknowledgement, Mark};
-use siri_rounds::Taken;
-use siri_subs::Table;
+use siri_subs::{Table, Taken};
 
 /// Takes an acknowledgement at a moment, in a start of the producer. It counts exactly where its Status is true, it has
 /// a ConsumerRef and a mark, the subscription is held under the mark's number, and start, round and part are those

@@ -7,7 +7,7 @@ ghost use Rattle.siri_subscriptions.specs.Courses.{kept};
 
 use siri_base::{List, Moment};
 use siri_records::SharedKey;
-use siri_rounds::Rounds;
+use siri_subs::Rounds;
 use siri_topic::Subscription;
 use std::alloc::Global;
 

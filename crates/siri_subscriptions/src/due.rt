@@ -14,16 +14,15 @@ ghost use Rattle.siri_subscriptions.specs.Sends.{outs_with, at_of, heartbeat_due
 use crate::again::look_again;
 use crate::course::{Course, Looked};
 use crate::outs::push_out;
+use crate::replies::heartbeat;
 use crate::touched::Touched;
 use crate::{Finding, Out, look, message_due, move_on};
 use siri_base::{List, Moment, OutOfMemory};
 use siri_change::View;
 use siri_messages::Message;
 use siri_records::SharedKey;
-use siri_replies::heartbeat;
 use siri_responder::Responder;
-use siri_status::Beats;
-use siri_subs::Entry;
+use siri_subs::{Beats, Entry};
 use std::alloc::Global;
 
 /// What a settle does to a subscription, found before anything changes.

@@ -36,10 +36,11 @@
 //! all memory and changes nothing of the table; in the second each moves on, which takes none. So after want of memory
 //! the table is as it was.
 //!
-//! Stands on `siri_base`, `siri_records`, `siri_topic`, `siri_messages`, `siri_change`, `siri_subs`, `siri_status`,
-//! `siri_rounds`, `siri_replies` and `siri_responder`; its contracts cite the words of `siri_model` for what a message
-//! and a settle do to the rows of a table. What is done with a message (`acknowledgements`, `prepared`, `renewals`,
-//! `requests`, `supplies`, `terminations`) knows no item and no store.
+//! Stands on `siri_base`, `siri_records`, `siri_topic`, `siri_messages`, `siri_change`, `siri_subs` and
+//! `siri_responder`; its contracts cite the words of `siri_model` for what a message and a settle do to the rows of a
+//! table. What is done with a message (`acknowledgements`, `prepared`, `renewals`, `requests`, `supplies`,
+//! `terminations`) knows no item and no store. The messages that a producer makes besides the answers to a
+//! ServiceRequest are those of `replies`.
 #![tactic(auto)]
 
 mod acknowledgements;
@@ -52,6 +53,7 @@ mod messages;
 mod outs;
 mod prepared;
 mod renewals;
+mod replies;
 mod requests;
 mod settling;
 mod supplies;
@@ -64,6 +66,11 @@ pub use looks::{Finding, Opening, look, move_on};
 pub use messages::message_due;
 pub use outs::Out;
 pub use renewals::{RenewAnswer, renew};
+pub use replies::{
+    Refusal, accepted_status, all_data_response, ended_status, feed_acknowledgement, heartbeat,
+    items_in, number_text, part_delivery, part_notification, refused_status, refused_supply,
+    removals_in, status_response, subscription_response, termination_response, unknown_status,
+};
 pub use requests::subscribe;
 pub use settling::settle;
 pub use supplies::{SupplyAnswer, supply, supply_lent};

@@ -5,7 +5,7 @@ ghost use Rattle.std.specs.Map.{keys_of};
 ghost use Rattle.siri_model.specs.Direct.{most_of};
 ghost use Rattle.siri_model.specs.Followed.{changed_since, first_visits, keys_apart};
 ghost use Rattle.siri_model.specs.Looks.{crossed_items, found_of};
-ghost use Rattle.siri_marks.specs.Marked.{keys_since};
+ghost use Rattle.siri_store.specs.Marked.{keys_since};
 ghost use Rattle.siri_responder.specs.Firsts.{AreWithin};
 ghost use Rattle.siri_subs.specs.Lent.{entry_of};
 ghost use Rattle.siri_subscriptions.specs.Again.{AreLive};

@@ -11,7 +11,7 @@ ghost use Rattle.siri_subscriptions.specs.Rounds.{looked, sent_if_due};
 use siri_base::{Copies, List, Moment, OutOfMemory};
 use siri_change::{Change, View, changes, differ, target};
 use siri_records::{Item, SharedKey};
-use siri_rounds::{GREATEST_ROUND, Rounds};
+use siri_subs::{GREATEST_ROUND, Rounds};
 use siri_topic::Subscription;
 use std::alloc::Global;
 use std::rc::Rc;

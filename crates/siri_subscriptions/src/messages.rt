@@ -2,15 +2,15 @@
 
 ghost use Rattle.std.specs.Prelude.{◌≡◌, IfOk};
 ghost use Rattle.std.specs.Option.{option_copied};
-ghost use Rattle.siri_rounds.specs.Wanted.{part_sent, rounds_carried};
+ghost use Rattle.siri_subs.specs.rounds.Wanted.{part_sent, rounds_carried};
 ghost use Rattle.siri_subscriptions.specs.Openings.{with_opening, CanOpen};
 ghost use Rattle.siri_subscriptions.specs.Messages.{message_due, message_of};
 
 use crate::Opening;
+use crate::replies::{part_delivery, part_notification};
 use siri_base::{Moment, Name, OutOfMemory};
 use siri_messages::Message;
-use siri_replies::{part_delivery, part_notification};
-use siri_rounds::{Part, Rounds};
+use siri_subs::{Part, Rounds};
 use siri_topic::Subscription;
 use std::alloc::Global;
 

@@ -1,6 +1,6 @@
 //! What is ready for the subscriptions of a request, before any of them is accepted.
 
-ghost use Rattle.std.specs.Prelude.{◌≡◌, ◌++◌, IfOk, OnOk, map, find, option_map, pos, nat_le};
+ghost use Rattle.std.specs.Prelude.{◌≡◌, ◌++◌, IfOk, OnOk, map, find, option_map, nat_le};
 ghost use Rattle.siri_subs.specs.Lent.{entry_of};
 ghost use Rattle.siri_subs.specs.Table.{is_of};
 ghost use Rattle.siri_messages.specs.Asked.{asked_in, asked_with};
@@ -8,9 +8,9 @@ ghost use Rattle.siri_subscriptions.specs.Courses.{kept_rows};
 ghost use Rattle.siri_subscriptions.specs.Prepared.{candidate_of, refusal_of};
 
 use crate::course::Course;
+use crate::replies::{Refusal, accepted_status, refused_status};
 use siri_base::{Copies, Moment, Name, OutOfMemory, Span};
 use siri_messages::{ResponseStatus, SubscriptionRequest};
-use siri_replies::{Refusal, accepted_status, refused_status};
 use siri_subs::{Entry, Table};
 use siri_topic::Subscription;
 use std::alloc::Global;

@@ -10,9 +10,9 @@ ghost use Rattle.siri_subscriptions.specs.Renewing.{anew, answer_as};
 
 use crate::course::Course;
 use crate::prepared::held;
+use crate::replies::{Refusal, all_data_response};
 use siri_base::{Moment, Name, OutOfMemory, beside};
 use siri_messages::{DataSupplyRequest, ServiceDelivery};
-use siri_replies::{Refusal, all_data_response};
 use siri_subs::{Accepted, RenumberError, Table};
 use std::alloc::Global;
 

@@ -10,9 +10,9 @@ ghost use Rattle.siri_subscriptions.specs.Prepared.{accept_noted, accept_rows, a
 
 use crate::course::Course;
 use crate::prepared::{Candidate, held, prepare_all};
+use crate::replies::{number_text, subscription_response};
 use siri_base::{List, Moment, OutOfMemory};
 use siri_messages::{ResponseStatus, SubscriptionRequest, SubscriptionResponse};
-use siri_replies::{number_text, subscription_response};
 use siri_subs::{AcceptError, Accepted, Table};
 use siri_topic::Subscription;
 use std::alloc::Global;

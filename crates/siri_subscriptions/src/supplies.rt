@@ -13,11 +13,10 @@ ghost use Rattle.siri_subscriptions.specs.Supplies.{not_supplied, rows_supplied,
 ghost use Rattle.siri_subscriptions.specs.Supplying.{Supplies, answer_asked, answer_by, is_supplied};
 
 use crate::course::Course;
+use crate::replies::{part_delivery, refused_supply};
 use siri_base::{Moment, Name, OutOfMemory, Place};
 use siri_messages::{DataSupplyRequest, Mark, ServiceDelivery};
-use siri_replies::{part_delivery, refused_supply};
-use siri_rounds::{Part, SupplyError};
-use siri_subs::{Entry, Table};
+use siri_subs::{Entry, Part, SupplyError, Table};
 use std::alloc::Global;
 
 /// What a request for a part is answered.

@@ -8,11 +8,11 @@ ghost use Rattle.siri_subscriptions.specs.Terminations.{termination_answer};
 ghost use Rattle.siri_subscriptions.specs.Endings.{sayings_of, sayings, said, rows_left, noted_left, all_said, all_left, all_noted_left};
 
 use crate::course::Course;
+use crate::replies::{ended_status, number_text, termination_response, unknown_status};
 use siri_base::{List, Moment, Name, OutOfMemory};
 use siri_messages::{
     TerminateSubscriptionRequest, TerminateSubscriptionResponse, TerminationResponseStatus,
 };
-use siri_replies::{ended_status, number_text, termination_response, unknown_status};
 use siri_subs::{EndError, Table};
 use std::alloc::Global;
 

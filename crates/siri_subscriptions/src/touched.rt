@@ -1,16 +1,16 @@
 //! What a look finds of the keys that may have changed since the last one.
 
-ghost use Rattle.std.specs.Prelude.{◌≡◌, ◌≤◌, ◌+◌, [], Some, None, fold, filter, length, IfOk, OnOk, not};
+ghost use Rattle.std.specs.Prelude.{◌≡◌, ◌≤◌, ◌+◌, Some, None, fold, filter, length, IfOk, OnOk};
 ghost use Rattle.std.specs.Map.{keys_of};
 ghost use Rattle.siri_records.specs.KeyLists.{KeysInOrder, is_among};
 ghost use Rattle.siri_records.specs.Order.{key_cmp};
-ghost use Rattle.siri_marks.specs.Marked.{keys_since};
+ghost use Rattle.siri_store.specs.Marked.{keys_since};
 ghost use Rattle.siri_model.specs.Looks.{found_of};
 ghost use Rattle.siri_subscriptions.specs.Again.{AreTouched, is_other, with_held};
 
 use crate::looks::addition;
 use siri_base::{Copies, List, OutOfMemory};
-use siri_records::{Change, Key, KeyedItems, SharedKey};
+use siri_records::{Change, KeyedItems, SharedKey};
 use siri_responder::Responder;
 use std::alloc::Global;
 use std::cmp::Ordering;
@@ -76,7 +76,7 @@ pub(crate) fn merged(
                 list.push(addition(entry)?)?;
                 next += 1;
             }
-            (Some(one), Some(entry)) => match compare(&one.key, &entry.0) {
+            (Some(one), Some(entry)) => match one.key.cmp(&entry.0) {
                 Ordering::Less => {
                     list.push(one.copy()?)?;
                     place += 1;
@@ -95,13 +95,6 @@ pub(crate) fn merged(
     }
 }
 
-/// Keys by service, then by their names in turn, an absent name first.
-fn compare(a: &SharedKey, b: &SharedKey) -> Ordering
-    ensures { result ≡ key_cmp a.now b.now }
-{
-    a.cmp(b)
-}
-
 /// Whether a key is one of those that were found, which are in order.
 pub(crate) fn is_found(found: &List<Change>, key: &SharedKey) -> bool
     requires { KeysInOrder (keys_of found.now) }
@@ -112,7 +105,7 @@ pub(crate) fn is_found(found: &List<Change>, key: &SharedKey) -> bool
         .binary_search_by(
             |one: &Change| -> Ordering
                 ensures { result ≡ key_cmp one.now.0 key.entry.now }
-            { compare(&one.key, key) },
+            { one.key.cmp(key) },
         )
         .is_ok()
 }

@@ -1,44 +1,32 @@
-//! All tests: what no contract says, mostly as rows of tables that go through the top call.
+//! The tests that are no rows of `siri_rows`: what no contract says and no command brings.
 //!
 //! ```text
-//!     words, a script or a document     --run--> a report or a text, and a status
-//!     words, connections, moments, ..   --run--> what is answered and sent, a summary, and a status
+//!     times, trees, views, copies, incoming, queries, refusals     values and texts, with vectors from outside
+//!     reads                                                        a producer's counter of what it reads
+//!     forms, system                                                forms of the outside; adapters over the system
+//!     in_memory, files, row_texts                                  shelves, and the texts of their rows
+//!     stops, over documents and rows                               a producer over a shelf that stops
 //! ```
 //!
 //! A call that takes memory is proved also where its body gives up for want of it; these runs see that it doesn't where
-//! memory is there. What no command brings stands in `times`, `trees`, `incoming`, `queries`, `refusals`,
-//! `views`, `reads` and `system`.
+//! memory is there.
 //!
-//! Stands on `siri_cli`, and for those on the crates of their calls. It has no code of its own outside of tests, so
+//! Stands on the crates of the calls that are tested, and on no command. It has no code of its own outside of tests, so
 //! that no crate is proved a second time for them.
 #![tactic(auto)]
 
 #[cfg(test)]
+mod copies;
+#[cfg(test)]
 mod documents;
 #[cfg(test)]
-mod failing;
+mod files;
 #[cfg(test)]
-mod failing_consume;
+mod forms;
 #[cfg(test)]
-mod failing_serve;
-#[cfg(test)]
-mod getting;
-#[cfg(test)]
-mod harness;
-#[cfg(test)]
-mod hostile;
+mod in_memory;
 #[cfg(test)]
 mod incoming;
-#[cfg(test)]
-mod items;
-#[cfg(test)]
-mod keep;
-#[cfg(test)]
-mod lite;
-#[cfg(test)]
-mod long;
-#[cfg(test)]
-mod network;
 #[cfg(test)]
 mod queries;
 #[cfg(test)]
@@ -46,13 +34,11 @@ mod reads;
 #[cfg(test)]
 mod refusals;
 #[cfg(test)]
-mod relay;
+mod row_texts;
 #[cfg(test)]
-mod replay;
+mod rows;
 #[cfg(test)]
-mod rounds;
-#[cfg(test)]
-mod running;
+mod stops;
 #[cfg(test)]
 mod system;
 #[cfg(test)]

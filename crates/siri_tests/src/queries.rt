@@ -11,39 +11,61 @@ use std::test::Fail;
 static DOCUMENTS: [(&str, &str); 9] = [
     (
         "/siri-lite/stop-monitoring.json?MonitoringRef=S1&PreviewInterval=PT30M&MonitoringRef=S2&x=1",
-        "{\"Siri\":{\"ServiceRequest\":{\"StopMonitoringRequest\":[{\"MonitoringRef\":\"S1\",\"PreviewInterval\":\"PT30M\"}]}}}",
+        concat!(
+            r#"{"Siri":{"ServiceRequest":{"StopMonitoringRequest":[{"MonitoringRef":"S1","#,
+            r#""PreviewInterval":"PT30M"}]}}}"#
+        ),
     ),
     (
         "/siri-lite/stop-monitoring.json",
-        "{\"Siri\":{\"ServiceRequest\":{\"StopMonitoringRequest\":[{}]}}}",
+        r#"{"Siri":{"ServiceRequest":{"StopMonitoringRequest":[{}]}}}"#,
     ),
     (
         "/siri-lite/stop-monitoring.json?MonitoringRef=S+1&StartTime=2024-05-01T08%3A00%3A00Z",
-        "{\"Siri\":{\"ServiceRequest\":{\"StopMonitoringRequest\":[{\"MonitoringRef\":\"S 1\",\"StartTime\":\"2024-05-01T08:00:00Z\"}]}}}",
+        concat!(
+            r#"{"Siri":{"ServiceRequest":{"StopMonitoringRequest":[{"MonitoringRef":"S 1","#,
+            r#""StartTime":"2024-05-01T08:00:00Z"}]}}}"#
+        ),
     ),
     (
         "/siri-lite/estimated-timetable.json?Lines=L9&DirectionRef=out&LineRef=L%2B1&OperatorRef=%41&VehicleRef=7",
-        "{\"Siri\":{\"ServiceRequest\":{\"EstimatedTimetableRequest\":[{\"Lines\":{\"LineDirection\":[{\"DirectionRef\":\"out\",\"LineRef\":\"L+1\"}]},\"OperatorRef\":\"A\"}]}}}",
+        concat!(
+            r#"{"Siri":{"ServiceRequest":{"EstimatedTimetableRequest":["#,
+            r#"{"Lines":{"LineDirection":[{"DirectionRef":"out","LineRef":"L+1"}]},"#,
+            r#""OperatorRef":"A"}]}}}"#
+        ),
     ),
     (
         "/siri-lite/estimated-timetable.json?LineRef=",
-        "{\"Siri\":{\"ServiceRequest\":{\"EstimatedTimetableRequest\":[{\"Lines\":{\"LineDirection\":[{\"LineRef\":\"\"}]}}]}}}",
+        concat!(
+            r#"{"Siri":{"ServiceRequest":{"EstimatedTimetableRequest":["#,
+            r#"{"Lines":{"LineDirection":[{"LineRef":""}]}}]}}}"#
+        ),
     ),
     (
         "/siri-lite/estimated-timetable.json?Lines=L9",
-        "{\"Siri\":{\"ServiceRequest\":{\"EstimatedTimetableRequest\":[{}]}}}",
+        r#"{"Siri":{"ServiceRequest":{"EstimatedTimetableRequest":[{}]}}}"#,
     ),
     (
         "/siri-lite/vehicle-monitoring.json?VehicleRef=%FF&LineRef=%22&DirectionRef=100%",
-        "{\"Siri\":{\"ServiceRequest\":{\"VehicleMonitoringRequest\":[{\"DirectionRef\":\"100%\",\"LineRef\":\"\\\"\",\"VehicleRef\":\"\u{FFFD}\"}]}}}",
+        concat!(
+            r#"{"Siri":{"ServiceRequest":{"VehicleMonitoringRequest":[{"DirectionRef":"100%","#,
+            r#""LineRef":"\"","VehicleRef":"�"}]}}}"#
+        ),
     ),
     (
         "/siri-lite/vehicle-monitoring.json?Line%52ef=L1&vehicleref=7?&DirectionRef",
-        "{\"Siri\":{\"ServiceRequest\":{\"VehicleMonitoringRequest\":[{\"DirectionRef\":\"\",\"LineRef\":\"L1\"}]}}}",
+        concat!(
+            r#"{"Siri":{"ServiceRequest":{"VehicleMonitoringRequest":[{"DirectionRef":"","#,
+            r#""LineRef":"L1"}]}}}"#
+        ),
     ),
     (
         "/siri-lite/situation-exchange.json?&StopPointRef=S1=2&&Version=1&OperatorRef=%C3%A9?",
-        "{\"Siri\":{\"ServiceRequest\":{\"SituationExchangeRequest\":[{\"OperatorRef\":\"\u{E9}?\",\"StopPointRef\":\"S1=2\"}]}}}",
+        concat!(
+            r#"{"Siri":{"ServiceRequest":{"SituationExchangeRequest":[{"OperatorRef":"é?","#,
+            r#""StopPointRef":"S1=2"}]}}}"#
+        ),
     ),
 ];
 
@@ -58,7 +80,7 @@ static NO_PATHS: [&str; 6] = [
 ];
 
 /// The document of a target, or nothing.
-fn document(alloc: Global, target: &str) -> Option<Vec<u8>> {
+fn document_of_target(alloc: Global, target: &str) -> Option<Vec<u8>> {
     document_of(alloc, &Text::new(alloc, target).ok()?).ok()
 }
 
@@ -73,7 +95,7 @@ fn has_no_path(alloc: Global, target: &str) -> Option<bool> {
 #[test]
 fn targets_stand_for_documents(rt: HostRuntime) -> Result<(), Fail> {
     for (target, want) in &DOCUMENTS {
-        let text = document(rt.alloc(), target).ok_or("a document")?;
+        let text = document_of_target(rt.alloc(), target).ok_or("a document")?;
         assert!(rt; text.as_slice() == want.as_bytes(), "{target}");
     }
     for target in &NO_PATHS {
@@ -83,7 +105,7 @@ fn targets_stand_for_documents(rt: HostRuntime) -> Result<(), Fail> {
 }
 
 /// A request for nothing.
-fn nothing(alloc: Global) -> ServiceRequest {
+fn empty_request(alloc: Global) -> ServiceRequest {
     ServiceRequest {
         request_timestamp: None,
         requestor_ref: None,
@@ -96,7 +118,7 @@ fn nothing(alloc: Global) -> ServiceRequest {
 }
 
 /// A topic on the stop `S 1` from a moment on.
-fn stop(alloc: Global) -> Option<Topic> {
+fn stop_topic(alloc: Global) -> Option<Topic> {
     Some(Topic::Stop(StopTopic {
         monitoring_ref: Name::new(alloc, "S 1").ok()?,
         line_ref: None,
@@ -110,7 +132,7 @@ fn stop(alloc: Global) -> Option<Topic> {
 }
 
 /// A topic on the journeys of the next 30 minutes, on so many lines.
-fn timetable(alloc: Global, count: usize) -> Option<Topic> {
+fn timetable_topic(alloc: Global, count: usize) -> Option<Topic> {
     let mut lines = List::new(alloc);
     for _ in 0..count {
         let line = LineDirection {
@@ -127,13 +149,16 @@ fn timetable(alloc: Global, count: usize) -> Option<Topic> {
 }
 
 /// The target of a request for stops and timetables, or the name of what was answered in its place.
-fn target(alloc: Global, stops: usize, lines: &[usize]) -> Option<String> {
-    let mut request = nothing(alloc);
+fn target_of_request(alloc: Global, stops: usize, lines: &[usize]) -> Option<String> {
+    let mut request = empty_request(alloc);
     for _ in 0..stops {
-        request.stop_monitoring_request.push(stop(alloc)?).ok()?;
+        request
+            .stop_monitoring_request
+            .push(stop_topic(alloc)?)
+            .ok()?;
     }
     for count in lines {
-        let topic = timetable(alloc, *count)?;
+        let topic = timetable_topic(alloc, *count)?;
         request.estimated_timetable_request.push(topic).ok()?;
     }
     match write_query(alloc, &request) {
@@ -167,7 +192,7 @@ fn requests_have_targets(rt: HostRuntime) -> Result<(), Fail> {
         (1, &[0], "NotQuery"),
     ];
     for (stops, lines, want) in &rows {
-        let text = target(rt.alloc(), *stops, lines).ok_or("an answer")?;
+        let text = target_of_request(rt.alloc(), *stops, lines).ok_or("an answer")?;
         assert!(rt; text.as_str() == *want, "{want}");
     }
     Ok(())

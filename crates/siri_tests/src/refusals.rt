@@ -1,7 +1,7 @@
 //! The texts that say why something about a subscription, a supply or a feed is refused.
 
 use siri_base::Place;
-use siri_replies::Refusal;
+use siri_subscriptions::Refusal;
 use std::test::Fail;
 
 /// A refusal, and its ErrorText.

@@ -8,6 +8,45 @@ use siri_json::{
 use std::alloc::{AllocError, Global};
 use std::test::Fail;
 
+/// The documents of RFC 8259, section 13.
+const AN_IMAGE: &str = r#"{
+"Image": {
+"Width":  800,
+"Height": 600,
+"Title":  "View from 15th Floor",
+"Thumbnail": {
+"Url":    "http://www.example.com/image/481989943",
+"Height": 125,
+"Width":  100
+},
+"Animated" : false,
+"IDs": [116, 943, 234, 38793]
+}
+}"#;
+
+const TWO_PLACES: &str = r#"[
+{
+"precision": "zip",
+"Latitude":  37.7668,
+"Longitude": -122.3959,
+"Address":   "",
+"City":      "SAN FRANCISCO",
+"State":     "CA",
+"Zip":       "94107",
+"Country":   "US"
+},
+{
+"precision": "zip",
+"Latitude":  37.371991,
+"Longitude": -122.026020,
+"Address":   "",
+"City":      "SUNNYVALE",
+"State":     "CA",
+"Zip":       "94085",
+"Country":   "US"
+}
+]"#;
+
 /// A row: a document, the names of a member and of one inside it, and the texts of what stands there, or why there is
 /// no tree. The last three are of RFC 8259, section 13.
 static DOCUMENTS: [(&str, (&str, &str), &str); 13] = [
@@ -16,26 +55,18 @@ static DOCUMENTS: [(&str, (&str, &str), &str); 13] = [
     ("{1.5:2}", ("", ""), "NotJson"),
     ("{1.5 \t:2}", ("", ""), "NotJson"),
     ("", ("", ""), "NotJson"),
-    ("[2.35,\"2.35\",-0,1E+2]", ("", ""), "2.35 2.35 -0 1E+2 "),
-    ("{\"b\":1,\"a\":\"4\\\"5\",\"b\":null}", ("a", ""), "4\"5 "),
-    ("{\"b\":1,\"a\":\"4\\\"5\",\"b\":null}", ("b", ""), "None"),
-    ("\"Hello world!\"", ("", ""), "Hello world! "),
+    (r#"[2.35,"2.35",-0,1E+2]"#, ("", ""), "2.35 2.35 -0 1E+2 "),
+    (r#"{"b":1,"a":"4\"5","b":null}"#, ("a", ""), r#"4"5 "#),
+    (r#"{"b":1,"a":"4\"5","b":null}"#, ("b", ""), "None"),
+    (r#""Hello world!""#, ("", ""), "Hello world! "),
     ("42", ("", ""), "42 "),
     ("true", ("", ""), "Wrong "),
-    (
-        "{\n\"Image\": {\n\"Width\":  800,\n\"Height\": 600,\n\"Title\":  \"View from 15th Floor\",\n\"Thumbnail\": {\n\"Url\":    \"http://www.example.com/image/481989943\",\n\"Height\": 125,\n\"Width\":  100\n},\n\"Animated\" : false,\n\"IDs\": [116, 943, 234, 38793]\n}\n}",
-        ("Image", "IDs"),
-        "116 943 234 38793 ",
-    ),
-    (
-        "[\n{\n\"precision\": \"zip\",\n\"Latitude\":  37.7668,\n\"Longitude\": -122.3959,\n\"Address\":   \"\",\n\"City\":      \"SAN FRANCISCO\",\n\"State\":     \"CA\",\n\"Zip\":       \"94107\",\n\"Country\":   \"US\"\n},\n{\n\"precision\": \"zip\",\n\"Latitude\":  37.371991,\n\"Longitude\": -122.026020,\n\"Address\":   \"\",\n\"City\":      \"SUNNYVALE\",\n\"State\":     \"CA\",\n\"Zip\":       \"94085\",\n\"Country\":   \"US\"\n}\n]",
-        ("Longitude", ""),
-        "-122.3959 ",
-    ),
+    (AN_IMAGE, ("Image", "IDs"), "116 943 234 38793 "),
+    (TWO_PLACES, ("Longitude", ""), "-122.3959 "),
 ];
 
 /// The member of that name, in a list's first entry; without a name the value itself.
-fn below<'v, 'a>(value: &'v Tree<'a>, name: &str) -> Option<&'v Tree<'a>> {
+fn member_below<'v, 'a>(value: &'v Tree<'a>, name: &str) -> Option<&'v Tree<'a>> {
     if name.is_empty() {
         return Some(value);
     }
@@ -43,12 +74,12 @@ fn below<'v, 'a>(value: &'v Tree<'a>, name: &str) -> Option<&'v Tree<'a>> {
 }
 
 /// The member `inner` of the member `outer`.
-fn found<'v, 'a>(tree: &'v Tree<'a>, outer: &str, inner: &str) -> Option<&'v Tree<'a>> {
-    below(below(tree, outer)?, inner)
+fn member_of_member<'v, 'a>(tree: &'v Tree<'a>, outer: &str, inner: &str) -> Option<&'v Tree<'a>> {
+    member_below(member_below(tree, outer)?, inner)
 }
 
 /// The texts of its entries, each with a space after it.
-fn texts(alloc: Global, value: &Tree<'_>) -> Result<String, AllocError> {
+fn texts_of_entries(alloc: Global, value: &Tree<'_>) -> Result<String, AllocError> {
     let mut told = String::new(alloc);
     for entry in entry_list(value) {
         told.push_str(match text_of(entry) {
@@ -62,11 +93,11 @@ fn texts(alloc: Global, value: &Tree<'_>) -> Result<String, AllocError> {
 }
 
 /// What stands below these names in a document's tree, or the name of what was answered in its place.
-fn told(alloc: Global, document: &[u8], names: (&str, &str)) -> Result<String, AllocError> {
+fn told_below(alloc: Global, document: &[u8], names: (&str, &str)) -> Result<String, AllocError> {
     let mut scratch = Scratch::new(alloc);
     let name = match read_tree(alloc, document, &mut scratch) {
-        Ok(tree) => match found(&tree, names.0, names.1) {
-            Some(value) => return texts(alloc, value),
+        Ok(tree) => match member_of_member(&tree, names.0, names.1) {
+            Some(value) => return texts_of_entries(alloc, value),
             None => "None",
         },
         Err(TreeError::NotJson) => "NotJson",
@@ -79,17 +110,17 @@ fn told(alloc: Global, document: &[u8], names: (&str, &str)) -> Result<String, A
 #[test]
 fn documents_are_read_with_their_numbers_as_texts(rt: HostRuntime) -> Result<(), Fail> {
     for (document, names, want) in &DOCUMENTS {
-        let text = told(rt.alloc(), document.as_bytes(), *names)?;
+        let text = told_below(rt.alloc(), document.as_bytes(), *names)?;
         assert!(rt; text.as_str() == *want, "{document}");
     }
     let spaces = vec![in rt.alloc(); b' '; LONGEST_DOCUMENT + 1]?;
-    assert!(rt; told(rt.alloc(), &spaces, ("", ""))?.as_str() == "TooLong");
-    assert!(rt; told(rt.alloc(), b"\"\xff\"", ("", ""))?.as_str() == "NotJson");
+    assert!(rt; told_below(rt.alloc(), &spaces, ("", ""))?.as_str() == "TooLong");
+    assert!(rt; told_below(rt.alloc(), b"\"\xff\"", ("", ""))?.as_str() == "NotJson");
     Ok(())
 }
 
 /// The text of a list of a number and a text.
-fn written(alloc: Global) -> Option<Vec<u8>> {
+fn written_list(alloc: Global) -> Option<Vec<u8>> {
     let mut entries = Vec::new(alloc);
     entries.push(Value::from(1u64)).ok()?;
     entries
@@ -100,13 +131,13 @@ fn written(alloc: Global) -> Option<Vec<u8>> {
 
 #[test]
 fn numbers_are_quoted_outside_of_strings(rt: HostRuntime) -> Result<(), Fail> {
-    let document = "{\"a\":[1,-2.5e3,\"3\"],\"4\":true}";
+    let document = r#"{"a":[1,-2.5e3,"3"],"4":true}"#;
     let text = quote_numbers(rt.alloc(), document.as_bytes())
         .ok()
         .ok_or("a text")?;
-    assert!(rt; text.as_slice() == b"{\"a\":[\"1\",\"-2.5e3\",\"3\"],\"4\":true}".as_slice());
-    let plain = written(rt.alloc()).ok_or("a text")?;
-    assert!(rt; plain.as_slice() == b"[1,\"1\"]".as_slice());
+    assert!(rt; text.as_slice() == br#"{"a":["1","-2.5e3","3"],"4":true}"#.as_slice());
+    let plain = written_list(rt.alloc()).ok_or("a text")?;
+    assert!(rt; plain.as_slice() == br#"[1,"1"]"#.as_slice());
     Ok(())
 }
 

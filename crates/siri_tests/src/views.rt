@@ -25,7 +25,7 @@ fn addition(alloc: Global, name: &str) -> Result<Change, Fail> {
     })
 }
 
-fn view(alloc: Global, names: &[&str]) -> Result<View, Fail> {
+fn view_of(alloc: Global, names: &[&str]) -> Result<View, Fail> {
     let mut view = View::new(alloc);
     for name in names {
         let change = addition(alloc, name)?;
@@ -35,7 +35,7 @@ fn view(alloc: Global, names: &[&str]) -> Result<View, Fail> {
 }
 
 /// The names of its vehicles, each with a space before it.
-fn told(alloc: Global, view: &View) -> Result<String, AllocError> {
+fn names_in(alloc: Global, view: &View) -> Result<String, AllocError> {
     let mut text = String::new(alloc);
     for place in 0..view.len() {
         if let Some((key, _)) = view.entry(place) {
@@ -55,17 +55,17 @@ fn push_name(text: &mut String, key: &Key) -> Result<(), AllocError> {
 }
 
 /// The first view with the changes that lead to the second.
-fn patched(alloc: Global, before: &[&str], after: &[&str]) -> Result<String, Fail> {
-    let mut view_before = view(alloc, before)?;
-    let list = changes(&view_before, &view(alloc, after)?)?;
+fn names_after_patch(alloc: Global, before: &[&str], after: &[&str]) -> Result<String, Fail> {
+    let mut view_before = view_of(alloc, before)?;
+    let list = changes(&view_before, &view_of(alloc, after)?)?;
     patch(&mut view_before, &list)?;
-    Ok(told(alloc, &view_before)?)
+    Ok(names_in(alloc, &view_before)?)
 }
 
 #[test]
 fn changes_lead_from_one_view_to_another(rt: HostRuntime) -> Result<(), Fail> {
     assert_eq!(rt;
-        patched(rt.alloc(), &["b", "a"], &["c", "b"])?.as_str(),
+        names_after_patch(rt.alloc(), &["b", "a"], &["c", "b"])?.as_str(),
         " b c"
     );
     Ok(())

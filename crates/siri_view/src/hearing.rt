@@ -1,97 +1,36 @@
 //! What a message says to a consumer.
 
-ghost use Rattle.std.specs.Prelude.{◌≡◌, ◌++◌, option_map, option_and_then};
+ghost use Rattle.std.specs.Prelude.{◌≡◌, ◌++◌, option_and_then};
 ghost use Rattle.siri_base.specs.Numbers.{number_of};
-ghost use Rattle.siri_view.specs.Hearing.{only, delivery_heard, heard, placed};
+ghost use Rattle.siri_view.specs.Hearing.{only, delivery_heard, placed};
 ghost use Rattle.siri_messages.specs.Rounds.{functional_deliveries};
-ghost use Rattle.siri_view.specs.Heard.{brought_if, heard_by, heard_if};
+ghost use Rattle.siri_view.specs.Heard.{heard_if};
 
 use crate::marks::Numbers;
-use crate::part::Contents;
 use siri_base::{List, Name, number_of};
-use siri_messages::{FunctionalDelivery, Mark, Message, ServiceDelivery};
+use siri_messages::{FunctionalDelivery, Mark, ServiceDelivery};
 use siri_records::{Item, Key};
-
-/// What a message says of a part, or that it says nothing of one.
-#[derive(Drop)]
-pub(crate) enum Heard<'a> {
-    Delivered(Delivered<'a>),
-    Notified { identifier: &'a Name, mark: Numbers },
-    Noted,
-    Foreign,
-}
 
 /// A part of a round that is delivered.
 #[derive(Drop)]
-pub(crate) struct Delivered<'a> {
-    pub subscriber: &'a Name,
-    pub identifier: &'a Name,
-    pub mark: Numbers,
-    // Whether further parts of its round follow.
-    pub more: bool,
-    pub contents: Contents<'a>,
-}
-
-/// A part of a round that is delivered and handed over.
-#[derive(Drop)]
-pub(crate) struct Brought {
+pub(crate) struct Delivered {
     pub subscriber: Name,
     pub identifier: Name,
     pub mark: Numbers,
+    // Whether further parts of its round follow.
     pub more: bool,
     pub items: List<Item>,
     pub removals: List<Key>,
 }
 
-/// What a message says.
-pub(crate) fn hear(message: &Message) -> Heard<'_>
-    ensures { heard_by result ≡ heard message.now }
-{
-    match message {
-        Message::ServiceDelivery(delivery) => match part_in(delivery) {
-            Some(delivered) => Heard::Delivered(delivered),
-            None => Heard::Noted,
-        },
-        Message::DataReadyNotification(notification) => Heard::Notified {
-            identifier: &notification.extensions.subscription,
-            mark: numbers_of(&notification.extensions),
-        },
-        Message::SubscriptionResponse(_)
-        | Message::TerminateSubscriptionResponse(_)
-        | Message::CheckStatusResponse(_)
-        | Message::HeartbeatNotification(_) => Heard::Noted,
-        _ => Heard::Foreign,
-    }
-}
-
 /// The part that is delivered: a delivery has a place where RequestMessageRef is a number and it has exactly one
 /// functional delivery, and that has both names, a start, a round and a part.
-fn part_in(delivery: &ServiceDelivery) -> Option<Delivered<'_>>
-    ensures { heard_if result ≡ delivery_heard delivery.now }
-{
-    let number = number_in(delivery)?;
-    let only = only_delivery(delivery)?;
-    Some(Delivered {
-        subscriber: only.subscriber_ref.as_ref()?,
-        identifier: only.subscription_ref.as_ref()?,
-        mark: Numbers {
-            number,
-            start: only.start?,
-            round: only.round?,
-            part: only.part?,
-        },
-        more: delivery.more_data,
-        contents: Contents::Lent(only),
-    })
-}
-
-/// The part that is delivered by a delivery that is handed over.
-pub(crate) fn part_of(delivery: ServiceDelivery) -> Option<Brought>
-    ensures { brought_if result ≡ delivery_heard delivery }
+pub(crate) fn part_of(delivery: ServiceDelivery) -> Option<Delivered>
+    ensures { heard_if result ≡ delivery_heard delivery }
 {
     let number = number_in(&delivery);
     let more = delivery.more_data;
-    placed_part(number, into_only(delivery), more)
+    placed_part(number, only_delivery(delivery), more)
 }
 
 /// The part of this number, where its functional delivery is the only one and has all that a place wants.
@@ -99,8 +38,8 @@ fn placed_part(
     number: Option<u64>,
     delivery: Option<FunctionalDelivery>,
     more: bool,
-) -> Option<Brought>
-    ensures { brought_if result ≡ placed number delivery more }
+) -> Option<Delivered>
+    ensures { heard_if result ≡ placed number delivery more }
 {
     let number = number?;
     let mut delivery = delivery?;
@@ -113,7 +52,7 @@ fn placed_part(
         part: delivery.part?,
     };
     let (items, removals) = delivery.into_entries();
-    Some(Brought {
+    Some(Delivered {
         subscriber,
         identifier,
         mark,
@@ -131,25 +70,7 @@ fn number_in(delivery: &ServiceDelivery) -> Option<u64>
 }
 
 /// The functional delivery, where there is only one of all four services.
-fn only_delivery(delivery: &ServiceDelivery) -> Option<&FunctionalDelivery>
-    ensures { option_map (λ only. only.now) result ≡ only (functional_deliveries delivery.now) }
-{
-    match (
-        delivery.stop_monitoring_delivery.slice(),
-        delivery.estimated_timetable_delivery.slice(),
-        delivery.vehicle_monitoring_delivery.slice(),
-        delivery.situation_exchange_delivery.slice(),
-    ) {
-        ([only], [], [], []) => Some(only),
-        ([], [only], [], []) => Some(only),
-        ([], [], [only], []) => Some(only),
-        ([], [], [], [only]) => Some(only),
-        _ => None,
-    }
-}
-
-/// The same of a delivery that is handed over.
-fn into_only(delivery: ServiceDelivery) -> Option<FunctionalDelivery>
+fn only_delivery(delivery: ServiceDelivery) -> Option<FunctionalDelivery>
     ensures { result ≡ only (functional_deliveries delivery) }
 {
     let ServiceDelivery {
@@ -204,7 +125,7 @@ fn only_of(deliveries: List<FunctionalDelivery>) -> Option<FunctionalDelivery>
 }
 
 /// The four numbers of a mark, without the subscription that it names.
-fn numbers_of(mark: &Mark) -> Numbers
+pub(crate) fn numbers_of(mark: &Mark) -> Numbers
     ensures { result ≡ record { number = mark.now.number; start = mark.now.start; round = mark.now.round; part = mark.now.part } }
 {
     Numbers {

@@ -4,12 +4,9 @@ ghost use Rattle.std.specs.Prelude.{◌≡◌, ◌++◌, flat_map, map, IfOk, On
 ghost use Rattle.siri_records.specs.Keys.{key_of as key_of_item};
 ghost use Rattle.siri_records.specs.Keyed.{unshared};
 ghost use Rattle.siri_change.specs.Parts.{changes_in};
-ghost use Rattle.siri_view.specs.Hearing.{carried_by};
-ghost use Rattle.siri_view.specs.Heard.{carried_in};
 
 use siri_base::{Copies, List, OutOfMemory, beside};
 use siri_change::Change;
-use siri_messages::FunctionalDelivery;
 use siri_records::{Item, Key, SharedKey};
 use std::alloc::Global;
 use std::marker::Model;
@@ -39,39 +36,13 @@ impl Model for Part {
     ghost view = { λ p. record { items = unshared p.items.items; removals = p.removals } };
 }
 
-/// What a delivery carries: lent, or handed over.
-#[derive(Drop)]
-pub(crate) enum Contents<'a> {
-    Lent(&'a FunctionalDelivery),
-    Owned {
+impl Part {
+    /// The items and removals of a delivery, none of which is copied.
+    pub(crate) fn of(
+        alloc: Global,
         items: List<Item>,
         removals: List<Key>,
-    },
-}
-
-impl Part {
-    /// What a delivery carries. What is lent is copied; what is handed over is kept, and nothing of it is copied.
-    pub(crate) fn of(alloc: Global, contents: Contents<'_>) -> Result<Part, OutOfMemory>
-        ensures { IfOk result (λ part. part ≡ carried_in contents.entry) }
-    {
-        match contents {
-            Contents::Lent(delivery) => Part::copied(alloc, delivery),
-            Contents::Owned { items, removals } => Part::moved(alloc, items, removals),
-        }
-    }
-
-    /// Copies of what a delivery carries.
-    fn copied(alloc: Global, delivery: &FunctionalDelivery) -> Result<Part, OutOfMemory>
-        ensures { IfOk result (λ part. part ≡ carried_by delivery.now) }
-    {
-        Ok(Part {
-            items: shared(alloc, delivery.items.slice())?,
-            removals: shared_keys(alloc, delivery.removals.slice())?,
-        })
-    }
-
-    /// The items and removals of a delivery themselves.
-    fn moved(alloc: Global, items: List<Item>, removals: List<Key>) -> Result<Part, OutOfMemory>
+    ) -> Result<Part, OutOfMemory>
         ensures { IfOk result (λ part. part ≡ record { items = items; removals = removals }) }
     {
         let (items, removals) = beside(kept(alloc, items), removals)?;
@@ -94,36 +65,7 @@ impl Part {
     }
 }
 
-/// Copies of items, to be shared.
-fn shared(alloc: Global, items: &[Item]) -> Result<Vec<Rc<Item>>, OutOfMemory>
-    ensures { IfOk result (λ shared. unshared shared.items ≡ items.now) }
-{
-    let mut shared = Vec::new(alloc);
-    for item in items {
-        shared.push(share(alloc, item)?)?;
-    }
-    Ok(shared)
-}
-
-/// A copy of an item, to be shared.
-fn share(alloc: Global, item: &Item) -> Result<Rc<Item>, OutOfMemory>
-    ensures { IfOk result (λ shared. shared.value ≡ item.now) }
-{
-    Ok(Rc::new(alloc, item.copy()?)?)
-}
-
-/// Copies of keys, to be shared.
-fn shared_keys(alloc: Global, keys: &[Key]) -> Result<List<SharedKey>, OutOfMemory>
-    ensures { IfOk result (λ shared. shared ≡ keys.now) }
-{
-    let mut shared = List::new(alloc);
-    for key in keys {
-        shared.push(SharedKey::new(alloc, key.copy()?)?)?;
-    }
-    Ok(shared)
-}
-
-/// Items themselves, to be shared.
+/// Items, to be shared.
 fn kept(alloc: Global, items: List<Item>) -> Result<Vec<Rc<Item>>, OutOfMemory>
     ensures { IfOk result (λ kept. unshared kept.items ≡ items) }
 {
@@ -134,7 +76,7 @@ fn kept(alloc: Global, items: List<Item>) -> Result<Vec<Rc<Item>>, OutOfMemory>
     Ok(kept)
 }
 
-/// Keys themselves, to be shared.
+/// Keys, to be shared.
 fn kept_keys(alloc: Global, keys: List<Key>) -> Result<List<SharedKey>, OutOfMemory>
     ensures { IfOk result (λ kept. kept ≡ keys) }
 {

@@ -6,36 +6,47 @@ ghost use Rattle.siri_life.specs.Link.{then_supply};
 ghost use Rattle.siri_view.specs.Changing.{TakesNothing};
 ghost use Rattle.siri_view.specs.Consuming.{after_message, after_heard, seen_of, seen_by, seen_in_notification, replies_by, told_of, told_of_part};
 ghost use Rattle.siri_view.specs.Hearing.{delivery_heard};
-ghost use Rattle.siri_view.specs.Heard.{brought_by, delivered_by, after_part, seen_in_part, IsWanted};
+ghost use Rattle.siri_view.specs.Heard.{delivered_by, after_part, seen_in_part, IsWanted};
 ghost use Rattle.siri_view.specs.Kept.{meaning, kept_of};
 ghost use Rattle.siri_view.specs.Marks.{mark_by, said};
 ghost use Rattle.siri_view.specs.Sending.{acknowledgement, ready_acknowledgement, supply_request};
 ghost use Rattle.siri_life.specs.Meaning.{most_parts};
 
-use crate::hearing::{Brought, Delivered, Heard, hear, part_of};
+use crate::hearing::{Delivered, numbers_of, part_of};
 use crate::marks::{Numbers, Saying, next};
 use crate::messages::{acknowledgement, ready_acknowledgement, supply_request};
-use crate::part::{Contents, Part};
+use crate::part::Part;
 use crate::subscribed::Subscribed;
 use crate::{Consumer, Outcome, Seen};
-use siri_base::{List, Name, OutOfMemory, Place};
+use siri_base::{Copies, List, Name, OutOfMemory, Place};
 use siri_messages::{Message, ServiceDelivery};
 
 impl Consumer {
     /// Takes a message, and gives what it was to the consumer and the replies to it. Only a part of a round that is
     /// wanted changes the consumer: it is buffered, or with it its round is applied to the view, all parts at once.
     /// After want of memory the consumer is as before.
+    ///
+    /// A ServiceDelivery is copied first, so that its items can be kept; `take_owned` takes one that is handed over.
     pub fn take(&mut self, message: &Message) -> Result<Seen, OutOfMemory>
         ensures consumer { OnOk result (self.new ≡ after_message self.old message.now) }
         ensures seen { IfOk result (λ seen. seen ≡ seen_of self.old message.now) }
         ensures same { IfOk result (λ seen. TakesNothing seen.outcome → self.new ≡ self.old) }
         ensures refused { OnErr result (self.new ≡ self.old) }
     {
-        match hear(message) {
-            Heard::Delivered(delivered) => self.take_delivery(delivered),
-            Heard::Notified { identifier, mark } => self.take_notification(identifier, mark),
-            Heard::Noted => Ok(self.without_reply(Outcome::Noted)),
-            Heard::Foreign => Ok(self.without_reply(Outcome::NotForMe)),
+        match message {
+            Message::ServiceDelivery(delivery) => {
+                let delivery = delivery.copy()?;
+                self.take_delivery(delivery)
+            }
+            Message::DataReadyNotification(notification) => {
+                let mark = &notification.extensions;
+                self.take_notification(&mark.subscription, numbers_of(mark))
+            }
+            Message::SubscriptionResponse(_)
+            | Message::TerminateSubscriptionResponse(_)
+            | Message::CheckStatusResponse(_)
+            | Message::HeartbeatNotification(_) => Ok(self.without_reply(Outcome::Noted)),
+            _ => Ok(self.without_reply(Outcome::NotForMe)),
         }
     }
 
@@ -50,77 +61,51 @@ impl Consumer {
             let Some(delivery) = message.into_service_delivery() else {
                 unreachable!()
             };
-            return self.take_delivery_owned(delivery);
+            return self.take_delivery(delivery);
         }
         let seen = self.take(&message);
         drop(message);
         seen
     }
 
-    /// A ServiceDelivery that is handed over.
-    fn take_delivery_owned(&mut self, delivery: ServiceDelivery) -> Result<Seen, OutOfMemory>
+    /// A ServiceDelivery, which may be a part of a round.
+    fn take_delivery(&mut self, delivery: ServiceDelivery) -> Result<Seen, OutOfMemory>
         ensures consumer { OnOk result (self.new ≡ after_heard self.old (delivery_heard delivery)) }
         ensures seen { IfOk result (λ seen. seen ≡ seen_by self.old (delivery_heard delivery)) }
         ensures same { IfOk result (λ seen. TakesNothing seen.outcome → self.new ≡ self.old) }
         ensures refused { OnErr result (self.new ≡ self.old) }
     {
         match part_of(delivery) {
-            Some(brought) => self.take_brought(brought),
+            Some(delivered) => self.take_delivered(delivered),
             None => Ok(self.without_reply(Outcome::Noted)),
         }
     }
 
-    /// A part of a round is handed over.
-    fn take_brought(&mut self, brought: Brought) -> Result<Seen, OutOfMemory>
-        ensures consumer { OnOk result (self.new ≡ after_heard self.old (brought_by brought)) }
-        ensures seen { IfOk result (λ seen. seen ≡ seen_by self.old (brought_by brought)) }
-        ensures same { IfOk result (λ seen. TakesNothing seen.outcome → self.new ≡ self.old) }
-        ensures refused { OnErr result (self.new ≡ self.old) }
-    {
-        let Brought {
-            subscriber,
-            identifier,
-            mark,
-            more,
-            items,
-            removals,
-        } = brought;
-        self.take_delivery(Delivered {
-            subscriber: &subscriber,
-            identifier: &identifier,
-            mark,
-            more,
-            contents: Contents::Owned { items, removals },
-        })
-    }
-
     /// A part of a round is delivered.
-    fn take_delivery(&mut self, delivered: Delivered<'_>) -> Result<Seen, OutOfMemory>
-        ensures consumer { OnOk result (self.new ≡ after_heard self.old (delivered_by delivered.entry)) }
-        ensures seen { IfOk result (λ seen. seen ≡ seen_by self.old (delivered_by delivered.entry)) }
+    fn take_delivered(&mut self, delivered: Delivered) -> Result<Seen, OutOfMemory>
+        ensures consumer { OnOk result (self.new ≡ after_heard self.old (delivered_by delivered)) }
+        ensures seen { IfOk result (λ seen. seen ≡ seen_by self.old (delivered_by delivered)) }
         ensures same { IfOk result (λ seen. TakesNothing seen.outcome → self.new ≡ self.old) }
         ensures refused { OnErr result (self.new ≡ self.old) }
     {
-        if *delivered.subscriber == self.name {
+        if delivered.subscriber == self.name {
             self.take_own_delivery(delivered)
         } else {
+            drop(delivered);
             Ok(self.without_reply(Outcome::UnknownSubscription))
         }
     }
 
     /// A part of a round is delivered to this consumer.
-    fn take_own_delivery(&mut self, delivered: Delivered<'_>) -> Result<Seen, OutOfMemory>
-        ensures consumer { OnOk result (self.new ≡ after_part self.old delivered.entry) }
-        ensures seen { IfOk result (λ seen. seen ≡ seen_in_part self.old delivered.entry) }
+    fn take_own_delivery(&mut self, delivered: Delivered) -> Result<Seen, OutOfMemory>
+        ensures consumer { OnOk result (self.new ≡ after_part self.old delivered) }
+        ensures seen { IfOk result (λ seen. seen ≡ seen_in_part self.old delivered) }
         ensures same { IfOk result (λ seen. TakesNothing seen.outcome → self.new ≡ self.old) }
         ensures refused { OnErr result (self.new ≡ self.old) }
     {
-        let Delivered {
-            identifier,
-            mark,
-            ..
-        } = delivered;
-        let Some(kept) = self.held.get(identifier) else {
+        let mark = delivered.mark;
+        let Some(kept) = self.held.get(&delivered.identifier) else {
+            drop(delivered);
             return Ok(self.without_reply(Outcome::UnknownSubscription));
         };
         let saying = kept.say(mark);
@@ -130,35 +115,41 @@ impl Consumer {
                 let asks = delivered.more && kept.is_fetched();
                 self.take_part(delivered, asks)
             }
-            Saying::Repeat => Ok(Seen {
-                outcome,
-                replies: self.acknowledged(identifier, mark)?,
-            }),
+            Saying::Repeat => {
+                let acknowledged = self.acknowledged(&delivered.identifier, mark);
+                drop(delivered);
+                Ok(Seen {
+                    outcome,
+                    replies: acknowledged?,
+                })
+            }
             Saying::UnknownSubscription | Saying::OldStart | Saying::Gap | Saying::Overlong => {
+                drop(delivered);
                 Ok(self.without_reply(outcome))
             }
         }
     }
 
     /// The wanted part is taken, acknowledged, and the next one is asked for or not.
-    fn take_part(&mut self, delivered: Delivered<'_>, asks: bool) -> Result<Seen, OutOfMemory>
+    fn take_part(&mut self, delivered: Delivered, asks: bool) -> Result<Seen, OutOfMemory>
         requires small { delivered.mark.part ≤ most_parts }
-        requires wanted { IsWanted delivered asks (kept_of delivered.identifier.now self.old.held) }
-        ensures consumer { OnOk result (self.new ≡ after_part self.old delivered.entry) }
-        ensures seen { IfOk result (λ seen. seen ≡ seen_in_part self.old delivered.entry) }
+        requires wanted { IsWanted delivered asks (kept_of delivered.identifier self.old.held) }
+        ensures consumer { OnOk result (self.new ≡ after_part self.old delivered) }
+        ensures seen { IfOk result (λ seen. seen ≡ seen_in_part self.old delivered) }
         ensures taken { IfOk result (λ seen. TakesNothing seen.outcome → ⊥) }
         ensures refused { OnErr result (self.new ≡ self.old) }
     {
         let Delivered {
+            subscriber: _,
             identifier,
             mark,
             more,
-            contents,
-            ..
+            items,
+            removals,
         } = delivered;
-        let part = Part::of(self.held.allocator(), contents)?;
-        let replies = self.replies_to_part(identifier, mark, asks)?;
-        match self.held.take(identifier, mark, more, part) {
+        let part = Part::of(self.held.allocator(), items, removals)?;
+        let replies = self.replies_to_part(&identifier, mark, asks)?;
+        match self.held.take(&identifier, mark, more, part) {
             Ok(()) => Ok(Seen {
                 outcome: told_of_part(mark, more),
                 replies,

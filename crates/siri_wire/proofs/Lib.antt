@@ -2,3 +2,15 @@ pub mod Documents
 pub mod Framed
 pub mod InOrder
 pub mod Plain
+pub mod MessageValues
+pub mod ProperReadValues
+pub mod RowLaws
+pub mod ReadIffSpellsParts
+pub mod SupplyTables
+pub mod RequestTables
+pub mod SubscriptionTables
+pub mod DeliveryParts
+pub mod BackDocuments
+pub mod DeliveryTables
+pub mod ReadIffSpells
+pub mod ProperReadMessages

@@ -8,3 +8,4 @@ pub mod Statuses
 pub mod Documents
 pub mod Wanted
 pub mod Canonical
+pub mod laws

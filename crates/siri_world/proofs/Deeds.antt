@@ -22,7 +22,7 @@ use Rattle.siri_world_model.specs.World.{World, latest, nothing}
 use Rattle.siri_world_model.specs.Effects.{Effect, effect, with_packets, view_lines, viewed_if, viewed}
 use Rattle.siri_world_model.specs.Told.{is_early, passes_starts, passes_consumers, passes_packets, refusal, told, told_if, after, after_if}
 use Rattle.siri_world_model.specs.Told.{world_after, most_packets}
-pub use Rattle.siri_world_laws.proofs.Growing.{packets_stay}
+pub use Rattle.siri_world_model.proofs.Growing.{packets_stay}
 use Rattle.siri_world.specs.declared.happened.Happened.{Happened}
 use Rattle.siri_world.specs.Doing.{Does, Happens, IsFull, first_refusal}
 use Rattle.siri_world.specs.Kept.{sent_packets}

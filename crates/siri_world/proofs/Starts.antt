@@ -3,7 +3,7 @@ use Rattle.std.proofs.Common.{◌≡◌, suc, ◌<◌, List, [], ◌∷◌, ◌+
 use Rattle.std.specs.Prelude.{unwrap_or}
 use Rattle.std.specs.List.{last_or}
 use Rattle.siri_model.specs.History.{History}
-use Rattle.siri_model_laws.proofs.Current.{last_appended}
+use Rattle.siri_model.proofs.Current.{last_appended}
 use Rattle.siri_world_model.specs.World.{last_goes_on}
 
 -- the latest of some starts

@@ -5,3 +5,4 @@ pub mod World
 pub mod Goals
 pub mod Effects
 pub mod Told
+pub mod laws

@@ -21,16 +21,26 @@
 //! the items are the goal of the round that the view belongs to.
 //!
 //! Stands on `siri_base`, `siri_records`, `siri_topic`, `siri_messages`, `siri_life`, `siri_model`, `siri_producer` and
-//! `siri_view`. It has the types of events and lines, and the definitions of what an event does; `siri_world` has the
-//! code.
+//! `siri_view`. It has the types of events and lines, the definitions of what an event does, and in `laws` what holds
+//! of every world; `siri_world` has the code.
 #![tactic(auto)]
 
 mod event;
+mod laws;
 mod line;
 mod step_error;
 mod word;
 
 pub use event::Event;
+pub use laws::{
+    a_second_settle_changes_nothing, changes_wait_for_the_round, consumer_restarts, ended_lives,
+    no_gap_is_shown, other_packets_change_nothing,
+    other_subscriptions_and_their_settles_change_nothing, other_subscriptions_change_nothing,
+    packets_carry_their_rounds, parts_are_taken_once, quiet_views, quiet_views_are_direct,
+    quiet_views_meet, repeated_parts_change_no_view, repeats, requests,
+    requests_are_answered_directly, restarts, sixteen_consumers_subscribe, small_changes_wait,
+    starts_are_numbered, terminations, two_consumers, views_are_goals, worlds_are_networks,
+};
 pub use line::Line;
 pub use step_error::StepError;
 pub use word::Word;

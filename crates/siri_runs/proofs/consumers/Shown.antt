@@ -7,9 +7,9 @@ use Rattle.siri_records.specs.Keyed.{Items}
 use Rattle.siri_records.specs.declared.item.Item.{Item}
 use Rattle.siri_records.specs.declared.key.Key.{Key}
 use Rattle.siri_view.specs.declared.outcome.Held.{Held}
-use Rattle.siri_script.specs.Items.{item_line}
-use Rattle.siri_script.specs.Spaced.{line_feed}
-use Rattle.siri_script.specs.ViewLines.{view_line}
+use Rattle.siri_document.specs.script.Items.{item_line}
+use Rattle.siri_document.specs.script.Spaced.{line_feed}
+use Rattle.siri_document.specs.script.ViewLines.{view_line}
 use Rattle.siri_runs.specs.consumers.Views.{items_text}
 
 -- an item of a view, and its line

@@ -10,7 +10,8 @@ use Rattle.siri_wire.specs.declared.wanted.Wanted.{Wanted}
 use Rattle.siri_ends.specs.At.{At, at_of}
 use Rattle.siri_ends.specs.Consuming.{ConsumesOne, ConsumesSome, FirstSendsUp, SendsUp}
 use Rattle.siri_runs.specs.Calls.{Outside, Told}
-use Rattle.siri_runs.specs.Turns.{NeverRefuses, Running, StopsForMemory, Turn, TurnFails, Turns, TurnsFail}
+use Rattle.siri_runs.specs.Run.{Turning}
+use Rattle.siri_runs.specs.Turns.{NeverRefuses, Running, StopsForMemory}
 use Rattle.siri_runs.specs.declared.network_error.NetworkError.{NetworkError}
 
 -- the consumer, and what was counted
@@ -71,15 +72,5 @@ abbrev pub StopsConsuming : Target → NetworkError → Consumption → Told Wir
 StopsConsuming target error from before after =
     StopsForMemory (λ state old new. ConsumesSome target.0 target.1 (end_at state old) new.tells) error from before after
 
-abbrev pub ConsumesTurn : Target → Running Consumption → Running Consumption → Type 0
-ConsumesTurn target from to = Turn given (Consumes target) from to
-
-abbrev pub ConsumesTurns : Target → ℕ → Running Consumption → Running Consumption → Type 0
-ConsumesTurns target count from to = Turns (ConsumesTurn target) count from to
-
--- a turn that ended the run
-abbrev pub EndsAtTurn : Target → NetworkError → Running Consumption → Outside → Type 0
-EndsAtTurn target error from to = TurnFails given NeverRefuses (StopsConsuming target) error from to
-
-abbrev pub EndsInTurns : Target → ℕ → NetworkError → Running Consumption → Outside → Type 0
-EndsInTurns target count error from to = TurnsFail (ConsumesTurn target) (EndsAtTurn target) count error from to
+abbrev pub turning : Target → Turning Consumption
+turning target = record { given = given; Refuses = NeverRefuses; Answers = Consumes target; Stops = StopsConsuming target }

@@ -1,5 +1,5 @@
 -- What the reading of a source gives.
-use Rattle.std.specs.Prelude.{◌≡◌, ℕ, List, ◌++◌, Bool, false, None, Some, Result, Ok, Err, IsOk, IsSomeAnd}
+use Rattle.std.specs.Prelude.{◌≡◌, ℕ, List, ◌++◌, Bool, true, false, None, Some, Result, Ok, Err, IsOk, IsSomeAnd}
 use Rattle.siri_base.specs.MetFailures.{is_read_fault}
 use Rattle.siri_base.specs.declared.status.Status.{Status}
 use Rattle.siri_base.specs.declared.status.Status.TheVariants as status
@@ -55,3 +55,10 @@ EndsReading (status.Limit n) = Unit {0}
 EndsReading status.ReadFault = Unit {0}
 EndsReading status.OutOfMemory = Unit {0}
 EndsReading other = ⊥
+
+-- a source that gives no lines ends a run with one of these
+abbrev pub is_of_source : Status → Bool
+is_of_source (status.Script n why) = true
+is_of_source (status.Limit n) = true
+is_of_source status.ReadFault = true
+is_of_source other = false

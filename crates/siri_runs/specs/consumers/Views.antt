@@ -4,9 +4,9 @@ use Rattle.siri_life.specs.Named.{Name}
 use Rattle.siri_records.specs.Keyed.{Items}
 use Rattle.siri_view.specs.Consuming.{Consuming, held_by}
 use Rattle.siri_view.specs.Kept.{KeptSubscription}
-use Rattle.siri_script.specs.Items.{item_line}
-use Rattle.siri_script.specs.Spaced.{line_feed}
-use Rattle.siri_script.specs.ViewLines.{view_line}
+use Rattle.siri_document.specs.script.Items.{item_line}
+use Rattle.siri_document.specs.script.Spaced.{line_feed}
+use Rattle.siri_document.specs.script.ViewLines.{view_line}
 
 -- a line for each item, in order of key
 abbrev pub items_text : Items → List ℕ

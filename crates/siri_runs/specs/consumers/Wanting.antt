@@ -8,8 +8,8 @@ use Rattle.siri_base.specs.declared.status.Status.{Status}
 use Rattle.siri_base.specs.declared.status.Status.TheVariants as status
 use Rattle.siri_life.specs.Named.{Name}
 use Rattle.siri_lines.specs.RunResult.{Events, Verdict, Goes, RunEnds, verdict}
-use Rattle.siri_script.specs.Lines.{is_skipped}
-use Rattle.siri_script.specs.Wanted.{wanted_said}
+use Rattle.siri_document.specs.script.Lines.{is_skipped}
+use Rattle.siri_document.specs.script.Wanted.{wanted_said}
 use Rattle.siri_wire.specs.declared.wanted.Wanted.{Wanted}
 
 -- a subscriber, and what was wanted in its name so far

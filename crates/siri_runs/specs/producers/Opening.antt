@@ -17,9 +17,16 @@ pub record Opens (listen : List ℕ) (start moment : ℕ) (from to : Outside) : 
   pub listens : Call (Listens listen) (Ok (tt {0})) from.wire to.wire
   pub tells : Call GivesMoment (Ok moment) from.clock to.clock
 
--- the run after it: a producer that started so, and nothing was counted yet
-abbrev pub opened : (start moment : ℕ) → Outside → Running Serving
-opened start moment outside = record { state = record { history = Start start moment ∷ []; tally = nothing_yet }; outside = outside }
+-- a producer that started so, and nothing was counted yet
+abbrev pub begun : (start moment : ℕ) → Serving
+begun start moment = record { history = Start start moment ∷ []; tally = nothing_yet }
+
+-- it opened, and such a producer runs
+pub record BeginsServing (listen : List ℕ) (from : Outside) (first : Running Serving) : Type 0 where
+  pub start : ℕ
+  pub moment : ℕ
+  pub opens : Opens listen start moment from first.outside
+  pub state_is : first.state ≡ begun start moment
 
 -- ---- how it ends there
 

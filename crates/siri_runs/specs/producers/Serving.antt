@@ -2,13 +2,13 @@
 use Rattle.std.specs.Prelude.{ℕ, List, [], ◌∷◌, ◌++◌}
 use Rattle.siri_base.specs.Wires.{WireState}
 use Rattle.siri_http.specs.Requests.{Meaning}
-use Rattle.siri_http.specs.declared.asked.Asked.{Asked}
 use Rattle.siri_http.specs.declared.tally.Tally.{Tally}
 use Rattle.siri_model.specs.History.{Clock, History}
 use Rattle.siri_ends.specs.At.{At, at_of}
 use Rattle.siri_ends.specs.Serving.{ServesOne, ServesSome}
-use Rattle.siri_runs.specs.Calls.{Outside, Told}
-use Rattle.siri_runs.specs.Turns.{NeverRefuses, Running, StopsForMemory, Turn, TurnFails, Turns, TurnsFail}
+use Rattle.siri_runs.specs.Calls.{Told}
+use Rattle.siri_runs.specs.Run.{Turning}
+use Rattle.siri_runs.specs.Turns.{NeverRefuses, StopsForMemory}
 use Rattle.siri_runs.specs.declared.network_error.NetworkError.{NetworkError}
 
 -- the producer's history, and what was counted
@@ -33,17 +33,6 @@ abbrev pub StopsServing : (asks : Meaning) → (name : List ℕ) → NetworkErro
 StopsServing asks name error from before after =
     StopsForMemory (λ state old new. ServesSome asks name (end_at state old) new.tells) error from before after
 
--- ---- its turns
-
-abbrev pub ServesTurn : (asks : Meaning) → (name : List ℕ) → Running Serving → Running Serving → Type 0
-ServesTurn asks name from to = Turn given (Serves asks name) from to
-
-abbrev pub ServesTurns : (asks : Meaning) → (name : List ℕ) → ℕ → Running Serving → Running Serving → Type 0
-ServesTurns asks name count from to = Turns (ServesTurn asks name) count from to
-
--- a turn that ended the run
-abbrev pub EndsAtTurn : (asks : Meaning) → (name : List ℕ) → NetworkError → Running Serving → Outside → Type 0
-EndsAtTurn asks name error from to = TurnFails given NeverRefuses (StopsServing asks name) error from to
-
-abbrev pub EndsInTurns : (asks : Meaning) → (name : List ℕ) → ℕ → NetworkError → Running Serving → Outside → Type 0
-EndsInTurns asks name count error from to = TurnsFail (ServesTurn asks name) (EndsAtTurn asks name) count error from to
+-- its turns
+abbrev pub turning : (asks : Meaning) → (name : List ℕ) → Turning Serving
+turning asks name = record { given = given; Refuses = NeverRefuses; Answers = Serves asks name; Stops = StopsServing asks name }

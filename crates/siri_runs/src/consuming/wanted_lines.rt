@@ -1,13 +1,13 @@
 //! What takes the lines that want subscriptions.
 
 ghost use Rattle.std.specs.Prelude.{◌≡◌, []};
-ghost use Rattle.siri_script.specs.Reads.{Reads};
+ghost use Rattle.siri_document.specs.script.Reads.{Reads};
 ghost use Rattle.siri_runs.specs.consumers.Wanting.{Asking, event, line_said};
 ghost use Rattle.siri_runs.specs.consumers.inner.Standing.{Fits};
 
 use siri_base::{List, Name, ScriptReason, Sink};
+use siri_document::{LineError, is_skipped, is_text, wanted_said};
 use siri_lines::{LineTaker, Stop};
-use siri_script::{LineError, is_skipped, is_text, wanted_said};
 use siri_wire::Wanted;
 use std::alloc::Global;
 

@@ -1,10 +1,10 @@
 use Rattle.std.proofs.Common.{refl}
+use Rattle.siri_ends.specs.Consuming.{ConsumesOne}
 use Rattle.siri_ends.proofs.Consumes.{itself}
-use Rattle.siri_ends.proofs.Lends.{on_err_too, on_ok}
 use Rattle.siri_ends.proofs.consuming.consume_one.Goals as goal
 
-pub returns-clause-ok : goal.returns-clause-ok
-returns-clause-ok g c = on_ok c.take_turn.result _ _ (λ goes. itself _ _ _ goes) c.take_turn.ensures.ok
+pub returns-in-Ok-clause-ok : goal.returns-in-Ok-clause-ok
+returns-in-Ok-clause-ok g c = itself (ConsumesOne c.args.producer.now.host c.args.producer.now.path) _ _ _ c.in-Ok.ensures.ok
 
-pub returns-clause-err : goal.returns-clause-err
-returns-clause-err g c = on_err_too c.take_turn.result _ _ (λ stops. stops c.args.consumer.now refl) c.take_turn.ensures.err
+pub returns-in-Err-clause-err : goal.returns-in-Err-clause-err
+returns-in-Err-clause-err g c = c.in-Err.ensures.err c.args.consumer.now refl

@@ -1,7 +1,7 @@
 use Rattle.std.proofs.Common.{ap, ◌∙◌}
 use Rattle.siri_messages.specs.declared.message.Message.TheVariants as message
-use Rattle.siri_rounds.specs.Wanted.{part_sent}
-use Rattle.siri_replies.specs.Parts.{part_delivery}
+use Rattle.siri_subs.specs.rounds.Wanted.{part_sent}
+use Rattle.siri_subscriptions.specs.replies.Parts.{part_delivery}
 use Rattle.siri_wire.specs.Canonical.{canonical}
 use Rattle.siri_ends.specs.Pieces.{part_text}
 use Rattle.siri_ends.specs.Sinks.{WritesText}

@@ -1,4 +1,4 @@
-use Rattle.std.proofs.Common.{◌≡◌, length, arith, ap, sym, ◌∙◌}
+use Rattle.std.proofs.Common.{◌≡◌, length, arith, ap, ◌∙◌}
 use Rattle.siri_producer.specs.Holding.{subscribed_of}
 use Rattle.siri_keeping.specs.Keeping.{places_to}
 use Rattle.siri_keep.proofs.Placed.{no_more, places_step, puts_step, puts_whole}

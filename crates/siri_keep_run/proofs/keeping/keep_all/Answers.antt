@@ -1,22 +1,22 @@
-use Rattle.std.proofs.Common.{ap, ◌∙◌}
 use Rattle.std.proofs.lemmas.Result.{err_from_is_err_and}
-use Rattle.siri_keep.specs.declared.kept.Kept.{Kept}
 use Rattle.siri_runs.proofs.Causes.{rose_since}
-use Rattle.siri_keep_run.proofs.Whole.{all_kept, shelf_is, turn_ended}
+use Rattle.siri_runs.proofs.Views.{made_seen, stop_is_seen}
+use Rattle.siri_keep_run.specs.Serving.{turning}
+use Rattle.siri_keep_run.proofs.Views.{LeavesLast, keep_is_viewed, rests}
+use Rattle.siri_keep_run.proofs.Whole.{all_kept, first_rests, first_state, shelf_is, turn_ended}
 use Rattle.siri_keep_run.proofs.keeping.keep_all.Goals as goal
-
-pub run_turns-requires : goal.run_turns-requires
-run_turns-requires g c = (
-  c.in_ok-kept.ensures.open,
-  ap (λ (k : Kept). k.is_closed) c.new-server.ensures.kept ∙ c.in_ok-kept.ensures.ok.opened.begun.is_open,
-)
 
 pub returns-in_err-run_turns-clause-err : goal.returns-in_err-run_turns-clause-err
 returns-in_err-run_turns-clause-err g c =
     let p = err_from_is_err_and c.from_residual-in_err-run_turns.result c.from_residual-in_err-run_turns.ensures.1 in
-    rw p.1 (turn_ended (λ server. server.kept) (λ server. server.tally) g.B.Shelf.tells _ _ _ c.in_ok-kept.kept c.new-server.result
-    c.open.new.shelf _ _ _ c.new-server.ensures.kept c.new-server.ensures.tally c.in_ok-kept.ensures.ok _ _ _ p.2
-    (c.in_err-run_turns.ensures.err _))
+    let opens = c.in_ok-kept.ensures.ok in
+    let name = c.args.name in
+    let listen = c.args.address.now in
+    rw p.1 (turn_ended name listen c.args.count c.in_ok-kept.kept _ _ _ _ opens _ _ _ _ p.2
+    (stop_is_seen (c.in_err-run_turns.ensures.err _) turning (rests g.B.Shelf.is_open g.B.Shelf.tells g.B.Shelf.faults)
+    (LeavesLast g.B.Shelf.is_open g.B.Shelf.tells g.B.Shelf.faults) (keep_is_viewed g.B.Shelf.is_open g.B.Shelf.tells g.B.Shelf.faults) name opens.opened.begun.name_is
+    (first_state name listen c.args.count c.in_ok-kept.kept _ _ _ _ opens)
+    (first_rests name listen c.args.count c.in_ok-kept.kept _ _ _ _ opens _ c.new-tally.ensures)))
 
 pub returns-in_err-run_turns-clause-fault : goal.returns-in_err-run_turns-clause-fault
 returns-in_err-run_turns-clause-fault g c =
@@ -24,7 +24,12 @@ returns-in_err-run_turns-clause-fault g c =
     rw p.1 (λ is. rose_since _ _ _ c.open.ensures.later (c.in_err-run_turns.ensures.cause.failed (shelf_is _ _ is p.2)))
 
 pub returns-clause-ok : goal.returns-clause-ok
-returns-clause-ok g c = rw c.tally.ensures
-    (all_kept (λ server. server.kept) (λ server. server.tally) g.B.Shelf.tells _ _ _ c.in_ok-kept.kept c.new-server.result
-    c.open.new.shelf _ _ _ c.new-server.ensures.kept c.new-server.ensures.tally c.in_ok-kept.ensures.ok c.run_turns.new.end
-    c.run_turns.new.beside _ (c.in_ok-run_turns.ensures.ok _))
+returns-clause-ok g c =
+    let opens = c.in_ok-kept.ensures.ok in
+    let name = c.args.name in
+    let listen = c.args.address.now in
+    all_kept name listen c.args.count c.in_ok-kept.kept _ _ _ _ opens c.run_turns.new.taker _ _ _
+    (made_seen _ _ _ (c.in_ok-run_turns.ensures.ok _) turning (rests g.B.Shelf.is_open g.B.Shelf.tells g.B.Shelf.faults)
+    (LeavesLast g.B.Shelf.is_open g.B.Shelf.tells g.B.Shelf.faults) (keep_is_viewed g.B.Shelf.is_open g.B.Shelf.tells g.B.Shelf.faults) name opens.opened.begun.name_is
+    (first_state name listen c.args.count c.in_ok-kept.kept _ _ _ _ opens)
+    (first_rests name listen c.args.count c.in_ok-kept.kept _ _ _ _ opens _ c.new-tally.ensures))

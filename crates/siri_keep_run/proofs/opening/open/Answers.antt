@@ -1,4 +1,4 @@
-use Rattle.std.proofs.Common.{inl, inr}
+use Rattle.std.proofs.Common.{inl, inr, refl}
 use Rattle.std.proofs.lemmas.Result.{err_from_is_err_and}
 use Rattle.siri_keep_run.proofs.opening.open.Goals as goal
 
@@ -14,4 +14,5 @@ returns-in_err-moment-clause-err g c =
         listens = c.in_ok-listen.ensures;
         tells = c.in_err-moment.ensures.call;
       }));
+      same = refl;
     }))

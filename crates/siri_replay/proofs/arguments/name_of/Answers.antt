@@ -1,7 +1,7 @@
 use Rattle.std.proofs.Common.{refl, length}
 use Rattle.std.proofs.lemmas.Str.{is_utf8-from_IsUtf8}
 use Rattle.siri_replay.proofs.Texts.{name_bounds}
-use Rattle.siri_script.proofs.Texts.{not_utf8}
+use Rattle.siri_document.proofs.Texts.{not_utf8}
 use Rattle.siri_replay.proofs.arguments.name_of.Goals as goal
 
 pub returns-in_default : goal.returns-in_default

@@ -1,6 +1,6 @@
 use Rattle.std.proofs.Common.{refl, sym}
 use Rattle.std.proofs.lemmas.Str.{is_utf8-from_IsUtf8}
-use Rattle.siri_script.proofs.Texts.{not_utf8}
+use Rattle.siri_document.proofs.Texts.{not_utf8}
 use Rattle.siri_replay.proofs.arguments.number_in.Goals as goal
 
 pub returns-in_default-from_utf8 : goal.returns-in_default-from_utf8

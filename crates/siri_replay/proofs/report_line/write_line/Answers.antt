@@ -1,5 +1,5 @@
 use Rattle.siri_lines.proofs.Written.{front_none}
-use Rattle.siri_script.proofs.Results.{on_err}
+use Rattle.siri_document.proofs.Results.{on_err}
 use Rattle.siri_replay.proofs.report_line.write_line.Goals as goal
 
 pub returns-in_err-front-in-Packet-clause-err : goal.returns-in_err-front-in-Packet-clause-err

@@ -3,7 +3,7 @@ use Rattle.std.proofs.lemmas.Result.{err_from_is_err_and}
 use Rattle.siri_base.specs.MetFailures.{has_failed}
 use Rattle.siri_lines.proofs.Meeting.{sink_more}
 use Rattle.siri_replay.proofs.ReportLines.{lines_cut, lines_more}
-use Rattle.siri_script.proofs.Results.{on_err}
+use Rattle.siri_document.proofs.Results.{on_err}
 use Rattle.siri_replay.proofs.report_line.write_lines.Goals as goal
 
 pub returns-in_err-write_line-clause-err : goal.returns-in_err-write_line-clause-err

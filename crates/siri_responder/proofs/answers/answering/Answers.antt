@@ -3,7 +3,7 @@ use Rattle.std.specs.Map.{values_of}
 use Rattle.std.proofs.lemmas.Result.{IfOk-weaker}
 use Rattle.siri_records.specs.Keyed.{Items, InOrder, unshared}
 use Rattle.siri_model.specs.Direct.{shown, soonest}
-use Rattle.siri_model_laws.proofs.Lawful.{shown_in_order}
+use Rattle.siri_model.proofs.Lawful.{shown_in_order}
 use Rattle.siri_responder.proofs.Shown.{answering_most, answering_all}
 use Rattle.siri_responder.proofs.answers.answering.Goals as goal
 

@@ -1,7 +1,7 @@
 use Rattle.std.proofs.lemmas.Result.{IfOk-weaker}
 use Rattle.std.proofs.Common.{◌≡◌, sym, ◌∙◌}
 use Rattle.siri_model.specs.Direct.{shown}
-use Rattle.siri_model_laws.proofs.Lawful.{unlimited}
+use Rattle.siri_model.proofs.Lawful.{unlimited}
 use Rattle.siri_responder.proofs.directs.direct_to.Goals as goal
 
 pub returns-in-None-clause-ok : goal.returns-in-None-clause-ok

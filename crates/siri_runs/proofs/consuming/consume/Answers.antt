@@ -1,27 +1,29 @@
-use Rattle.siri_runs.proofs.consumers.Enough.{ends_whole}
 use Rattle.siri_lines.proofs.Meeting.{sink_none}
-use Rattle.siri_runs.proofs.Statuses.{read_unless_named, written_unless}
-use Rattle.siri_runs.proofs.consumers.Whole.{clock_fault, keeper_fault, not_write, reads_early, run_ended, wire_fault}
+use Rattle.siri_runs.specs.Enough.{EndsWhole}
+use Rattle.siri_runs.proofs.Run.{clock_fault, ends_whole, keeper_fault, reads_early, run_ended, unmet, wire_fault}
+use Rattle.siri_runs.proofs.Statuses.{read_unless_named}
+use Rattle.siri_runs.proofs.consumers.Sound.{apart_whole, consume_is_sound}
+use Rattle.siri_runs.proofs.producers.Sound.{own_whole}
 use Rattle.siri_runs.proofs.consuming.consume.Goals as goal
 
 pub returns-clause-run : goal.returns-clause-run
-returns-clause-run g c = run_ended _ _ _ _ _ _ _ _ _ c.in-Err.end c.in-Err.ensures.err
+returns-clause-run g c = run_ended (consume_is_sound c.args.name c.args.address.now _ _ _) _ _ _ _ c.in-Err.end c.in-Err.ensures.err
 
 pub returns-clause-all : goal.returns-clause-all
-returns-clause-all g c = reads_early _ _ _ _ _ _ _ _ c.in-Err.end c.in-Err.ensures.err
+returns-clause-all g c = reads_early (consume_is_sound c.args.name c.args.address.now _ _ _) _ _ _ _ c.in-Err.end c.in-Err.ensures.err
 
 pub returns-clause-wire_fault : goal.returns-clause-wire_fault
-returns-clause-wire_fault g c = wire_fault _ _ _ _ _ _ _ _ c.in-Err.end c.in-Err.ensures.err
+returns-clause-wire_fault g c = wire_fault (consume_is_sound c.args.name c.args.address.now _ _ _) _ _ _ c.in-Err.end c.in-Err.ensures.err
 
 pub returns-clause-clock_fault : goal.returns-clause-clock_fault
-returns-clause-clock_fault g c = clock_fault _ _ _ _ _ _ _ _ c.in-Err.end c.in-Err.ensures.err
+returns-clause-clock_fault g c = clock_fault (consume_is_sound c.args.name c.args.address.now _ _ _) _ _ _ c.in-Err.end c.in-Err.ensures.err
 
 pub returns-clause-keeper_fault : goal.returns-clause-keeper_fault
-returns-clause-keeper_fault g c = keeper_fault _ _ _ _ _ _ _ _ c.in-Err.end c.in-Err.ensures.err
+returns-clause-keeper_fault g c = keeper_fault (consume_is_sound c.args.name c.args.address.now _ _ _) _ _ _ c.in-Err.end c.in-Err.ensures.err
 
 pub returns-clause-complete : goal.returns-clause-complete
-returns-clause-complete g c = λ has wanted unread _. ends_whole _ _ _ _ _ _ _ _ c.in-Err.end c.in-Err.ensures.err has
-    wanted (read_unless_named c.in-Err.end _ _ _ _ unread c.in-Err.ensures.meets)
+returns-clause-complete g c = λ has wanted unread _. ends_whole (consume_is_sound c.args.name c.args.address.now _ _ _) _ _ _ EndsWhole tt own_whole c.in-Err.end
+    (apart_whole _ _ _ c.in-Err.end wanted (read_unless_named c.in-Err.end _ _ _ _ unread c.in-Err.ensures.meets)) c.in-Err.ensures.err has
 
 pub returns-clause-sink_meets : goal.returns-clause-sink_meets
-returns-clause-sink_meets g c = rw (written_unless c.in-Err.end (not_write _ _ _ _ _ _ _ _ c.in-Err.end c.in-Err.ensures.err)) (sink_none _ _)
+returns-clause-sink_meets g c = rw (unmet (consume_is_sound c.args.name c.args.address.now _ _ _) _ _ _ c.in-Err.end c.in-Err.ensures.err) (sink_none _ _)

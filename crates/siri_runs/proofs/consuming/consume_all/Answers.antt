@@ -1,7 +1,14 @@
 use Rattle.std.proofs.lemmas.Result.{err_from_is_err_and}
-use Rattle.siri_runs.proofs.consumers.Made.{turns_ended, turns_made}
-use Rattle.siri_runs.proofs.consumers.Whole.{all_consumed, ask_stopped, turn_ended}
+use Rattle.std.proofs.Common.{inl, refl}
+use Rattle.siri_runs.specs.consumers.Consumption.{Target, turning}
+use Rattle.siri_runs.proofs.Views.{made_counted, stop_is_counted}
+use Rattle.siri_runs.proofs.consumers.Whole.{all_consumed, ask_stopped, consumer_of, counting, tally_of, turn_ended}
 use Rattle.siri_runs.proofs.consuming.consume_all.Goals as goal
+
+pub returns-in_err-consumer-clause-err : goal.returns-in_err-consumer-clause-err
+returns-in_err-consumer-clause-err g c =
+    let p = err_from_is_err_and c.from_residual.result c.from_residual.ensures.1 in
+    rw (p.1, p.2) (inl (inl c.in_err-consumer.ensures.err))
 
 pub returns-in-Err-clause-err : goal.returns-in-Err-clause-err
 returns-in-Err-clause-err g c =
@@ -10,12 +17,34 @@ returns-in-Err-clause-err g c =
 pub returns-in_err-run_turns-clause-err : goal.returns-in_err-run_turns-clause-err
 returns-in_err-run_turns-clause-err g c =
     let p = err_from_is_err_and c.from_residual-in_err-run_turns.result c.from_residual-in_err-run_turns.ensures.1 in
-    rw p.1 (turn_ended _ _ _ _ _ _ _ _ _ _ _ _ _ _ _ _ _ _ p.0 c.new-tally.ensures p.2 c.in_ok-consumer.ensures.ok
-    c.in-Ok.ensures.ok (turns_ended _ _ _ _ c.new-client.result _ _ _ c.new-client.ensures.producer
-    c.new-client.ensures.consumed (c.in_err-run_turns.ensures.err _)))
+    let target : Target = (c.args.producer.now.host, c.args.producer.now.path) in
+    rw p.1 (turn_ended _ _ target _ _ _ _ _ _ c.ask_all.new.consumer c.ask_all.new.tally _ _ _ _ _ c.new-tally.ensures c.in_ok-consumer.ensures.ok
+    c.in-Ok.ensures.ok _ _ _ p.2
+    (stop_is_counted (c.in_err-run_turns.ensures.err _) (λ nothing. turning target) consumer_of tally_of counting
+    (record {
+      state_is = λ s tally. refl;
+      tally_is = λ s tally. refl;
+      never = λ beside. refl;
+      given = λ nothing moment s. refl;
+      given_tally = λ nothing moment s. refl;
+      refuses = λ nothing s never. never;
+      answers = λ nothing from before to after takes. takes;
+      stops = λ nothing from before after stops. (refl, stops);
+    }) tt refl (counting c.ask_all.new.consumer c.ask_all.new.tally) refl refl))
 
 pub returns-clause-ok : goal.returns-clause-ok
-returns-clause-ok g c = rw c.consumed.ensures
-    (all_consumed _ _ _ _ _ _ _ _ _ _ _ _ _ _ _ _ _ _ c.new-tally.ensures c.in_ok-consumer.ensures.ok c.in-Ok.ensures.ok
-    (turns_made _ _ _ c.new-client.result c.run_turns.new.end _ _ _ _ c.new-client.ensures.producer
-    c.new-client.ensures.consumed (c.in_ok-run_turns.ensures.ok _)))
+returns-clause-ok g c =
+    let target : Target = (c.args.producer.now.host, c.args.producer.now.path) in
+    all_consumed _ _ target _ _ _ _ _ _ c.ask_all.new.consumer c.ask_all.new.tally _ _ _ _ _ c.new-tally.ensures c.in_ok-consumer.ensures.ok
+    c.in-Ok.ensures.ok c.run_turns.new.taker _ _
+    (made_counted _ _ _ (c.in_ok-run_turns.ensures.ok _) (λ nothing. turning target) consumer_of tally_of counting
+    (record {
+      state_is = λ s tally. refl;
+      tally_is = λ s tally. refl;
+      never = λ beside. refl;
+      given = λ nothing moment s. refl;
+      given_tally = λ nothing moment s. refl;
+      refuses = λ nothing s never. never;
+      answers = λ nothing from before to after takes. takes;
+      stops = λ nothing from before after stops. (refl, stops);
+    }) tt refl (counting c.ask_all.new.consumer c.ask_all.new.tally) refl refl)

@@ -1,49 +1,54 @@
-use Rattle.std.proofs.Common.{◌≡◌, refl, arith}
+use Rattle.std.proofs.Common.{◌≡◌, refl, subst, arith}
 use Rattle.std.proofs.lemmas.Result.{err_from_is_err_and}
-use Rattle.siri_runs.specs.Turns.{Turn, TurnFails}
-use Rattle.siri_runs.proofs.Ends.{ends_next, goes_next, goes_none, goes_same, shelf_fine, shelf_later}
+use Rattle.siri_runs.specs.Calls.{outside_with}
+use Rattle.siri_runs.specs.Ends.{RunsTurn, in_run}
+use Rattle.siri_runs.specs.Turns.{Turns, running}
+use Rattle.siri_runs.proofs.Causes.{shelf_fine, shelf_later}
+use Rattle.siri_runs.proofs.TurnByTurn.{turns_next, turns_none}
 use Rattle.siri_runs.proofs.turns.run_turns.Goals as goal
 
-pub loop-turn-init : goal.loop-turn-init
-loop-turn-init g c = (
+pub loop-made-init : goal.loop-made-init
+loop-made-init g c =
+    (λ keeper. turns_none (RunsTurn g.T.Taker g.A.Asking.asks c.args.target.now) _, omega arith, c.requires)
+
+pub loop-made-preserved : goal.loop-made-preserved
+loop-made-preserved g c = (
   λ keeper.
-      goes_none g.D.End.kept g.D.End.stands (λ kept. Turn g.D.End.given (g.D.End.Answers kept)) _ _ _,
-  omega arith,
-  c.requires,
+      turns_next (RunsTurn g.T.Taker g.A.Asking.asks c.args.target.now) _ _ _ _ _ refl
+      (c.loop-made.invariant.0 keeper) (c.in_ok-turn.ensures.ok keeper),
+  omega (arith, c.loop-made.invariant.1, c.turn.ensures.cause.later),
+  c.turn.ensures.ready,
 )
 
-pub loop-turn-preserved : goal.loop-turn-preserved
-loop-turn-preserved g c = (
-  λ keeper.
-      goes_next g.D.End.kept g.D.End.stands (λ kept. Turn g.D.End.given (g.D.End.Answers kept)) _ _ _ _ _ _ _ _ _ _ _ refl
-      (c.loop-turn.invariant.0 keeper) (c.in_ok-turn.ensures.ok keeper),
-  omega (arith, c.loop-turn.invariant.1, c.turn.ensures.cause.later),
-  c.in_ok-turn.ensures.ready,
-)
-
-pub turn-requires : goal.turn-requires
-turn-requires g c = c.loop-turn.invariant.2
+pub turn-requires-clause-ready : goal.turn-requires-clause-ready
+turn-requires-clause-ready g c = c.loop-made.invariant.2
 
 pub returns-in_err-turn-clause-err : goal.returns-in_err-turn-clause-err
 returns-in_err-turn-clause-err g c =
     let p = err_from_is_err_and c.from_residual.result c.from_residual.ensures.1 in
-    rw (p.1, p.2) (λ keeper. ends_next g.D.End.kept g.D.End.stands (λ kept. Turn g.D.End.given (g.D.End.Answers kept))
-    (λ kept. TurnFails g.D.End.given g.D.End.Refuses (g.D.End.Stops kept)) _ _ _ _ _ _ _ _ _ _ (omega arith)
-    (c.loop-turn.invariant.0 keeper) (c.in_err-turn.ensures.err keeper))
+    rw (p.1, p.2) (λ keeper. record {
+      made = c.loop-made.made;
+      fewer = omega arith;
+      last = _;
+      turns = c.loop-made.invariant.0 keeper;
+      ends = c.in_err-turn.ensures.err keeper;
+    })
 
 pub returns-in_err-turn-clause-cause : goal.returns-in_err-turn-clause-cause
 returns-in_err-turn-clause-cause g c =
     let p = err_from_is_err_and c.from_residual.result c.from_residual.ensures.1 in
-    rw (p.1, p.2) (shelf_later _ _ _ _ c.loop-turn.invariant.1 c.in_err-turn.ensures.cause)
+    rw (p.1, p.2) (shelf_later _ _ _ _ c.loop-made.invariant.1 c.in_err-turn.ensures.cause)
 
 pub returns-clause-ok : goal.returns-clause-ok
 returns-clause-ok g c =
-    let same : c.loop-turn._turn ≡ c.args.count = omega arith in
-    λ keeper. goes_same g.D.End.kept g.D.End.stands (λ kept. Turn g.D.End.given (g.D.End.Answers kept)) _ _ _ _ _ _ _ _ same
-    (c.loop-turn.invariant.0 keeper)
+    let same : c.loop-made.made ≡ c.args.count = omega arith in
+    λ keeper. subst (λ n. Turns (RunsTurn g.T.Taker g.A.Asking.asks c.args.target.now) n
+    (running (in_run c.args.taker.now c.args.beside.now c.args.tally.now 0) (outside_with g.W.Wire g.C.Clock c.args.wire.now c.args.clock.now keeper))
+    (running (in_run c.loop-made.taker c.loop-made.beside c.loop-made.tally n) (outside_with g.W.Wire g.C.Clock c.loop-made.wire c.loop-made.clock keeper)))
+    same (c.loop-made.invariant.0 keeper)
 
 pub returns-clause-ready : goal.returns-clause-ready
-returns-clause-ready g c = c.loop-turn.invariant.2
+returns-clause-ready g c = c.loop-made.invariant.2
 
 pub returns-clause-cause : goal.returns-clause-cause
-returns-clause-cause g c = shelf_fine _ _ _ c.loop-turn.invariant.1
+returns-clause-cause g c = shelf_fine _ _ _ c.loop-made.invariant.1

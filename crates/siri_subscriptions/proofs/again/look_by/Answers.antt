@@ -6,7 +6,7 @@ use Rattle.siri_change.specs.Looks.{AgreeOutside}
 use Rattle.siri_change.specs.Parts as part
 use Rattle.siri_subs.specs.Lent.{entry_of}
 use Rattle.siri_model.specs.Direct.{shown}
-use Rattle.siri_model_laws.proofs.Lawful.{unlimited}
+use Rattle.siri_model.proofs.Lawful.{unlimited}
 use Rattle.siri_subscriptions.proofs.ByKeys.{found_ordered, found_again}
 use Rattle.siri_subscriptions.proofs.Told.{found_none, apart_told, outside_told, apart_none, found_some, bound_told}
 use Rattle.siri_subscriptions.proofs.again.look_by.Goals as goal

@@ -1,7 +1,7 @@
 use Rattle.std.proofs.Common.{ap, ◌∙◌}
 use Rattle.std.proofs.lemmas.Result.{IfOk-weaker}
 use Rattle.siri_subs.specs.Lent.{entry_of}
-use Rattle.siri_rounds.specs.Wanted.{rounds_carried}
+use Rattle.siri_subs.specs.rounds.Wanted.{rounds_carried}
 use Rattle.siri_subscriptions.specs.Messages.{message_due}
 use Rattle.siri_subscriptions.specs.Openings.{with_opening}
 use Rattle.siri_subscriptions.proofs.Carriage.{found_carried}

@@ -1,6 +1,6 @@
 use Rattle.std.proofs.Common.{option_map, sym, ap, ◌∙◌}
-use Rattle.siri_rounds.specs.Wanted.{part_sent, rounds_carried}
-use Rattle.siri_rounds.proofs.Carriage.{due_carried}
+use Rattle.siri_subs.specs.rounds.Wanted.{part_sent, rounds_carried}
+use Rattle.siri_subs.proofs.Carriage.{due_carried}
 use Rattle.siri_subscriptions.proofs.Found.{first_due, again_due}
 use Rattle.siri_subscriptions.proofs.messages.message_due.Goals as goal
 use Rattle.siri_subscriptions.proofs.messages.message_due.Goals.{in-Some, in-None, in-None-2}

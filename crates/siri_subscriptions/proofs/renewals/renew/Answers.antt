@@ -1,7 +1,7 @@
 use Rattle.std.proofs.Common.{◌≡◌, Some, sym, ap, ◌∙◌}
 use Rattle.std.proofs.lemmas.Result.{IfOk-at_ok}
-use Rattle.siri_replies.specs.Parts.{all_data_response}
-use Rattle.siri_replies.specs.Refusals.{not_renewed_as}
+use Rattle.siri_subscriptions.specs.replies.Parts.{all_data_response}
+use Rattle.siri_subscriptions.specs.replies.Refusals.{not_renewed_as}
 use Rattle.siri_subscriptions.specs.Renewals.{renew_answer, renew_by}
 use Rattle.siri_subscriptions.proofs.Renewed.{answered}
 use Rattle.siri_subscriptions.proofs.renewals.renew.Goals as goal

@@ -1,6 +1,6 @@
 use Rattle.std.proofs.Common.{ap, ◌∙◌}
 use Rattle.siri_messages.specs.Asked.{asked_in}
-use Rattle.siri_replies.specs.Responses.{subscription_response}
+use Rattle.siri_subscriptions.specs.replies.Responses.{subscription_response}
 use Rattle.siri_subscriptions.specs.Courses.{kept_rows}
 use Rattle.siri_subscriptions.specs.Noted.{noted_rows}
 use Rattle.siri_subscriptions.specs.Requests.{subscription_answer}

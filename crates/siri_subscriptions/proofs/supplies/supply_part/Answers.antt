@@ -1,6 +1,6 @@
 use Rattle.std.proofs.Common.{◌≡◌, Some, option_map, ap, ◌∙◌}
 use Rattle.siri_life.specs.Slot.{with_supply}
-use Rattle.siri_rounds.specs.Wanted.{RoundsOfChanges}
+use Rattle.siri_subs.specs.rounds.Wanted.{RoundsOfChanges}
 use Rattle.siri_subs.specs.declared.entry.Row.{Row}
 use Rattle.siri_subs.specs.Loans.{with_slot}
 use Rattle.siri_subscriptions.specs.declared.course.Course.{Course}

@@ -1,5 +1,5 @@
 use Rattle.std.proofs.Common.{ap, ◌∙◌, map}
-use Rattle.siri_replies.specs.Responses.{termination_response}
+use Rattle.siri_subscriptions.specs.replies.Responses.{termination_response}
 use Rattle.siri_subscriptions.specs.Courses.{kept_rows}
 use Rattle.siri_subscriptions.specs.Terminations.{termination_answer}
 use Rattle.siri_subscriptions.specs.Endings.{sayings, all_said}

@@ -1,5 +1,5 @@
 use Rattle.std.proofs.Common.{◌+◌, ◌≤◌, true, sym, ap, subst, arith}
-use Rattle.siri_marks.specs.Marked.{SameFrom}
+use Rattle.siri_store.specs.Marked.{SameFrom}
 use Rattle.siri_model.specs.Followed.{look_bounds}
 use Rattle.siri_model.specs.History.{Settle}
 use Rattle.siri_responder.specs.Known as responder

@@ -13,7 +13,7 @@ invariant_of-self c = record {
   alive = c.in_err-feed.ensures.alive;
   room = c.in_err-feed.ensures.room;
   stands = history_some c.self.inside.start c.self.inside.started c.self.inside.feeding c.begin.new.self c.feed.new.self
-      (entries_of c.args.delivery.now) c.self.invariant.stands c.begin.ensures c.in_err-feed.ensures.err;
+      (entries_of c.args.delivery) c.self.invariant.stands c.begin.ensures c.in_err-feed.ensures.err;
 }
 
 pub returns-in_err-feed-clause-reads : goal.returns-in_err-feed-clause-reads
@@ -23,7 +23,7 @@ returns-in_err-feed-clause-reads c =
     ∙ ap (λ (k : Known). k.reads) c.self.view_is
 
 pub returns-in_err-feed-clause-err : goal.returns-in_err-feed-clause-err
-returns-in_err-feed-clause-err c = on_err _ (took_some c.args.self.now _ c.begin.new.self c.feed.new.self (entries_of c.args.delivery.now)
+returns-in_err-feed-clause-err c = on_err _ (took_some c.args.self.now _ c.begin.new.self c.feed.new.self (entries_of c.args.delivery)
     (record {
       start = ap (λ (k : Known). k.start) c.self.view_is;
       started = ap (λ (k : Known). k.started) c.self.view_is;
@@ -38,7 +38,7 @@ invariant_of-self-2 c = record {
   alive = c.in_ok-feed.ensures.alive;
   room = c.in_ok-feed.ensures.room;
   stands = history_fed c.self.inside.start c.self.inside.started c.self.inside.feeding c.begin.new.self c.feed.new.self
-      (entries_of c.args.delivery.now) c.self.invariant.stands c.begin.ensures c.in_ok-feed.ensures.ok;
+      (entries_of c.args.delivery) c.self.invariant.stands c.begin.ensures c.in_ok-feed.ensures.ok;
 }
 
 pub returns-clause-reads : goal.returns-clause-reads
@@ -48,7 +48,7 @@ returns-clause-reads c =
     ∙ ap (λ (k : Known). k.reads) c.self.view_is
 
 pub returns-clause-ok : goal.returns-clause-ok
-returns-clause-ok c = goes_on c.args.self.now _ c.begin.new.self c.feed.new.self (entries_of c.args.delivery.now)
+returns-clause-ok c = goes_on c.args.self.now _ c.begin.new.self c.feed.new.self (entries_of c.args.delivery)
     (record {
       start = ap (λ (k : Known). k.start) c.self.view_is;
       started = ap (λ (k : Known). k.started) c.self.view_is;
@@ -59,9 +59,9 @@ returns-clause-ok c = goes_on c.args.self.now _ c.begin.new.self c.feed.new.self
     }) c.in_ok-feed.ensures.ok
 
 pub returns-clause-touched : goal.returns-clause-touched
-returns-clause-touched c = touches c.args.self.now _ c.begin.new.self.marks c.feed.new.self.marks (map entry_key (entries_of c.args.delivery.now))
+returns-clause-touched c = touches c.args.self.now _ c.begin.new.self.marks c.feed.new.self.marks (map entry_key (entries_of c.args.delivery))
     (ap (λ (f : Feeding). f.marks) c.begin.ensures ∙ ap (λ (k : Known). k.marks) c.self.view_is) refl c.in_ok-feed.ensures.ok.marked
 
 pub returns-clause-counts : goal.returns-clause-counts
-returns-clause-counts c = tells c.args.self.now c.begin.new.self c.feed.new.self (entries_of c.args.delivery.now)
+returns-clause-counts c = tells c.args.self.now c.begin.new.self c.feed.new.self (entries_of c.args.delivery)
     (ap filling c.begin.ensures ∙ ap store_of c.self.view_is) c.in_ok-feed.ensures.ok

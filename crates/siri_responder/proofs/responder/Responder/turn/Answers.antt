@@ -1,5 +1,5 @@
 use Rattle.std.proofs.Common.{ap, ◌∙◌}
-use Rattle.siri_marks.specs.Marked.{keys_since}
+use Rattle.siri_store.specs.Marked.{keys_since}
 use Rattle.siri_responder.proofs.responder.Responder.turn.Goals as goal
 
 pub returns-clause-fresh : goal.returns-clause-fresh

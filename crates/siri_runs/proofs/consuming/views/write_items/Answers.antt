@@ -2,8 +2,8 @@ use Rattle.std.proofs.Common.{Err, ap, ◌∙◌, arith, false}
 use Rattle.std.proofs.lemmas.Result.{err_from_is_err_and}
 use Rattle.siri_base.specs.MetFailures.{has_failed}
 use Rattle.siri_lines.proofs.Meeting.{sink_more}
-use Rattle.siri_script.specs.Items.{item_line}
-use Rattle.siri_script.proofs.Results.{on_err}
+use Rattle.siri_document.specs.script.Items.{item_line}
+use Rattle.siri_document.proofs.Results.{on_err}
 use Rattle.siri_runs.proofs.consumers.Pieces.{pieces_all, pieces_begun, pieces_cut, pieces_more}
 use Rattle.siri_runs.proofs.consumers.Shown.{ended_is, front_is, item_of, line_of}
 use Rattle.siri_runs.proofs.consuming.views.write_items.Goals as goal

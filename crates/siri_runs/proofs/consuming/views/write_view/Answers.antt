@@ -3,9 +3,9 @@ use Rattle.std.proofs.KnownBytes.{Appends-trans}
 use Rattle.siri_base.specs.MetFailures.{has_failed}
 use Rattle.siri_lines.proofs.Meeting.{sink_more}
 use Rattle.siri_lines.proofs.Written.{front_longer, front_more}
-use Rattle.siri_script.specs.Spaced.{line_feed}
-use Rattle.siri_script.specs.ViewLines.{view_line}
-use Rattle.siri_script.proofs.Results.{on_err, on_err_with, on_ok_with}
+use Rattle.siri_document.specs.script.Spaced.{line_feed}
+use Rattle.siri_document.specs.script.ViewLines.{view_line}
+use Rattle.siri_document.proofs.Results.{on_err, on_err_with, on_ok_with}
 use Rattle.siri_runs.specs.consumers.Views.{items_text}
 use Rattle.siri_runs.proofs.consumers.Shown.{ended_is, front_is, line_is}
 use Rattle.siri_runs.proofs.consuming.views.write_view.Goals as goal

@@ -2,7 +2,7 @@ use Rattle.std.proofs.Common.{Err, arith, false}
 use Rattle.std.proofs.lemmas.Result.{err_from_is_err_and}
 use Rattle.siri_base.specs.MetFailures.{has_failed}
 use Rattle.siri_lines.proofs.Meeting.{sink_more}
-use Rattle.siri_script.proofs.Results.{on_err}
+use Rattle.siri_document.proofs.Results.{on_err}
 use Rattle.siri_runs.specs.consumers.inner.Shown.{shown}
 use Rattle.siri_runs.proofs.consumers.Pieces.{pieces_all, pieces_cut, pieces_more}
 use Rattle.siri_runs.proofs.consumers.Shown.{front_are, lines_are, lines_of}

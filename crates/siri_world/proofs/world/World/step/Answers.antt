@@ -1,7 +1,7 @@
 use Rattle.std.proofs.Common.{◌∙◌, sym}
 use Rattle.siri_world_model.specs.Told.{world_after}
 use Rattle.siri_world.proofs.Deeds.{refused_first, refuses, step_lines, step_refused, step_stands, told_refused}
-use Rattle.siri_world_laws.proofs.Views.{view_is_goal}
+use Rattle.siri_world_model.proofs.Views.{view_is_goal}
 use Rattle.siri_world.proofs.world.World.step.Goals as goal
 
 pub returns-in-Some-clause-refused : goal.returns-in-Some-clause-refused

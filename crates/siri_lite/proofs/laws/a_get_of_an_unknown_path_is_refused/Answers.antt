@@ -1,5 +1,0 @@
-use Rattle.std.proofs.Common.{refl}
-use Rattle.siri_lite.proofs.laws.a_get_of_an_unknown_path_is_refused.Goals as goal
-
-pub returns : goal.returns
-returns c = λ target body query none. rw (query, none) refl

@@ -1,5 +1,0 @@
-use Rattle.siri_lite_laws.proofs.Run.{served_as_by_serve}
-use Rattle.siri_lite_laws.proofs.laws.a_known_path_is_served_as_by_serve.Goals as goal
-
-pub returns : goal.returns
-returns c = served_as_by_serve

@@ -1,4 +1,0 @@
-pub mod Lasting
-pub mod Marking
-pub mod Touching
-mod Few

@@ -1,5 +1,0 @@
-use Rattle.siri_model_laws.proofs.Current.{current_keyed}
-use Rattle.siri_model_laws.proofs.history_laws.current_items_stand_under_their_keys.Goals as goal
-
-pub returns : goal.returns
-returns c = current_keyed

@@ -1,8 +1,0 @@
-use Rattle.siri_model_laws.proofs.FollowedRows.{are_the_rows, go_on}
-use Rattle.siri_model_laws.proofs.look_laws.followed_rows_are_those_of_the_table.Goals as goal
-
-pub returns-clause-rows : goal.returns-clause-rows
-returns-clause-rows c = are_the_rows
-
-pub returns-clause-steps : goal.returns-clause-steps
-returns-clause-steps c = go_on

@@ -1,6 +1,0 @@
-use Rattle.std.proofs.Common.{◌≡◌, ◌++◌, drop}
-use Rattle.siri_change.specs.Parts.{carried}
-use Rattle.siri_replies.proofs.parts.removals_in.Given as goal
-
-abbrev pub invariant-loop-change : goal.invariant-loop-change
-invariant-loop-change l = l.removals ++ (carried (drop l.change-index l.changes)).removals ≡ (carried l.changes).removals

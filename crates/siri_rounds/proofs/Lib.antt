@@ -1,2 +1,0 @@
-pub mod Carriage
-pub mod Parted

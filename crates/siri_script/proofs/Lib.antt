@@ -1,3 +1,0 @@
-pub mod Texts
-pub mod ItemTexts
-pub mod Results

@@ -1,6 +1,0 @@
-use Rattle.std.proofs.Common.{◌∙◌}
-use Rattle.siri_script.proofs.Texts.{utf8_where}
-use Rattle.siri_script.proofs.lines.is_text.Goals as goal
-
-pub returns : goal.returns
-returns c = c.is_ok.ensures.value ∙ utf8_where _ c.args.line.now c.from_utf8.result c.from_utf8.ensures.cases

@@ -1,0 +1,207 @@
+//! Which keys were marked since a number: a producer marks a key when an entry names it and when its item dies, and each
+//! subscription keeps the number of its last look.
+//!
+//! ```text
+//!     a key     -> mark  ---> one mark more, under the number that is kept; it takes no memory, where room was taken before
+//!     a number  -> since ---> the keys that were marked under it or a later one, in order, each once
+//! ```
+//!
+//! Stands on `siri_base` and `siri_records`. It knows no store and no subscription.
+ghost use Rattle.std.specs.Prelude.{◌≡◌, ℕ, ◌+◌, ◌<◌, ◌≤◌, ◌^◌, ◌∷◌, ◌++◌, [], drop, map, filter, length, IfOk, OnOk};
+ghost use Rattle.std.specs.Vec.{vec_capacity, vec_len};
+ghost use Rattle.siri_records.specs.KeyLists.{in_order};
+ghost use Rattle.siri_store.specs.Marked.{keys_since, is_since, last_of_each, IsFew, Rises, SameFrom, MarksTouch, unmarked};
+
+use siri_base::{Copies, OutOfMemory};
+use siri_records::SharedKey;
+use std::alloc::{AllocFailed, Global};
+use std::collections::BTreeSet;
+use std::marker::Model;
+
+/// Marks in the order in which they were set, each under a number, and the number under which keys are marked now.
+/// Contracts see the marks, that number, and for how many marks more there is room.
+pub struct Marks {
+    log: Vec<(u64, SharedKey)>,
+    number: u64,
+}
+
+impl Drop for Marks {
+    fn drop(self) {
+        let Marks { log: _, number: _ } = self;
+    }
+}
+
+impl Model for Marks {
+    ghost use Rattle.std.specs.Prelude.{◌-◌, length};
+    ghost use Rattle.std.specs.Vec.{vec_capacity};
+    ghost use Rattle.siri_store.specs.Marked.{Marked, Rises};
+
+    ghost Value = { Marked };
+
+    ghost view = { λ m. record { log = m.log.items; number = m.number; room = vec_capacity m.log - length m.log.items } };
+
+    ghost invariant = { λ m. Rises m.number m.log.items };
+}
+
+impl Marks {
+    /// No key is marked, and there is room for none. It takes no memory.
+    pub fn new(alloc: Global) -> Marks
+        ensures { result ≡ unmarked }
+    {
+        Marks {
+            log: Vec::new(alloc),
+            number: 0,
+        }
+    }
+
+    /// The number under which keys are marked now.
+    pub fn number(&self) -> u64
+        ensures { result ≡ self.now.number }
+    {
+        self.number
+    }
+
+    /// From now on keys are marked under the next number, under which none is yet. It takes no memory.
+    pub fn turn(&mut self)
+        requires { self.old.number + 1 < 2 ^ 64 }
+        ensures turned { self.new ≡ record self.old { number = self.old.number + 1 } }
+        ensures fresh { keys_since self.new.log self.new.number ≡ [] }
+    {
+        self.number += 1;
+    }
+
+    /// Takes the memory of so many marks more. Where there are more marks than that, it takes none before of each key
+    /// the last mark stays alone, so then there are no more marks than keys that are marked. The same keys are marked
+    /// from each number on, also after want of memory.
+    pub fn reserve(&mut self, more: usize) -> Result<(), OutOfMemory>
+        ensures ok { OnOk result (more ≤ self.new.room) }
+        ensures risen { self.old.room ≤ self.new.room }
+        ensures same { SameFrom 0 self.old self.new }
+        ensures few { OnOk result (IsFew more self.old self.new) }
+        ensures no_more { length self.new.log ≤ length self.old.log }
+        ensures number { self.new.number ≡ self.old.number }
+    {
+        let held = self.log.len();
+        if self.log.capacity() - held >= more {
+            return Ok(());
+        }
+        if held <= more {
+            self.log.reserve(more.saturating_add(held))?;
+            return Ok(());
+        }
+        let mut log = last_marks(*self.log.allocator(), &self.log)?;
+        log.reserve(more.saturating_add(log.len()))?;
+        self.log = log;
+        Ok(())
+    }
+
+    /// Marks a key, for which there is room. It takes no memory.
+    pub fn mark(&mut self, key: SharedKey)
+        requires { 1 ≤ self.old.room }
+        ensures mark { self.new ≡ record self.old { log = self.old.log ++ (self.old.number, key) ∷ []; room = self.new.room } }
+        ensures room { self.old.room ≤ self.new.room + 1 }
+    {
+        put(&mut self.log, self.number, key);
+    }
+
+    /// The keys that were marked under a number or a later one, in order, each once.
+    pub fn since(&self, alloc: Global, number: u64) -> Result<BTreeSet<SharedKey>, OutOfMemory>
+        ensures { IfOk result (λ keys. keys.keys ≡ keys_since self.now.log number) }
+    {
+        let first = first_since(&self.log, self.number, number);
+        keys_from(alloc, &self.log, first)
+    }
+
+    /// Marks before a number may go, since they are asked for no more: they go where there are no others. It takes no
+    /// memory.
+    pub fn forget(&mut self, number: u64)
+        ensures same { SameFrom number self.old self.new }
+        ensures fresh { (n : ℕ) → keys_since self.old.log n ≡ [] → keys_since self.new.log n ≡ [] }
+        ensures few { filter (is_since number) self.old.log ≡ [] → self.new.log ≡ [] }
+        ensures no_more { length self.new.log ≤ length self.old.log }
+        ensures number { self.new.number ≡ self.old.number }
+        ensures room { self.old.room ≤ self.new.room }
+    {
+        if first_since(&self.log, self.number, number) >= self.log.len() {
+            self.log.clear();
+        }
+    }
+}
+
+/// Of each key the last mark, in their order.
+fn last_marks(
+    alloc: Global,
+    log: &Vec<(u64, SharedKey)>,
+) -> Result<Vec<(u64, SharedKey)>, OutOfMemory>
+    ensures { IfOk result (λ last. last.items ≡ last_of_each log.now.items) }
+{
+    let mut seen = BTreeSet::new(alloc);
+    let mut last = Vec::new(alloc);
+    let mut place = log.len();
+    while place > 0 {
+        place -= 1;
+        let mark = &log[place];
+        let key = copy_key(mark)?;
+        if seen.insert(copy_key(mark)?)? {
+            last.push((mark.0, key))?;
+        }
+    }
+    last.reverse();
+    Ok(last)
+}
+
+/// Puts a mark at the end, for which there is room.
+fn put(log: &mut Vec<(u64, SharedKey)>, number: u64, key: SharedKey)
+    requires { vec_len log.old < vec_capacity log.old }
+    ensures items { log.new.items ≡ log.old.items ++ (number, key) ∷ [] }
+    ensures capacity { vec_capacity log.old ≤ vec_capacity log.new }
+{
+    discard(log.push((number, key)));
+}
+
+/// Lets go of what isn't wanted. (The letting go of a key's fields would otherwise be opened in the caller's proof.)
+fn discard(_pushed: Result<(), AllocFailed<(u64, SharedKey)>>) {}
+
+fn copy_key(mark: &(u64, SharedKey)) -> Result<SharedKey, OutOfMemory>
+    ensures { IfOk result (λ key. key ≡ mark.now.1) }
+{
+    mark.1.copy()
+}
+
+/// The keys of the marks from a place on, in order, each once.
+fn keys_from(
+    alloc: Global,
+    log: &Vec<(u64, SharedKey)>,
+    first: usize,
+) -> Result<BTreeSet<SharedKey>, OutOfMemory>
+    requires { first ≤ length log.now.items }
+    ensures { IfOk result (λ keys. keys.keys ≡ in_order (map (λ mark. mark.1) (drop first log.now.items))) }
+{
+    let mut keys = BTreeSet::new(alloc);
+    let mut place = first;
+    while place < log.len() {
+        let key = copy_key(&log[place])?;
+        keys.insert(key)?;
+        place += 1;
+    }
+    Ok(keys)
+}
+
+/// The place of the first mark under a number or a later one.
+fn first_since(log: &Vec<(u64, SharedKey)>, top: u64, number: u64) -> usize
+    requires { Rises top log.now.items }
+    ensures marks { drop result log.now.items ≡ filter (is_since number) log.now.items }
+    ensures within { result ≤ length log.now.items }
+{
+    let mut first = log.len();
+    while first > 0 && log[first - 1].0 >= number {
+        first -= 1;
+    }
+    first
+}
+
+/// A law: a mark touches its key from each number on that isn't after the mark's, and no other key; under a new number
+/// there are no marks yet.
+pub fn marks_touch_their_keys()
+    ensures { MarksTouch }
+{}

@@ -1,0 +1,6 @@
+use Rattle.std.proofs.Common.{◌≡◌, ◌++◌, drop}
+use Rattle.siri_change.specs.Parts.{carried}
+use Rattle.siri_subscriptions.proofs.replies.parts.items_in.Given as goal
+
+abbrev pub invariant-loop-change : goal.invariant-loop-change
+invariant-loop-change l = l.items ++ (carried (drop l.change-index l.changes)).items ≡ (carried l.changes).items

@@ -1,5 +1,0 @@
-use Rattle.siri_wire_laws.proofs.ReadIffSpells.{document_spelled, document_read}
-use Rattle.siri_wire_laws.proofs.laws.document_is_spelled.Goals as goal
-
-pub returns : goal.returns
-returns c = λ document m. (document_spelled document m, document_read document m)

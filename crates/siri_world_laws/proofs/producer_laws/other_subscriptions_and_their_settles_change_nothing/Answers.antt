@@ -1,5 +1,0 @@
-use Rattle.siri_world_laws.proofs.Once.{left_out}
-use Rattle.siri_world_laws.proofs.producer_laws.other_subscriptions_and_their_settles_change_nothing.Goals as goal
-
-pub returns : goal.returns
-returns c = left_out
