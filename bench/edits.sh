@@ -1,25 +1,44 @@
 #!/usr/bin/env bash
 # bench/edits.sh [CRATE..]: has the prover try the edits of crates/CRATE/planted, of the crates that are named or of all, on a copy
-# in which they are edits that have to be refused. It ends with the status of `rt must-fail`.
-set -eu
+# of these crates and those below them, in which they are edits that have to be refused, and puts into bench/edits.txt at which commit
+# and why each was refused. What an earlier run on this machine proved or refused of the same files is taken from there. It fails
+# where one isn't refused for what a contract says.
+# bench/edits.sh --some: tries those alone that .ci/planted chooses for this commit, and writes nothing. The gate runs it.
+set -eu -o pipefail
 cd "$(dirname "$0")/.."
 
-if [ $# -gt 0 ]; then
+copy=$(mktemp -d)
+said=$(mktemp)
+trap 'rm -rf -- "$copy" "$said"' EXIT
+
+some=()
+if [ "${1-}" = --some ]; then
+  mapfile -t some < <(.ci/planted --some)
+  mapfile -t crates < <(printf '%s\n' "${some[@]%%/*}" | sort -u)
+elif [ $# -gt 0 ]; then
   crates=("$@")
 else
-  crates=()
-  for folder in crates/*/planted; do
-    folder=${folder%/planted}
-    crates+=("${folder#crates/}")
-  done
+  mapfile -t crates < <(printf '%s\n' crates/*/planted | cut -d / -f 2)
 fi
 
-copy=$(mktemp -d)
-trap 'rm -rf -- "$copy"' EXIT
-git ls-files -z crates crates.txt HANDLES | xargs -0 tar -cf - | tar -xf - -C "$copy"
+.ci/planted --below "${crates[@]}" >"$copy/crates.txt"
+cut -d : -f 1 "$copy/crates.txt" | sed 's,^,crates/,' | xargs git ls-files -z HANDLES | xargs -0 tar -cf - | tar -xf - -C "$copy"
 rm -rf "$copy"/crates/*/must-fail
 for crate in "${crates[@]}"; do
   mv "$copy/crates/$crate/planted" "$copy/crates/$crate/must-fail"
 done
-cd "$copy"
-rt must-fail "${crates[@]}"
+if [ ${#some[@]} -gt 0 ]; then
+  for edit in "$copy"/crates/*/must-fail/*.edit; do
+    crate=${edit%/must-fail/*}
+    case " ${some[*]} " in *" ${crate##*/}/${edit##*/} "*) ;; *) rm -- "$edit" ;; esac
+  done
+elif ! git diff --quiet HEAD -- crates crates.txt HANDLES; then
+  echo "bench/edits.sh: crates/ isn't what the commit has, so what comes is of no commit" >&2
+  exit 1
+fi
+
+status=0
+(cd "$copy" && rt ci) 2>&1 | grep -E '^rt: (must-fail|note|FAILED|.*(NOT|trying|kept from|tried by an earlier))|passed' | tee "$said" || status=$?
+.ci/edits "$said" || status=$?
+if [ ${#some[@]} -eq 0 ]; then .ci/planted --record "$said"; fi
+exit "$status"

@@ -5,8 +5,8 @@ So many connections come to `siri serve`, and so many to what `siri consume` lis
 broken heads, lengths and bodies, early ends, resets and silences, and good requests between them. What each is to be
 answered is known beforehand; what a good request is answered is compared with what a quiet end answers, of the same
 words, to which the good requests alone come. Where the program dials, to send a round or to ask, it is answered badly
-too. The order of all connections follows from the seed. Several are open at a time, and each end takes them one after
-the other.
+too. The order of all connections follows from the seed. Several are open at a time, and each end answers them in the
+order in which they are whole.
 
 It prints what came, how many answers were wrong (0 is wanted), the memory of the process before and after, and how the
 run ended; its status is 0 where all is as it should be. The summary that the program writes has to add up with what was
@@ -33,13 +33,14 @@ from typing import Optional
 # How many connections are open at a time, fewer than the system keeps for a program that hasn't accepted them (128).
 OPEN = 100
 # How many of a hundred that wait for an answer end their side behind what they send. The program ends the others after
-# its answer, and waits for their end, and so for this script.
+# its answer, and waits for their end beside.
 ENDED = 85
 # One in so many is a good request, and one in so many has a body of 8 MiB.
 GOOD, LARGE = 8, 4000
 LONGEST_HEAD, LONGEST_BODY = 16_384, 8_388_608
-# The descriptors of a program that waits for a connection: standard input, output and error, and its listener.
-AT_REST = 4
+# The descriptors of a program that waits for a connection: standard input, output and error, its listener, and by which
+# it is told of connections.
+AT_REST = 5
 # Of a socket that is reset when it is closed.
 NO_LINGER = struct.pack("ii", 1, 0)
 # Of a socket that takes an address now and its port when it connects.
@@ -552,6 +553,9 @@ class Run:
         self.open.append((sent, connection, sent.asked and self.ask_quiet(sent.asked)))
         if sent.end in ("close", "reset") and not sent.pause:
             self.leave(sent, connection)
+        if sent.later:
+            # (whoever comes behind it would have its turn before it)
+            self.finish(self.open.pop())
         while len(self.open) > OPEN:
             self.finish()
 
@@ -569,9 +573,9 @@ class Run:
         while self.open:
             self.finish()
 
-    def finish(self):
-        """Ends the connection that came first, and looks at what came back."""
-        sent, connection, quiet = self.open.popleft()
+    def finish(self, one=None):
+        """Ends a connection, or else the one that came first, and looks at what came back."""
+        sent, connection, quiet = one or self.open.popleft()
         if sent.pause:
             time.sleep(sent.pause)
         if sent.end in ("close", "reset"):

@@ -63,7 +63,7 @@ def phases(program, folder):
     """The phases of reading and writing a document, each as the difference of two runs."""
     path = os.path.join(folder, "delivery.8000")
     megabytes = os.path.getsize(path) / 1e6
-    runs = [[run_once([program, phase], path) for phase in PHASES] for _ in range(PHASE_RUNS)]
+    runs = [[run_once([program, "phase", phase], path) for phase in PHASES] for _ in range(PHASE_RUNS)]
     row = "%-8s %7s %9s %8s %9s"
     print(row % ("phase", "MB", "seconds", "MB/s", "peak MB"))
     before = 0.0
@@ -195,7 +195,7 @@ def main(crates, yardstick, folder):
     siri = os.path.join(crates, "siri/out/siri")
     replay_beside_yardsticks(siri, folder)
     print()
-    phases(os.path.join(crates, "siri_speed/out/siri_speed"), folder)
+    phases(os.path.join(crates, "siri_chains/out/siri_chains"), folder)
     print()
     documents(siri, yardstick, folder)
     print()

@@ -4,7 +4,7 @@
 #
 # - `siri replay` on two kinds of script, at half the size and at the whole one, beside `grep -c '^#'` over the script of
 #   passed-over lines, and for the visits python's json, which reads the same four documents and writes them;
-# - the phases of reading and writing a delivery of 5.5 MB, as differences of runs of `siri_speed`;
+# - the phases of reading and writing a delivery of 5.5 MB, as differences of runs of `siri_chains phase NAME`;
 # - `siri convert` and `siri check` of that delivery, beside a program on Rust's serde_json (bench/yardstick), which wants
 #   cargo and Debian's package librust-serde-json-dev, and beside one that is written by hand for such a delivery (--by-hand);
 # - `siri replay` of 20,000 live visits and 100 asks that show 200 of them each, beside the same program, which keeps the
@@ -19,7 +19,7 @@ here=$(dirname -- "$(readlink -f -- "${BASH_SOURCE[0]}")")
 # (the programs that the gate or an earlier build left serve as well: `bench/run.sh --built`)
 if [ "${1-}" != --built ]; then
   "$here/../siri" build
-  (cd "$here/../crates/siri_speed" && rt run >/dev/null)
+  (cd "$here/../crates/siri_chains" && rt run >/dev/null)
 fi
 (cd "$here/yardstick" && cargo build --release --offline --quiet)
 
