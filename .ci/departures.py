@@ -1,6 +1,6 @@
-"""Opens examples/board in a browser: `departures.py CHROMIUM SIRI EXAMPLES [PICTURE]`, with the program SIRI behind nginx as
+"""Opens examples/board in a browser: `departures.py CHROMIUM SIRI EXAMPLES [FOLDER]`, with the program SIRI behind nginx as
 examples/deploy has it, or behind the stand-in of examples/deploy/try.py where there is no nginx; then, with nginx, over `keep`. What the
-page shows has to be what was fed. With PICTURE, the board is drawn there."""
+page shows has to be what was fed. With FOLDER, pictures of the board are drawn there."""
 import http.server
 import importlib.util
 import json
@@ -12,25 +12,31 @@ import tempfile
 import threading
 import time
 import urllib.parse
-import zoneinfo
-import datetime
 
 from behind import Nginx, Producer
+from boards import STATE, Board, at, situation, visit
 from browser import Browser, in_few_colours
+from fresh import Fresh
+from languages import Languages
+from named import Named
+from walls import Walls
 
-ZONE = zoneinfo.ZoneInfo("Europe/Paris")
 HOSTILE = "<script>alert(1)</script><img src=x onerror=alert(2)>\"'&\u05ea\u05d7\u05e0\u05d4 \u0645\u062d\u0637\u0629"
-ROWS = """[...document.querySelectorAll('#stops section')].map((section) =>
-    [...section.querySelectorAll('tbody tr')].map((row) => [...row.cells].map((cell) => cell.textContent)))"""
-STATE = "document.querySelector('#state').textContent"
 # Answers with one value changed: what is read of them never throws, and costs at most the departure that it stands in.
 READS = """(async () => {
     const { answerOf, departuresOf, situationsOf, situationsAt } = await import('./read.js');
+    const { Names } = await import('./names.js');
     const answers = %s;
     const odd = [null, '', 0, true, [], {}, [null], 'x', '2024-13-01T00:00:00Z', 'P1M', { value: 1 }];
     const changed = (value) => [...odd, ...(typeof value !== 'object' || value === null ? [] : Object.keys(value).flatMap((key) =>
         changed(value[key]).map((one) => Array.isArray(value) ? value.with(Number(key), one) : { ...value, [key]: one })))];
     let count = 0, least = Infinity;
+    const town = { lines: { 10: { name: '10', ground: '#123456', letters: '#ffffff' } }, stops: { S1: 'Market' }, destinations: { north: 'Harbour' } };
+    for (const one of changed(town)) {
+        const names = new Names(one);
+        names.stops();
+        least = Math.min(least, departuresOf(answerOf(answers[0][1], answers[0][0]).items, names).length - 1);
+    }
     for (const [service, document] of answers) for (const one of changed(document)) {
         count += 1;
         const items = answerOf(one, service)?.items ?? [];
@@ -42,81 +48,19 @@ READS = """(async () => {
 })()"""
 
 
-def stand_in(examples, producer):
-    """The server of try.py, where there is no nginx."""
+def stand_in(examples, producer, pages):
+    """The server of try.py, where there is no nginx, with a copy of the pages."""
     spec = importlib.util.spec_from_file_location("stand_in", os.path.join(examples, "deploy", "try.py"))
     module = importlib.util.module_from_spec(spec)
     spec.loader.exec_module(module)
-    module.Handler.producer = producer.port
+    module.Handler.producer, module.BOARD = producer.port, pages
     server = http.server.ThreadingHTTPServer(("127.0.0.1", 0), module.Handler)
     threading.Thread(target=server.serve_forever, daemon=True).start()
     return "http://127.0.0.1:%d" % server.server_port
 
 
-def text_of(moment):
-    return datetime.datetime.fromtimestamp(moment, datetime.timezone.utc).strftime("%Y-%m-%dT%H:%M:%SZ")
-
-
-def at(moment):
-    return datetime.datetime.fromtimestamp(moment, ZONE).strftime("%H:%M")
-
-
-def visit(name, line, to, planned, late=0, stop="S1", journey=None, **call):
-    """A departure, planned at a moment and expected so many seconds later; with None it isn't monitored."""
-    expected = {} if late is None else {"ExpectedDepartureTime": text_of(planned + late)}
-    return {"ItemIdentifier": name, "MonitoringRef": stop, "MonitoredVehicleJourney": {
-        "LineRef": line, "DestinationName": to, "Monitored": late is not None, **(journey or {}),
-        "MonitoredCall": {"StopPointRef": stop + "-1", "StopPointName": "Market Square", "AimedDepartureTime": text_of(planned), **expected, **call}}}
-
-
-def situation(number, text, lines=(), places=()):
-    affects = {"Networks": {"AffectedNetwork": [{"AffectedLine": [{"LineRef": one} for one in lines]}]},
-               "StopPoints": {"AffectedStopPoint": [{"StopPointRef": one} for one in places]}}
-    return {"ParticipantRef": "A", "SituationNumber": number, "ValidityPeriod": [{"StartTime": text_of(time.time() - 60)}], "Summary": text, "Affects": affects}
-
-
-class Board:
-    """The page in a browser, the producer behind it, and what is wrong with them."""
-
-    def __init__(self, browser, base, producer, faults):
-        self.browser, self.base, self.producer, self.faults = browser, base, producer, faults
-
-    def check(self, holds, fault):
-        if not holds:
-            self.faults.append(fault)
-
-    def open(self, query):
-        self.browser.go("%s/board/?%s" % (self.base, query))
-
-    def rows(self, stop=0):
-        return self.browser.run(ROWS)[stop]
-
-    def wait_rows(self, wanted, what, stop=0, seconds=20):
-        """Waits until the rows have this in the cells that aren't None; minutes to go are told apart."""
-        def fits(rows):
-            return len(rows) == len(wanted) and all(want is None or want == cell for row, wants in zip(rows, wanted) for cell, want in zip(row, wants))
-
-        end = time.monotonic() + seconds
-        while not fits(self.rows(stop)):
-            if time.monotonic() > end:
-                self.check(False, "%s shows %s, and not %s" % (what, self.rows(stop), wanted))
-                return
-            time.sleep(0.05)
-
-    def wait(self, expression, fault, seconds=20):
-        try:
-            self.browser.wait(expression, seconds)
-        except TimeoutError:
-            self.check(False, "%s; the page says: %s" % (fault, self.browser.run(STATE)))
-
-    def feed(self, visits=(), situations=(), cancelled=()):
-        delivery = {}
-        if visits or cancelled:
-            delivery["StopMonitoringDelivery"] = [{"MonitoredStopVisit": list(visits), "MonitoredStopVisitCancellation": [
-                {"ItemRef": name, "MonitoringRef": "S1"} for name in cancelled]}]
-        if situations:
-            delivery["SituationExchangeDelivery"] = [{"Situations": {"PtSituationElement": list(situations)}}]
-        self.producer.feed(delivery)
+class Departures(Board):
+    """What is shown of what was fed, whatever becomes of the producer."""
 
     def shows(self):
         """Three departures, one moves, one is cancelled, one is withdrawn, one leaves."""
@@ -132,14 +76,13 @@ class Board:
         minutes = [int((re.match(r"\d+", row[3]) or "0")[0]) for row in self.rows()]
         passed = (time.time() - now) / 60
         self.check(all(wanted - passed - 1.1 <= shown <= wanted - passed + 0.1 for shown, wanted in zip(minutes, (14, 25, 40))), "minutes to go are %s" % minutes)
-        told = self.browser.run("[...document.querySelectorAll('.situations li')].map((one) => one.textContent)")
-        self.check(told == ["Works at the stop.", "Line 6 is short."], "disturbances are %s" % told)
+        self.wait("[...document.querySelectorAll('.situations li')].map((one) => one.textContent).join() === 'Works at the stop.,Line 6 is short.'", "disturbances aren't told")
         self.check(self.browser.run("document.querySelector('h2').textContent") == "Market Square", "the stop isn't named")
         self.check(self.browser.run(STATE) == "", "something is said to be wrong: %s" % self.browser.run(STATE))
 
         self.browser.run("document.querySelector('tbody tr').mine = true")
         self.feed([visit("a", "10", "Harbour", now + 720, 900, DeparturePlatformName="C")])
-        self.wait_rows([["6"], ["10", None, "%s planned %s" % (at(now + 1620), at(now + 720)), None, "C", "15 min late"], ["24N"]], "a departure that moved")
+        self.wait_rows([["6"], ["10", None, "%s planned %s" % (at(now + 1620), at(now + 720)), None, "C changed, before B", "15 min late"], ["24N"]], "a departure that moved")
         self.check(self.browser.run("document.querySelectorAll('tbody tr')[1].mine") is True, "a row that moves is another element")
         said = "Line 10 to Harbour: now %s, 15 minutes late, platform C." % at(now + 1620)
         self.wait("document.querySelector('#changes').textContent === %s" % json.dumps(said), "it isn't told that a departure moved")
@@ -150,9 +93,6 @@ class Board:
         self.wait_rows([["6"], ["10"]], "a departure that is withdrawn")
         self.wait("document.querySelector('#changes').textContent.includes('Line 24N to Old Mill at %s isn’t expected any more.')" % at(now + 2400),
                   "it isn't told that a departure was withdrawn")
-        self.feed([visit("d", "7", "Hospital", time.time() + 3)])
-        self.wait_rows([["7", None, None, "now"], ["6"], ["10"]], "a departure of now")
-        self.wait_rows([["6"], ["10"]], "a departure that left", seconds=10)
 
     def breaks_off(self):
         """The producer is killed and started again."""
@@ -167,6 +107,10 @@ class Board:
         gaps = [after - before for before, after in zip(starts, starts[1:])]
         self.check(all(after > before * 1.2 for before, after in zip(gaps, gaps[1:])), "pauses don't grow: %s" % gaps)
         self.producer.start()
+        self.browser.run("document.querySelector('#changes').textContent = ''; dispatchEvent(new Event('online'))")
+        self.wait("/The producer began anew at ..:.. and knows no departures yet/.test(%s)" % STATE, "it isn't told that the producer began anew")
+        self.check(len(self.rows()) == 2, "what was known before the producer began anew is shown no more")
+        self.check(self.browser.run("document.querySelector('#changes').textContent") == "", "a producer that began anew takes departures back")
         self.feed([visit("e", "10", "Harbour", self.now + 1800)])
         self.browser.run("dispatchEvent(new Event('online'))")
         self.wait_rows([["10", "Harbour", at(self.now + 1800)]], "a board after a restart")
@@ -193,7 +137,7 @@ class Board:
         self.open("stop=S1&zone=Nowhere/At+all&every=0")
         self.wait("%s.includes('“Nowhere/At all” is no time zone') && %s.includes('“every” is a number from 1 to 600')" % (STATE, STATE), "a bad address isn't told")
         self.open("")
-        self.check(self.browser.run("!document.querySelector('#choice').hidden"), "without a stop none is asked for")
+        self.wait("!document.querySelector('#choice').hidden", "without a stop none is asked for")
 
     def hostile(self):
         """Names stay texts, whatever they hold."""
@@ -233,10 +177,11 @@ class Board:
         self.feed([visit("f", "N", "A destination whose name is rather long, via a bridge and a hospital", self.now + 2400, 180, DeparturePlatformName="12a"),
                    visit("g", "Donaudampfschifffahrtslinie", "Linz", self.now + 3000, DepartureStatus="cancelled")], [situation("4", "x" * 300, places=["S1"])])
         time.sleep(2.1)
-        for width, height, scale, dark in ((320, 640, 2, False), (360, 740, 3, True), (640, 512, 2, False), (1280, 800, 1, True), (1920, 1080, 1, True)):
+        for width, height, scale, dark in ((320, 640, 2, False), (360, 740, 3, True), (640, 512, 2, False), (1280, 800, 1, True), (1920, 1080, 1, True), (1080, 1920, 1, False), (3840, 2160, 1, True)):
             self.browser.size(width, height, scale, dark)
             self.open("stop=S1&zone=Europe/Paris&every=5")
             self.wait_rows([["10"], ["N"], ["Donaudampfschifffahrtslinie"]], "a board %d wide" % width)
+            self.wait("document.querySelector('.situations li') !== null", "at %d pixels there is no disturbance" % width)
             wide = self.browser.run("document.scrollingElement.scrollWidth")
             self.check(wide <= width, "at %d pixels the page is %d wide" % (width, wide))
             cut = self.browser.run("""[...document.querySelectorAll('tbody th, tbody td')].filter((cell) => cell.textContent !== '' && (cell.scrollWidth > cell.clientWidth + 1
@@ -245,8 +190,8 @@ class Board:
             light = self.browser.run("getComputedStyle(document.body).backgroundColor") == "rgb(255, 255, 255)"
             self.check(light != dark, "the colours aren't those of the screen")
             self.named(width)
-        letters = self.browser.run("parseFloat(getComputedStyle(document.querySelector('td')).fontSize)")
-        self.check(letters >= 28, "on a wall letters are %s pixels high" % letters)
+            letters, wanted = self.browser.run("parseFloat(getComputedStyle(document.querySelector('td')).fontSize)"), 28 * min(width, height) / 1080
+            self.check(max(width, height) < 1920 or letters >= wanted, "on a wall of %d to %d pixels letters are %s pixels high" % (width, height, letters))
         self.browser.size(1280, 900)
 
     def named(self, width):
@@ -257,38 +202,49 @@ class Board:
             self.check(wanted in named, "at %d pixels a reader of screens finds no %s “%s”" % (width, *wanted))
         self.check([role for role, _ in named].count("status") == 2, "at %d pixels there aren't two places that tell what changes" % width)
 
-    def picture(self, path):
+    def pictures(self, folder):
+        """The pictures of the pages that tell of the board: as it stands in the README, on walls, and in a hand."""
         now = int(time.time()) // 60 * 60
+        lines = (("10", "Harbour", "B", 120), ("6", "University", "A", 0), ("24N", "Old Mill via Hospital", "C", 0), ("10", "Harbour", "B", 0), ("31", "Airport", "", None))
         self.feed(cancelled=["e", "f", "g"])
-        self.feed([visit("p1", "10", "Harbour", now + 180, 120, "P1", DeparturePlatformName="B"), visit("p2", "6", "University", now + 420, 0, "P1", DeparturePlatformName="A"),
-                   visit("p3", "24N", "Old Mill via Hospital", now + 660, 0, "P1", DeparturePlatformName="C", DepartureStatus="cancelled"),
-                   visit("p4", "10", "Harbour", now + 1080, 0, "P1", DeparturePlatformName="B"), visit("p5", "31", "Airport", now + 1500, None, "P1")],
+        self.feed([visit("p%02d" % number, line, to, now + 180 + number * 270, late, "P1", **({"DeparturePlatformName": platform} if platform else {}),
+                         **({"DepartureStatus": "cancelled"} if number == 2 else {}))
+                   for number, (line, to, platform, late) in enumerate(lines * 4)],
                   [situation("p", "Works at the old mill: buses of line 24N end at the hospital until Friday.", lines=["24N"])])
         time.sleep(2.1)
-        self.browser.size(760, 430)
-        self.open("stop=P1&zone=Europe/Paris")
-        self.wait_rows([["10"], ["6"], ["24N"], ["10"], ["31"]], "the board of the picture")
-        with open(path, "wb") as file:
-            file.write(in_few_colours(self.browser.picture()))
+        for name, width, height, scale, dark, more in (("board", 760, 430, 1, False, "&most=5"), ("wall", 1920, 1080, 0.5, True, "&rows=fit"),
+                                                       ("stele", 1080, 1920, 0.4, True, "&rows=fit"), ("phone", 390, 844, 1, False, "")):
+            self.browser.size(width, height, scale, dark)
+            self.open("stop=P1&zone=Europe/Paris" + more)
+            self.wait_rows([[line] for line, *_ in lines * (1 if name == "board" else 4)], "the board of the picture")
+            self.wait("document.querySelector('.situations li') !== null", "the picture has no disturbance")
+            with open(os.path.join(folder, name + ".png"), "wb") as file:
+                file.write(in_few_colours(self.browser.picture()))
 
 
-def main(chromium, siri, examples, *pictures):
+class Trials(Departures, Fresh, Languages, Named, Walls):
+    pass
+
+
+def main(chromium, siri, examples, *folders):
     browser, faults, behind = Browser(chromium), [], []
     with tempfile.TemporaryDirectory() as folder:
         os.chmod(folder, 0o755)
 
         def start(command):
-            """A producer and nginx before it, in the place of those before; the page's address."""
+            """A producer and nginx before it, in the place of those before; the page's address, and the folder that it is in."""
             end()
             producer = Producer(siri, os.path.join(folder, command), command)
             behind.append(producer.kill)
             producer.start()
             if not has_nginx:
-                return producer, stand_in(examples, producer)
+                pages = os.path.join(folder, "board")
+                shutil.copytree(os.path.join(examples, "board"), pages)
+                return producer, stand_in(examples, producer, pages), pages
             nginx = Nginx(os.path.join(folder, "nginx-" + command), os.path.join(examples, "deploy"), os.path.join(examples, "board"), producer.port, command != "lite")
             behind.append(nginx.stop)
             nginx.start()
-            return producer, "https://127.0.0.1:%d" % nginx.public
+            return producer, "https://127.0.0.1:%d" % nginx.public, os.path.join(nginx.folder, "www", "board")
 
         def end():
             while behind:
@@ -296,20 +252,20 @@ def main(chromium, siri, examples, *pictures):
 
         has_nginx = shutil.which("openssl") and shutil.which("nginx", path=os.environ["PATH"] + ":/usr/sbin")
         try:
-            producer, base = start("lite")
+            producer, base, pages = start("lite")
             if has_nginx:
                 browser.call("Security.setIgnoreCertificateErrors", ignore=True)
             else:
                 print("board: there is no nginx or no openssl (Debian's packages of these names), so a stand-in is before the producer")
             browser.size(1280, 900)
-            board = Board(browser, base, producer, faults)
-            for part in (board.shows, board.breaks_off, board.refuses, board.hostile, board.reads, board.clock, board.screens):
+            board = Trials(browser, base, producer, faults, pages)
+            for part in (board.leaves, board.grows_stale, board.shows, board.breaks_off, board.begins, board.refuses, board.hostile, board.reads, board.clock, board.names, board.comes_first, board.phones, board.speaks, board.walls, board.screens):
                 part()
-            for path in pictures:
-                board.picture(path)
+            for pictures in folders:
+                board.pictures(pictures)
             bases = [base]
             if has_nginx:
-                board.producer, board.base = start("keep")
+                board.producer, board.base, board.pages = start("keep")
                 bases.append(board.base)
                 board.comes_back()
             errors = [error for error in browser.errors if not re.search(r"/siri-lite/", error)]

@@ -6,6 +6,8 @@
  * @property {string} key           names the visit among those of its stop
  * @property {string} line
  * @property {string | null} lineRef
+ * @property {string | null} ground   the colours of the line, where they are known
+ * @property {string | null} letters
  * @property {string} destination   '' where it isn't told
  * @property {number} moment        when it leaves, in milliseconds since 1970, UTC: as expected, or as planned
  * @property {number | null} planned
@@ -18,6 +20,7 @@
  * @property {boolean} isMonitored
  * @property {string} stopName
  * @property {string | null} stopPointRef
+ * @property {number | null} recorded  when what is told of it was recorded
  *
  * @typedef {object} Situation
  * @property {string} key
@@ -33,8 +36,8 @@
  * @property {object[]} items
  */
 
-/** How much of a text is shown: names may have 16,384 bytes. */
-const LONGEST_TEXT = 300;
+import { Names } from './names.js';
+import { entries, isFalse, isTrue, momentOf, nameOf, spanOf, textOf, within } from './values.js';
 
 /**
  * The items of one service in an answer, or null where it is no answer.
@@ -56,12 +59,24 @@ export function answerOf(document, service) {
 }
 
 /**
+ * When a producer began to run, and for how many milliseconds it has by its own clock; null where it doesn't say.
+ * @param {unknown} document  a CheckStatusResponse
+ * @returns {{began: number, since: number} | null}
+ */
+export function startOf(document) {
+  const told = within(document, 'Siri', 'CheckStatusResponse');
+  const [began, moment] = [momentOf(told?.ServiceStartedTime), momentOf(told?.ResponseTimestamp)];
+  return began === null || moment === null ? null : { began, since: moment - began };
+}
+
+/**
  * The departures among visits, the earliest first; of those of one moment, by line and key.
  * @param {object[]} visits
+ * @param {Names} names
  * @returns {Departure[]}
  */
-export function departuresOf(visits) {
-  return visits.map(departureOf).filter((one) => one !== null).sort(
+export function departuresOf(visits, names = new Names()) {
+  return visits.map((visit) => departureOf(visit, names)).filter((one) => one !== null).sort(
     (one, other) => one.moment - other.moment || order(one.line, other.line) || order(one.key, other.key));
 }
 
@@ -70,7 +85,7 @@ function order(one, other) {
   return one < other ? -1 : 1;
 }
 
-function departureOf(visit) {
+function departureOf(visit, names) {
   const journey = within(visit, 'MonitoredVehicleJourney');
   const call = within(journey, 'MonitoredCall');
   if (call === null) return null;
@@ -80,11 +95,15 @@ function departureOf(visit) {
   const moment = expected ?? aimed ?? arrival;
   if (moment === null) return null;
   const status = textOf(call.DepartureStatus) || textOf(call.ArrivalStatus);
+  const { name, ground, letters } = names.line(journey.LineRef);
   return {
     key: JSON.stringify([textOf(visit.MonitoringRef), textOf(visit.ItemIdentifier)]),
-    line: textOf(journey.PublishedLineName) || textOf(journey.LineRef),
+    line: name || textOf(journey.PublishedLineName) || textOf(journey.LineRef),
     lineRef: nameOf(journey.LineRef),
-    destination: textOf(journey.DestinationName) || textOf(journey.DestinationRef),
+    ground,
+    letters,
+    destination: names.destination(journey.DestinationRef) || textOf(journey.DestinationName) || names.stop(journey.DestinationRef)
+      || textOf(journey.DestinationRef),
     moment,
     planned: aimed,
     isExpected: expected !== null,
@@ -96,6 +115,7 @@ function departureOf(visit) {
     isMonitored: !isFalse(journey.Monitored),
     stopName: textOf(call.StopPointName),
     stopPointRef: nameOf(call.StopPointRef),
+    recorded: momentOf(visit.RecordedAtTime),
   };
 }
 
@@ -142,51 +162,4 @@ function meet(one, other) {
 
 function names(list, member) {
   return new Set(list.map((one) => nameOf(one[member])).filter((name) => name !== null));
-}
-
-/** The object at a path of members, or null. */
-function within(value, ...path) {
-  const found = path.reduce((at, member) => (isObject(at) ? at[member] : null), value);
-  return isObject(found) ? found : null;
-}
-
-function entries(value) {
-  return Array.isArray(value) ? value.filter(isObject) : [];
-}
-
-function isObject(value) {
-  return typeof value === 'object' && value !== null && !Array.isArray(value);
-}
-
-function nameOf(value) {
-  return typeof value === 'string' && value !== '' ? value : null;
-}
-
-/** A text to be shown, on one line and not without end. */
-function textOf(value) {
-  if (typeof value !== 'string') return '';
-  const shown = [...value.slice(0, LONGEST_TEXT * 2).replace(/[\s\p{Cc}]+/gu, ' ').trim()];
-  return shown.length > LONGEST_TEXT ? `${shown.slice(0, LONGEST_TEXT).join('')}…` : shown.join('');
-}
-
-function momentOf(value) {
-  const moment = typeof value === 'string' && /^\d{4}-\d\d-\d\dT.*(Z|[+-]\d\d:\d\d)$/.test(value) ? Date.parse(value) : NaN;
-  return Number.isNaN(moment) ? null : moment;
-}
-
-/** A span as a producer writes it, in milliseconds. */
-function spanOf(value) {
-  const [, sign, days, hours, minutes, seconds] = /^(-?)P(?:(\d+)D)?(?:T(?:(\d+)H)?(?:(\d+)M)?(?:([\d.]+)S)?)?$/.exec(
-    typeof value === 'string' ? value : '') ?? [];
-  if (sign === undefined) return null;
-  const [d, h, m, s] = [days, hours, minutes, seconds].map((part) => Number(part ?? 0));
-  return (sign === '-' ? -1000 : 1000) * (((d * 24 + h) * 60 + m) * 60 + s);
-}
-
-function isTrue(value) {
-  return value === true || value === 'true' || value === '1';
-}
-
-function isFalse(value) {
-  return value === false || value === 'false' || value === '0';
 }
