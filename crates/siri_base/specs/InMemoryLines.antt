@@ -1,12 +1,13 @@
 -- What wires in memory tell, by what they are made of and what they hold.
 use Rattle.siri_base.specs.Failures.{IsDue}
-use Rattle.siri_base.specs.Wires.{Connection, Present, WireState, accept_called, dial_called, new_wire, with_connection}
+use Rattle.siri_base.specs.Wires.{Connection, Ending, HungUp, Over, Present, Replaced, WireState, accept_called, dial_called, new_wire, with_connection}
 use Rattle.siri_base.specs.declared.errors.OutsideError.{OutsideError}
 use Rattle.siri_base.specs.declared.errors.OutsideError.TheVariants as outside
 use Rattle.siri_base.specs.declared.in_memory.line.FailingCalls.{FailingCalls}
 use Rattle.siri_base.specs.declared.in_memory.line.FailingConnection.{FailingConnection}
-use Rattle.siri_base.specs.declared.in_memory.line.Last.{Last}
-use Rattle.std.specs.Prelude.{◌≡◌, ◌⊎◌, ℕ, List, [], ◌∷◌, ◌++◌, option_map, Option, None, Some, Result, Ok, Err}
+use Rattle.siri_base.specs.declared.in_memory.line.Taken.{Taken}
+use Rattle.siri_base.specs.declared.in_memory.source.FailingSource.{FailingSource}
+use Rattle.std.specs.Prelude.{◌≡◌, ◌⊎◌, ℕ, List, [], ◌∷◌, ◌++◌, map, option_map, Option, None, Some, Result, Ok, Err}
 
 -- a connection with its failures
 abbrev pub connection_of : FailingConnection → Connection
@@ -33,8 +34,8 @@ pub record LineState : Type 0 where
   pub wire : WireState
   pub faults : ℕ
 
--- the connection that came last, where it is still there
-abbrev pub present_of : Option Last → Option Present
+-- the connection that was taken last, where it is still there
+abbrev pub present_of : Option Taken → Option Present
 present_of None = None
 present_of (Some last) =
     option_map (λ source. record {
@@ -46,18 +47,27 @@ present_of (Some last) =
       written = last.sink.bytes.items;
     }) last.source
 
--- what was written to the connection that came last, where it is over
-abbrev pub last_over : Option Last → List (List ℕ)
-last_over None = []
-last_over (Some last) = elim last.source [ None ↦ last.sink.bytes.items ∷ [] | Some source ↦ [] ]
+-- how a connection ended that brings nothing any more, or still does
+abbrev pub ending_of : Option FailingSource → Ending
+ending_of None = HungUp
+ending_of (Some source) = Replaced
 
--- what a line tells, by the connection that came last, what was written to those before it, the addresses and the failures
-abbrev pub line_wire : Option Last → (before named : List (List ℕ)) → (listen_fails accept_fails dial_fails : List ℕ) → WireState
+-- a connection that is over
+abbrev pub over_of : Taken → Over
+over_of taken = record { written = taken.sink.bytes.items; ending = ending_of taken.source }
+
+-- the connection that was taken last, where it is over
+abbrev pub last_over : Option Taken → List Over
+last_over None = []
+last_over (Some last) = elim last.source [ None ↦ over_of last ∷ [] | Some source ↦ [] ]
+
+-- what a line tells, by the connection that was taken last, those before it, the addresses and the failures
+abbrev pub line_wire : Option Taken → (before : List Taken) → (named : List (List ℕ)) → (listen_fails accept_fails dial_fails : List ℕ) → WireState
 line_wire last before named listen_fails accept_fails dial_fails = record {
   to_accept = [];
   to_dial = [];
   present = present_of last;
-  over = before ++ last_over last;
+  over = map over_of before ++ last_over last;
   named = named;
   listen_fails = listen_fails;
   accept_fails = accept_fails;

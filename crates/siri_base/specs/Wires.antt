@@ -18,14 +18,24 @@ pub record Present : Type 0 where
   pub left : Connection
   pub written : List ℕ
 
--- What a wire tells: the connections to come and those to be dialled; the one that is there; what was written to those that are
--- over, in order; the addresses that were listened at and dialled, in order, whether the call failed or not; and the failures of
+-- how a connection ended: it was hung up, or one that was accepted or dialled took its place
+pub data Ending : Type 0 where
+  HungUp : Ending
+  Replaced : Ending
+
+-- a connection that is over: what was written to it, and how it ended
+pub record Over : Type 0 where
+  pub written : List ℕ
+  pub ending : Ending
+
+-- What a wire tells: the connections to come and those to be dialled; the one that is there; those that are over, in the order in
+-- which they came; the addresses that were listened at and dialled, in order, whether the call failed or not; and the failures of
 -- `listen`, `accept` and `dial`, each by how many calls of that name come before it.
 pub record WireState : Type 0 where
   pub to_accept : List Connection
   pub to_dial : List Connection
   pub present : Option Present
-  pub over : List (List ℕ)
+  pub over : List Over
   pub named : List (List ℕ)
   pub listen_fails : List ℕ
   pub accept_fails : List ℕ
@@ -56,18 +66,31 @@ new_wire to_accept to_dial = record {
 abbrev pub present_text : WireState → List (List ℕ)
 present_text wire = option_to_list (option_map (λ present. present.written) wire.present)
 
+-- what was written to the connections that are over, in order
+abbrev pub over_texts : WireState → List (List ℕ)
+over_texts wire = map (λ over. over.written) wire.over
+
 -- what was written to every connection so far, in order
 abbrev pub texts : WireState → List (List ℕ)
-texts wire = wire.over ++ present_text wire
+texts wire = over_texts wire ++ present_text wire
 
--- the connection that is there is over
+-- the connections that are over once the one that is there, if any, ended so
+abbrev pub over_once : Ending → WireState → List Over
+over_once ending wire =
+    wire.over ++ option_to_list (option_map (λ present. record { written = present.written; ending = ending }) wire.present)
+
+-- the connection that is there was hung up
 abbrev pub hung_up : WireState → WireState
-hung_up wire = record wire { present = None; over = texts wire }
+hung_up wire = record wire { present = None; over = over_once HungUp wire }
 
--- this connection is there, and the one before it is over
+-- this connection is there, in the place of the one before it
 abbrev pub with_connection : Connection → WireState → WireState
 with_connection connection wire =
-    record wire { present = Some (record { left = connection; written = [] }); over = texts wire }
+    record wire { present = Some (record { left = connection; written = [] }); over = over_once Replaced wire }
+
+-- a connection that was hung up after this was written to it
+abbrev pub hung_up_after : List ℕ → Over
+hung_up_after written = record { written = written; ending = HungUp }
 
 -- one more call of `listen` named its address
 abbrev pub listened : List ℕ → WireState → WireState

@@ -36,18 +36,11 @@ pub fn differ(view: &View, wanted: &View, slack: Span) -> bool
     }
 }
 
-/// Keys by service, then by their names in turn, an absent name first: the order of views.
-fn compare(a: &SharedKey, b: &SharedKey) -> Ordering
-    ensures { result ≡ key_cmp a.now b.now }
-{
-    a.cmp(b)
-}
-
 /// Whether two entries have one key and near items.
 fn near_entries(a: &Entry, b: &Entry, slack: Span) -> bool
     ensures { result ≡ (is_eq (key_cmp a.now.0 b.now.0) && is_near slack a.now.1.value b.now.1.value) }
 {
-    compare(&a.0, &b.0) == Ordering::Equal && near(&a.1, &b.1, slack)
+    a.0.cmp(&b.0) == Ordering::Equal && near(&a.1, &b.1, slack)
 }
 
 /// The view that a round of a subscription leads to. Without incremental updates it is the direct response itself. With
@@ -112,7 +105,7 @@ pub fn changes(before: &View, after: &View) -> Result<List<Change>, OutOfMemory>
                 list.push(addition(new)?)?;
                 new_place += 1;
             }
-            (Some(old), Some(new)) => match compare(&old.0, &new.0) {
+            (Some(old), Some(new)) => match old.0.cmp(&new.0) {
                 Ordering::Less => {
                     list.push(removal(old)?)?;
                     old_place += 1;
@@ -144,7 +137,7 @@ fn removal(entry: &Entry) -> Result<Change, OutOfMemory>
 }
 
 /// The change that makes an entry's item the one of its key.
-fn addition(entry: &Entry) -> Result<Change, OutOfMemory>
+pub fn addition(entry: &(SharedKey, Rc<Item>)) -> Result<Change, OutOfMemory>
     ensures { IfOk result (λ change. change ≡ (entry.now.0, Some entry.now.1.value)) }
 {
     let item = entry.1.clone()?;

@@ -23,7 +23,7 @@ mod laws;
 mod sameness;
 mod view;
 
-pub use difference::{changes, differ, target};
+pub use difference::{addition, changes, differ, target};
 pub use laws::{
     carried_parts_lead_to_the_target, changes_lead_to_the_view, items_carry_their_keys,
     looks_need_few_keys, parts_are_made_as_one, parts_are_the_list, parts_lead_to_the_target,

@@ -3,11 +3,11 @@ use Rattle.std.proofs.Common.{◌≡◌, ◌∙◌, refl, ap, sym, codes, Option
 use Rattle.std.specs.Prelude.{unwrap_or}
 use Rattle.clap.specs.Words.{Text}
 use Rattle.clap.proofs.OnLiterals.{clap_on_literals}
-use Rattle.siri_cli.specs.inner.Values.{Takes, value_of, load_app, load_words, get_app, get_words, serve_app, serve_words, consume_app, consume_words}
+use Rattle.siri_cli.specs.inner.Values.{TakesWords, value_of, load_app, load_words, get_app, get_words, serve_app, serve_words, consume_app, consume_words}
 
 module _ (seed count : Text) where
-  pub load_takes : Takes load_app (load_words seed count)
-  unfolding Takes load_app clap_on_literals
+  pub load_takes : TakesWords load_app (load_words seed count)
+  unfolding TakesWords load_app clap_on_literals
   load_takes = refl
 
   pub load_seed : value_of load_app (load_words seed count) (codes "SEED") ≡ Some seed
@@ -19,8 +19,8 @@ module _ (seed count : Text) where
   load_count = refl
 
 module _ (producer : Text) where
-  pub get_takes : Takes get_app (get_words producer)
-  unfolding Takes get_app clap_on_literals
+  pub get_takes : TakesWords get_app (get_words producer)
+  unfolding TakesWords get_app clap_on_literals
   get_takes = refl
 
   pub get_producer : value_of get_app (get_words producer) (codes "PRODUCER") ≡ Some producer
@@ -28,8 +28,8 @@ module _ (producer : Text) where
   get_producer = refl
 
 module _ (name listen count : Text) where
-  pub serve_takes : Takes serve_app (serve_words name listen count)
-  unfolding Takes serve_app clap_on_literals
+  pub serve_takes : TakesWords serve_app (serve_words name listen count)
+  unfolding TakesWords serve_app clap_on_literals
   serve_takes = refl
 
   pub serve_name : value_of serve_app (serve_words name listen count) (codes "NAME") ≡ Some name
@@ -45,8 +45,8 @@ module _ (name listen count : Text) where
   serve_count = refl
 
 module _ (name listen producer count : Text) where
-  pub consume_takes : Takes consume_app (consume_words name listen producer count)
-  unfolding Takes consume_app clap_on_literals
+  pub consume_takes : TakesWords consume_app (consume_words name listen producer count)
+  unfolding TakesWords consume_app clap_on_literals
   consume_takes = refl
 
   pub consume_name : value_of consume_app (consume_words name listen producer count) (codes "NAME") ≡ Some name

@@ -11,9 +11,9 @@ use Rattle.siri_keep_run.specs.Left.{KeepAnswered, KeepTrail}
 use Rattle.siri_keep_run.specs.Opening.{FailsToOpen}
 use Rattle.siri_keep_run.specs.Runs.{KeepRun}
 
-opens_nothing : (name listen : List ℕ) (shelf : Option ShelfState) (outside : Outside)
-    → FailsToOpen name listen status.OutOfMemory shelf shelf outside outside
-opens_nothing name listen shelf outside = inl (record {
+opens_nothing : (name listen file : List ℕ) (shelf : Option ShelfState) (outside : Outside)
+    → FailsToOpen name listen file status.OutOfMemory shelf shelf outside outside
+opens_nothing name listen file shelf outside = inl (record {
   error = error.OutOfMemory;
   end_is = refl;
   fails = inl (record {
@@ -35,16 +35,16 @@ opens_nothing name listen shelf outside = inl (record {
     stays (Some state) = refl
 
 -- nothing was done
-pub unread_keeps : (name listen : List ℕ) (count : ℕ) (shelf : Option ShelfState) (outside : Outside) (held : Bytes)
-    → KeepRun name listen count shelf shelf outside outside held held status.OutOfMemory
-unread_keeps name listen count shelf outside held = inr (inl (opens_nothing name listen shelf outside), refl)
+pub unread_keeps : (name listen file : List ℕ) (count : ℕ) (shelf : Option ShelfState) (outside : Outside) (held : Bytes)
+    → KeepRun name listen file count shelf shelf outside outside held held status.OutOfMemory
+unread_keeps name listen file count shelf outside held = inr (inl (opens_nothing name listen file shelf outside), refl)
 
-pub unread_trail : (name listen : List ℕ) (count : ℕ) (shelf : Option ShelfState) (outside : Outside)
-    → WhereTold shelf shelf (KeepTrail name listen count outside)
-unread_trail name listen count None outside = tt
-unread_trail name listen count (Some s) outside = inl refl
+pub unread_trail : (name listen file : List ℕ) (count : ℕ) (shelf : Option ShelfState) (outside : Outside)
+    → WhereTold shelf shelf (KeepTrail name listen file count outside)
+unread_trail name listen file count None outside = tt
+unread_trail name listen file count (Some s) outside = inl refl
 
-pub unread_answered : (name listen : List ℕ) (count : ℕ) (shelf : Option ShelfState) (outside : Outside)
-    → WhereTold shelf shelf (KeepAnswered name listen count status.OutOfMemory outside outside)
-unread_answered name listen count None outside = tt
-unread_answered name listen count (Some s) outside = inl (opens_nothing name listen (Some s) outside)
+pub unread_answered : (name listen file : List ℕ) (count : ℕ) (shelf : Option ShelfState) (outside : Outside)
+    → WhereTold shelf shelf (KeepAnswered name listen file count status.OutOfMemory outside outside)
+unread_answered name listen file count None outside = tt
+unread_answered name listen file count (Some s) outside = inl (opens_nothing name listen file (Some s) outside)

@@ -15,7 +15,7 @@ use Rattle.siri_cli.specs.Run.{EndsEarly, IsGet, IsLoad, IsOnNetwork, ReadsInput
 use Rattle.siri_get.specs.Runs.{EndsGet, GetRun}
 use Rattle.siri_load.specs.Load.{load_text}
 use Rattle.siri_load.specs.Runs.{EndsLoad, Writes}
-use Rattle.siri_runs.specs.Calls.{outside_told}
+use Rattle.siri_runs.specs.Calls.{outside}
 use Rattle.siri_runs.specs.Enough.{EndsWhole, HasEnough}
 use Rattle.siri_replay.specs.Report.{report}
 use Rattle.siri_replay.specs.Views.{ReportsViews, brings}
@@ -54,29 +54,29 @@ pub record RunDoes {S K W C E : Type 0} (of_source : SourceGhosts S) (of_sink : 
       → GetRun producer.host (of_source.left source) (of_source.left source_after) (of_wire.tells wire) (of_wire.tells wire_after)
       (of_sink.held sink) (of_sink.held sink_after) result
   pub serve : (name listen : List ℕ) (count : ℕ) → order ≡ Some (command.Serve name listen count)
-      → ServeRun post_alone name listen count (outside_told of_wire of_clock of_keeper wire clock keeper)
-      (outside_told of_wire of_clock of_keeper wire_after clock_after keeper_after) (of_sink.held sink) (of_sink.held sink_after) result
+      → ServeRun post_alone name listen count (outside of_wire of_clock of_keeper wire clock keeper)
+      (outside of_wire of_clock of_keeper wire_after clock_after keeper_after) (of_sink.held sink) (of_sink.held sink_after) result
   pub lite : (name listen : List ℕ) (count : ℕ) → order ≡ Some (command.Lite name listen count)
-      → ServeRun post_or_query name listen count (outside_told of_wire of_clock of_keeper wire clock keeper)
-      (outside_told of_wire of_clock of_keeper wire_after clock_after keeper_after) (of_sink.held sink) (of_sink.held sink_after) result
+      → ServeRun post_or_query name listen count (outside of_wire of_clock of_keeper wire clock keeper)
+      (outside of_wire of_clock of_keeper wire_after clock_after keeper_after) (of_sink.held sink) (of_sink.held sink_after) result
   pub consume : (name listen : List ℕ) (producer : Target) (count : ℕ) → order ≡ Some (command.Consume name listen producer count)
       → ConsumeRun name listen (producer.host, producer.path) count (of_source.left source) (of_source.left source_after)
-      (outside_told of_wire of_clock of_keeper wire clock keeper)
-      (outside_told of_wire of_clock of_keeper wire_after clock_after keeper_after) (of_sink.held sink) (of_sink.held sink_after) result
+      (outside of_wire of_clock of_keeper wire clock keeper)
+      (outside of_wire of_clock of_keeper wire_after clock_after keeper_after) (of_sink.held sink) (of_sink.held sink_after) result
   pub relay : (name listen : List ℕ) (upstream : Target) (count : ℕ) → order ≡ Some (command.Relay name listen upstream count)
       → RelayRun name listen (upstream.host, upstream.path) count (of_source.left source) (of_source.left source_after)
-      (outside_told of_wire of_clock of_keeper wire clock keeper)
-      (outside_told of_wire of_clock of_keeper wire_after clock_after keeper_after) (of_sink.held sink) (of_sink.held sink_after) result
+      (outside of_wire of_clock of_keeper wire clock keeper)
+      (outside of_wire of_clock of_keeper wire_after clock_after keeper_after) (of_sink.held sink) (of_sink.held sink_after) result
   -- a run over the network does its work whole
   pub serve_whole : (name listen : List ℕ) (count : ℕ) → order ≡ Some (command.Serve name listen count)
-      → HasEnough count (outside_told of_wire of_clock of_keeper wire clock keeper) → of_sink.fails sink ≡ Some [] → EndsWhole result
+      → HasEnough count (outside of_wire of_clock of_keeper wire clock keeper) → of_sink.fails sink ≡ Some [] → EndsWhole result
   pub lite_whole : (name listen : List ℕ) (count : ℕ) → order ≡ Some (command.Lite name listen count)
-      → HasEnough count (outside_told of_wire of_clock of_keeper wire clock keeper) → of_sink.fails sink ≡ Some [] → EndsWhole result
+      → HasEnough count (outside of_wire of_clock of_keeper wire clock keeper) → of_sink.fails sink ≡ Some [] → EndsWhole result
   pub consume_whole : (name listen : List ℕ) (producer : Target) (count : ℕ) → order ≡ Some (command.Consume name listen producer count)
-      → HasEnough count (outside_told of_wire of_clock of_keeper wire clock keeper) → TellsWanted name (of_source.left source)
+      → HasEnough count (outside of_wire of_clock of_keeper wire clock keeper) → TellsWanted name (of_source.left source)
       → of_source.fails source ≡ Some [] → of_sink.fails sink ≡ Some [] → EndsWhole result
   pub relay_whole : (name listen : List ℕ) (upstream : Target) (count : ℕ) → order ≡ Some (command.Relay name listen upstream count)
-      → HasEnough count (outside_told of_wire of_clock of_keeper wire clock keeper) → TellsOne name (of_source.left source)
+      → HasEnough count (outside of_wire of_clock of_keeper wire clock keeper) → TellsOne name (of_source.left source)
       → of_source.fails source ≡ Some [] → of_sink.fails sink ≡ Some [] → EndsWhole result
   -- a failure that is named, and met, ends the run
   pub source_meets : SourceMeets (is_read_fault result) (of_source.left source) (of_source.left source_after) (of_source.fails source)

@@ -3,12 +3,12 @@
 ghost use Rattle.std.specs.Prelude.{◌≡◌, [], map, string_bytes, Some, None};
 ghost use Rattle.siri_base.specs.Causes.{Rose};
 ghost use Rattle.siri_base.specs.MetFailures.{SinkMeets, is_write_fault};
-ghost use Rattle.siri_base.specs.OutsideCalls.{WhereTold};
-ghost use Rattle.siri_runs.specs.Calls.{outside_told};
+ghost use Rattle.siri_shelf.specs.Shelves.{OnShelf};
+ghost use Rattle.siri_runs.specs.Calls.{outside};
 ghost use Rattle.siri_runs.specs.Enough.{HasEnough};
 ghost use Rattle.siri_keep_run.specs.Left.{KeepAnswered, KeepTrail};
 ghost use Rattle.siri_keep_run.specs.Runs.{EndsKeeping, EndsWholeOrByShelf, KeepRun};
-ghost use Rattle.siri_cli.specs.declared.keep.Keep.{Keep as Asked};
+ghost use Rattle.siri_cli.specs.declared.keep.Keep.{Keep as Order};
 ghost use Rattle.siri_cli.specs.Commands.{command_of};
 ghost use Rattle.siri_cli.specs.Keeping.{IsKeep, keep_of};
 ghost use Rattle.siri_cli.specs.RunDoes.{RunDoes};
@@ -21,8 +21,8 @@ use siri_shelf::Shelf;
 use std::alloc::Global;
 
 /// Does what the words after the program's name say: `keep NAME LISTEN FILE COUNT` serves so many connections as a
-/// producer whose observations and subscriptions are in a file. Any other words do what [`run`] does of them, and the
-/// shelf isn't used; no other words than these two kinds are a plain spelling of a command.
+/// producer whose observations and subscriptions are in the file FILE, and opens no other. Any other words do what
+/// [`run`] does of them, and the shelf isn't used; no other words than these two kinds are a plain spelling of a command.
 ///
 /// Beside the statuses of `run`: `ShelfFault` only where the shelf failed, and `BadShelf` where the rows of the file aren't
 /// those of a producer of this name and an earlier start. Only `keep` uses the shelf; it reads nothing of the source.
@@ -37,21 +37,21 @@ pub fn run_all<S: Source, K: Sink, W: Wire, C: Clock, E: Keeper, B: Shelf>(
     shelf: &mut B,
 ) -> Status
     // What `keep` does.
-    ensures keep { (k : Asked) → keep_of (map string_bytes words.now) ≡ Some k
-        → KeepRun k.name k.listen k.count (B.tells shelf.old) (B.tells shelf.new)
-        (outside_told W.Wire C.Clock E.Keeper wire.old clock.old keeper.old)
-        (outside_told W.Wire C.Clock E.Keeper wire.new clock.new keeper.new)
+    ensures keep { (k : Order) → keep_of (map string_bytes words.now) ≡ Some k
+        → KeepRun k.name k.listen k.file k.count (B.tells shelf.old) (B.tells shelf.new)
+        (outside W.Wire C.Clock E.Keeper wire.old clock.old keeper.old)
+        (outside W.Wire C.Clock E.Keeper wire.new clock.new keeper.new)
         (K.held sink.old) (K.held sink.new) result }
     // What it leaves on the shelf, at every moment and at whatever status.
-    ensures keep_trail { (k : Asked) → keep_of (map string_bytes words.now) ≡ Some k
-        → WhereTold (B.tells shelf.old) (B.tells shelf.new) (KeepTrail k.name k.listen k.count
-        (outside_told W.Wire C.Clock E.Keeper wire.old clock.old keeper.old)) }
-    ensures keep_answered { (k : Asked) → keep_of (map string_bytes words.now) ≡ Some k
-        → WhereTold (B.tells shelf.old) (B.tells shelf.new) (KeepAnswered k.name k.listen k.count result
-        (outside_told W.Wire C.Clock E.Keeper wire.old clock.old keeper.old)
-        (outside_told W.Wire C.Clock E.Keeper wire.new clock.new keeper.new)) }
-    ensures keep_whole { (k : Asked) → keep_of (map string_bytes words.now) ≡ Some k
-        → HasEnough k.count (outside_told W.Wire C.Clock E.Keeper wire.old clock.old keeper.old)
+    ensures keep_trail { (k : Order) → keep_of (map string_bytes words.now) ≡ Some k
+        → OnShelf B.tells shelf.old shelf.new (KeepTrail k.name k.listen k.file k.count
+        (outside W.Wire C.Clock E.Keeper wire.old clock.old keeper.old)) }
+    ensures keep_answered { (k : Order) → keep_of (map string_bytes words.now) ≡ Some k
+        → OnShelf B.tells shelf.old shelf.new (KeepAnswered k.name k.listen k.file k.count result
+        (outside W.Wire C.Clock E.Keeper wire.old clock.old keeper.old)
+        (outside W.Wire C.Clock E.Keeper wire.new clock.new keeper.new)) }
+    ensures keep_whole { (k : Order) → keep_of (map string_bytes words.now) ≡ Some k
+        → HasEnough k.count (outside W.Wire C.Clock E.Keeper wire.old clock.old keeper.old)
         → K.fails sink.old ≡ Some [] → EndsWholeOrByShelf result }
     ensures keep_unwritten { IsKeep (keep_of (map string_bytes words.now)) → EndsKeeping result → sink.new ≡ sink.old }
     ensures unread { IsKeep (keep_of (map string_bytes words.now)) → source.new ≡ source.old }

@@ -16,7 +16,7 @@ ghost use Rattle.siri_cli.specs.Run.{EndsEarly, IsGet, IsLoad, IsOnNetwork, Read
 ghost use Rattle.siri_get.specs.Runs.{EndsGet, GetRun};
 ghost use Rattle.siri_load.specs.Load.{load_text};
 ghost use Rattle.siri_load.specs.Runs.{EndsLoad, Writes};
-ghost use Rattle.siri_runs.specs.Calls.{outside_told};
+ghost use Rattle.siri_runs.specs.Calls.{outside};
 ghost use Rattle.siri_runs.specs.Enough.{EndsWhole, HasEnough};
 ghost use Rattle.siri_replay.specs.Report.{report};
 ghost use Rattle.siri_replay.specs.Views.{ReportsViews, brings};
@@ -80,39 +80,39 @@ pub fn run<S: Source, K: Sink, W: Wire, C: Clock, E: Keeper>(
         (K.held sink.old) (K.held sink.new) result }
     ensures serve { (name listen : List ℕ) (count : ℕ) → command_of (map string_bytes words.now) ≡ Some (Command.Serve name listen count)
         → ServeRun post_alone name listen count
-        (outside_told W.Wire C.Clock E.Keeper wire.old clock.old keeper.old)
-        (outside_told W.Wire C.Clock E.Keeper wire.new clock.new keeper.new)
+        (outside W.Wire C.Clock E.Keeper wire.old clock.old keeper.old)
+        (outside W.Wire C.Clock E.Keeper wire.new clock.new keeper.new)
         (K.held sink.old) (K.held sink.new) result }
     ensures lite { (name listen : List ℕ) (count : ℕ) → command_of (map string_bytes words.now) ≡ Some (Command.Lite name listen count)
         → ServeRun post_or_query name listen count
-        (outside_told W.Wire C.Clock E.Keeper wire.old clock.old keeper.old)
-        (outside_told W.Wire C.Clock E.Keeper wire.new clock.new keeper.new)
+        (outside W.Wire C.Clock E.Keeper wire.old clock.old keeper.old)
+        (outside W.Wire C.Clock E.Keeper wire.new clock.new keeper.new)
         (K.held sink.old) (K.held sink.new) result }
     ensures consume { (name listen : List ℕ) (producer : Target) (count : ℕ) → command_of (map string_bytes words.now) ≡ Some (Command.Consume name listen producer count)
         → ConsumeRun name listen (producer.host, producer.path) count (S.left source.old) (S.left source.new)
-        (outside_told W.Wire C.Clock E.Keeper wire.old clock.old keeper.old)
-        (outside_told W.Wire C.Clock E.Keeper wire.new clock.new keeper.new)
+        (outside W.Wire C.Clock E.Keeper wire.old clock.old keeper.old)
+        (outside W.Wire C.Clock E.Keeper wire.new clock.new keeper.new)
         (K.held sink.old) (K.held sink.new) result }
     ensures relay { (name listen : List ℕ) (upstream : Target) (count : ℕ) → command_of (map string_bytes words.now) ≡ Some (Command.Relay name listen upstream count)
         → RelayRun name listen (upstream.host, upstream.path) count (S.left source.old) (S.left source.new)
-        (outside_told W.Wire C.Clock E.Keeper wire.old clock.old keeper.old)
-        (outside_told W.Wire C.Clock E.Keeper wire.new clock.new keeper.new)
+        (outside W.Wire C.Clock E.Keeper wire.old clock.old keeper.old)
+        (outside W.Wire C.Clock E.Keeper wire.new clock.new keeper.new)
         (K.held sink.old) (K.held sink.new) result }
 
     // A run over the network does its work whole where there is enough for so many connections and no failure is named
     // for the sink, nor for the source, whatever happens within a connection.
     ensures serve_whole { (name listen : List ℕ) (count : ℕ) → command_of (map string_bytes words.now) ≡ Some (Command.Serve name listen count)
-        → HasEnough count (outside_told W.Wire C.Clock E.Keeper wire.old clock.old keeper.old)
+        → HasEnough count (outside W.Wire C.Clock E.Keeper wire.old clock.old keeper.old)
         → K.fails sink.old ≡ Some [] → EndsWhole result }
     ensures lite_whole { (name listen : List ℕ) (count : ℕ) → command_of (map string_bytes words.now) ≡ Some (Command.Lite name listen count)
-        → HasEnough count (outside_told W.Wire C.Clock E.Keeper wire.old clock.old keeper.old)
+        → HasEnough count (outside W.Wire C.Clock E.Keeper wire.old clock.old keeper.old)
         → K.fails sink.old ≡ Some [] → EndsWhole result }
     ensures consume_whole { (name listen : List ℕ) (producer : Target) (count : ℕ) → command_of (map string_bytes words.now) ≡ Some (Command.Consume name listen producer count)
-        → HasEnough count (outside_told W.Wire C.Clock E.Keeper wire.old clock.old keeper.old)
+        → HasEnough count (outside W.Wire C.Clock E.Keeper wire.old clock.old keeper.old)
         → TellsWanted name (S.left source.old)
         → S.fails source.old ≡ Some [] → K.fails sink.old ≡ Some [] → EndsWhole result }
     ensures relay_whole { (name listen : List ℕ) (upstream : Target) (count : ℕ) → command_of (map string_bytes words.now) ≡ Some (Command.Relay name listen upstream count)
-        → HasEnough count (outside_told W.Wire C.Clock E.Keeper wire.old clock.old keeper.old)
+        → HasEnough count (outside W.Wire C.Clock E.Keeper wire.old clock.old keeper.old)
         → TellsOne name (S.left source.old)
         → S.fails source.old ≡ Some [] → K.fails sink.old ≡ Some [] → EndsWhole result }
 

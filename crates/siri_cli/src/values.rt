@@ -2,7 +2,7 @@
 
 ghost use Rattle.std.specs.Prelude.{◌≡◌, true, is_some, map, IfOk, Some};
 ghost use Rattle.clap.specs.Words.{App};
-ghost use Rattle.siri_cli.specs.inner.Values.{IsOf, Takes, HasValuesOf, value_in};
+ghost use Rattle.siri_cli.specs.inner.Values.{IsOf, TakesWords, HasValuesOf, value_in};
 
 use clap::error::ErrorKind;
 use clap::{ArgMatches, Command};
@@ -13,7 +13,7 @@ pub(crate) fn matches_of<'a>(
     command: Command<'a>,
     words: &'a [&'a str],
 ) -> Result<ArgMatches<'a>, OutOfMemory>
-    requires { (app : App) × IsOf app command × Takes app (map (λ word. word.now) words.now) }
+    requires { (app : App) × IsOf app command × TakesWords app (map (λ word. word.now) words.now) }
     ensures { IfOk result (λ matches. (app : App) → IsOf app command.entry
         → HasValuesOf app (map (λ word. word.now) words.entry.now) matches) }
 {

@@ -16,7 +16,7 @@ use Rattle.siri_tables.specs.Tables.{read_all, AllProper, all_written}
 use Rattle.siri_items.specs.Visits.{visit}
 use Rattle.siri_items.specs.Vehicles.{vehicle}
 use Rattle.siri_items.specs.Situations.{situation}
-use Rattle.siri_items.specs.Proper.{IsProper, service_of}
+use Rattle.siri_items.specs.Proper.{IsProper}
 use Rattle.siri_items.specs.Written.{written_item}
 use Rattle.siri_deliveries.specs.Removals.{visit_cancellation, vehicle_cancellation, removed_journey, removed_situation}
 use Rattle.siri_deliveries.specs.Removals.{IsProperRemoval, a_removal}
@@ -38,6 +38,7 @@ use Rattle.siri_deliveries.specs.declared.names.TheConstants.{PT_SITUATION_ELEME
 use Rattle.siri_deliveries.specs.declared.names.TheConstants.{STOP_MONITORING_DELIVERY, ESTIMATED_TIMETABLE_DELIVERY}
 use Rattle.siri_deliveries.specs.declared.names.TheConstants.{VEHICLE_MONITORING_DELIVERY, SITUATION_EXCHANGE_DELIVERY}
 use Rattle.siri_deliveries.specs.Limits.{most_entries}
+use Rattle.siri_records.specs.Services.{service_of}
 
 -- ---- items
 

@@ -9,8 +9,8 @@ use Rattle.siri_ends.specs.Consuming.{consuming}
 use Rattle.siri_ends.specs.EndCalls.{Hears, Turned}
 
 -- it keeps nothing
-abbrev kept : Consuming → Unit {0}
-kept consumer = tt
+abbrev identity : Consuming → Unit {0}
+identity consumer = tt
 
 abbrev stands : Consuming → Consuming → Type 0
 stands consumer state = state ≡ consumer
@@ -18,7 +18,7 @@ stands consumer state = state ≡ consumer
 -- a message was taken, where there is one, and the first reply is the answer
 pub took : (old new : Consuming) (asked : Asked) (list : List Message) (reply : Option Response)
     → new ≡ consuming.after old asked → reply ≡ consuming.responds old asked → list ≡ consuming.sends old asked
-    → Turned kept stands (λ nothing. consuming) (λ nothing made state response. response ≡ made) asked list reply old new
+    → Turned identity stands (λ nothing. consuming) (λ nothing made state response. response ≡ made) asked list reply old new
 took old new asked list reply is made sends = record {
   keeps = refl;
   stands_for = λ s so. ap (λ c. consuming.after c asked) so ∙ sym is;
@@ -29,7 +29,7 @@ took old new asked list reply is made sends = record {
 -- a message that was answered was taken
 pub heard : (old new : Consuming) (sent message : Message) (more : List Message) → new ≡ after_message old message
     → more ≡ (seen_of old message).replies
-    → Hears {Beside = Unit {0}} kept stands (λ consumer beside state. Unit {0}) (λ nothing. consuming) sent (Some message) more old new
+    → Hears {Beside = Unit {0}} identity stands (λ consumer beside state. Unit {0}) (λ nothing. consuming) sent (Some message) more old new
 heard old new sent message more is replies = record {
   keeps = refl;
   stands_for = λ s so. ap (λ c. after_message c message) so ∙ sym is;
@@ -39,7 +39,7 @@ heard old new sent message more is replies = record {
 
 -- what a call does of whatever it stands for, it does of itself
 pub itself : (Does And : At Consuming → At Consuming → Type 0) (old new : At Consuming)
-    → Goes kept stands (λ nothing at end. Does at end × And at end) old new → Does old new
+    → Goes identity stands (λ nothing at end. Does at end × And at end) old new → Does old new
 itself Does And old new goes =
     let one = goes.goes old.state refl in
     subst (λ s. Does old (stood_for new s)) one.1 one.2.0

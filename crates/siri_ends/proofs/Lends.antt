@@ -44,9 +44,6 @@ use Rattle.siri_ends.specs.Turns.{Brings, TakesFor}
 
 -- ---- nothing changed but the counter of steps
 
-pub same_at_once : (known : Known) → SameButReads known known
-same_at_once known = refl
-
 pub same_then : (a b c : Known) → SameButReads a b → SameButReads b c → SameButReads a c
 same_then a b c first then =
     then ∙ ap (λ (k : Known). record k { responder = record k.responder { reads = c.responder.reads } }) first

@@ -9,3 +9,4 @@ pub mod Taking
 pub mod Paths
 pub mod Posts
 pub mod Queries
+pub mod HangingUp

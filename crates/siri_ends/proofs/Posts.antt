@@ -4,7 +4,7 @@ use Rattle.std.proofs.Common.{length, take, drop, take-append-drop, length-drop,
 use Rattle.std.specs.Prelude.{nat_le}
 use Rattle.std.proofs.lemmas.Bool.{leb-true}
 use Rattle.siri_base.specs.Failures.{Passes}
-use Rattle.siri_base.specs.Wires.{Connection, Present, WireState}
+use Rattle.siri_base.specs.Wires.{Connection, Present, WireState, hung_up_after}
 use Rattle.siri_http.specs.declared.errors.HttpError.{HttpError}
 use Rattle.siri_http.specs.Connections.{cut_of, passing, readable}
 use Rattle.siri_http.specs.Heads.{full_lines, head_text}
@@ -89,6 +89,6 @@ pub answered_alike : (wire : WireState) (there other : Present) → InPlaceOf th
     → Responds text (Some whole) (record wire { present = Some other }) next
 answered_alike wire there other same text whole next responds = (
   responds.0 ∙ ap (λ fails. is_whole fails text) (sym same.write_fails),
-  responds.1 ∙ ap₂ (λ written fails. record wire { present = None; over = wire.over ++ (written ++ passing fails text) ∷ [] })
+  responds.1 ∙ ap₂ (λ written fails. record wire { present = None; over = wire.over ++ hung_up_after (written ++ passing fails text) ∷ [] })
       (sym same.written) (sym same.write_fails),
 )

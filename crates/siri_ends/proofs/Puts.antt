@@ -1,6 +1,6 @@
 -- A text that is put piece by piece.
 use Rattle.std.proofs.Common.{◌≡◌, ◌<◌, ◌+◌, ℕ, List, [], ◌++◌, length, Result, Ok, Err}
-use Rattle.std.proofs.Common.{refl, sym, ap, ◌∙◌, subst, append-nil, append_assoc, length-append, arith, drop, get_or}
+use Rattle.std.proofs.Common.{sym, ap, ◌∙◌, subst, append-nil, append_assoc, length-append, arith, drop, get_or}
 use Rattle.std.specs.Prelude.{flat_map}
 use Rattle.std.proofs.lemmas.List.{drop_more}
 use Rattle.siri_http.specs.declared.errors.HttpError.{HttpError}
@@ -12,10 +12,6 @@ module _ {S : Type 0} (takes : S → S → List ℕ → Result (Unit {0}) HttpEr
     pub front : List ℕ
     pub parts : text ≡ front ++ left
     pub put : takes old now front (Ok tt)
-
-  -- nothing was put yet
-  pub puts_none : ((s : S) → takes s s [] (Ok tt)) → (text : List ℕ) (s : S) → PutsFront text text s s
-  puts_none none text s = record { front = []; parts = refl; put = none s }
 
   module _ (both : (x y z : S) (text more : List ℕ) (result : Result (Unit {0}) HttpError)
       → takes x y text (Ok tt) → takes y z more result → takes x z (text ++ more) result) where

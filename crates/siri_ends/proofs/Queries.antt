@@ -1,5 +1,6 @@
 -- A query is read as the POST of its document.
 use Rattle.std.proofs.Common.{◌∷◌, [], ◌++◌, Some, None, Ok, codes, refl, sym, ap, ◌∙◌}
+use Rattle.siri_base.specs.Wires.{hung_up_after}
 use Rattle.siri_ends.specs.lite.Replacing.{IsAnsweredAlike, IsReadAsItsPost}
 use Rattle.siri_ends.proofs.Paths.{asks_its_document}
 use Rattle.siri_ends.proofs.Posts.{answered_alike, post_is_read, read}
@@ -20,5 +21,5 @@ read_as_its_post target document body other before after post e reads holds plac
 pub alike : IsAnsweredAlike
 alike wire there other same = (
   answered_alike wire there other same,
-  ap (λ written. record wire { present = None; over = wire.over ++ written ∷ [] }) same.written,
+  ap (λ written. record wire { present = None; over = wire.over ++ hung_up_after written ∷ [] }) same.written,
 )

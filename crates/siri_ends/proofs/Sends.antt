@@ -77,17 +77,17 @@ module _ {State M : Type 0} (Posts : Posting M) (manner : Manner State M) where
 
 -- ---- by whatever state an end stood for
 
-module _ {Own Beside Kept State M : Type 0} (kept : Own → Kept) (stands : Own → State → Type 0)
-    (holds : Own → Beside → State → Type 0) (Posts : Posting M) (manner : Kept → Manner State M) where
+module _ {Own Beside Identity State M : Type 0} (identity : Own → Identity) (stands : Own → State → Type 0)
+    (holds : Own → Beside → State → Type 0) (Posts : Posting M) (manner : Identity → Manner State M) where
   -- Some messages were sent: whatever the rest of the sends comes to is what all of them come to.
   pub record Comes (list : List M) (start now : At Own) (left : ℕ) (queue : List M) : Type 0 where
-    pub keeps : kept now.state ≡ kept start.state
+    pub keeps : identity now.state ≡ identity start.state
     pub comes : (s : State) → stands start.state s → (after : State) × stands now.state after
         × ((beside : Beside) → holds start.state beside s → holds now.state beside after)
-        × ((end : At State) → InTurn Posts (manner (kept start.state)) left queue (stood_for now after) end
-        → SendsAll Posts (manner (kept start.state)) list (stood_for start s) end)
-        × ((wire : Option WireState) → FirstInTurn Posts (manner (kept start.state)) left queue after now.wire wire
-        → FirstSends Posts (manner (kept start.state)) list s start.wire wire)
+        × ((end : At State) → InTurn Posts (manner (identity start.state)) left queue (stood_for now after) end
+        → SendsAll Posts (manner (identity start.state)) list (stood_for start s) end)
+        × ((wire : Option WireState) → FirstInTurn Posts (manner (identity start.state)) left queue after now.wire wire
+        → FirstSends Posts (manner (identity start.state)) list s start.wire wire)
 
   pub comes_first : (list queue : List M) (start : At Own) → queue ≡ list → Comes list start start most_sends queue
   comes_first list queue start is = subst (λ q. Comes list start start most_sends q) (sym is)
@@ -95,16 +95,16 @@ module _ {Own Beside Kept State M : Type 0} (kept : Own → Kept) (stands : Own 
 
   pub comes_next : (list queue later : List M) (start now next : At Own) (left less : ℕ) (first : M) (rest more : List M)
       → Comes list start now left queue → queue ≡ first ∷ rest → left ≡ suc less
-      → SendsNext kept stands holds Posts manner first more now next → later ≡ rest ++ more
+      → SendsNext identity stands holds Posts manner first more now next → later ≡ rest ++ more
       → Comes list start next less later
   comes_next list queue later start now next left less first rest more c front one sent joined = record {
     keeps = sent.hears.keeps ∙ c.keeps;
     comes = λ s so.
         let before = c.comes s so in
         let after = before.0 in
-        let own = manner (kept start.state) in
+        let own = manner (identity start.state) in
         let answered = message_answered sent.outcome in
-        let same : manner (kept now.state) ≡ own = ap manner c.keeps in
+        let same : manner (identity now.state) ≡ own = ap manner c.keeps in
         let further = after_hearing own first answered after in
         let brought : later ≡ rest ++ brings_of own first answered after =
         joined ∙ ap (λ m. rest ++ m) (sent.hears.more_are after before.1 ∙ ap (λ k. brings_of k first answered after) same) in
@@ -130,12 +130,12 @@ module _ {Own Beside Kept State M : Type 0} (kept : Own → Kept) (stands : Own 
   -- no message is left
   pub comes_last : (list queue : List M) (start now : At Own) (left less : ℕ) → Comes list start now left queue
       → queue ≡ [] → left ≡ suc less
-      → Goes kept stands (λ k. HoldingAny holds (SendsAll Posts (manner k) list) start.state now.state) start now
+      → Goes identity stands (λ k. HoldingAny holds (SendsAll Posts (manner k) list) start.state now.state) start now
   comes_last list queue start now left less c none one = record {
     keeps = c.keeps;
     goes = λ s so.
         let before = c.comes s so in
-        let own = manner (kept start.state) in
+        let own = manner (identity start.state) in
         let end = stood_for now before.0 in (
           before.0,
           before.1,
@@ -149,13 +149,13 @@ module _ {Own Beside Kept State M : Type 0} (kept : Own → Kept) (stands : Own 
 
   -- no further message may be sent
   pub comes_full : (list queue : List M) (start now : At Own) (left : ℕ) → Comes list start now left queue → left ≡ 0
-      → Goes kept stands (λ k. HoldingAny holds (SendsAll Posts (manner k) list) start.state now.state) start
+      → Goes identity stands (λ k. HoldingAny holds (SendsAll Posts (manner k) list) start.state now.state) start
       (record now { tally = with_unsent (length queue) now.tally })
   comes_full list queue start now left c none = record {
     keeps = c.keeps;
     goes = λ s so.
         let before = c.comes s so in
-        let own = manner (kept start.state) in
+        let own = manner (identity start.state) in
         let last = stood_for now before.0 in
         let end : At State = record last { tally = with_unsent (length queue) last.tally } in (
           before.0,
@@ -171,17 +171,17 @@ module _ {Own Beside Kept State M : Type 0} (kept : Own → Kept) (stands : Own 
   pub comes_short : ((message : M) (wire : Option WireState) → Posts message None wire wire)
       → (list queue : List M) (start now : At Own) (left less : ℕ) (first : M) (rest : List M) (end : Option WireState)
       → Comes list start now left queue → queue ≡ first ∷ rest → left ≡ suc less → StopsAt (Posts first) now.wire end
-      → (s : State) → stands start.state s → FirstSends Posts (manner (kept start.state)) list s start.wire end
+      → (s : State) → stands start.state s → FirstSends Posts (manner (identity start.state)) list s start.wire end
   comes_short still list queue start now left less first rest end c front one stops s so =
       let before = c.comes s so in
-      let own = manner (kept start.state) in
+      let own = manner (identity start.state) in
       before.4 end
       (subst (λ l. FirstInTurn Posts own l queue before.0 now.wire end) (sym one)
       (subst (λ q. FirstInTurn Posts own (suc less) q before.0 now.wire end) (sym front)
       (last_begun Posts own still less first rest before.0 now.wire end stops)))
 
   -- memory was wanting after a send
-  pub whole_stop : (message : M) (more : List M) (old new : At Own) → SendsNext kept stands holds Posts manner message more old new
+  pub whole_stop : (message : M) (more : List M) (old new : At Own) → SendsNext identity stands holds Posts manner message more old new
       → StopsAt (Posts message) old.wire new.wire
   whole_stop message more old new sent = inr (sent.outcome, sent.told)
 

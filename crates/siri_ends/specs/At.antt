@@ -31,11 +31,11 @@ stood_for own state = at_of state own.tally own.wire own.faults
 
 -- A call does this: whatever state the end stood for before it, it stands for the one that the call leaves. What it keeps
 -- as long as it runs stays.
-pub record Goes {Own Kept State : Type 0} (kept : Own → Kept) (stands : Own → State → Type 0)
-    (Does : Kept → At State → At State → Type 0) (old new : At Own) : Type 0 where
-  pub keeps : kept new.state ≡ kept old.state
+pub record Goes {Own Identity State : Type 0} (identity : Own → Identity) (stands : Own → State → Type 0)
+    (Does : Identity → At State → At State → Type 0) (old new : At Own) : Type 0 where
+  pub keeps : identity new.state ≡ identity old.state
   pub goes : (s : State) → stands old.state s → (after : State) × stands new.state after
-      × Does (kept old.state) (stood_for old s) (stood_for new after)
+      × Does (identity old.state) (stood_for old s) (stood_for new after)
 
 -- ---- with what stands beside it, by whether that is as the end left it, in a state that it stands for
 

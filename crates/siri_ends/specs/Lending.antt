@@ -62,7 +62,7 @@ pub record Makes (first taken : Known) (message : Option Message) (answer : List
   pub made_is : (h : History) → StandsFor first h → made ≡ answer first.responder.name h
 
 -- a request is to be answered directly, and nothing was taken yet
-pub record Asks (first taken : Known) (brought : Option Message) (answer : List ℕ → History → Option Response)
+pub record AnswersDirectly (first taken : Known) (brought : Option Message) (answer : List ℕ → History → Option Response)
     (request : ServiceRequest) : Type 0 where
   pub asked : brought ≡ Some (message.ServiceRequest request)
   pub same : taken ≡ first
@@ -85,7 +85,7 @@ pub record Supplies (first taken : Known) (brought : Option Message) (answer : L
 -- what is asked is replied to so, where it is to be answered so
 abbrev pub Prepares : Known → Known → Option Message → (List ℕ → History → Option Response) → Reply → Type 0
 Prepares first taken message answer (reply.Made made) = Makes first taken message answer made
-Prepares first taken message answer (reply.Direct request) = Asks first taken message answer request
+Prepares first taken message answer (reply.Direct request) = AnswersDirectly first taken message answer request
 Prepares first taken message answer
     (reply.Part subscriber subscription) = Supplies first taken message answer subscriber subscription
 

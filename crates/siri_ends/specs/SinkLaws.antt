@@ -95,14 +95,3 @@ pub gathers_all : (text : List ℕ) (result : Result (Unit {0}) HttpError) (g h 
 gathers_all text result g h a b c x y z first then =
     subst (λ l. WritesText l result a c x z) (sym first.parts)
     (writes_both first.front h result a b c x y z first.writes then)
-
--- nothing is written yet of what is gathered
-pub gathers_more : (piece g : List ℕ) (wire : Option WireState) (faults : ℕ)
-    → Gathers piece (Ok tt) g (g ++ piece) wire wire faults faults
-gathers_more piece g wire faults = record { front = []; parts = refl; writes = writes_none wire faults }
-
--- all of it is written
-pub gathers_out : (piece g : List ℕ) (a b : Option WireState) (x y : ℕ) → WritesText (g ++ piece) (Ok tt) a b x y
-    → Gathers piece (Ok tt) g [] a b x y
-gathers_out piece g a b x y writes = record
-    { front = g ++ piece; parts = sym (append-nil (g ++ piece)); writes = writes }

@@ -82,9 +82,9 @@ impl Taker<()> for Consumer {
 
     type Target = Address;
 
-    ghost Kept = { Unit {0} };
+    ghost Identity = { Unit {0} };
 
-    ghost kept = { λ _. tt };
+    ghost identity = { λ _. tt };
 
     ghost State = { Consuming };
 

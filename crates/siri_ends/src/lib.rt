@@ -35,6 +35,7 @@
 
 mod answering;
 mod consuming;
+mod hanging_up;
 mod lending;
 mod lite;
 mod reply;
@@ -47,6 +48,7 @@ mod turning;
 
 pub use answering::{Brought, brought_by, finish};
 pub use consuming::{consume_one, send_up, split_replies};
+pub use hanging_up::{a_consumer_hangs_up_before_it_dials, a_producer_hangs_up_before_it_dials};
 pub use lite::{
     PostOrQuery, a_connection_in_its_place_is_answered_alike, a_get_asks_what_its_post_asks,
     a_get_of_an_unknown_path_is_refused, a_query_is_read_as_its_post,

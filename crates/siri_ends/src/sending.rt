@@ -32,7 +32,7 @@ fn hear_document<B, T: Taker<B>>(
     sent: &T::Message,
     document: &[u8],
 ) -> Result<List<T::Message>, OutOfMemory>
-    ensures { IfOk result (λ more. Hears T.kept T.stands T.holds T.manner sent.now (message_in (message_of document.now)) more taker.old taker.new) }
+    ensures { IfOk result (λ more. Hears T.identity T.stands T.holds T.manner sent.now (message_in (message_of document.now)) more taker.old taker.new) }
 {
     match decode(alloc, document) {
         Ok(message) => taker.hear(alloc, sent, message),
@@ -51,7 +51,7 @@ fn send_one<W: Wire, B, T: Taker<B>>(
     taker: &mut T,
     tally: &mut Tally,
 ) -> Result<List<T::Message>, OutOfMemory>
-    ensures ok { IfOk result (λ more. SendsNext T.kept T.stands T.holds (T.posts target.now) T.manner message.now more (at_of taker.old tally.old (W.tells wire.old) (W.faults wire.old)) (at_of taker.new tally.new (W.tells wire.new) (W.faults wire.new))) }
+    ensures ok { IfOk result (λ more. SendsNext T.identity T.stands T.holds (T.posts target.now) T.manner message.now more (at_of taker.old tally.old (W.tells wire.old) (W.faults wire.old)) (at_of taker.new tally.new (W.tells wire.new) (W.faults wire.new))) }
     ensures err { OnErr result (StopsAt (T.posts target.now message.now) (W.tells wire.old) (W.tells wire.new)) }
 {
     match T::post(alloc, wire, message, target)? {
@@ -75,7 +75,7 @@ fn send_next<W: Wire, B, T: Taker<B>>(
     taker: &mut T,
     tally: &mut Tally,
 ) -> Result<List<T::Message>, OutOfMemory>
-    ensures ok { IfOk result (λ more. SendsNext T.kept T.stands T.holds (T.posts target.now) T.manner message more (at_of taker.old tally.old (W.tells wire.old) (W.faults wire.old)) (at_of taker.new tally.new (W.tells wire.new) (W.faults wire.new))) }
+    ensures ok { IfOk result (λ more. SendsNext T.identity T.stands T.holds (T.posts target.now) T.manner message more (at_of taker.old tally.old (W.tells wire.old) (W.faults wire.old)) (at_of taker.new tally.new (W.tells wire.new) (W.faults wire.new))) }
     ensures err { OnErr result (StopsAt (T.posts target.now message) (W.tells wire.old) (W.tells wire.new)) }
 {
     let more = send_one(alloc, wire, &message, target, taker, tally);
@@ -95,8 +95,8 @@ pub fn send_all<W: Wire, B, T: Taker<B>>(
     taker: &mut T,
     tally: &mut Tally,
 ) -> Result<(), OutOfMemory>
-    ensures ok { OnOk result (Goes T.kept T.stands (λ kept. HoldingAny T.holds (SendsAll (T.posts target.now) (T.manner kept) list) taker.old taker.new) (at_of taker.old tally.old (W.tells wire.old) (W.faults wire.old)) (at_of taker.new tally.new (W.tells wire.new) (W.faults wire.new))) }
-    ensures err { OnErr result ((s : T.State) → T.stands taker.old s → FirstSends (T.posts target.now) (T.manner (T.kept taker.old)) list s (W.tells wire.old) (W.tells wire.new)) }
+    ensures ok { OnOk result (Goes T.identity T.stands (λ identity. HoldingAny T.holds (SendsAll (T.posts target.now) (T.manner identity) list) taker.old taker.new) (at_of taker.old tally.old (W.tells wire.old) (W.faults wire.old)) (at_of taker.new tally.new (W.tells wire.new) (W.faults wire.new))) }
+    ensures err { OnErr result ((s : T.State) → T.stands taker.old s → FirstSends (T.posts target.now) (T.manner (T.identity taker.old)) list s (W.tells wire.old) (W.tells wire.new)) }
 {
     let mut queue = VecDeque::from(list.into_vec());
     let mut left = MOST_SENDS;

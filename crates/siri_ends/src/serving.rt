@@ -80,9 +80,9 @@ impl Taker<()> for Producer {
 
     type Target = ();
 
-    ghost Kept = { List ℕ };
+    ghost Identity = { List ℕ };
 
-    ghost kept = { λ producer. producer.responder.name };
+    ghost identity = { λ producer. producer.responder.name };
 
     ghost State = { History };
 

@@ -31,11 +31,11 @@ pub trait Taker<B> {
     /// Where it sends to, where a message doesn't say so.
     type Target;
 
-    /// What it keeps as long as it runs: a producer its name.
-    ghost Kept: { Type 0 };
+    /// Who it can be, as long as it runs: a producer has a name.
+    ghost Identity: { Type 0 };
 
-    /// What it has of that.
-    ghost kept: { Self → Kept };
+    /// Who it is.
+    ghost identity: { Self → Identity };
 
     /// What contracts speak of in its place: its history, or what it has of its subscriptions.
     ghost State: { Type 0 };
@@ -68,7 +68,7 @@ pub trait Taker<B> {
     ghost refuses: { Error → State → Type 0 };
 
     /// How it takes part in the exchange.
-    ghost manner: { Kept → Manner State Self.Message };
+    ghost manner: { Identity → Manner State Self.Message };
 
     /// How its messages are posted.
     ghost posts: { Self.Target → Posting Self.Message };
@@ -77,13 +77,13 @@ pub trait Taker<B> {
     ghost can_be_written: { Self.Reply → Type 0 };
 
     /// By the state after the turn a reply is this response, or none.
-    ghost is_reply: { Kept → Self.Reply → State → Option Response → Type 0 };
+    ghost is_reply: { Identity → Self.Reply → State → Option Response → Type 0 };
 
     /// Gives it a moment. `Failed` only where the count of what stands beside it rose.
     fn clock(&mut self, beside: &mut B, now: Moment) -> Result<(), OutsideError>
         requires { is_ready beside.old }
         ensures ready { is_ready beside.new }
-        ensures keeps { OnOk result (kept self.new ≡ kept self.old) }
+        ensures keeps { OnOk result (identity self.new ≡ identity self.old) }
         ensures stands { OnOk result ((s : State) → stands self.old s → stands self.new (given now s)) }
         ensures holds { OnOk result ((s : State) → stands self.old s → holds self.old beside.old s → holds self.new beside.new (given now s)) }
         ensures err { IfErr result (λ error. (s : State) → stands self.old s → refuses error s) }
@@ -100,9 +100,9 @@ pub trait Taker<B> {
     ) -> Result<(Self::Reply, List<Self::Message>), OutsideError>
         requires { is_ready beside.old }
         ensures ready { is_ready beside.new }
-        ensures turned { IfOk result (λ taken. Turned kept stands manner is_reply asked.now taken.1 taken.0 self.old self.new) }
+        ensures turned { IfOk result (λ taken. Turned identity stands manner is_reply asked.now taken.1 taken.0 self.old self.new) }
         ensures written { IfOk result (λ taken. can_be_written taken.0) }
-        ensures holds { OnOk result ((s : State) → holds self.old beside.old s → holds self.new beside.new ((manner (kept self.old)).after s asked.now)) }
+        ensures holds { OnOk result ((s : State) → holds self.old beside.old s → holds self.new beside.new ((manner (identity self.old)).after s asked.now)) }
         ensures may { may_leave self.old (OfConnection asked.now) beside.old beside.new }
         ensures left { OnOk result (has_left self.old asked.now beside.old beside.new) }
         ensures cause { HasOutsideCause (faults beside.old) (faults beside.new) result };
@@ -117,11 +117,11 @@ pub trait Taker<B> {
     ) -> Result<(), OutOfMemory>
         requires there { W.is_open wire.old }
         requires written { can_be_written reply.now }
-        ensures keeps { OnOk result (kept self.new ≡ kept self.old) }
+        ensures keeps { OnOk result (identity self.new ≡ identity self.old) }
         ensures stands { OnOk result ((s : State) → stands self.old s → stands self.new s) }
         ensures holds { OnOk result ((beside : B) (s : State) → stands self.old s → holds self.old beside s → holds self.new beside s) }
-        ensures ok { OnOk result ((s : State) (response : Option Response) → stands self.old s → is_reply (kept self.old) reply.now s response → AnswersWith response (surroundings tally.old (W.tells wire.old) (W.faults wire.old)) (surroundings tally.new (W.tells wire.new) (W.faults wire.new))) }
-        ensures err { OnErr result ((s : State) (response : Option Response) → stands self.old s → is_reply (kept self.old) reply.now s response → StopsWriting response (W.tells wire.old) (W.tells wire.new)) };
+        ensures ok { OnOk result ((s : State) (response : Option Response) → stands self.old s → is_reply (identity self.old) reply.now s response → AnswersWith response (surroundings tally.old (W.tells wire.old) (W.faults wire.old)) (surroundings tally.new (W.tells wire.new) (W.faults wire.new))) }
+        ensures err { OnErr result ((s : State) (response : Option Response) → stands self.old s → is_reply (identity self.old) reply.now s response → StopsWriting response (W.tells wire.old) (W.tells wire.new)) };
 
     /// Posts a message, and reads what is answered.
     fn post<W: Wire>(
@@ -141,14 +141,14 @@ pub trait Taker<B> {
         message: Message,
     ) -> Result<List<Self::Message>, OutOfMemory>
         requires { IsRead message }
-        ensures { IfOk result (λ more. Hears kept stands holds manner sent.now (Some message) more self.old self.new) };
+        ensures { IfOk result (λ more. Hears identity stands holds manner sent.now (Some message) more self.old self.new) };
 
     /// Ends a turn, once everything was sent: the last of so many of a run. `Failed` only where the count of what stands
     /// beside it rose.
     fn end_turn(&mut self, beside: &mut B, made: u64) -> Result<(), OutsideError>
         requires { is_ready beside.old }
         ensures ready { is_ready beside.new }
-        ensures keeps { OnOk result (kept self.new ≡ kept self.old) }
+        ensures keeps { OnOk result (identity self.new ≡ identity self.old) }
         ensures stands { OnOk result ((s : State) → stands self.old s → stands self.new s) }
         ensures holds { OnOk result ((s : State) → stands self.old s → holds self.old beside.old s → holds self.new beside.new s) }
         ensures may { may_leave self.old AfterTurn beside.old beside.new }

@@ -26,9 +26,9 @@ pub fn take_turn<W: Wire, A: Asking, B, T: Taker<B>>(
     requires there { W.is_open wire.old }
     requires ready { T.is_ready beside.old }
     ensures ready { T.is_ready beside.new }
-    ensures ok { OnOk result (Goes T.kept T.stands (λ kept. Holding T.holds (TakesTurn A.asks (T.posts target.now) (T.manner kept)) taker.old beside.old taker.new beside.new) (at_of taker.old tally.old (W.tells wire.old) (W.faults wire.old)) (at_of taker.new tally.new (W.tells wire.new) (W.faults wire.new))) }
-    ensures err { OnErr result ((s : T.State) → T.stands taker.old s → StopsTurn A.asks (T.posts target.now) (T.manner (T.kept taker.old)) (at_of s tally.old (W.tells wire.old) (W.faults wire.old)) (W.tells wire.new)) }
-    ensures leaves { LeavesBeside A.asks (T.posts target.now) (T.manner (T.kept taker.old)) (T.stands taker.old) (beside.new ≡ beside.old)
+    ensures ok { OnOk result (Goes T.identity T.stands (λ identity. Holding T.holds (TakesTurn A.asks (T.posts target.now) (T.manner identity)) taker.old beside.old taker.new beside.new) (at_of taker.old tally.old (W.tells wire.old) (W.faults wire.old)) (at_of taker.new tally.new (W.tells wire.new) (W.faults wire.new))) }
+    ensures err { OnErr result ((s : T.State) → T.stands taker.old s → StopsTurn A.asks (T.posts target.now) (T.manner (T.identity taker.old)) (at_of s tally.old (W.tells wire.old) (W.faults wire.old)) (W.tells wire.new)) }
+    ensures leaves { LeavesBeside A.asks (T.posts target.now) (T.manner (T.identity taker.old)) (T.stands taker.old) (beside.new ≡ beside.old)
         (λ asked. T.may_leave taker.old (OfConnection asked) beside.old beside.new) (λ asked. T.has_left taker.old asked beside.old beside.new) (W.tells wire.old) (W.tells wire.new) }
     ensures cause { HasOutsideCause (T.faults beside.old) (T.faults beside.new) result }
 {

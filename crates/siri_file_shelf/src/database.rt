@@ -79,7 +79,7 @@ fn next<S: Alter>(
 }
 
 /// What is asked of a database.
-pub(crate) enum Asked<'a> {
+pub(crate) enum DatabaseCall<'a> {
     /// To have the table, which is made where there is none.
     Table,
     /// The row of a table with the least key above the one that is given, or with the least of all.
@@ -91,12 +91,12 @@ pub(crate) enum Asked<'a> {
 /// Does what is asked of a database, and gives the row that was asked for, where there is one.
 pub(crate) fn ask<S: Alter>(
     database: &mut Connection<S>,
-    asked: Asked<'_>,
+    asked: DatabaseCall<'_>,
 ) -> Result<Option<Row>, Error> {
     match asked {
-        Asked::Table => run(database, TABLE, &[])?,
-        Asked::Next { table, after } => return next(database, table, after),
-        Asked::Write(list) => write(database, list)?,
+        DatabaseCall::Table => run(database, TABLE, &[])?,
+        DatabaseCall::Next { table, after } => return next(database, table, after),
+        DatabaseCall::Write(list) => write(database, list)?,
     }
     Ok(None)
 }

@@ -1,10 +1,13 @@
 //! A shelf in a file.
 
-ghost use Rattle.std.specs.Prelude.{◌≡◌, IsSome, None};
+ghost use Rattle.std.specs.Prelude.{◌≡◌, IsErrOf, IsSome, None, OnErr, OnOk};
 ghost use Rattle.siri_base.specs.Causes.{HasOutsideCause};
+ghost use Rattle.siri_base.specs.declared.errors.OutsideError.TheVariants as outside;
+ghost use Rattle.siri_shelf.specs.Shelves.{CountsFault};
+ghost use Rattle.siri_file_shelf.specs.Refusals.{fault_after, outcome_of};
 
-use crate::database::Asked;
-use crate::opened::Opened;
+use crate::database::DatabaseCall;
+use crate::opened::FileDatabase;
 use siri_base::{List, Name, OutsideError};
 use siri_shelf::{Put, Row, Shelf};
 use sqlite::{Error, ErrorCode};
@@ -14,7 +17,7 @@ use sqlite::{Error, ErrorCode};
 /// memory counts as a fault, and the last is kept.
 pub struct FileShelf {
     rt: HostRuntime,
-    database: Option<Opened>,
+    database: Option<FileDatabase>,
     fault: Option<Error>,
     faults: u64,
 }
@@ -52,13 +55,17 @@ impl FileShelf {
     }
 }
 
-/// What a call of the database comes to. A refusal for another cause than memory is counted and kept.
+/// What a call of the database comes to. A refusal for another cause than memory is a fault, which is counted and kept.
 fn counted<T: Drop>(
     fault: &mut Option<Error>,
     faults: &mut u64,
     answer: Result<T, Error>,
 ) -> Result<T, OutsideError>
-    ensures { HasOutsideCause faults.old faults.new result }
+    ensures outcome { result ≡ outcome_of answer }
+    ensures fault { fault.new ≡ fault_after fault.old answer }
+    ensures cause { HasOutsideCause faults.old faults.new result }
+    ensures counted { CountsFault faults.old faults.new result }
+    ensures told { IsErrOf result outside.Failed → IsSome fault.new }
 {
     match answer {
         Ok(value) => Ok(value),
@@ -78,28 +85,49 @@ impl Shelf for FileShelf {
 
     ghost faults = { λ s. s.faults };
 
-    fn open(&mut self, file: &Name) -> Result<(), OutsideError> {
+    /// Besides what the trait says: the database's words are kept where it fails.
+    fn open(&mut self, file: &Name) -> Result<(), OutsideError>
+        ensures open { OnOk result (IsSome self.new.database) }
+        ensures closed { OnErr result (¬ IsSome self.new.database) }
+        ensures cause { HasOutsideCause self.old.faults self.new.faults result }
+        ensures counted { CountsFault self.old.faults self.new.faults result }
+        ensures fault { IsErrOf result outside.Failed → IsSome self.new.fault }
+    {
         self.database = None;
-        let opened = Opened::open(&self.rt, file.text());
+        let opened = FileDatabase::open(&self.rt, file.text());
         let database = counted(&mut self.fault, &mut self.faults, opened)?;
         self.database = Some(database);
         Ok(())
     }
 
-    fn next(&mut self, table: u8, after: Option<&[u8]>) -> Result<Option<Row>, OutsideError> {
+    /// The same.
+    fn next(&mut self, table: u8, after: Option<&[u8]>) -> Result<Option<Row>, OutsideError>
+        requires { IsSome self.old.database }
+        ensures open { IsSome self.new.database }
+        ensures cause { HasOutsideCause self.old.faults self.new.faults result }
+        ensures counted { CountsFault self.old.faults self.new.faults result }
+        ensures fault { IsErrOf result outside.Failed → IsSome self.new.fault }
+    {
         match &mut self.database {
             Some(database) => {
-                let found = database.ask(Asked::Next { table, after });
+                let found = database.ask(DatabaseCall::Next { table, after });
                 counted(&mut self.fault, &mut self.faults, found)
             }
             None => unreachable!(),
         }
     }
 
-    fn write(&mut self, list: &List<Put>) -> Result<(), OutsideError> {
+    /// The same.
+    fn write(&mut self, list: &List<Put>) -> Result<(), OutsideError>
+        requires { IsSome self.old.database }
+        ensures open { IsSome self.new.database }
+        ensures cause { HasOutsideCause self.old.faults self.new.faults result }
+        ensures counted { CountsFault self.old.faults self.new.faults result }
+        ensures fault { IsErrOf result outside.Failed → IsSome self.new.fault }
+    {
         match &mut self.database {
             Some(database) => {
-                let written = database.ask(Asked::Write(list.slice()));
+                let written = database.ask(DatabaseCall::Write(list.slice()));
                 counted(&mut self.fault, &mut self.faults, written)?;
                 Ok(())
             }

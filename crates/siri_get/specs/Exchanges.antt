@@ -94,6 +94,6 @@ TellsAtOnce told None = ⊤
 TellsAtOnce told (Some heard) = heard ≡ Some told
 
 -- what comes of a plan, of which a target is asked of this host; where none is, the wire stays as it is
-abbrev pub Asks : List ℕ → Plan → Option WireState → Option WireState → Option Heard → Type 0
-Asks host (plan.Asks target) old new outcome = WhereTold old new (Gets host (get_text host target) outcome)
-Asks host (plan.Tells told) old new outcome = TellsAtOnce told outcome × (new ≡ old)
+abbrev pub ComesOfPlan : List ℕ → Plan → Option WireState → Option WireState → Option Heard → Type 0
+ComesOfPlan host (plan.Asks target) old new outcome = WhereTold old new (Gets host (get_text host target) outcome)
+ComesOfPlan host (plan.Tells told) old new outcome = TellsAtOnce told outcome × (new ≡ old)

@@ -7,7 +7,7 @@ use Rattle.siri_wire.specs.Documents.{message_of}
 use Rattle.siri_lines.specs.Ends.{Bytes}
 use Rattle.siri_document.specs.OneDocument.{Tells}
 use Rattle.siri_get.specs.Plans.{plan_of}
-use Rattle.siri_get.specs.Exchanges.{Heard, Asks}
+use Rattle.siri_get.specs.Exchanges.{Heard, ComesOfPlan}
 
 -- how a run ends by what it heard: what is told is written, or a front of it where the run was cut off
 abbrev pub EndsBy : Option Heard → Bytes → Bytes → Status → Type 0
@@ -24,7 +24,7 @@ pub record ReadsNone (before after : Option WireState) (old new : Bytes) (end : 
 -- the input was read to its end, but no further than its byte 8,388,609; what it comes to was asked, and what was heard is told
 pub record AsksInput (host input : List ℕ) (left : Bytes) (before after : Option WireState) (old new : Bytes) (end : Status) : Type 0 where
   pub outcome : Option Heard
-  pub asks : Asks host (plan_of (message_of input)) before after outcome
+  pub asks : ComesOfPlan host (plan_of (message_of input)) before after outcome
   pub ends : EndsBy outcome old new end
   pub read : left ≡ Some (drop 8388609 input)
 

@@ -7,7 +7,7 @@ ghost use Rattle.siri_http.specs.Parts.{response_parts};
 ghost use Rattle.siri_http.specs.Texts.{get_text};
 ghost use Rattle.siri_http.specs.ExchangeCauses.{HasFaultCause, outcome};
 ghost use Rattle.siri_get.specs.Plans.{plan_of};
-ghost use Rattle.siri_get.specs.Exchanges.{Asks, Gets, Hears, Talks, answered_told, refused_told_by, told_of};
+ghost use Rattle.siri_get.specs.Exchanges.{ComesOfPlan, Gets, Hears, Talks, answered_told, refused_told_by, told_of};
 
 use crate::plan::{Plan, line_told, plan_of};
 use siri_base::{OutOfMemory, OutsideError, Text, Wire, append, append_number};
@@ -121,7 +121,7 @@ pub(crate) fn ask<W: Wire>(
     document: Vec<u8>,
     wire: &mut W,
 ) -> Result<Option<Answer>, OutOfMemory>
-    ensures told { Asks producer.now.host (plan_of (message_of document.items)) (W.tells wire.old) (W.tells wire.new) (outcome result) }
+    ensures told { ComesOfPlan producer.now.host (plan_of (message_of document.items)) (W.tells wire.old) (W.tells wire.new) (outcome result) }
     ensures cause { HasFaultCause (W.faults wire.old) (W.faults wire.new) None (outcome result) }
 {
     match plan_of(alloc, document)? {

@@ -1,13 +1,10 @@
 -- Steps over the connection that is there, one after the other.
-use Rattle.std.proofs.Common.{zero, suc, ◌≡◌, ◌≤◌, ◌<◌, ◌+◌, ◌-◌, ℕ, List, [], ◌∷◌, ◌++◌, None, Some, Option, Bool, true, false, Result, Ok}
-use Rattle.std.proofs.Common.{Err, length, take, drop, refl, sym, ap, ◌∙◌, subst, append-nil, append_assoc, arith, length-append, cond, inl}
-use Rattle.std.proofs.Common.{inr, ◌⊎◌}
-use Rattle.std.proofs.lemmas.Bool.{le-leb, lt-leb, leb-true, leb-false, cases_lt}
+use Rattle.std.proofs.Common.{◌≡◌, ◌≤◌, ◌+◌, ◌-◌, ℕ, List, [], ◌∷◌, ◌++◌, None, Some, Option, Bool, true, false, Result}
+use Rattle.std.proofs.Common.{Err, length, take, drop, refl, sym, ap, ◌∙◌, subst, append-nil, append_assoc, arith, length-append, cond}
+use Rattle.std.proofs.lemmas.Bool.{le-leb, lt-leb, leb-true, leb-false}
 use Rattle.std.specs.Prelude.{nat_le}
-use Rattle.std.proofs.lemmas.List.{length-take-le, take_all}
 use Rattle.std.proofs.Math.Seq.{take-append-add, take-add}
-use Rattle.siri_base.specs.declared.errors.Failed.{Failed}
-use Rattle.siri_base.specs.Failures.{IsDue, Passes}
+use Rattle.siri_base.specs.Failures.{Passes}
 use Rattle.siri_base.specs.MetFailures.{Meets}
 use Rattle.siri_base.specs.OutsideCalls.{WhereTold}
 use Rattle.siri_base.specs.Wires.{Present, WireState, Reads, TakesBytes}
@@ -15,7 +12,7 @@ use Rattle.siri_http.specs.declared.errors.HttpError.{HttpError}
 use Rattle.siri_http.specs.declared.errors.HttpError.TheVariants as http
 use Rattle.siri_http.specs.Connections.{passing, readable, cut_by, cut_of, OnConnection}
 use Rattle.siri_http.specs.Messages.{is_read_fault}
-use Rattle.siri_http.specs.inner.Reading.{Takes, Stops}
+use Rattle.siri_http.specs.inner.Reading.{TakesInput, Stops}
 use Rattle.siri_base.proofs.MetFailures.{passes_none, passes_more, passes_failing}
 
 -- ---- what is told
@@ -87,10 +84,10 @@ cut_more (b ∷ l) g bytes rest p =
 
 -- ---- bytes that were taken
 
-pub takes_none : (a : Present) → Takes [] a a
+pub takes_none : (a : Present) → TakesInput [] a a
 takes_none a = record { input = refl; fails = passes_none a.left.read_fails; unwritten = refl; written = refl }
 
-pub takes_more : (bytes more : List ℕ) (a b c : Present) → Takes bytes a b → Takes more b c → Takes (bytes ++ more) a c
+pub takes_more : (bytes more : List ℕ) (a b c : Present) → TakesInput bytes a b → TakesInput more b c → TakesInput (bytes ++ more) a c
 takes_more bytes more a b c p q = record {
   input = p.input ∙ ap (λ l. bytes ++ l) q.input ∙ sym (append_assoc bytes more c.left.input);
   fails = subst (Passes a.left.read_fails c.left.read_fails) (sym (length-append bytes more)) (passes_more _ _ _ _ _ p.fails q.fails);
@@ -99,13 +96,13 @@ takes_more bytes more a b c p q = record {
 }
 
 -- what can be read of a connection of which some was taken
-pub takes_readable : (bytes : List ℕ) (a b : Present) → Takes bytes a b → readable a.left ≡ bytes ++ readable b.left
+pub takes_readable : (bytes : List ℕ) (a b : Present) → TakesInput bytes a b → readable a.left ≡ bytes ++ readable b.left
 takes_readable bytes a b p = ap (passing a.left.read_fails) p.input ∙ passing_more _ _ bytes b.left.input p.fails
 
-pub takes_cut : (bytes : List ℕ) (a b : Present) → Takes bytes a b → cut_of a.left ≡ cut_of b.left
+pub takes_cut : (bytes : List ℕ) (a b : Present) → TakesInput bytes a b → cut_of a.left ≡ cut_of b.left
 takes_cut bytes a b p = ap (λ l. cut_by a.left.read_fails (length l)) p.input ∙ cut_more _ _ bytes b.left.input p.fails
 
-pub stops_more : (bytes more : List ℕ) (cut : HttpError) (a b c : Present) → Takes bytes a b → Stops more cut b c → Stops (bytes ++ more) cut a c
+pub stops_more : (bytes more : List ℕ) (cut : HttpError) (a b c : Present) → TakesInput bytes a b → Stops more cut b c → Stops (bytes ++ more) cut a c
 stops_more bytes more cut a b c p q = record {
   input = p.input ∙ ap (λ l. bytes ++ l) q.input ∙ sym (append_assoc bytes more c.left.input);
   fails = subst (Meets (is_read_fault cut) a.left.read_fails c.left.read_fails) (sym (length-append bytes more))
@@ -125,50 +122,6 @@ reads_as : {E : Type 0} (Q : Present → Present → Type 0) (x y : Option WireS
 reads_as Q None y r lent p f = tt
 reads_as Q (Some a) None r lent p f = absurd p
 reads_as Q (Some a) (Some b) r lent p f = record { present = told_map _ Q a.present b.present f p.present; rest = p.rest }
-
-some_taken : (n : ℕ) (lent : List ℕ) (a b : Present) → n ≤ length lent → TakesBytes {E = Failed} a b (Ok n) lent → Takes (take n lent) a b
-some_taken n lent a b h p = record {
-  input = p.bytes.0;
-  fails = subst (Passes a.left.read_fails b.left.read_fails) (sym (length-take-le n lent h)) p.fails.0;
-  unwritten = p.unwritten;
-  written = p.written;
-}
-
--- a read gave bytes
-pub read_takes : (x y : Option WireState) (n : ℕ) (lent : List ℕ) → n ≤ length lent
-    → WhereTold x y (λ old new. Reads {E = Failed} old new (Ok n) lent) → OnConnection (Takes (take n lent)) x y
-read_takes x y n lent h p = reads_as _ x y (Ok n) lent p (λ a b. some_taken n lent a b h)
-
-passing_nil : (f : List ℕ) → passing f [] ≡ []
-passing_nil [] = refl
-passing_nil (zero ∷ l) = refl
-passing_nil (suc b ∷ l) = refl
-
-cut_at_end : (f : List ℕ) (k : ℕ) → 0 < k → (IsDue f → k ≡ 0) → cut_by f 0 ≡ http.Short
-cut_at_end [] k some due = refl
-cut_at_end (b ∷ l) k some due = ap (λ t. cond t http.ReadFault http.Short) (lt-leb b 0 (choose (cases_lt 0 b)))
-  where
-    choose : (0 < b) ⊎ (b ≤ 0) → 0 < b
-    choose (inl h) = h
-    choose (inr h) = absurd (omega (arith, some, due (omega (arith, h))))
-
-end_reached : (lent : List ℕ) (a b : Present) → 0 < length lent → TakesBytes {E = Failed} a b (Ok 0) lent → Stops [] http.Short a b
-end_reached lent a b some p =
-    let none : a.left.input ≡ [] = p.bytes.0 ∙ p.bytes.1 refl some in
-    record {
-      input = p.bytes.0;
-      fails = p.fails.0;
-      readable_is = ap (passing a.left.read_fails) none ∙ passing_nil a.left.read_fails;
-      cut_is = ap (λ l. cut_by a.left.read_fails (length l)) none ∙ cut_at_end a.left.read_fails (length lent) some p.fails.1;
-      known = refl;
-      unwritten = p.unwritten;
-      written = p.written;
-    }
-
--- a read met the end
-pub read_ends : (x y : Option WireState) (lent : List ℕ) → 0 < length lent
-    → WhereTold x y (λ old new. Reads {E = Failed} old new (Ok 0) lent) → OnConnection (Stops [] http.Short) x y
-read_ends x y lent some p = reads_as _ x y (Ok 0) lent p (λ a b. end_reached lent a b some)
 
 fault_came : {E : Type 0} (e : E) (lent : List ℕ) (a b : Present) → TakesBytes a b (Err e) lent → Stops [] http.ReadFault a b
 fault_came e lent a b p = record {
@@ -193,25 +146,20 @@ pub taken_on : (f n : ℕ) (old new : List ℕ) → take f new ≡ take f old �
 taken_on f n old new e = take-add f n new ∙ ap (λ l. l ++ take n (drop f new)) e
 
 -- the connection before any read
-pub took_none : (buffer : List ℕ) (x : Option WireState) → OnConnection (Takes (take 0 buffer)) x x
-took_none buffer x = on_same (Takes []) x takes_none
+pub took_none : (buffer : List ℕ) (x : Option WireState) → OnConnection (TakesInput (take 0 buffer)) x x
+took_none buffer x = on_same (TakesInput []) x takes_none
 
 -- a read after those before it
 pub took_more : (x y z : Option WireState) (f n : ℕ) (old new : List ℕ) → take f new ≡ take f old
-    → OnConnection (Takes (take f old)) x y → OnConnection (Takes (take n (drop f new))) y z
-    → OnConnection (Takes (take (f + n) new)) x z
+    → OnConnection (TakesInput (take f old)) x y → OnConnection (TakesInput (take n (drop f new))) y z
+    → OnConnection (TakesInput (take (f + n) new)) x z
 took_more x y z f n old new e p q =
-    subst (λ l. OnConnection (Takes l) x z) (sym (taken_on f n old new e))
-    (on_then (Takes (take f old)) (Takes (take n (drop f new))) (Takes (take f old ++ take n (drop f new))) x y z
+    subst (λ l. OnConnection (TakesInput l) x z) (sym (taken_on f n old new e))
+    (on_then (TakesInput (take f old)) (TakesInput (take n (drop f new))) (TakesInput (take f old ++ take n (drop f new))) x y z
     (takes_more (take f old) (take n (drop f new))) p q)
 
 -- a read that met the end or failed, after those before it
-pub took_stops : (x y z : Option WireState) (bytes : List ℕ) (e : HttpError) → OnConnection (Takes bytes) x y
+pub took_stops : (x y z : Option WireState) (bytes : List ℕ) (e : HttpError) → OnConnection (TakesInput bytes) x y
     → OnConnection (Stops [] e) y z → OnConnection (Stops bytes e) x z
 took_stops x y z bytes e p q =
-    on_then (Takes bytes) (Stops [] e) (Stops bytes e) x y z (λ a b c r s. subst (λ l. Stops l e a c) (append-nil bytes) (stops_more bytes [] e a b c r s)) p q
-
--- the whole buffer came
-pub took_all : (x y : Option WireState) (f : ℕ) (buffer : List ℕ) → length buffer ≤ f
-    → OnConnection (Takes (take f buffer)) x y → OnConnection (Takes buffer) x y
-took_all x y f buffer h p = subst (λ l. OnConnection (Takes l) x y) (take_all f buffer h) p
+    on_then (TakesInput bytes) (Stops [] e) (Stops bytes e) x y z (λ a b c r s. subst (λ l. Stops l e a c) (append-nil bytes) (stops_more bytes [] e a b c r s)) p q

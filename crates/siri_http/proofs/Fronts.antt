@@ -1,7 +1,7 @@
 -- What was read of a connection is the message that it brings.
 use Rattle.std.proofs.Common.{◌≡◌, ◌≤◌, ◌<◌, ◌+◌, ◌-◌, ℕ, List, [], ◌∷◌, ◌++◌, None, Some, Option, Bool, true, false, Result, Ok, Err}
 use Rattle.std.proofs.Common.{length, take, drop, refl, sym, ap, ap₂, ◌∙◌, subst, append-nil, append_assoc, arith, length-append}
-use Rattle.std.proofs.Common.{length-drop, length-take-le, take-append-drop, inl, inr, ◌⊎◌}
+use Rattle.std.proofs.Common.{length-drop, length-take-le, inl, inr, ◌⊎◌}
 use Rattle.std.specs.Prelude.{⊤, min, max, MatchBool, nat_le, nat_lt, cond, slice_range}
 use Rattle.std.proofs.lemmas.Bool.{le-leb, lt-leb, cases_lt, false≢true}
 use Rattle.std.proofs.lemmas.List.{take_all, take_at, take-append-le, drop-append-le}
@@ -18,7 +18,7 @@ use Rattle.siri_http.specs.Connections.{readable, cut_of, OnConnection}
 use Rattle.siri_http.specs.Messages.{Head, IsHead, text_says, body_in, told_with, message, message_by, message_after, Brings, ReadsMessage}
 use Rattle.siri_http.specs.Messages.{Decides, IfCut, is_memory, is_cut, is_read_fault, end_by, message_end}
 use Rattle.siri_http.specs.inner.Faults.{is_fault}
-use Rattle.siri_http.specs.inner.Reading.{Takes, Stops, HasHead, HasNoHead, SaysSo, LacksBody, HasBody}
+use Rattle.siri_http.specs.inner.Reading.{TakesInput, Stops, HasHead, HasNoHead, SaysSo, LacksBody, HasBody}
 use Rattle.siri_base.proofs.MetFailures.{passes_none}
 use Rattle.siri_http.proofs.Lines.{cut_text}
 use Rattle.siri_http.proofs.HeadTexts.{head_at, head_full, head_len, no_head_short, no_head_long}
@@ -57,14 +57,14 @@ stops_no_head bytes e a b s h none = record {
       s.readable_is ∙ ap (λ t. cond t http.HeadTooLong (cut_of a.left)) (lt-leb 16384 (length bytes) h) ∙ s.cut_is));
 }
 
-pub stops_before_head : (bytes : List ℕ) (e : HttpError) (x y z : Option WireState) → OnConnection (Takes bytes) x y
+pub stops_before_head : (bytes : List ℕ) (e : HttpError) (x y z : Option WireState) → OnConnection (TakesInput bytes) x y
     → OnConnection (Stops [] e) y z → length bytes < 16384 → head_from fresh bytes ≡ None
     → OnConnection (HasNoHead e) x z
 stops_before_head bytes e x y z p q h none = on_map (Stops bytes e) (HasNoHead e) x z
     (λ a b s. stops_no_head bytes e a b s h none) (took_stops x y z bytes e p q)
 
 -- so many bytes came, and no head text
-too_long : (bytes : List ℕ) (a b : Present) → length bytes ≡ 16384 → head_from fresh bytes ≡ None → Takes bytes a b → HasNoHead http.HeadTooLong a b
+too_long : (bytes : List ℕ) (a b : Present) → length bytes ≡ 16384 → head_from fresh bytes ≡ None → TakesInput bytes a b → HasNoHead http.HeadTooLong a b
 too_long bytes a b h none t =
     let e = takes_readable bytes a b t in
     let most : 16384 ≤ length (bytes ++ readable b.left) = omega (arith, h, length-append bytes (readable b.left)) in
@@ -82,8 +82,8 @@ too_long bytes a b h none t =
     }
 
 pub head_too_long : (bytes : List ℕ) (x y : Option WireState) → length bytes ≡ 16384 → head_from fresh bytes ≡ None
-    → OnConnection (Takes bytes) x y → OnConnection (HasNoHead http.HeadTooLong) x y
-head_too_long bytes x y h none p = on_map (Takes bytes) (HasNoHead http.HeadTooLong) x y (λ a b. too_long bytes a b h none) p
+    → OnConnection (TakesInput bytes) x y → OnConnection (HasNoHead http.HeadTooLong) x y
+head_too_long bytes x y h none p = on_map (TakesInput bytes) (HasNoHead http.HeadTooLong) x y (λ a b. too_long bytes a b h none) p
 
 -- ---- the bytes that a read put behind those that came
 
@@ -99,8 +99,8 @@ pub scan_len : (f n len : ℕ) (new : List ℕ) → len ≡ f + length (slice_ra
 scan_len f n len new e h = e ∙ ap (λ k. f + k) (piece_len f n new h)
 
 pub scan_took : (x y : Option WireState) (f n len : ℕ) (new : List ℕ) → len ≡ f + length (slice_range new f (f + n))
-    → f + n ≤ length new → OnConnection (Takes (take (f + n) new)) x y → OnConnection (Takes (take len new)) x y
-scan_took x y f n len new e h p = subst (λ k. OnConnection (Takes (take k new)) x y) (sym (scan_len f n len new e h)) p
+    → f + n ≤ length new → OnConnection (TakesInput (take (f + n) new)) x y → OnConnection (TakesInput (take len new)) x y
+scan_took x y f n len new e h p = subst (λ k. OnConnection (TakesInput (take k new)) x y) (sym (scan_len f n len new e h)) p
 
 came_as : (f n : ℕ) (old new rest : List ℕ) → take f new ≡ take f old → take (f + n) new ++ rest ≡ take f old ++ (slice_range new f (f + n) ++ rest)
 came_as f n old new rest k =
@@ -151,7 +151,7 @@ pub body_no_memory : (room : ℕ) (x : Option WireState) → OnConnection (Lacks
 body_no_memory room x = on_same (LacksBody room http.OutOfMemory) x takes_none
 
 lacks : (bytes : List ℕ) (room : ℕ) (e : HttpError) (a b : Present) → length bytes < room → Stops bytes e a b → LacksBody room e a b
-lacks bytes room e a b h s = subst (λ t. MatchBool t (Takes [] a b) ((bytes : List ℕ) × Stops bytes e a b × (length bytes < room))) (sym s.known) (bytes, s, h)
+lacks bytes room e a b h s = subst (λ t. MatchBool t (TakesInput [] a b) ((bytes : List ℕ) × Stops bytes e a b × (length bytes < room))) (sym s.known) (bytes, s, h)
 
 -- fewer bytes came than the body has
 pub body_stops : (bytes : List ℕ) (room : ℕ) (e : HttpError) (x y : Option WireState) → length bytes < room
@@ -177,7 +177,7 @@ body_parts came more count here h m = choose (cases_lt (length came) count)
         ap (λ k. take k came ++ more) all ∙ ap (λ l. take count came ++ l) none ∙ append-nil (take count came) ∙ sym (take-append-le count came more l)
 
 has_body : (came more : List ℕ) (count here : ℕ) (a b : Present) → here ≡ min (length came) count
-    → length more ≡ count - here → Takes more a b → HasBody came count (take here came ++ more) a b
+    → length more ≡ count - here → TakesInput more a b → HasBody came count (take here came ++ more) a b
 has_body came more count here a b h m t = record {
   more = more;
   takes = t;
@@ -187,24 +187,14 @@ has_body came more count here a b h m t = record {
 
 -- the body is what came of it with the head, and what was read behind that
 pub body_came : (came more : List ℕ) (count here : ℕ) (x y : Option WireState) → here ≡ min (length came) count
-    → length more ≡ count - here → OnConnection (Takes more) x y
+    → length more ≡ count - here → OnConnection (TakesInput more) x y
     → OnConnection (HasBody came count (take here came ++ more)) x y
-body_came came more count here x y h m p = on_map (Takes more) (HasBody came count (take here came ++ more)) x y
+body_came came more count here x y h m p = on_map (TakesInput more) (HasBody came count (take here came ++ more)) x y
     (λ a b. has_body came more count here a b h m) p
 
 -- a buffer after its whole was lent and came back
 pub lent_whole : (n : ℕ) (lent items : List ℕ) → length lent ≡ length items → n ≡ length items → take n (lent ++ drop (length lent) items) ≡ lent
 lent_whole n lent items e h = take_at lent (drop (length lent) items) n (e ∙ sym h)
-
--- the buffer begins with what came, and was filled behind that
-pub body_filled : (came lent : List ℕ) (count here : ℕ) (x y : Option WireState) → here ≡ min (length came) count
-    → length lent ≡ count → take here lent ≡ take here came → OnConnection (Takes (drop here lent)) x y
-    → OnConnection (HasBody came count lent) x y
-body_filled came lent count here x y h n k p =
-    let more : length (drop here lent) ≡ count - here = omega (arith, n, length-drop here lent) in
-    subst (λ l. OnConnection (HasBody came count l) x y)
-    (ap (λ l. l ++ drop here lent) (sym k) ∙ take-append-drop here lent)
-    (body_came came (drop here lent) count here x y h more p)
 
 -- ---- messages
 
@@ -310,7 +300,7 @@ module _ {T : Type 0} (Says : List ℕ → Option (Head T) → Type 0) (bytes : 
 
   -- the head is refused
   refused : (e : HttpError) (a b : Present) → is_fault e ≡ false → SaysSo Says (take text.len bytes) text.full (Err e)
-      → Takes bytes a b → ReadsMessage Says (Err e) a b
+      → TakesInput bytes a b → ReadsMessage Says (Err e) a b
   refused e a b f s t =
       let brings = unless_both (is_memory e) _ _ _
       (λ says is. brings_as a (readable b.left) s.head (Err e) (Err e) (takes_readable bytes a b t) says is refl)
@@ -333,17 +323,17 @@ module _ {T : Type 0} (Says : List ℕ → Option (Head T) → Type 0) (bytes : 
       }
 
   pub head_refused : (e : HttpError) (x y : Option WireState) → is_fault e ≡ false
-      → SaysSo Says (take text.len bytes) text.full (Err e) → OnConnection (Takes bytes) x y
+      → SaysSo Says (take text.len bytes) text.full (Err e) → OnConnection (TakesInput bytes) x y
       → OnConnection (ReadsMessage Says (Err e)) x y
-  head_refused e x y f s p = on_map (Takes bytes) (ReadsMessage Says (Err e)) x y (λ a b. refused e a b f s) p
+  head_refused e x y f s p = on_map (TakesInput bytes) (ReadsMessage Says (Err e)) x y (λ a b. refused e a b f s) p
 
   -- the body isn't whole
   cut_off : (told : T) (count : ℕ) (e : HttpError) (a b c : Present)
-      → SaysSo Says (take text.len bytes) text.full (Ok (told, count)) → Takes bytes a b
+      → SaysSo Says (take text.len bytes) text.full (Ok (told, count)) → TakesInput bytes a b
       → LacksBody (count - length (drop text.len bytes)) e b c → ReadsMessage Says (Err e) a c
   cut_off told count e a b c s t l = choose (is_memory e) refl l
     where
-      choose : (m : Bool) → is_memory e ≡ m → MatchBool m (Takes [] b c)
+      choose : (m : Bool) → is_memory e ≡ m → MatchBool m (TakesInput [] b c)
           ((more : List ℕ) × Stops more e b c × (length more < count - length (drop text.len bytes)))
           → ReadsMessage Says (Err e) a c
       choose true is n = record {
@@ -385,15 +375,15 @@ module _ {T : Type 0} (Says : List ℕ → Option (Head T) → Type 0) (bytes : 
           }
 
   pub body_lacks : (told : T) (count : ℕ) (e : HttpError) (x y z : Option WireState)
-      → SaysSo Says (take text.len bytes) text.full (Ok (told, count)) → OnConnection (Takes bytes) x y
+      → SaysSo Says (take text.len bytes) text.full (Ok (told, count)) → OnConnection (TakesInput bytes) x y
       → OnConnection (LacksBody (count - length (drop text.len bytes)) e) y z
       → OnConnection (ReadsMessage Says (Err e)) x z
-  body_lacks told count e x y z s p q = on_then (Takes bytes) (LacksBody (count - length (drop text.len bytes)) e)
+  body_lacks told count e x y z s p q = on_then (TakesInput bytes) (LacksBody (count - length (drop text.len bytes)) e)
       (ReadsMessage Says (Err e)) x y z (λ a b c. cut_off told count e a b c s) p q
 
   -- the body is whole
   whole : (told : T) (count : ℕ) (body : List ℕ) (a b c : Present)
-      → SaysSo Says (take text.len bytes) text.full (Ok (told, count)) → Takes bytes a b
+      → SaysSo Says (take text.len bytes) text.full (Ok (told, count)) → TakesInput bytes a b
       → HasBody (drop text.len bytes) count body b c → ReadsMessage Says (Ok (told, body)) a c
   whole told count body a b c s t n =
       let all = takes_more bytes n.more a b c t n.takes in
@@ -439,10 +429,10 @@ module _ {T : Type 0} (Says : List ℕ → Option (Head T) → Type 0) (bytes : 
       }
 
   pub body_whole : (told : T) (count : ℕ) (body : List ℕ) (x y z : Option WireState)
-      → SaysSo Says (take text.len bytes) text.full (Ok (told, count)) → OnConnection (Takes bytes) x y
+      → SaysSo Says (take text.len bytes) text.full (Ok (told, count)) → OnConnection (TakesInput bytes) x y
       → OnConnection (HasBody (drop text.len bytes) count body) y z
       → OnConnection (ReadsMessage Says (Ok (told, body))) x z
-  body_whole told count body x y z s p q = on_then (Takes bytes) (HasBody (drop text.len bytes) count body)
+  body_whole told count body x y z s p q = on_then (TakesInput bytes) (HasBody (drop text.len bytes) count body)
       (ReadsMessage Says (Ok (told, body))) x y z (λ a b c. whole told count body a b c s) p q
 
 -- the head text at the front of what came

@@ -107,7 +107,7 @@ nothing_came : StandsFor scan.fresh []
 nothing_came = record { ended = []; begun = []; plain = tt; parts = λ rest. refl; len = refl; full = refl; line = refl }
 
 -- a byte is taken: whether it ends the head text, how many lines of that aren't empty, and what the state stands for then
-record Takes (s : Scan) (came : List ℕ) (b : ℕ) : Type 0 where
+record TakesByte (s : Scan) (came : List ℕ) (b : ℕ) : Type 0 where
   test : ends_head (came ++ b ∷ []) ≡ scan.ends_head s b
   full : scan.ends_head s b ≡ true → s.full ≡ full_lines (came ++ b ∷ [])
   next : StandsFor (scan.after_byte s b) (came ++ b ∷ [])
@@ -149,7 +149,7 @@ module _ (s : Scan) (came : List ℕ) (h : StandsFor s came) where
       line = ap (λ l. scan.line_after l b) h.line ∙ came_more h.begun b;
     }
 
-    inner_takes : Takes s came b
+    inner_takes : TakesByte s came b
     inner_takes = record {
       test = inner_ends ∙ sym (inner_test s b p);
       full = λ e. absurd (false≢true (sym (inner_test s b p) ∙ e));
@@ -176,7 +176,7 @@ same_test false n = refl
 same_full : (t : Bool) (n : ℕ) → t ≡ true → cond t n (n + 1) ≡ n
 same_full t n e = ap (λ t. cond t n (n + 1)) e
 
-feed_takes : (s : Scan) (came : List ℕ) → StandsFor s came → Takes s came 10
+feed_takes : (s : Scan) (came : List ℕ) → StandsFor s came → TakesByte s came 10
 unfolding scan.ends_head scan.after_byte
 feed_takes s came h = record {
   test = ap₂ (λ t n. t && nat_lt 0 n) (ap ends_empty (feed_parts s came h) ∙ ends_last h.ended (h.begun ++ 10 ∷ [])
@@ -195,11 +195,11 @@ feed_takes s came h = record {
   };
 }
 
-takes : (s : Scan) (came : List ℕ) (b : ℕ) → StandsFor s came → Takes s came b
+takes : (s : Scan) (came : List ℕ) (b : ℕ) → StandsFor s came → TakesByte s came b
 takes s came b h = choose (b == 10) refl
   where
-    choose : (t : Bool) → (b == 10) ≡ t → Takes s came b
-    choose true e = subst (λ b. Takes s came b) (sym (eqb-true b 10 e)) (feed_takes s came h)
+    choose : (t : Bool) → (b == 10) ≡ t → TakesByte s came b
+    choose true e = subst (λ b. TakesByte s came b) (sym (eqb-true b 10 e)) (feed_takes s came h)
     choose false e = inner_takes s came h b e
 
 -- ---- the first front that ends a head
@@ -234,7 +234,7 @@ finds s came (b ∷ bytes) h = next (takes s came b h) (λ stands. finds (scan.a
     same : (came ++ b ∷ []) ++ bytes ≡ came ++ b ∷ bytes
     same = append_assoc came (b ∷ []) bytes
 
-    next : Takes s came b → (StandsFor (scan.after_byte s b) (came ++ b ∷ []) → Finds (scan.after_byte s b) (came ++ b ∷ []) bytes) → Finds s came (b ∷ bytes)
+    next : TakesByte s came b → (StandsFor (scan.after_byte s b) (came ++ b ∷ []) → Finds (scan.after_byte s b) (came ++ b ∷ []) bytes) → Finds s came (b ∷ bytes)
     next step later = record {
       text = ap (λ t. cond t (Some (came ++ b ∷ [])) (find ends_head (map (λ front. came ++ front) (map (λ front. b ∷ front) (fronts bytes))))) step.test
           ∙ picked (scan.ends_head s b) (λ (head : HeadText). take head.len (came ++ b ∷ bytes)) found

@@ -10,5 +10,4 @@ pub mod Sending
 pub mod Numbers
 pub mod ReadOn
 pub mod Saying
-pub mod Scans
 mod Examples

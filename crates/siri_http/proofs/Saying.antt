@@ -3,7 +3,7 @@ use Rattle.std.proofs.Common.{◌≡◌, ◌≤◌, ◌<◌, ◌+◌, ℕ, List,
 use Rattle.std.proofs.Common.{map, refl, sym, ap, ap₂, ◌∙◌, subst, append-nil, arith, length-append, length-drop}
 use Rattle.std.specs.Prelude.{⊤, MatchBool, nat_lt, cond, option_copied}
 use Rattle.std.specs.Borrow.{Bor}
-use Rattle.std.proofs.lemmas.Bool.{lt-ltb, le-ltb}
+use Rattle.std.proofs.lemmas.Bool.{le-ltb}
 use Rattle.std.proofs.lemmas.List.{drop_all}
 use Rattle.httparse.specs.declared.borrowed.Request.{Request}
 use Rattle.httparse.specs.declared.borrowed.Response.{Response}
@@ -18,8 +18,8 @@ use Rattle.siri_http.specs.inner.Scanning.{head_from, fresh}
 use Rattle.siri_http.specs.Bodies.{body_length}
 use Rattle.siri_http.specs.Messages.{Head, RequestLine, head_of_request, head_of_response, IsRequest, IsResponse, is_post, told_with}
 use Rattle.siri_http.specs.Messages.{head_says, UnlessMemory, is_memory}
-use Rattle.siri_http.specs.declared.request.Asked.{Asked}
-use Rattle.siri_http.specs.inner.Asked.{asked_parts}
+use Rattle.siri_http.specs.declared.request.HeadOfRequest.{HeadOfRequest}
+use Rattle.siri_http.specs.inner.HeadParts.{request_head_parts}
 use Rattle.siri_http.specs.inner.Reading.{SaysSo}
 use Rattle.siri_http.proofs.Lines.{request_lines, response_lines}
 use Rattle.siri_http.proofs.Fronts.{unless}
@@ -27,16 +27,6 @@ use Rattle.siri_http.proofs.Fronts.{unless}
 -- a head text with so many lines
 abbrev pub IsText : List ℕ → ℕ → Type 0
 IsText text full = head_from fresh text ≡ Some (record { len = length text; full = full })
-
--- too many lines
-pub lines_over : {T : Type 0} (Says : List ℕ → Option (Head T) → Type 0) (text : List ℕ) (full : ℕ) → 65 < full → SaysSo Says text full (Err http.HeadTooLong)
-lines_over {T = T} Says text full h =
-    let over : nat_lt 65 full ≡ true = lt-ltb 65 full h in
-    record {
-      head = None;
-      says = subst (λ t. MatchBool t ⊤ (Says text None)) (sym over) tt;
-      result_is = sym (ap (λ t. cond t (Err http.HeadTooLong) (head_says {T = T} None)) over);
-    }
 
 -- a text that is no head
 pub no_head_text : {T : Type 0} (Says : List ℕ → Option (Head T) → Type 0) (text : List ℕ) (full : ℕ) → full ≤ 65
@@ -119,18 +109,18 @@ request_says text full len r h method target result holds whole few m t is =
     head_text_says IsRequest text full (head_of_request h) result few
     (h, reads_whole text len h whole holds.reads, refl) (subst (λ x. UnlessMemory result (result ≡ x)) same is)
 
-unless_asked : (result : Result Asked HttpError) (P : Type 0) → UnlessMemory result P → UnlessMemory (asked_parts result) P
+unless_asked : (result : Result HeadOfRequest HttpError) (P : Type 0) → UnlessMemory result P → UnlessMemory (request_head_parts result) P
 unless_asked (Ok x) P p = p
 unless_asked (Err e) P p = p
 
 pub request_said : (text : List ℕ) (full len : ℕ) (r : Request) (method target : Bor (List ℕ))
-    (result : Result Asked HttpError) → HoldsSomeRequest text r len → length text ≤ len → full ≤ 65
+    (result : Result HeadOfRequest HttpError) → HoldsSomeRequest text r len → length text ≤ len → full ≤ 65
     → r.method ≡ Some method → r.path ≡ Some target → UnlessMemory result
-    (asked_parts result ≡ told_with (method.now, target.now)
+    (request_head_parts result ≡ told_with (method.now, target.now)
     (body_length (is_post method.now) (map header_parts r.headers.now)))
-    → SaysSo IsRequest text full (asked_parts result)
+    → SaysSo IsRequest text full (request_head_parts result)
 request_said text full len r method target result h whole few m t is =
-    request_says text full len r h.0 method target (asked_parts result) h.1 whole few m t (unless_asked result _ is)
+    request_says text full len r h.0 method target (request_head_parts result) h.1 whole few m t (unless_asked result _ is)
 
 parts_fit : (text : List ℕ) (h : RequestHead) (rest : List ℕ) → ReadsRequest text h rest → length text ≤ 16384
     → (length h.method ≤ 16384) × (length h.target ≤ 16384)

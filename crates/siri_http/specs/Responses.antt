@@ -1,6 +1,6 @@
 -- What is written to a connection, as far as it takes it, and then the connection is over.
 use Rattle.std.specs.Prelude.{◌≡◌, ⊤, Bool, true, nat_le, ℕ, List, [], ◌∷◌, ◌++◌, length, Option, None, Some}
-use Rattle.siri_base.specs.Wires.{Present, WireState}
+use Rattle.siri_base.specs.Wires.{Present, WireState, hung_up_after}
 use Rattle.siri_http.specs.Connections.{OnPresent, passing}
 
 -- a text passes whole before the next failure
@@ -8,11 +8,11 @@ abbrev pub is_whole : List ℕ → List ℕ → Bool
 is_whole [] text = true
 is_whole (before ∷ later) text = nat_le (length text) before
 
--- the connection that was there is over, with this text at the end of what was written to it
+-- the connection that was there was hung up, with this text at the end of what was written to it
 abbrev pub over_with : Present → List ℕ → WireState → WireState
-over_with present text wire = record wire { present = None; over = wire.over ++ (present.written ++ text) ∷ [] }
+over_with present text wire = record wire { present = None; over = wire.over ++ hung_up_after (present.written ++ text) ∷ [] }
 
--- the connection that was there is over, with what its failures let of a text
+-- the connection that was there was hung up, with what its failures let of a text
 abbrev pub over_after : Present → List ℕ → WireState → WireState
 over_after present text wire = over_with present (passing present.left.write_fails text) wire
 

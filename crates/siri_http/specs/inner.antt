@@ -1,4 +1,4 @@
-pub mod Asked
+pub mod HeadParts
 pub mod Faults
 pub mod Found
 pub mod Reading

@@ -3,7 +3,7 @@
 ghost use Rattle.std.specs.Prelude.{◌≡◌, ◌≤◌, ◌<◌, ◌+◌, ℕ, List, length, take, drop, [], IfOk, IfErr};
 ghost use Rattle.siri_http.specs.Connections.{OnConnection};
 ghost use Rattle.siri_http.specs.HttpCauses.{HasReadCause};
-ghost use Rattle.siri_http.specs.inner.Reading.{Takes, Stops, HasHead, HasNoHead};
+ghost use Rattle.siri_http.specs.inner.Reading.{TakesInput, Stops, HasHead, HasNoHead};
 
 use crate::HttpError;
 use crate::scan::{HeadText, Scan};
@@ -30,7 +30,7 @@ fn read_some<W: Wire>(wire: &mut W, buffer: &mut [u8], filled: usize) -> Result<
     ensures length { length buffer.new ≡ length buffer.old }
     ensures some { IfOk result (λ count. 0 < count) }
     ensures bound { IfOk result (λ count. filled + count ≤ length buffer.new) }
-    ensures bytes { IfOk result (λ count. OnConnection (Takes (take count (drop filled buffer.new))) (W.tells wire.old) (W.tells wire.new)) }
+    ensures bytes { IfOk result (λ count. OnConnection (TakesInput (take count (drop filled buffer.new))) (W.tells wire.old) (W.tells wire.new)) }
     ensures end { IfErr result (λ e. OnConnection (Stops [] e) (W.tells wire.old) (W.tells wire.new)) }
     ensures cause { HasReadCause (W.faults wire.old) (W.faults wire.new) result }
 {
@@ -46,7 +46,7 @@ pub(crate) fn fill<W: Wire>(wire: &mut W, buffer: &mut [u8]) -> Result<(), HttpE
     requires there { W.is_open wire.old }
     ensures open { W.is_open wire.new }
     ensures length { length buffer.new ≡ length buffer.old }
-    ensures bytes { IfOk result (λ _. OnConnection (Takes buffer.new) (W.tells wire.old) (W.tells wire.new)) }
+    ensures bytes { IfOk result (λ _. OnConnection (TakesInput buffer.new) (W.tells wire.old) (W.tells wire.new)) }
     ensures end { IfErr result (λ e. (bytes : List ℕ) × (length bytes < length buffer.old) × OnConnection (Stops bytes e) (W.tells wire.old) (W.tells wire.new)) }
     ensures cause { HasReadCause (W.faults wire.old) (W.faults wire.new) result }
 {
@@ -64,7 +64,7 @@ pub(crate) fn find_head<W: Wire>(wire: &mut W, buffer: &mut [u8]) -> Result<Foun
     ensures open { W.is_open wire.new }
     ensures length { length buffer.new ≡ length buffer.old }
     ensures bound { IfOk result (λ found. found.count ≤ length buffer.new) }
-    ensures bytes { IfOk result (λ found. OnConnection (Takes (take found.count buffer.new)) (W.tells wire.old) (W.tells wire.new)) }
+    ensures bytes { IfOk result (λ found. OnConnection (TakesInput (take found.count buffer.new)) (W.tells wire.old) (W.tells wire.new)) }
     ensures head { IfOk result (λ found. HasHead (take found.count buffer.new) found.head) }
     ensures end { IfErr result (λ e. OnConnection (HasNoHead e) (W.tells wire.old) (W.tells wire.new)) }
     ensures cause { HasReadCause (W.faults wire.old) (W.faults wire.new) result }

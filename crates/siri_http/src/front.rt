@@ -3,7 +3,7 @@
 ghost use Rattle.std.specs.Prelude.{◌≡◌, ◌≤◌, ◌<◌, ◌+◌, ◌-◌, ℕ, List, length, take, drop, IfOk, IfErr};
 ghost use Rattle.siri_http.specs.Connections.{OnConnection};
 ghost use Rattle.siri_http.specs.HttpCauses.{HasReadCause};
-ghost use Rattle.siri_http.specs.inner.Reading.{Takes, Stops, HasHead, HasNoHead, HasBody, LacksBody};
+ghost use Rattle.siri_http.specs.inner.Reading.{TakesInput, Stops, HasHead, HasNoHead, HasBody, LacksBody};
 
 use crate::HttpError;
 use crate::connection::{LONGEST_HEAD, fill, find_head};
@@ -23,7 +23,7 @@ pub(crate) struct Front {
 pub(crate) fn read_head<W: Wire>(alloc: Global, wire: &mut W) -> Result<Front, HttpError>
     requires there { W.is_open wire.old }
     ensures open { W.is_open wire.new }
-    ensures bytes { IfOk result (λ front. OnConnection (Takes front.bytes.items) (W.tells wire.old) (W.tells wire.new)) }
+    ensures bytes { IfOk result (λ front. OnConnection (TakesInput front.bytes.items) (W.tells wire.old) (W.tells wire.new)) }
     ensures head { IfOk result (λ front. HasHead front.bytes.items front.head) }
     ensures end { IfErr result (λ e. OnConnection (HasNoHead e) (W.tells wire.old) (W.tells wire.new)) }
     ensures cause { HasReadCause (W.faults wire.old) (W.faults wire.new) result }
@@ -45,7 +45,7 @@ fn fill_behind<W: Wire>(wire: &mut W, buffer: &mut [u8], filled: usize) -> Resul
     ensures open { W.is_open wire.new }
     ensures kept { take filled buffer.new ≡ take filled buffer.old }
     ensures length { length buffer.new ≡ length buffer.old }
-    ensures bytes { IfOk result (λ _. OnConnection (Takes (drop filled buffer.new)) (W.tells wire.old) (W.tells wire.new)) }
+    ensures bytes { IfOk result (λ _. OnConnection (TakesInput (drop filled buffer.new)) (W.tells wire.old) (W.tells wire.new)) }
     ensures end { IfErr result (λ e. (bytes : List ℕ) × (filled + length bytes < length buffer.old) × OnConnection (Stops bytes e) (W.tells wire.old) (W.tells wire.new)) }
     ensures cause { HasReadCause (W.faults wire.old) (W.faults wire.new) result }
 {

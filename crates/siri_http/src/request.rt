@@ -7,7 +7,7 @@ ghost use Rattle.siri_http.specs.Connections.{OnConnection};
 ghost use Rattle.siri_http.specs.HttpCauses.{HasReadCause};
 ghost use Rattle.siri_http.specs.Messages.{IsRequest, ReadsMessage, UnlessMemory, is_post, told_with};
 ghost use Rattle.siri_http.specs.Parts.{request_parts};
-ghost use Rattle.siri_http.specs.inner.Asked.{asked_parts};
+ghost use Rattle.siri_http.specs.inner.HeadParts.{request_head_parts};
 ghost use Rattle.siri_http.specs.inner.Faults.{is_fault};
 ghost use Rattle.siri_http.specs.inner.Reading.{SaysSo};
 ghost use Rattle.siri_http.specs.inner.Scanning.{head_from, fresh};
@@ -32,7 +32,7 @@ pub struct HttpRequest {
 
 /// What the head of a request says.
 #[derive(Drop)]
-struct Asked {
+struct HeadOfRequest {
     method: Text,
     target: Text,
     /// The length of the body.
@@ -58,16 +58,16 @@ fn said(
     method: &str,
     target: &str,
     headers: &[Header<'_>],
-) -> Result<Asked, HttpError>
+) -> Result<HeadOfRequest, HttpError>
     requires some_method { 1 ≤ length method.now }
     requires method { length method.now ≤ 16384 }
     requires some_target { 1 ≤ length target.now }
     requires target { length target.now ≤ 16384 }
-    ensures parts { UnlessMemory result (asked_parts result ≡ told_with (method.now, target.now) (body_length (is_post method.now) (map header_parts headers.now))) }
+    ensures parts { UnlessMemory result (request_head_parts result ≡ told_with (method.now, target.now) (body_length (is_post method.now) (map header_parts headers.now))) }
     ensures known { IfErr result (λ e. is_fault e ≡ false) }
 {
     let length = body_length(method == "POST", headers)?;
-    Ok(Asked {
+    Ok(HeadOfRequest {
         method: text_of(alloc, method)?,
         target: text_of(alloc, target)?,
         length,
@@ -75,10 +75,10 @@ fn said(
 }
 
 /// What a head text says, which has so many lines that aren't empty.
-fn read_asked(alloc: Global, text: &[u8], full: usize) -> Result<Asked, HttpError>
+fn head_of_request(alloc: Global, text: &[u8], full: usize) -> Result<HeadOfRequest, HttpError>
     requires bound { length text.now ≤ 16384 }
     requires head { head_from fresh text.now ≡ Some (record { len = length text.now; full = full }) }
-    ensures says { SaysSo IsRequest text.now full (asked_parts result) }
+    ensures says { SaysSo IsRequest text.now full (request_head_parts result) }
     ensures known { IfErr result (λ e. is_fault e ≡ false) }
 {
     if full > MOST_FIELDS + 1 {
@@ -114,7 +114,7 @@ pub fn read_request<W: Wire>(alloc: Global, wire: &mut W) -> Result<HttpRequest,
 {
     let front = read_head(alloc, wire)?;
     let (text, came) = front.bytes.split_at(front.head.len);
-    let asked = read_asked(alloc, text, front.head.full)?;
+    let asked = head_of_request(alloc, text, front.head.full)?;
     let body = read_body(alloc, wire, came, asked.length)?;
     Ok(HttpRequest {
         method: asked.method,

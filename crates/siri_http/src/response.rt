@@ -5,7 +5,7 @@ ghost use Rattle.siri_http.specs.Connections.{OnConnection};
 ghost use Rattle.siri_http.specs.HttpCauses.{HasReadCause};
 ghost use Rattle.siri_http.specs.Messages.{IsResponse, ReadsMessage};
 ghost use Rattle.siri_http.specs.Parts.{response_parts};
-ghost use Rattle.siri_http.specs.inner.Asked.{answered_parts};
+ghost use Rattle.siri_http.specs.inner.HeadParts.{response_head_parts};
 ghost use Rattle.siri_http.specs.inner.Faults.{is_fault};
 ghost use Rattle.siri_http.specs.inner.Reading.{SaysSo};
 ghost use Rattle.siri_http.specs.inner.Scanning.{head_from, fresh};
@@ -28,17 +28,17 @@ pub struct HttpResponse {
 
 /// What the head of a response says.
 #[derive(Clone, Copy)]
-struct Answered {
+struct HeadOfResponse {
     status: u16,
     /// The length of the body.
     length: usize,
 }
 
 /// What a head text says, which has so many lines that aren't empty.
-fn read_answered(text: &[u8], full: usize) -> Result<Answered, HttpError>
+fn head_of_response(text: &[u8], full: usize) -> Result<HeadOfResponse, HttpError>
     requires bound { length text.now ≤ 16384 }
     requires head { head_from fresh text.now ≡ Some (record { len = length text.now; full = full }) }
-    ensures says { SaysSo IsResponse text.now full (answered_parts result) }
+    ensures says { SaysSo IsResponse text.now full (response_head_parts result) }
     ensures known { IfErr result (λ e. is_fault e ≡ false) }
 {
     if full > MOST_FIELDS + 1 {
@@ -55,7 +55,7 @@ fn read_answered(text: &[u8], full: usize) -> Result<Answered, HttpError>
         return Err(HttpError::BadHead);
     }
     match head.code {
-        Some(status) => Ok(Answered {
+        Some(status) => Ok(HeadOfResponse {
             status,
             length: body_length(true, head.headers)?,
         }),
@@ -77,7 +77,7 @@ pub fn read_response<W: Wire>(alloc: Global, wire: &mut W) -> Result<HttpRespons
 {
     let front = read_head(alloc, wire)?;
     let (text, came) = front.bytes.split_at(front.head.len);
-    let answered = read_answered(text, front.head.full)?;
+    let answered = head_of_response(text, front.head.full)?;
     let body = read_body(alloc, wire, came, answered.length)?;
     Ok(HttpResponse {
         status: answered.status,

@@ -25,6 +25,7 @@ use Rattle.siri_json.specs.Tree.{tree_of}
 use Rattle.siri_json.proofs.Read.{tree_of-compact_text}
 use Rattle.siri_tables.proofs.CanonicalParts.{IsCanonicalWithin, deeper, ◌then◌}
 use Rattle.siri_base.specs.declared.reason.Reason.{Reason}
+use Rattle.siri_records.specs.Services.{service_of}
 use Rattle.siri_records.specs.declared.item.Service.{Service}
 use Rattle.siri_records.specs.declared.item.Service.TheVariants as service
 use Rattle.siri_tables.specs.Spelling.{IfFound}
@@ -33,7 +34,7 @@ use Rattle.siri_tables.proofs.ProperParts.{OnRead, Yields, reads_to, on_ok, on_b
 use Rattle.siri_tables.proofs.TableLaws.{read_spelled, spelled_read, written_read, table_within, spelled_proper}
 use Rattle.siri_tables.specs.Tables.{AllProper, all_written}
 use Rattle.siri_items.specs.Spelling.{SpellsVisit, SpellsJourney, SpellsVehicle, SpellsSituation, SpellsItem}
-use Rattle.siri_items.specs.Proper.{IsProperJourney, IsProper, service_of, as_written}
+use Rattle.siri_items.specs.Proper.{IsProperJourney, IsProper, as_written}
 use Rattle.siri_items.specs.Written.{written_item}
 use Rattle.siri_items.proofs.ItemTables.{visit_laws, visit_kind, vehicle_laws, vehicle_kind, journey_laws, situation_laws, situation_kind}
 

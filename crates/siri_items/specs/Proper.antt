@@ -4,8 +4,6 @@ use Rattle.std.specs.Prelude.{◌≡◌, true, ◌||◌, None}
 use Rattle.siri_records.specs.declared.journey.Journey.{Journey}
 use Rattle.siri_records.specs.declared.item.Item.{Item}
 use Rattle.siri_records.specs.declared.item.Item.TheVariants as items
-use Rattle.siri_records.specs.declared.item.Service.{Service}
-use Rattle.siri_records.specs.declared.item.Service.TheVariants as service
 use Rattle.siri_tables.specs.Tables.{AllProper}
 use Rattle.siri_items.specs.Visits.{visit_table}
 use Rattle.siri_items.specs.Vehicles.{vehicle_table}
@@ -21,13 +19,6 @@ IsProper (items.Visit v) = AllProper visit_table v
 IsProper (items.Journey j) = IsProperJourney j
 IsProper (items.Vehicle v) = AllProper vehicle_table v
 IsProper (items.Situation s) = AllProper situation_table s
-
--- the service that tells of an item
-abbrev pub service_of : Item → Service
-service_of (items.Visit v) = service.Stop
-service_of (items.Journey j) = service.Timetable
-service_of (items.Vehicle v) = service.Vehicle
-service_of (items.Situation s) = service.Situation
 
 -- what the written item says: a journey is written without its RecordedAtTime, which its frame carries
 abbrev pub as_written : Item → Item

@@ -11,7 +11,7 @@ ghost use Rattle.siri_records.specs.declared.item.Item.{Item};
 ghost use Rattle.siri_records.specs.declared.item.Service.{Service};
 ghost use Rattle.siri_items.specs.Items.{item_of};
 ghost use Rattle.siri_items.specs.Names.{MembersAreSpelled};
-ghost use Rattle.siri_items.specs.Proper.{IsProper, as_written, service_of};
+ghost use Rattle.siri_items.specs.Proper.{IsProper, as_written};
 ghost use Rattle.siri_json.specs.TextsOfTrees.{TextsAreUtf8};
 ghost use Rattle.siri_items.specs.Spelling.{SpellsItem, SpellsCall, SpellsLocation, SpellsFramedRef, SpellsVisitJourney, SpellsVehicleJourney, SpellsPeriod, SpellsAffected};
 ghost use Rattle.siri_items.specs.Calls.{stop_call, location, read_framed_ref_rows};
@@ -24,6 +24,7 @@ ghost use Rattle.siri_items.specs.Written.{written_item};
 ghost use Rattle.siri_json.specs.Canonical.{IsCanonical, as_texts};
 ghost use Rattle.siri_json.specs.Tree.{tree_of};
 ghost use Rattle.serde_json.specs.Written.{compact_text};
+ghost use Rattle.siri_records.specs.Services.{service_of};
 
 /// Each name of [`crate::names`] is the one that documents spell: by these constants the tables name their members.
 pub fn members_are_spelled()

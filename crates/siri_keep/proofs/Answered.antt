@@ -1,8 +1,9 @@
 -- What is written to a connection, and that its message was kept where it is answered with status 200.
 use Rattle.std.specs.Prelude.{if◌then◌else◌, codes, slice_get, option_map, option_to_list}
-use Rattle.std.proofs.Common.{◌≡◌, ◌+◌, ◌/◌, ℕ, zero, suc, List, [], ◌∷◌, ◌++◌, length, take, drop, Bool, true, false, Option, None, Some, Result, Ok, Err, refl, sym, ap, ◌∙◌, subst, append-nil, append_assoc, inl, inr, arith}
+use Rattle.std.proofs.Common.{◌≡◌, ◌+◌, ◌/◌, ℕ, zero, suc, List, [], ◌∷◌, ◌++◌, length, map, take, drop, Bool, true, false, Option, None, Some, Result, Ok, Err, refl, sym, ap, ap₂, ◌∙◌, subst, append-nil, append_assoc, inl, inr, arith}
+use Rattle.std.proofs.lemmas.List.{length-map, map-append}
 use Rattle.siri_base.specs.OutsideCalls.{WhereTold}
-use Rattle.siri_base.specs.Wires.{Connection, Present, WireState, dial_called, hung_up, present_text, texts, with_connection}
+use Rattle.siri_base.specs.Wires.{Connection, Ending, HungUp, Over, Present, Replaced, WireState, dial_called, hung_up, hung_up_after, over_texts, present_text, texts, with_connection}
 use Rattle.siri_tables.specs.Refusals.{Refusal}
 use Rattle.siri_http.specs.Connections.{OnConnection, OnPresent, passing}
 use Rattle.siri_http.specs.Posts.{ByDial, Posts, dialled_of, is_due}
@@ -57,6 +58,14 @@ grows_then x y z first next = record {
   are = next.are ∙ ap (λ l. l ++ next.more) first.are ∙ append_assoc (texts x) first.more next.more;
 }
 
+-- however the connection that is there ended, what was written to it stays
+ended_texts : (ending : Ending) (over : List Over) (present : Option Present)
+    → map (λ (over : Over). over.written) (over ++ option_to_list (option_map (λ (p : Present). record { written = p.written; ending = ending }) present))
+    ≡ map (λ (over : Over). over.written) over ++ option_to_list (option_map (λ (p : Present). p.written) present)
+ended_texts ending over None = map-append (λ (over : Over). over.written) over []
+ended_texts ending over (Some present) =
+    map-append (λ (over : Over). over.written) over (record { written = present.written; ending = ending } ∷ [])
+
 -- a connection that was dialled is a further one
 talk_grows : (host text : List ℕ) (outcome : Sent) (due : Bool) (coming : List Connection) (x y : WireState)
     → ByDial host text outcome (dialled_of due coming host x) x y → Grows x y
@@ -64,7 +73,9 @@ talk_grows host text outcome true coming x y by = subst (Grows x) (sym by.1) (re
 talk_grows host text outcome false [] x y by = subst (Grows x) (sym by.1) (record { more = []; are = sym (append-nil (texts x)) })
 talk_grows host text outcome false (first ∷ later) x y by = subst (Grows x) (sym by.1) (record {
   more = passing first.write_fails text ∷ [];
-  are = append-nil (texts x ++ passing first.write_fails text ∷ []);
+  are = append-nil _
+      ∙ map-append (λ (over : Over). over.written) _ (hung_up_after (passing first.write_fails text) ∷ [])
+      ∙ ap (λ l. l ++ passing first.write_fails text ∷ []) (ended_texts Replaced x.over x.present);
 })
 
 post_grows : (target : Option (List ℕ × List ℕ)) (body : List ℕ) (outcome : Sent) (x y : WireState)
@@ -79,10 +90,10 @@ stop_grows host text true coming x there y is wrote = absurd (cc is)
 stop_grows host text false [] x there y is wrote = absurd (cc is)
 stop_grows host text false (first ∷ later) x there y is wrote =
     let same : with_connection first (record (dial_called host x) { to_dial = later }) ≡ there = cc is in
-    let over : there.over ≡ texts x = ap (λ (w : WireState). w.over) (sym same) in
+    let over : over_texts there ≡ texts x = ap over_texts (sym same) ∙ ended_texts Replaced x.over x.present in
     record {
       more = present_text y;
-      are = ap (λ (w : WireState). w.over ++ present_text y) wrote.rest ∙ ap (λ l. l ++ present_text y) over;
+      are = ap (λ (w : WireState). over_texts w ++ present_text y) wrote.rest ∙ ap (λ l. l ++ present_text y) over;
     }
 
 stopped_grows : (target : Option (List ℕ × List ℕ)) (body : List ℕ) (x y : WireState) → Posts target body None x y → Grows x y
@@ -117,7 +128,7 @@ IsFrontOf (Some r) front back = response_text r.status r.plain r.body ≡ front 
 pub record Wrote (response : Option Response) (p : Present) (a b : WireState) : Type 0 where
   pub front : List ℕ
   pub back : List ℕ
-  pub are : texts b ≡ a.over ++ (p.written ++ front) ∷ []
+  pub are : texts b ≡ over_texts a ++ (p.written ++ front) ∷ []
   pub is_front : IsFrontOf response front back
 
 take_drop : (n : ℕ) (text : List ℕ) → text ≡ take n text ++ drop n text
@@ -140,7 +151,8 @@ wrote_by r whole p a b (Some q) is responds =
     record {
       front = passing p.left.write_fails text;
       back = back.0;
-      are = ap texts over ∙ append-nil (a.over ++ (p.written ++ passing p.left.write_fails text) ∷ []);
+      are = ap texts over ∙ append-nil _
+          ∙ map-append (λ (over : Over). over.written) a.over (hung_up_after (p.written ++ passing p.left.write_fails text) ∷ []);
       is_front = back.1;
     }
 
@@ -164,9 +176,9 @@ wrote_part r p a b there wrote = by a.present b.present there refl wrote.present
         record {
           front = told.front;
           back = told.rest;
-          are = ap (λ (w : WireState). w.over ++ option_to_list (option_map (λ present. present.written) b.present)) wrote.rest
-              ∙ ap (λ o. a.over ++ option_to_list (option_map (λ (present : Present). present.written) o)) now
-              ∙ ap (λ t. a.over ++ t ∷ []) (told.written ∙ ap (λ (q : Present). q.written ++ told.front) same);
+          are = ap (λ (w : WireState). over_texts w ++ option_to_list (option_map (λ present. present.written) b.present)) wrote.rest
+              ∙ ap (λ o. over_texts a ++ option_to_list (option_map (λ (present : Present). present.written) o)) now
+              ∙ ap (λ t. over_texts a ++ t ∷ []) (told.written ∙ ap (λ (q : Present). q.written ++ told.front) same);
           is_front = told.parts;
         }
 
@@ -174,8 +186,8 @@ wrote_nothing : (p : Present) (a : WireState) → a.present ≡ Some p → (resp
 wrote_nothing p a there response none = subst (λ r. Wrote r p a a) (sym none) (record {
   front = [];
   back = [];
-  are = ap (λ o. a.over ++ option_to_list (option_map (λ (present : Present). present.written) o)) there
-      ∙ ap (λ t. a.over ++ t ∷ []) (sym (append-nil p.written));
+  are = ap (λ o. over_texts a ++ option_to_list (option_map (λ (present : Present). present.written) o)) there
+      ∙ ap (λ t. over_texts a ++ t ∷ []) (sym (append-nil p.written));
   is_front = refl;
 })
 
@@ -274,11 +286,13 @@ front_is : (response : Option Response) (p : Present) (x a b end : WireState) (r
     → Grows b end → (rest : List ℕ) → slice_get (texts end) (length x.over) ≡ Some (p.written ++ (codes "HTTP/1.1 200" ++ rest))
     → (back : List ℕ) × IsFrontOf response (codes "HTTP/1.1 200" ++ rest) back
 front_is response p x a b end read wrote grows rest at =
-    let all : texts end ≡ (x.over ++ (p.written ++ wrote.front) ∷ []) ++ grows.more =
-    grows.are ∙ ap (λ l. l ++ grows.more) (wrote.are ∙ ap (λ o. o ++ (read.present.written ++ wrote.front) ∷ []) read.over
-    ∙ ap (λ w. x.over ++ (w ++ wrote.front) ∷ []) read.written) in
+    let all : texts end ≡ (over_texts x ++ (p.written ++ wrote.front) ∷ []) ++ grows.more =
+    grows.are ∙ ap (λ l. l ++ grows.more)
+    (wrote.are ∙ ap (λ over. map (λ (o : Over). o.written) over ++ (read.present.written ++ wrote.front) ∷ []) read.over
+    ∙ ap (λ w. over_texts x ++ (w ++ wrote.front) ∷ []) read.written) in
     let here : Some (p.written ++ wrote.front) ≡ Some (p.written ++ (codes "HTTP/1.1 200" ++ rest)) =
-    sym (seam x.over (p.written ++ wrote.front) grows.more) ∙ ap (λ l. slice_get l (length x.over)) (sym all) ∙ at in
+    sym (seam (over_texts x) (p.written ++ wrote.front) grows.more)
+    ∙ ap₂ (λ l n. slice_get l n) (sym all) (length-map x.over (λ (over : Over). over.written)) ∙ at in
     let inside : p.written ++ wrote.front ≡ p.written ++ (codes "HTTP/1.1 200" ++ rest) = ap (value_or p.written) here in
     let same : wrote.front ≡ codes "HTTP/1.1 200" ++ rest = cancel p.written wrote.front (codes "HTTP/1.1 200" ++ rest) inside in
     (wrote.back, subst (λ f. IsFrontOf response f wrote.back) same wrote.is_front)
@@ -311,9 +325,10 @@ wrote_hung_up : (p : Present) (a b : WireState) → b ≡ hung_up a → a.presen
 wrote_hung_up p a b is there = subst (λ b. Wrote None p a b) (sym is) (record {
   front = [];
   back = [];
-  are = append-nil (texts a)
-      ∙ ap (λ o. a.over ++ option_to_list (option_map (λ (present : Present). present.written) o)) there
-      ∙ ap (λ t. a.over ++ t ∷ []) (sym (append-nil p.written));
+  are = append-nil _
+      ∙ ended_texts HungUp a.over a.present
+      ∙ ap (λ o. over_texts a ++ option_to_list (option_map (λ (present : Present). present.written) o)) there
+      ∙ ap (λ t. over_texts a ++ t ∷ []) (sym (append-nil p.written));
   is_front = refl;
 })
 

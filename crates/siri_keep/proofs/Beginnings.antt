@@ -17,7 +17,7 @@ use Rattle.siri_row_texts.specs.Reading.{began_of_row}
 use Rattle.siri_shelf.specs.declared.rows.Row.{Row}
 use Rattle.siri_shelf.specs.declared.rows.StoredRow.{StoredRow}
 use Rattle.siri_shelf.specs.Rows.{HasByteTables, InOrder, RowPlace, Rows, is_next, next_row, of_table, place_cmp, place_of, row_of, text_at}
-use Rattle.siri_keeping.specs.Opening.{Kept, Nothing, WhatIsKept, began_in, by_service, is_bad, kept_in, live_items, renewal_in, request_in, said, said_unless}
+use Rattle.siri_keeping.specs.Opening.{SaysKept, Nothing, WhatIsKept, began_in, by_service, is_bad, kept_in, live_items, renewal_in, request_in, said, said_unless}
 use Rattle.siri_keeping.proofs.Found.{place_exact}
 use Rattle.siri_keep.specs.declared.by_service.ByService.{ByService}
 use Rattle.siri_keep.specs.declared.opening.KeptRequest.{KeptRequest}
@@ -67,11 +67,11 @@ said_bad rows prior rest row split there good bad =
     ∙ ap (λ (o : Option StoredRow). option_or o (find (is_bad rows) (row ∷ rest))) good
     ∙ find_here (is_bad rows) row rest bad)
 
-said_good : (rows : Rows) (b : Began) → began_in rows ≡ Some b → find (is_bad rows) rows ≡ None → said rows ≡ Ok (Kept (kept_in rows b))
+said_good : (rows : Rows) (b : Began) → began_in rows ≡ Some b → find (is_bad rows) rows ≡ None → said rows ≡ Ok (SaysKept (kept_in rows b))
 said_good rows b is good =
     said_there rows (text_there (text_at rows 0 []) b is)
     ∙ ap (λ (o : Option StoredRow). said_unless o rows) good
-    ∙ ap (λ (o : Option Began). ok_or (option_map (λ (began : Began). Kept (kept_in rows began)) o) (0, [])) is
+    ∙ ap (λ (o : Option Began). ok_or (option_map (λ (began : Began). SaysKept (kept_in rows began)) o) (0, [])) is
 
 -- ---- the next row
 
@@ -361,7 +361,7 @@ live_entries live items t =
     ∙ (λ i. map Observed (((t.visits i ++ t.journeys i) ++ t.vehicles i) ++ t.situations i))
 
 pub said_all : (rows : Rows) (read : RowsRead) → Reached 256 None rows read
-    → (what : WhatIsKept) × (said rows ≡ Ok (Kept what)) × IsRead rows what (whole_of read)
+    → (what : WhatIsKept) × (said rows ≡ Ok (SaysKept what)) × IsRead rows what (whole_of read)
 said_all rows read r = (
   kept_in rows read.began,
   said_good rows read.began done.began done.good,

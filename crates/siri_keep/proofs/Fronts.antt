@@ -1,5 +1,5 @@
 -- One write: what it makes of the rows, and what a stop may leave.
-use Rattle.std.proofs.Common.{◌≡◌, ◌⊎◌, ℕ, List, [], ◌∷◌, ◌++◌, length, Option, Result, Ok, Err, OnOk, ap, sym, ◌∙◌, subst, inl, inr, append-nil}
+use Rattle.std.proofs.Common.{◌≡◌, ◌⊎◌, ℕ, List, [], ◌∷◌, ◌++◌, length, Option, Result, Ok, Err, OnOk, refl, ap, sym, ◌∙◌, subst, inl, inr, append-nil}
 use Rattle.std.specs.Prelude.{take}
 use Rattle.std.specs.List.{AllByRecursion}
 use Rattle.std.proofs.Math.Seq.{take-length}
@@ -13,7 +13,7 @@ use Rattle.siri_keeping.specs.Keeping.{AddsOnly}
 use Rattle.siri_keeping.specs.Keeps.{Keeps}
 use Rattle.siri_keep.specs.declared.errors.KeepError.{KeepError}
 use Rattle.siri_keep.specs.declared.kept.Kept.{Kept}
-use Rattle.siri_keep.specs.Calls.{AddsFronts, GoesOnAs, GoesOnKept, Holds, KeepsFront, LeavesLive, StandsOn}
+use Rattle.siri_keep.specs.Calls.{AddsFronts, GoesOnAs, GoesOnKept, Holds, KeepsFront, LeavesLive, StandsOn, StaysUnless}
 use Rattle.siri_keep.specs.Planning.{Plans, WritesAll}
 use Rattle.siri_keep.proofs.Left.{keeps_of}
 use Rattle.siri_keep.proofs.Told.{told_same, told_weaker}
@@ -35,6 +35,7 @@ module _ (B A C D : Rows → Type 0) (f : (r : Rows) → B r → C r) (g : (r : 
     trail = adds.trail;
     each = all_weaker adds.added adds.each;
     present = one_weaker t.rows adds.present;
+    named = adds.named;
   }
 
 -- ---- what a call comes to
@@ -46,6 +47,7 @@ fronts_same old steps s = λ h holds. record {
   trail = sym (append-nil s.trail);
   each = tt;
   present = inl (keeps_of old s.rows h holds);
+  named = refl;
 }
 
 module _ (old mid new : Kept) (steps : History) (puts : List Put) (plans : Plans old mid steps puts)
@@ -110,6 +112,26 @@ told_cleaned {T} old puts leaves (Ok value) x y told = told_weaker (λ s t. Writ
     (λ s t. LeavesLive old s.rows t.rows) x y (λ s t w. subst (LeavesLive old s.rows) (sym w.ok) (leaves s.rows)) told
 told_cleaned old puts leaves (Err error) x y told = tt
 
+-- where it wasn't written, what was kept stays
+pub told_stays_ok : {T U : Type 0} (puts : List Put) (a : T) (b : U) (x y : Option ShelfState)
+    → WhereTold x y (λ s t. WritesAll {T = T} puts s t (Ok a)) → WhereTold x y (StaysUnless {T = U} (Ok b))
+told_stays_ok {T} {U} puts a b x y told = told_weaker (λ s t. WritesAll {T = T} puts s t (Ok a)) (StaysUnless {T = U} (Ok b)) x y
+    (λ s t w. tt) told
+
+pub told_stays_err : (T U : Type 0) (puts : List Put) (error : KeepError) (x y : Option ShelfState)
+    → WhereTold x y (λ s t. WritesAll {T = T} puts s t (Err error)) → WhereTold x y (StaysUnless {T = U} (Err error))
+told_stays_err T U puts error x y told = told_weaker (λ s t. WritesAll {T = T} puts s t (Err error)) (StaysUnless {T = U} (Err error)) x y
+    (λ s t w. w.stays) told
+
+pub told_stays : {T : Type 0} (puts : List Put) (result : Result T KeepError) (x y : Option ShelfState)
+    → WhereTold x y (λ s t. WritesAll puts s t result) → WhereTold x y (StaysUnless result)
+told_stays {T} puts (Ok value) x y told = told_stays_ok {T = T} {U = T} puts value value x y told
+told_stays {T} puts (Err error) x y told = told_stays_err T T puts error x y told
+
 -- where nothing was done
+pub told_stays_same : {T : Type 0} (result : Result T KeepError) (x : Option ShelfState) → WhereTold x x (StaysUnless result)
+told_stays_same {T} (Ok value) x = told_same (StaysUnless {T = T} (Ok value)) x (λ s. tt)
+told_stays_same {T} (Err error) x = told_same (StaysUnless {T = T} (Err error)) x (λ s. refl)
+
 pub told_fronts_same : (old : Kept) (steps : History) (x : Option ShelfState) → WhereTold x x (AddsFronts old steps)
 told_fronts_same old steps x = told_same (AddsFronts old steps) x (λ s. fronts_same old steps s)

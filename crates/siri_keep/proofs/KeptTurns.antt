@@ -1,7 +1,6 @@
 -- A turn over a shelf: what it takes, what it answers, and what it sends.
 use Rattle.std.specs.Prelude.{if◌then◌else◌, IfOk, IsErrOf, IsSomeAnd, OnOk}
-use Rattle.std.proofs.Common.{◌≡◌, ◌⊎◌, ◌<◌, ◌*◌, ◌%◌, ℕ, List, [], ◌∷◌, ◌++◌, Bool, true, false, Option, None, Some, Result, Ok, Err, refl, sym, ap, ◌∙◌, subst, append-nil, arith, inl, inr}
-use Rattle.std.proofs.Math.Nat.{mul-mod_left}
+use Rattle.std.proofs.Common.{◌≡◌, ◌⊎◌, ℕ, List, [], ◌∷◌, ◌++◌, Bool, true, false, Option, None, Some, Result, Ok, Err, refl, sym, ap, ◌∙◌, subst, append-nil, inl, inr}
 use Rattle.siri_base.specs.Causes.{HasOutsideCause, Rose}
 use Rattle.siri_base.specs.OutsideCalls.{WhereTold}
 use Rattle.siri_base.specs.Wires.{WireState}
@@ -34,10 +33,10 @@ use Rattle.siri_keeping.specs.Keeps.{Keeps}
 use Rattle.siri_keep.specs.declared.errors.KeepError.{KeepError}
 use Rattle.siri_keep.specs.declared.errors.KeepError.TheVariants as errors
 use Rattle.siri_keep.specs.declared.kept.Kept.{Kept}
-use Rattle.siri_keep.specs.Calls.{AddsFronts, GoesOnKept, HasKeepCause, Holds, LeavesLive}
+use Rattle.siri_keep.specs.Calls.{AddsFronts, GoesOnKept, HasKeepCause, Holds}
 use Rattle.siri_keep.specs.KeptTurns.{KeepsOn, LeavesKept, outside_error}
 use Rattle.siri_keep.specs.Puts.{changes_rows, has_long_row}
-use Rattle.siri_keep.specs.Serving.{AddsTurn, GoesOnServing, KeepsWhatIsAnswered, LeavesLiveAt, has_long_asked, is_long_in, keeping, message_kept, row_too_long, turns_to_clean}
+use Rattle.siri_keep.specs.Serving.{AddsTurn, GoesOnServing, KeepsWhatIsAnswered, has_long_asked, is_long_in, keeping, message_kept, row_too_long}
 use Rattle.siri_keep.proofs.Answered.{told_answered, told_unanswered, told_unread}
 use Rattle.siri_keep.proofs.Left.{keeps_of}
 use Rattle.siri_keep.proofs.SameKept.{SameKept, heard_kept, keeps_same, kept_proper, left_same, same_none, same_settled, same_taken, turn_proper}
@@ -127,12 +126,6 @@ asked_long asked long = ap (λ b. if b then None else message_asked asked) long
 
 pub long_of : (asked : Asked) (m : Message) → message_asked asked ≡ Some m → has_long_asked asked ≡ has_long_row m
 long_of asked m is = ap is_long_in is
-
--- without a message nothing is too long
-pub short_of : (asked : Asked) → message_asked asked ≡ None → (has_long_asked asked ≡ false) × (message_kept asked ≡ None)
-short_of asked is =
-    let short : has_long_asked asked ≡ false = ap is_long_in is in
-    (short, ap (λ b. if b then None else message_asked asked) short ∙ is)
 
 -- ---- a connection that brings a message
 
@@ -374,26 +367,6 @@ holds_after tells s t old new steps (Ok value) told = λ h so.
     (told_weaker (λ before after. GoesOnKept old new steps before.rows after.rows)
     (λ before after. Holds old before.rows h → Holds new after.rows (h ++ steps)) (tells s) (tells t) (λ before after goes holds. (goes h holds).holds) told)
 holds_after tells s t old new steps (Err error) told = tt
-
--- after none of them
-pub stands_same : (new : Kept) (h : History) → stands new (h ++ []) → stands new h
-stands_same new h so = subst (λ l. stands new l) (append-nil h) so
-
-pub holds_same : {B : Type 0} (tells : B → Option ShelfState) (new : Kept) (t : B) (h : History) → HoldsIn tells new t (h ++ []) → HoldsIn tells new t h
-holds_same tells new t h holds = subst (λ l. HoldsIn tells new t l) (append-nil h) holds
-
--- between two cleanings
-pub not_yet : (made n : ℕ) → 0 < made % turns_to_clean → made ≡ n * turns_to_clean → ⊥
-not_yet made n more is = omega (arith, more, ap (λ k. k % turns_to_clean) is ∙ mul-mod_left n turns_to_clean)
-
-pub told_not_yet : (old : Kept) (made : ℕ) (x : Option ShelfState) → 0 < made % turns_to_clean
-    → WhereTold x x (λ s t. LeavesLiveAt old made s.rows t.rows)
-told_not_yet old made x more = told_same (λ s t. LeavesLiveAt old made s.rows t.rows) x (λ s n is. absurd (not_yet made n more is))
-
-pub told_live : (old : Kept) (made : ℕ) (x y : Option ShelfState) → WhereTold x y (λ s t. LeavesLive old s.rows t.rows)
-    → WhereTold x y (λ s t. LeavesLiveAt old made s.rows t.rows)
-told_live old made x y told =
-    told_weaker (λ s t. LeavesLive old s.rows t.rows) (λ s t. LeavesLiveAt old made s.rows t.rows) x y (λ s t live n is. live) told
 
 -- ---- what the turn comes to
 

@@ -7,7 +7,7 @@ use Rattle.std.proofs.lemmas.Bool.Decides.{nat_tests}
 use Rattle.std.proofs.lemmas.Bool.{and_parts, eqb-true, ltb-false, ltb-true, or_parts}
 use Rattle.siri_json.specs.Tree.{longest_document}
 use Rattle.siri_tables.specs.Proper.{IsName, IsNumber}
-use Rattle.siri_messages.specs.Asked.{Asked, asked_in}
+use Rattle.siri_messages.specs.Asked.{AskedFor, asked_in}
 use Rattle.siri_messages.specs.declared.message.Message.{Message}
 use Rattle.siri_messages.specs.declared.message.Message.TheVariants as message
 use Rattle.siri_messages.specs.declared.supplies.DataSupplyRequest.{DataSupplyRequest}
@@ -98,7 +98,7 @@ none_at true x text is e = cc
 none_at false x text is e = cc
 
 -- one under the number that it was asked for with
-new_reads : (now number : ℕ) (asked : Asked)
+new_reads : (now number : ℕ) (asked : AskedFor)
     → request_of_row (request_text asked number) ≡ Some (message.SubscriptionRequest (request_of asked number))
     → ReadsRow (new_row now number asked)
 new_reads now number asked is = record {
@@ -115,7 +115,7 @@ short_at text short = by (nat_lt longest_document (length text)) refl short
     by false e h = ltb-false longest_document (length text) e
 
 -- those of a proper request, of which no row is too long
-asked_reads : (now number : ℕ) (asked : List Asked) → All (λ a. IsProper (message.SubscriptionRequest (request_of a number))) asked
+asked_reads : (now number : ℕ) (asked : List AskedFor) → All (λ a. IsProper (message.SubscriptionRequest (request_of a number))) asked
     → list_any (λ a. is_long (request_text a number)) asked ≡ false
     → All (λ a. ReadsRow (new_row now number a)) asked
 asked_reads now number [] proper short = tt

@@ -14,7 +14,7 @@ use Rattle.siri_row_texts.specs.Reading.{began_of_row}
 use Rattle.siri_keeping.specs.Keeping.{Covers, HasItems, moment_put, places_to, subscription_puts, most_rows}
 use Rattle.siri_keeping.specs.Keeps.{IsProperStep, KeepsThese}
 use Rattle.siri_keeping.proofs.WrittenWhole.{HasOnly, moment_alone, moment_elsewhere, moment_there, subscriptions_elsewhere, written_over}
-use Rattle.siri_keep.specs.declared.reopening.Opened.{Opened}
+use Rattle.siri_keep.specs.declared.reopening.ReopenedProducer.{ReopenedProducer}
 use Rattle.siri_keep.specs.Calls.{IsBegun}
 use Rattle.siri_keep.specs.Planning.{Begins, Opens}
 use Rattle.siri_keep.proofs.Alls.{all_weaker}
@@ -82,7 +82,7 @@ module _ (name : List ℕ) (moment start : ℕ) (live kept : Items) (places : Li
   }
 
 -- a producer that stands for a history holds what is written of it
-pub opens_over : (p : Known) (mirror : Items) (places : List (List ℕ)) (opened : Opened) (name : List ℕ) (h : History) (rows : Rows)
+pub opens_over : (p : Known) (mirror : Items) (places : List (List ℕ)) (opened : ReopenedProducer) (name : List ℕ) (h : History) (rows : Rows)
     → Begins p mirror places opened → StandsFor p h → p.responder.name ≡ name → All IsProperStep h → Fits rows mirror places
     → Covers p.responder.moment p.responder.held mirror → 1 ≤ p.responder.start → IsNumber p.responder.start
     → All Reads (map held_of p.table) → Opens name h rows opened
@@ -107,7 +107,7 @@ opens_over p mirror places opened name h rows begins stands named proper fits co
     }
 
 -- whatever shelf it is opened over
-pub begun_over : (p : Known) (mirror : Items) (places : List (List ℕ)) (opened : Opened) (name : List ℕ) → Begins p mirror places opened
+pub begun_over : (p : Known) (mirror : Items) (places : List (List ℕ)) (opened : ReopenedProducer) (name : List ℕ) → Begins p mirror places opened
     → (h : History) × StandsFor p h → p.responder.name ≡ name → IsBegun name opened.kept
 begun_over p mirror places opened name begins some named = record {
   name_is = ap (λ (k : Known). k.responder.name) begins.producer_is ∙ named;

@@ -13,7 +13,7 @@ use Rattle.siri_keep.specs.declared.errors.KeepError.TheVariants as errors
 use Rattle.siri_keep.specs.declared.opening.WhatIsRead.{WhatIsRead}
 use Rattle.siri_keep.specs.declared.rows_read.RowsRead.{RowsRead}
 use Rattle.siri_keep.specs.Walking.{SaysAll}
-use Rattle.siri_keep.specs.RowByRow.{Begins, GivesNext, IsFirstBad, Outcome, Reached, SeesMore, Takes, Unchanged, first_began, taken, whole_of}
+use Rattle.siri_keep.specs.RowByRow.{Begins, GivesNext, IsFirstBad, Outcome, Reached, SeesMore, TakesRow, Unchanged, first_began, taken, whole_of}
 use Rattle.siri_keep.proofs.Told.{told_weaker}
 use Rattle.siri_keep.proofs.Beginnings.{NextIs, first_missing, first_read, first_unread, next_none, next_taken, no_rows, said_all}
 
@@ -71,7 +71,7 @@ module _ (table : ℕ) (after given : Option (List ℕ)) (read : RowsRead) (same
         (λ rows. Reached table after rows read → Reached table (Some key) rows new) x y
         (λ rows gives r. taken_there rows key new own is_taken gives r) w
 
-    bad_by : {T : Type 0} (A : Rows → T → Type 0) (new : RowsRead) (e : KeepError) → Takes {T = Unit {0}} table read here (Err e) new → (rows : Rows)
+    bad_by : {T : Type 0} (A : Rows → T → Type 0) (new : RowsRead) (e : KeepError) → TakesRow {T = Unit {0}} table read here (Err e) new → (rows : Rows)
         → GivesNext table given rows row → Reached table after rows read → Outcome (A rows) (IsFirstBad rows) (Err e)
     bad_by A new errors.ShelfFault t rows gives r = tt
     bad_by A new (errors.BadRow at key) t rows gives r = bad_there rows at key t.0 t.1 t.2 gives r
@@ -81,25 +81,13 @@ module _ (table : ℕ) (after given : Option (List ℕ)) (read : RowsRead) (same
     bad_by A new errors.RowTooLong t rows gives r = absurd t
     bad_by A new errors.OutOfMemory t rows gives r = tt
 
-    pub row_refused : {T : Type 0} (A : Rows → T → Type 0) (new : RowsRead) (e : KeepError) → Takes {T = Unit {0}} table read here (Err e) new
+    pub row_refused : {T : Type 0} (A : Rows → T → Type 0) (new : RowsRead) (e : KeepError) → TakesRow {T = Unit {0}} table read here (Err e) new
         → Unchanged x y (λ rows. Reached table after rows read → Outcome (A rows) (IsFirstBad rows) (Err e))
     row_refused A new e t = unchanged_weaker (λ rows. GivesNext table given rows row)
         (λ rows. Reached table after rows read → Outcome (A rows) (IsFirstBad rows) (Err e)) x y
         (λ rows gives r. bad_by A new e t rows gives r) w
 
 -- ---- the first row
-
-no_next : (table : ℕ) (row : Option Row) (rows : Rows) → is_some row ≡ true → row ≡ next_row table None rows → rows ≡ [] → ⊥
-no_next table row rows some is none =
-    let e : row ≡ None = is ∙ ap (λ (l : Rows). next_row table None l) none in
-    let f : is_some row ≡ false = ap (λ (o : Option Row). is_some o) e in
-    absurd (cc (some, f))
-
-pub sees_row : (table : ℕ) (row : Option Row) (x y : Option ShelfState) → is_some row ≡ true → Unchanged x y (λ rows. GivesNext table None rows row)
-    → Unchanged x y (λ rows. SeesMore rows true)
-sees_row table row x y some w =
-    unchanged_weaker (λ rows. GivesNext table None rows row) (λ rows. SeesMore rows true) x y
-    (λ rows gives. no_next table row rows some gives.2) w
 
 abbrev pub SeesNone : ℕ → Rows → Type 0
 SeesNone table rows = (t : ℕ) → 1 ≤ t → t < table → next_row t None rows ≡ None
@@ -114,12 +102,6 @@ none_more table rows before here = λ t low high. by t low (cases_lt t table) hi
     by : (t : ℕ) → 1 ≤ t → (t < table) ⊎ (table ≤ t) → t < table + 1 → next_row t None rows ≡ None
     by t low (inl less) high = before t low less
     by t low (inr past) high = let same : table ≡ t = omega (arith, past, high) in subst (λ n. next_row n None rows ≡ None) same here
-
-pub sees_none : (table : ℕ) (row : Option Row) (x y z : Option ShelfState) → is_some row ≡ false → Unchanged x y (SeesNone table)
-    → Unchanged y z (λ rows. GivesNext table None rows row) → Unchanged x z (SeesNone (table + 1))
-sees_none table row x y z none v w =
-    unchanged_then (SeesNone table) (λ rows. GivesNext table None rows row) (SeesNone (table + 1)) x y z
-    (λ rows before gives. none_more table rows before (sym gives.2 ∙ none_of row none)) v w
 
 module _ (row : Option Row) (x y : Option ShelfState) (w : Unchanged x y (λ rows. GivesNext 0 None rows row)) where
   missing_there : (z : Option ShelfState) → row ≡ None → Unchanged y z (λ rows. SeesMore rows true) → Unchanged x z (λ rows. said rows ≡ Err (0, []))

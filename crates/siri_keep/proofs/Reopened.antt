@@ -27,11 +27,11 @@ use Rattle.siri_row_texts.specs.ItemRows.{key_text}
 use Rattle.siri_row_texts.specs.Reading.{item_of_row}
 use Rattle.siri_keeping.specs.Keeping.{Covers, IsProperKey, most_rows}
 use Rattle.siri_keeping.specs.Keeps.{IsProperEntry, IsProperStep}
-use Rattle.siri_keeping.specs.Opening.{Kept as SaysKept, Nothing, WhatIsKept, by_service, item_in, live_items, reopened, said}
+use Rattle.siri_keeping.specs.Opening.{SaysKept, Nothing, WhatIsKept, by_service, item_in, live_items, reopened, said}
 use Rattle.siri_keeping.proofs.LiveItems.{alive}
 use Rattle.siri_keep.specs.declared.opening.KeptRequest.{KeptRequest}
 use Rattle.siri_keep.specs.declared.opening.WhatIsRead.{WhatIsRead}
-use Rattle.siri_keep.specs.declared.reopening.Opened.{Opened}
+use Rattle.siri_keep.specs.declared.reopening.ReopenedProducer.{ReopenedProducer}
 use Rattle.siri_keep.specs.Planning.{Begins, GoesOnBy, Opens, OpensRead, PlansOpening}
 use Rattle.siri_keep.specs.Walking.{SaysAll}
 use Rattle.siri_keep.proofs.Alls.{all_filtered, all_mapped, all_weaker}
@@ -40,7 +40,7 @@ use Rattle.siri_keep.proofs.Fed.{all_appended}
 use Rattle.siri_keep.proofs.Messages.{Reads, ReadsRow}
 use Rattle.siri_keep.proofs.Opened.{Fits, opens_over}
 use Rattle.siri_keep.proofs.SaidItems.{AreApart, ReadItem, all_read, all_served, apart_in_order, covers_own, each_text, fed_again, few_kept, item_row, kept_in_order, kept_of, kept_reads, key_of_text, rows_of_items}
-use Rattle.siri_keep.proofs.SaidRequests.{Asks, opened_reads, opened_state, renewals_ask, requests_ask, stands_again}
+use Rattle.siri_keep.proofs.SaidRequests.{CanBeTaken, opened_reads, opened_state, renewals_ask, requests_ask, stands_again}
 use Rattle.siri_keep.proofs.SaidRows.{Says, good_at, listed_renewals, listed_requests, no_more_tables, none_say, one_moment, says, some_text}
 use Rattle.siri_keep.proofs.Written.{covers_clocked, dead_stays}
 
@@ -72,7 +72,7 @@ started_rows : (start now : ℕ) → rows_of (table_of (Start start now ∷ []))
 unfolding rows_after
 started_rows start now = rows_go_on [] (Start start now)
 
-pub opens_new : (p : Known) (opened : Opened) (name : List ℕ) (start now : ℕ) → Begins p [] [] opened
+pub opens_new : (p : Known) (opened : ReopenedProducer) (name : List ℕ) (start now : ℕ) → Begins p [] [] opened
     → StandsFor p (Start start now ∷ []) → p.responder.name ≡ name → 1 ≤ start → start ≤ greatest_number
     → Opens name (Start start now ∷ []) [] opened
 opens_new p opened name start now begins stands named from_one most =
@@ -154,10 +154,10 @@ module _ (rows : Rows) (what : WhatIsKept) (s : Says rows what) (order : RowsInO
       (dead_stays moment later after) (covers_own moment kept sorted))
 
   -- all its messages can be taken
-  pub messages_ask : All Asks (what.requests ++ what.renewals)
-  messages_ask = all_appended Asks what.requests what.renewals
-      (subst (All Asks) (ap (λ (k : WhatIsKept). k.requests) s.is) (requests_ask rows))
-      (subst (All Asks) (ap (λ (k : WhatIsKept). k.renewals) s.is) (renewals_ask rows))
+  pub messages_ask : All CanBeTaken (what.requests ++ what.renewals)
+  messages_ask = all_appended CanBeTaken what.requests what.renewals
+      (subst (All CanBeTaken) (ap (λ (k : WhatIsKept). k.requests) s.is) (requests_ask rows))
+      (subst (All CanBeTaken) (ap (λ (k : WhatIsKept). k.renewals) s.is) (renewals_ask rows))
 
   -- and all its steps are proper
   pub steps_proper : (start now : ℕ)
@@ -173,7 +173,7 @@ module _ (rows : Rows) (what : WhatIsKept) (s : Says rows what) (order : RowsInO
           (
             all_mapped IsProperEntry Observed (by_service (live_items what)) live,
             all_mapped IsProperStep Take (what.requests ++ what.renewals)
-                (all_weaker Asks (λ m. IsProperStep (Take m)) (λ m asks. asks.proper) (what.requests ++ what.renewals) messages_ask),
+                (all_weaker CanBeTaken (λ m. IsProperStep (Take m)) (λ m asks. asks.proper) (what.requests ++ what.renewals) messages_ask),
           ),
         ),
       )
@@ -185,7 +185,7 @@ unfolding reopened
 reopened_is start now what = refl
 
 -- a producer that stands for the history which rows make
-opens_said : (p : Known) (opened : Opened) (name : List ℕ) (start now : ℕ) (rows : Rows) (what : WhatIsKept) (places : List (List ℕ))
+opens_said : (p : Known) (opened : ReopenedProducer) (name : List ℕ) (start now : ℕ) (rows : Rows) (what : WhatIsKept) (places : List (List ℕ))
     → Says rows what → RowsInOrder rows → places ≡ map (λ (row : StoredRow). row.key) (of_table 2 rows)
     → Begins p (kept_of what.items) places opened
     → StandsFor p (Start start now ∷ Clock what.began.moment ∷ Feed (map Observed (by_service (live_items what)))
@@ -213,7 +213,7 @@ taken_requests : (requests : List KeptRequest) → map (λ (r : KeptRequest). Ta
 taken_requests [] = refl
 taken_requests (r ∷ requests) = ap (λ steps. Take r.request ∷ steps) (taken_requests requests)
 
-module _ (a b c d e : Known) (opened : Opened) (name : List ℕ) (start now : ℕ) (read : WhatIsRead)
+module _ (a b c d e : Known) (opened : ReopenedProducer) (name : List ℕ) (start now : ℕ) (read : WhatIsRead)
     (first : StandsFor a (Start start now ∷ [])) (clocked : GoesOn a b (Clock read.began.moment))
     (fed : GoesOn b c (Feed (entries_of read.items.live)))
     (asked : GoesOnBy c d (map (λ (r : KeptRequest). Take r.request) read.requests)) (renewed : GoesOnBy d e (map Take read.renewals)) where
@@ -239,7 +239,7 @@ module _ (a b c d e : Known) (opened : Opened) (name : List ℕ) (start now : �
 
 -- ---- what is planned of what was read
 
-pub plans_none : (name : List ℕ) (start now : ℕ) (rows : Rows) (opened : Opened) → said rows ≡ Ok Nothing
+pub plans_none : (name : List ℕ) (start now : ℕ) (rows : Rows) (opened : ReopenedProducer) → said rows ≡ Ok Nothing
     → Opens name (Start start now ∷ []) [] opened → PlansOpening name start now rows opened
 unfolding reopened
 plans_none name start now rows opened says_ opens = record {
@@ -249,7 +249,7 @@ plans_none name start now rows opened says_ opens = record {
   opens = subst (λ (r : Rows). Opens name (Start start now ∷ []) r opened) (sym (none_say rows says_)) opens;
 }
 
-pub plans_read : (name : List ℕ) (start now : ℕ) (read : WhatIsRead) (rows : Rows) (opened : Opened) → read.began.name ≡ name
+pub plans_read : (name : List ℕ) (start now : ℕ) (read : WhatIsRead) (rows : Rows) (opened : ReopenedProducer) → read.began.name ≡ name
     → read.began.start < start
     → OpensRead name start now read opened → SaysAll rows (Ok (Some read)) → PlansOpening name start now rows opened
 plans_read name start now read rows opened named earlier opens (what, says_, is) = record {

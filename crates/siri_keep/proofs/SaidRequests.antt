@@ -15,7 +15,7 @@ use Rattle.siri_json.specs.Tree.{longest_document, tree_of}
 use Rattle.siri_topic.specs.declared.subscription.Subscription.{Subscription}
 use Rattle.siri_topic.specs.declared.topics.Topic.{Topic}
 use Rattle.siri_topic.specs.declared.topics.Topic.TheVariants as topic
-use Rattle.siri_messages.specs.Asked.{Asked, asked_in, asked_with, subscriptions_in}
+use Rattle.siri_messages.specs.Asked.{AskedFor, asked_in, asked_with, subscriptions_in}
 use Rattle.siri_messages.specs.Blank.{blank_subscription_request}
 use Rattle.siri_messages.specs.declared.message.Message.{Message}
 use Rattle.siri_messages.specs.declared.message.Message.TheVariants as message
@@ -46,7 +46,7 @@ use Rattle.siri_keep.proofs.SaidItems.{all_given}
 use Rattle.siri_keep.proofs.SaidRows.{among_mapped}
 
 -- a message that can be taken: it is proper, its rows can be written, and it feeds nothing
-pub record Asks (m : Message) : Type 0 where
+pub record CanBeTaken (m : Message) : Type 0 where
   pub proper : IsProper m
   pub short : has_long_row m ≡ false
   pub none : entries_fed m ≡ []
@@ -105,7 +105,7 @@ asked_at text r read proper (Some s) first is =
     let base = r.message_identifier in
     let written : request_text a base ≡ text = (bytes_eq-Decides (request_text a base) text).0 is in
     let short = read_short text (message.SubscriptionRequest r) read in
-    let IsAlone : Asked → Type 0 = λ asked. IsProper (message.SubscriptionRequest (request_of asked base)) in
+    let IsAlone : AskedFor → Type 0 = λ asked. IsProper (message.SubscriptionRequest (request_of asked base)) in
     let listed = among_mapped (asked_with r) (subscriptions_in r) s
     (first_listed r.stop_monitoring_subscription_request r.estimated_timetable_subscription_request
     r.vehicle_monitoring_subscription_request r.situation_exchange_subscription_request s first) in
@@ -118,7 +118,7 @@ asked_at text r read proper (Some s) first is =
     ap (λ (list : List Subscription). list_any (λ asked. is_long (request_text asked base)) (map (asked_with r) list)) only
     ∙ short_alone text (request_text a base) written short
 
-asks_by : (text : List ℕ) (m : Message) → message_of text ≡ Ok m → IsProper m → is_request text m ≡ true → Asks m
+asks_by : (text : List ℕ) (m : Message) → message_of text ≡ Ok m → IsProper m → is_request text m ≡ true → CanBeTaken m
 asks_by text (message.SubscriptionRequest r) read proper is = record {
   proper = proper;
   short = asked_at text r read proper (first_asked r) refl is;
@@ -126,7 +126,7 @@ asks_by text (message.SubscriptionRequest r) read proper is = record {
 }
 asks_by text other read proper is = absurd (cc is)
 
-pub request_asks : (text : List ℕ) (m : Message) → request_of_row text ≡ Some m → Asks m
+pub request_asks : (text : List ℕ) (m : Message) → request_of_row text ≡ Some m → CanBeTaken m
 unfolding request_of_row
 request_asks text m e =
     option_and_then_some (if_holds (is_request text)) (result_ok (message_of text)) m e (λ n at holds.
@@ -136,11 +136,11 @@ request_asks text m e =
 
 -- ---- a request of table 3
 
-renews_by : (s : Subscription) (base : ℕ) (text : List ℕ) (m : Message) → is_renewal s base text m ≡ true → IsProper m → Asks m
+renews_by : (s : Subscription) (base : ℕ) (text : List ℕ) (m : Message) → is_renewal s base text m ≡ true → IsProper m → CanBeTaken m
 renews_by s base text (message.DataSupplyRequest r) is proper = record { proper = proper; short = refl; none = refl }
 renews_by s base text other is proper = absurd (cc is)
 
-renewal_asks : (s : Subscription) (base : ℕ) (text : List ℕ) (m : Message) → renewal_of_row s base text ≡ Some m → Asks m
+renewal_asks : (s : Subscription) (base : ℕ) (text : List ℕ) (m : Message) → renewal_of_row s base text ≡ Some m → CanBeTaken m
 unfolding renewal_of_row
 renewal_asks s base text m e =
     option_and_then_some (if_holds (is_renewal s base text)) (result_ok (message_of text)) m e (λ n at holds.
@@ -148,29 +148,29 @@ renewal_asks s base text m e =
     renews_by s base text m (subst (λ (x : Message). is_renewal s base text x ≡ true) found.1 found.0)
     (read_renewal_proper s base text m e))
 
-renewed_asks : (text : List ℕ) (of : Message) (m : Message) → renewal_of_request text of ≡ Some m → Asks m
+renewed_asks : (text : List ℕ) (of : Message) (m : Message) → renewal_of_request text of ≡ Some m → CanBeTaken m
 renewed_asks text (message.SubscriptionRequest r) m e =
     option_and_then_some (λ s. renewal_of_row s r.message_identifier text) (first_asked r) m e
     (λ s first renewed. renewal_asks s r.message_identifier text m renewed)
 renewed_asks text other m e = absurd (none-some m e)
 
-pub requests_ask : (rows : Rows) → All Asks (filter_map request_in (of_table 2 rows))
-requests_ask rows = all_given Asks request_in (λ row m at. request_asks row.text m at) (of_table 2 rows)
+pub requests_ask : (rows : Rows) → All CanBeTaken (filter_map request_in (of_table 2 rows))
+requests_ask rows = all_given CanBeTaken request_in (λ row m at. request_asks row.text m at) (of_table 2 rows)
 
-pub renewals_ask : (rows : Rows) → All Asks (filter_map (renewal_in rows) (of_table 3 rows))
-renewals_ask rows = all_given Asks (renewal_in rows)
+pub renewals_ask : (rows : Rows) → All CanBeTaken (filter_map (renewal_in rows) (of_table 3 rows))
+renewals_ask rows = all_given CanBeTaken (renewal_in rows)
     (λ row m at. option_and_then_some (renewal_of_request row.text) (option_and_then request_of_row (text_at rows 2 row.key)) m at
     (λ of there renewed. renewed_asks row.text of m renewed)) (of_table 3 rows)
 
 -- ---- the history
 
 -- messages that feed nothing leave what is known
-taken_all : (ms : List Message) (state : State) → All Asks ms → fold after_step state (map Take ms) ≡ state
+taken_all : (ms : List Message) (state : State) → All CanBeTaken ms → fold after_step state (map Take ms) ≡ state
 taken_all [] state asks = refl
 taken_all (m ∷ ms) state asks =
     ap (λ (x : State). fold after_step x (map Take ms)) (taken_nothing state m asks.0.none) ∙ taken_all ms state asks.1
 
-pub opened_state : (start now moment : ℕ) (entries : List Entry) (ms : List Message) → All Asks ms
+pub opened_state : (start now moment : ℕ) (entries : List Entry) (ms : List Message) → All CanBeTaken ms
     → state_of (Start start now ∷ Clock moment ∷ Feed entries ∷ map Take ms) ≡ record {
       start = start;
       started = now;
@@ -195,7 +195,7 @@ opening_rows start now moment entries =
     ∙ ap (rows_after (state_of (Start start now ∷ [])) (Clock moment)) (rows_go_on [] (Start start now))
 
 -- the rows of all that are held after such messages are read back
-reads_all : (ms : List Message) (h : History) → All Asks ms → All ReadsRow (rows_of (table_of h))
+reads_all : (ms : List Message) (h : History) → All CanBeTaken ms → All ReadsRow (rows_of (table_of h))
     → All ReadsRow (rows_of (table_of (h ++ map Take ms)))
 reads_all [] h asks reads = subst (λ (x : History). All ReadsRow (rows_of (table_of x))) (sym (append-nil h)) reads
 reads_all (m ∷ ms) h asks reads =
@@ -204,7 +204,7 @@ reads_all (m ∷ ms) h asks reads =
     subst (λ (x : History). All ReadsRow (rows_of (table_of x))) (append_assoc h (Take m ∷ []) (map Take ms))
     (reads_all ms (h ++ Take m ∷ []) asks.1 (subst (All ReadsRow) (sym one) after))
 
-pub opened_reads : (start now moment : ℕ) (entries : List Entry) (ms : List Message) → All Asks ms
+pub opened_reads : (start now moment : ℕ) (entries : List Entry) (ms : List Message) → All CanBeTaken ms
     → All ReadsRow (rows_of (table_of (Start start now ∷ Clock moment ∷ Feed entries ∷ map Take ms)))
 opened_reads start now moment entries ms asks =
     reads_all ms (Start start now ∷ Clock moment ∷ Feed entries ∷ []) asks

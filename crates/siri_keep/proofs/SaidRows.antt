@@ -12,7 +12,7 @@ use Rattle.siri_shelf.specs.declared.rows.StoredRow.{StoredRow}
 use Rattle.siri_shelf.specs.Rows.{RowPlace, Rows, of_table, place_cmp, place_of, text_at}
 use Rattle.siri_row_texts.specs.declared.moments.Began.{Began}
 use Rattle.siri_row_texts.specs.Reading.{began_of_row, request_of_row}
-use Rattle.siri_keeping.specs.Opening.{Kept as SaysKept, Nothing, Said, WhatIsKept, began_in, is_bad, is_bad_beginning, is_bad_item, is_bad_request, kept_in, renewal_in, renewal_of_request, said, said_unless}
+use Rattle.siri_keeping.specs.Opening.{SaysKept, Nothing, Said, WhatIsKept, began_in, is_bad, is_bad_beginning, is_bad_item, is_bad_request, kept_in, renewal_in, renewal_of_request, said, said_unless}
 use Rattle.siri_keeping.proofs.Found.{place_exact, tied_is}
 use Rattle.siri_keeping.proofs.Written.{first_or, here, later}
 use Rattle.siri_keep.proofs.Alls.{each_of_all}

@@ -1,6 +1,6 @@
 -- What is told of a shelf.
 use Rattle.std.specs.Prelude.{IsSomeAnd}
-use Rattle.std.proofs.Common.{Option, None, Some, Result, Ok, Err, OnOk, OnErr}
+use Rattle.std.proofs.Common.{Option, None, Some, Result, Ok, Err, OnOk}
 use Rattle.siri_base.specs.OutsideCalls.{WhereTold}
 
 pub told_same : {S : Type 0} (P : S → S → Type 0) (x : Option S) → ((s : S) → P s s) → WhereTold x x P
@@ -35,8 +35,3 @@ told_some R (Some s) (Some t) P Q told f = f
 pub on_ok_any : {T E : Type 0} (result : Result T E) (P : Type 0) → P → OnOk result P
 on_ok_any (Ok value) P p = p
 on_ok_any (Err error) P p = tt
-
--- and where it didn't
-pub on_err_any : {T E : Type 0} (result : Result T E) (P : Type 0) → P → OnErr result P
-on_err_any (Ok value) P p = tt
-on_err_any (Err error) P p = p

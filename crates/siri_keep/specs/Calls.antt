@@ -7,10 +7,10 @@ use Rattle.siri_model.specs.Held.{held_of}
 use Rattle.siri_model.specs.History.{History, current, now_of}
 use Rattle.siri_producer.specs.Known.{Known, StandsFor}
 use Rattle.siri_shelf.specs.Rows.{Rows}
-use Rattle.siri_shelf.specs.Shelves.{ShelfState}
+use Rattle.siri_shelf.specs.Shelves.{ShelfState, after_fault}
 use Rattle.siri_keeping.specs.Keeping.{AddsOnly, HasItems}
 use Rattle.siri_keeping.specs.Keeps.{IsProperStep, Keeps, KeepsThese}
-use Rattle.siri_keeping.specs.Opening.{Kept as SaysKept, Nothing, Said, WhatIsKept, reopened, said}
+use Rattle.siri_keeping.specs.Opening.{SaysKept, Nothing, Said, WhatIsKept, reopened, said}
 use Rattle.siri_keep.specs.declared.errors.KeepError.{KeepError}
 use Rattle.siri_keep.specs.declared.errors.KeepError.TheVariants as errors
 use Rattle.siri_keep.specs.declared.kept.Kept.{Kept}
@@ -68,10 +68,30 @@ ClosesBy old new (Err errors.Closed) = (old ≡ true) × (new ≡ true)
 ClosesBy old new (Err errors.RowTooLong) = (old ≡ false) × (new ≡ false)
 ClosesBy old new (Err other) = ⊥
 
+-- What a message may be answered that has a row that is too long: that, unless an earlier call closed the producer. To find it
+-- the row's text is made, so memory may be wanting before; that is told then, for nobody knows how long the text is.
+abbrev pub RefusesRow : {T : Type 0} → Result T KeepError → Type 0
+RefusesRow (Ok value) = ⊥
+RefusesRow (Err errors.RowTooLong) = ⊤
+RefusesRow (Err errors.OutOfMemory) = ⊤
+RefusesRow (Err errors.Closed) = ⊤
+RefusesRow (Err other) = ⊥
+
 -- the count of faults never falls, and it has risen where the shelf failed
 pub record HasKeepCause {T : Type 0} (before now : ℕ) (result : Result T KeepError) : Type 0 where
   pub later : before ≤ now
   pub failed : IsErrOf result errors.ShelfFault → Rose before now
+
+-- It rises by one where the shelf failed, and nowhere else: a call of the shelf that failed isn't made again, nor is another one made
+-- after it, and no other answer hides it.
+abbrev pub CountsKept : {T : Type 0} → ℕ → ℕ → Result T KeepError → Type 0
+CountsKept before now (Err errors.ShelfFault) = now ≡ after_fault before
+CountsKept before now other = now ≡ before
+
+-- where a call didn't succeed, the rows that a shelf kept stay
+abbrev pub StaysUnless : {T : Type 0} → Result T KeepError → ShelfState → ShelfState → Type 0
+StaysUnless (Ok value) before after = ⊤
+StaysUnless (Err error) before after = after.rows ≡ before.rows
 
 -- ---- opening
 

@@ -1,6 +1,6 @@
 -- Inner words: cited by private functions alone.
 -- What is planned before it is written.
-use Rattle.std.specs.Prelude.{◌≡◌, ◌≤◌, ℕ, List, Some, ◌∷◌, ◌++◌, length, map, false, Result, Ok, OnOk}
+use Rattle.std.specs.Prelude.{◌≡◌, ◌≤◌, ℕ, List, Some, ◌∷◌, ◌++◌, length, map, false, Result, Ok, OnErr, OnOk}
 use Rattle.siri_model.specs.Held.{held_of}
 use Rattle.siri_model.specs.History.{History}
 use Rattle.siri_producer.specs.Known.{Known, SameButReads, StandsFor}
@@ -13,18 +13,19 @@ use Rattle.siri_shelf.specs.declared.rows.Put.{Put}
 use Rattle.siri_shelf.specs.Rows.{Rows, with_puts}
 use Rattle.siri_shelf.specs.Shelves.{ShelfState}
 use Rattle.siri_keeping.specs.Keeping.{AddsOnly, changes_to, moment_put, places_to, puts_to, subscription_puts}
-use Rattle.siri_keeping.specs.Opening.{Kept as SaysKept, Said, WhatIsKept, reopened, said}
+use Rattle.siri_keeping.specs.Opening.{SaysKept, Said, WhatIsKept, reopened, said}
 use Rattle.siri_subs.specs.Table.{most_subscriptions}
 use Rattle.siri_keep.specs.declared.errors.KeepError.{KeepError}
 use Rattle.siri_keep.specs.declared.kept.Kept.{Kept}
 use Rattle.siri_keep.specs.declared.opening.WhatIsRead.{WhatIsRead}
-use Rattle.siri_keep.specs.declared.reopening.Opened.{Opened}
+use Rattle.siri_keep.specs.declared.reopening.ReopenedProducer.{ReopenedProducer}
 use Rattle.siri_keep.specs.Calls.{Holds, IsEarlier, StandsOn}
 use Rattle.siri_keep.specs.Walking.{IsRead}
 
 -- puts were written, all of them or none
 pub record WritesAll {T : Type 0} (puts : List Put) (old new : ShelfState) (result : Result T KeepError) : Type 0 where
   pub ok : OnOk result (new.rows ≡ with_puts old.rows puts)
+  pub stays : OnErr result (new.rows ≡ old.rows)
   pub trail : AddsOnly (λ rows. rows ≡ old.rows) (λ rows. rows ≡ with_puts old.rows puts) old new
 
 -- the row of a moment is read back, where the start is from 1 on and a number
@@ -54,7 +55,7 @@ abbrev pub GoesOnBy : Known → Known → History → Type 0
 GoesOnBy old new steps = (h : History) → StandsFor old h → StandsFor new (h ++ steps)
 
 -- a producer begins over rows of these items and these places: the row of its moment is put, and all rows of its subscriptions
-pub record Begins (producer : Known) (mirror : Items) (places : List (List ℕ)) (opened : Opened) : Type 0 where
+pub record Begins (producer : Known) (mirror : Items) (places : List (List ℕ)) (opened : ReopenedProducer) : Type 0 where
   pub puts : opened.puts
       ≡ moment_put producer.responder.moment producer.responder.start producer.responder.name
       ∷ subscription_puts places (map held_of producer.table)
@@ -66,19 +67,19 @@ pub record Begins (producer : Known) (mirror : Items) (places : List (List ℕ))
   pub is_open : opened.kept.is_closed ≡ false
 
 -- with its puts made, rows keep a history of a producer of this name, which stands for it
-pub record Opens (name : List ℕ) (h : History) (rows : Rows) (opened : Opened) : Type 0 where
+pub record Opens (name : List ℕ) (h : History) (rows : Rows) (opened : ReopenedProducer) : Type 0 where
   pub name_is : opened.kept.producer.responder.name ≡ name
   pub holds : Holds opened.kept (with_puts rows opened.puts) h
   pub is_open : opened.kept.is_closed ≡ false
 
 -- the same of the history that rows make, whatever rows these are that were read
-abbrev pub OpensRead : (name : List ℕ) → (start now : ℕ) → WhatIsRead → Opened → Type 0
+abbrev pub OpensRead : (name : List ℕ) → (start now : ℕ) → WhatIsRead → ReopenedProducer → Type 0
 OpensRead name start now read opened =
     (rows : Rows) (what : WhatIsKept) → said rows ≡ Ok (SaysKept what) → IsRead rows what read
     → Opens name (reopened start now (SaysKept what)) rows opened
 
 -- what rows say is of this name and of an earlier start, and with the puts made they keep the history that they make
-pub record PlansOpening (name : List ℕ) (start now : ℕ) (rows : Rows) (opened : Opened) : Type 0 where
+pub record PlansOpening (name : List ℕ) (start now : ℕ) (rows : Rows) (opened : ReopenedProducer) : Type 0 where
   pub what : Said
   pub says : said rows ≡ Ok what
   pub earlier : IsEarlier name start what

@@ -98,11 +98,11 @@ taken table read row =
     else None
 
 -- it is taken, or it is a bad one
-abbrev pub Takes : {T : Type 0} → ℕ → RowsRead → Row → Result T KeepError → RowsRead → Type 0
-Takes table old row (Ok done) new = taken table old row ≡ Some new
-Takes table old row (Err (errors.BadRow t key)) new = (t ≡ table) × (key ≡ row.key) × (taken table old row ≡ None)
-Takes table old row (Err errors.OutOfMemory) new = ⊤
-Takes table old row (Err other) new = ⊥
+abbrev pub TakesRow : {T : Type 0} → ℕ → RowsRead → Row → Result T KeepError → RowsRead → Type 0
+TakesRow table old row (Ok done) new = taken table old row ≡ Some new
+TakesRow table old row (Err (errors.BadRow t key)) new = (t ≡ table) × (key ≡ row.key) × (taken table old row ≡ None)
+TakesRow table old row (Err errors.OutOfMemory) new = ⊤
+TakesRow table old row (Err other) new = ⊥
 
 -- ---- what rows up to a place come to
 

@@ -4,7 +4,7 @@ use Rattle.siri_records.specs.Keyed.{apply}
 use Rattle.siri_records.specs.Keys.{key_of}
 use Rattle.siri_model.specs.History.{Observed, entries_of}
 use Rattle.siri_shelf.specs.Rows.{InOrder, Rows, of_table}
-use Rattle.siri_keeping.specs.Opening.{Kept, Nothing, WhatIsKept, by_service, live_items, said}
+use Rattle.siri_keeping.specs.Opening.{SaysKept, Nothing, WhatIsKept, by_service, live_items, said}
 use Rattle.siri_keep.specs.declared.errors.KeepError.{KeepError}
 use Rattle.siri_keep.specs.declared.errors.KeepError.TheVariants as errors
 use Rattle.siri_keep.specs.declared.opening.WhatIsRead.{WhatIsRead}
@@ -22,7 +22,7 @@ pub record IsRead (rows : Rows) (what : WhatIsKept) (read : WhatIsRead) : Type 0
 -- what all rows say, or the place of the first bad one; want of memory and a failure of the shelf say nothing of rows
 abbrev pub SaysAll : Rows → Result (Option WhatIsRead) KeepError → Type 0
 SaysAll rows (Ok None) = said rows ≡ Ok Nothing
-SaysAll rows (Ok (Some read)) = (what : WhatIsKept) × (said rows ≡ Ok (Kept what)) × IsRead rows what read
+SaysAll rows (Ok (Some read)) = (what : WhatIsKept) × (said rows ≡ Ok (SaysKept what)) × IsRead rows what read
 SaysAll rows (Err (errors.BadRow table key)) = said rows ≡ Err (table, key)
 SaysAll rows (Err errors.ShelfFault) = ⊤
 SaysAll rows (Err errors.OutOfMemory) = ⊤

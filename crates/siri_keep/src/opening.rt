@@ -1,10 +1,9 @@
 //! What a shelf keeps, read when it is opened: row by row, table by table.
 
 ghost use Rattle.std.specs.Prelude.{◌≡◌, ◌+◌, [], None, IfOk};
-ghost use Rattle.siri_base.specs.OutsideCalls.{WhereTold};
-ghost use Rattle.siri_shelf.specs.Shelves.{key_after};
+ghost use Rattle.siri_shelf.specs.Shelves.{key_after, OnShelf};
 ghost use Rattle.siri_keep.specs.declared.errors.KeepError.TheVariants as error;
-ghost use Rattle.siri_keep.specs.Calls.{HasKeepCause};
+ghost use Rattle.siri_keep.specs.Calls.{CountsKept, HasKeepCause};
 ghost use Rattle.siri_keep.specs.Walking.{SaysAll};
 ghost use Rattle.siri_keep.specs.RowByRow.{Begins, GivesNext, IsFirstBad, NeverBad, Outcome, Reached, ReachedAfter, SeesMore, Unchanged, first_began};
 
@@ -47,6 +46,7 @@ fn next<B: Shelf>(shelf: &mut B, table: u8, after: Option<&[u8]>) -> Result<Opti
     ensures open { B.is_open shelf.new }
     ensures told { Unchanged (B.tells shelf.old) (B.tells shelf.new) (λ rows. Outcome (GivesNext table (key_after after.entry) rows) NeverBad result) }
     ensures cause { HasKeepCause (B.faults shelf.old) (B.faults shelf.new) result }
+    ensures counted { CountsKept (B.faults shelf.old) (B.faults shelf.new) result }
 {
     match shelf.next(table, after) {
         Ok(row) => Ok(row),
@@ -61,6 +61,7 @@ fn has_more<B: Shelf>(shelf: &mut B) -> Result<bool, KeepError>
     ensures open { B.is_open shelf.new }
     ensures told { Unchanged (B.tells shelf.old) (B.tells shelf.new) (λ rows. Outcome (SeesMore rows) NeverBad result) }
     ensures cause { HasKeepCause (B.faults shelf.old) (B.faults shelf.new) result }
+    ensures counted { CountsKept (B.faults shelf.old) (B.faults shelf.new) result }
 {
     for table in 1..=u8::MAX {
         if next(shelf, table, None)?.is_some() {
@@ -97,6 +98,7 @@ fn read_first<B: Shelf>(alloc: Global, shelf: &mut B) -> Result<Option<RowsRead>
     ensures open { B.is_open shelf.new }
     ensures told { Unchanged (B.tells shelf.old) (B.tells shelf.new) (λ rows. Outcome (Begins rows) (IsFirstBad rows) result) }
     ensures cause { HasKeepCause (B.faults shelf.old) (B.faults shelf.new) result }
+    ensures counted { CountsKept (B.faults shelf.old) (B.faults shelf.new) result }
 {
     let Some(row) = next(shelf, 0, None)? else {
         if has_more(shelf)? {
@@ -132,6 +134,7 @@ fn read_next<B: Shelf>(
     ensures open { B.is_open shelf.new }
     ensures told { Unchanged (B.tells shelf.old) (B.tells shelf.new) (λ rows. Reached table after.now rows read.old → Outcome (ReachedAfter table rows read.new) (IsFirstBad rows) result) }
     ensures cause { HasKeepCause (B.faults shelf.old) (B.faults shelf.new) result }
+    ensures counted { CountsKept (B.faults shelf.old) (B.faults shelf.new) result }
 {
     let Some(row) = next(shelf, table, slice_of(after))? else {
         return Ok(None);
@@ -152,6 +155,7 @@ fn read_table<B: Shelf>(
     ensures open { B.is_open shelf.new }
     ensures told { Unchanged (B.tells shelf.old) (B.tells shelf.new) (λ rows. Reached table first rows read.old → Outcome (λ done. Reached (table + 1) None rows read.new) (IsFirstBad rows) result) }
     ensures cause { HasKeepCause (B.faults shelf.old) (B.faults shelf.new) result }
+    ensures counted { CountsKept (B.faults shelf.old) (B.faults shelf.new) result }
 {
     let mut after = first;
     for _ in 0..u64::MAX {
@@ -169,6 +173,7 @@ fn read_tables<B: Shelf>(shelf: &mut B, read: &mut RowsRead) -> Result<(), KeepE
     ensures open { B.is_open shelf.new }
     ensures told { Unchanged (B.tells shelf.old) (B.tells shelf.new) (λ rows. Reached 1 None rows read.old → Outcome (λ done. Reached 256 None rows read.new) (IsFirstBad rows) result) }
     ensures cause { HasKeepCause (B.faults shelf.old) (B.faults shelf.new) result }
+    ensures counted { CountsKept (B.faults shelf.old) (B.faults shelf.new) result }
 {
     for table in 1..=u8::MAX {
         read_table(shelf, table, None, read)?;
@@ -184,8 +189,9 @@ pub(crate) fn read_all<B: Shelf>(
 ) -> Result<Option<WhatIsRead>, KeepError>
     requires { B.is_open shelf.old }
     ensures open { B.is_open shelf.new }
-    ensures told { WhereTold (B.tells shelf.old) (B.tells shelf.new) (λ old new. (new ≡ old) × SaysAll old.rows result) }
+    ensures told { OnShelf B.tells shelf.old shelf.new (λ old new. (new ≡ old) × SaysAll old.rows result) }
     ensures cause { HasKeepCause (B.faults shelf.old) (B.faults shelf.new) result }
+    ensures counted { CountsKept (B.faults shelf.old) (B.faults shelf.new) result }
 {
     let Some(mut read) = read_first(alloc, shelf)? else {
         return Ok(None);

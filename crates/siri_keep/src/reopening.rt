@@ -2,11 +2,11 @@
 
 ghost use Rattle.std.specs.Prelude.{◌≡◌, ◌≤◌, [], ◌∷◌, map, Ok, IfErr, IfOk, IsErrOf, OnOk};
 ghost use Rattle.siri_base.specs.Numbers.{greatest_number};
-ghost use Rattle.siri_base.specs.OutsideCalls.{WhereTold};
+ghost use Rattle.siri_shelf.specs.Shelves.{OnShelf};
 ghost use Rattle.siri_model.specs.History.{Start, Take};
 ghost use Rattle.siri_shelf.specs.Rows.{Rows};
 ghost use Rattle.siri_keep.specs.declared.errors.KeepError.TheVariants as error;
-ghost use Rattle.siri_keep.specs.Calls.{AddsReopened, HasKeepCause, IsBegun, RefusesToOpen, Reopens};
+ghost use Rattle.siri_keep.specs.Calls.{AddsReopened, CountsKept, HasKeepCause, IsBegun, RefusesToOpen, Reopens, StaysUnless};
 ghost use Rattle.siri_keep.specs.Planning.{Begins, GoesOnBy, Opens, OpensRead, PlansOpening};
 ghost use Rattle.siri_keep.specs.Walking.{SaysAll};
 
@@ -22,7 +22,7 @@ use std::alloc::Global;
 
 /// A producer over a shelf, and what is to be written of it.
 #[derive(Drop)]
-pub(crate) struct Opened {
+pub(crate) struct ReopenedProducer {
     pub(crate) kept: Kept,
     pub(crate) puts: List<Put>,
 }
@@ -67,7 +67,7 @@ fn plan_rows(
     producer: Producer,
     mirror: KeyedItems,
     places: List<List<u8>>,
-) -> Result<Opened, OutOfMemory>
+) -> Result<ReopenedProducer, OutOfMemory>
     ensures { IfOk result (Begins producer mirror places) }
 {
     let mut kept = Kept {
@@ -80,11 +80,16 @@ fn plan_rows(
     let mut puts = List::new(alloc);
     kept.put_moment(&mut puts)?;
     kept.put_subscriptions(&mut puts)?;
-    Ok(Opened { kept, puts })
+    Ok(ReopenedProducer { kept, puts })
 }
 
 /// A new producer, where there are no rows.
-fn plan_new(alloc: Global, name: Name, start: u64, now: Moment) -> Result<Opened, OutOfMemory>
+fn plan_new(
+    alloc: Global,
+    name: Name,
+    start: u64,
+    now: Moment,
+) -> Result<ReopenedProducer, OutOfMemory>
     requires from_one { 1 ≤ start }
     requires to_eighteen_digits { start ≤ greatest_number }
     ensures opens { IfOk result (Opens name (Start start now ∷ []) []) }
@@ -101,7 +106,7 @@ fn reopen(
     start: u64,
     now: Moment,
     read: WhatIsRead,
-) -> Result<Opened, OutOfMemory>
+) -> Result<ReopenedProducer, OutOfMemory>
     requires from_one { 1 ≤ start }
     requires to_eighteen_digits { start ≤ greatest_number }
     ensures opens { IfOk result (OpensRead name start now read) }
@@ -130,7 +135,7 @@ fn plan_read(
     start: u64,
     now: Moment,
     read: WhatIsRead,
-) -> Result<Opened, KeepError>
+) -> Result<ReopenedProducer, KeepError>
     requires from_one { 1 ≤ start }
     requires to_eighteen_digits { start ≤ greatest_number }
     ensures ok { IfOk result (λ opened. (rows : Rows) → SaysAll rows (Ok (Some read)) → PlansOpening name start now rows opened) }
@@ -156,7 +161,7 @@ fn plan_open(
     start: u64,
     now: Moment,
     read: Option<WhatIsRead>,
-) -> Result<Opened, KeepError>
+) -> Result<ReopenedProducer, KeepError>
     requires from_one { 1 ≤ start }
     requires to_eighteen_digits { start ≤ greatest_number }
     ensures ok { IfOk result (λ opened. (rows : Rows) → SaysAll rows (Ok read) → PlansOpening name start now rows opened) }
@@ -180,9 +185,10 @@ impl Kept {
     /// `BadRow` exactly where that row is the first, by table and key, that isn't of its form or is one too many: of
     /// table 1 the 100,001st, or the 20,001st whose item isn't dead at the kept moment, of table 2 the 201st. Where
     /// there are rows and none of the moment, that is the bad one. Then `OtherName` exactly where the kept name is
-    /// another, then `OldStart` exactly where the number of the start isn't above the kept one. `ShelfFault` only where
-    /// the shelf's count of faults rose. `OutOfMemory` may come in the place of each. Where it is refused as `BadRow`,
+    /// another, then `OldStart` exactly where the number of the start isn't above the kept one. `ShelfFault` exactly
+    /// where the shelf failed: then nothing more is read or written. `OutOfMemory` may come in the place of each. Where it is refused as `BadRow`,
     /// `OtherName` or `OldStart` nothing is written.
+    #[tactic(auto, using(crate::proofs::OpenCalls::stays_read, crate::proofs::OpenCalls::stays_unwritten, crate::proofs::OpenCalls::stays_written))]
     pub fn open<B: Shelf>(
         alloc: Global,
         shelf: &mut B,
@@ -194,14 +200,16 @@ impl Kept {
         requires from_one { 1 ≤ start }
         requires to_eighteen_digits { start ≤ greatest_number }
         ensures open { B.is_open shelf.new }
-        ensures ok { IfOk result (λ kept. WhereTold (B.tells shelf.old) (B.tells shelf.new) (λ old new. Reopens name start now kept old.rows new.rows)) }
-        ensures refused { IfErr result (λ error. WhereTold (B.tells shelf.old) (B.tells shelf.new) (λ old new. RefusesToOpen name start error old.rows)) }
-        ensures trail { WhereTold (B.tells shelf.old) (B.tells shelf.new) (AddsReopened name start now) }
+        ensures ok { IfOk result (λ kept. OnShelf B.tells shelf.old shelf.new (λ old new. Reopens name start now kept old.rows new.rows)) }
+        ensures refused { IfErr result (λ error. OnShelf B.tells shelf.old shelf.new (λ old new. RefusesToOpen name start error old.rows)) }
+        ensures trail { OnShelf B.tells shelf.old shelf.new (AddsReopened name start now) }
         ensures begun { IfOk result (IsBegun name) }
         ensures cause { HasKeepCause (B.faults shelf.old) (B.faults shelf.new) result }
+        ensures counted { CountsKept (B.faults shelf.old) (B.faults shelf.new) result }
+        ensures stays { OnShelf B.tells shelf.old shelf.new (StaysUnless result) }
     {
         let read = read_all(alloc, shelf)?;
-        let Opened { kept, puts } = plan_open(alloc, name, start, now, read)?;
+        let ReopenedProducer { kept, puts } = plan_open(alloc, name, start, now, read)?;
         write_all(shelf, &puts)?;
         Ok(kept)
     }

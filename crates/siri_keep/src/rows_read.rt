@@ -2,7 +2,7 @@
 
 ghost use Rattle.std.specs.Prelude.{◌≡◌, [], true, IfOk, OnOk};
 ghost use Rattle.siri_keep.specs.declared.errors.KeepError.TheVariants as refused;
-ghost use Rattle.siri_keep.specs.RowByRow.{Takes, has_place, has_room, whole_of, with_kept, with_live};
+ghost use Rattle.siri_keep.specs.RowByRow.{TakesRow, has_place, has_room, whole_of, with_kept, with_live};
 
 use crate::KeepError;
 use crate::by_service::ByService;
@@ -68,7 +68,7 @@ impl RowsRead {
 
     /// Takes the next row, of a table. It is a bad one exactly where it isn't of its table's form, or is one too many.
     pub(crate) fn take(&mut self, table: u8, row: &Row) -> Result<(), KeepError>
-        ensures { Takes table self.old row.now result self.new }
+        ensures { TakesRow table self.old row.now result self.new }
     {
         match table {
             1 => self.take_item(row),
@@ -110,7 +110,7 @@ impl RowsRead {
 
     /// Takes a row of table 1: an item, of which at most 100,000 are kept, and at most 20,000 live.
     fn take_item(&mut self, row: &Row) -> Result<(), KeepError>
-        ensures { Takes 1 self.old row.now result self.new }
+        ensures { TakesRow 1 self.old row.now result self.new }
     {
         let Some(item) = item_of_row(self.alloc, row.key.slice(), row.text.slice())? else {
             return Err(bad(1, row)?);
@@ -133,7 +133,7 @@ impl RowsRead {
 
     /// Takes a row of table 2: the request of a subscription.
     fn take_request(&mut self, row: &Row) -> Result<(), KeepError>
-        ensures { Takes 2 self.old row.now result self.new }
+        ensures { TakesRow 2 self.old row.now result self.new }
     {
         let Some(request) = request_of_row(self.alloc, row.text.slice())? else {
             return Err(bad(2, row)?);
@@ -148,7 +148,7 @@ impl RowsRead {
 
     /// Takes a row of table 3: the request that gave a subscription its number.
     fn take_renewal(&mut self, row: &Row) -> Result<(), KeepError>
-        ensures { Takes 3 self.old row.now result self.new }
+        ensures { TakesRow 3 self.old row.now result self.new }
     {
         let requests = self.requests.slice();
         let Some(renewal) = renewal_at(self.alloc, requests, row.key.slice(), row.text.slice())?

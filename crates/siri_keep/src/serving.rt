@@ -2,7 +2,7 @@
 
 ghost use Rattle.std.specs.Prelude.{◌≡◌, ◌∷◌, ◌++◌, [], ℕ, List, true, false, IfOk, OnOk, OnErr, IsErrOf, IsSomeAnd, Some, Err};
 ghost use Rattle.siri_base.specs.Causes.{HasOutsideCause};
-ghost use Rattle.siri_base.specs.OutsideCalls.{WhereTold};
+ghost use Rattle.siri_shelf.specs.Shelves.{OnShelf};
 ghost use Rattle.siri_http.specs.Texts.{is_written};
 ghost use Rattle.siri_model.specs.History.{Clock, History, Take};
 ghost use Rattle.siri_producer.specs.Known.{StandsFor};
@@ -72,8 +72,8 @@ impl Kept {
         ensures response { IfOk result (λ response. (h : History) → StandsFor self.old.producer h → response ≡ replying (producer_reply self.old.producer.responder.name h message)) }
         ensures written { IfOk result (λ response. is_written response.status ≡ true) }
         ensures name { OnOk result (self.new.producer.responder.name ≡ self.old.producer.responder.name) }
-        ensures ok { OnOk result (WhereTold (B.tells shelf.old) (B.tells shelf.new) (λ old new. GoesOnKept self.old self.new (Take message ∷ []) old.rows new.rows)) }
-        ensures trail { WhereTold (B.tells shelf.old) (B.tells shelf.new) (AddsFronts self.old (Take message ∷ [])) }
+        ensures ok { OnOk result (OnShelf B.tells shelf.old shelf.new (λ old new. GoesOnKept self.old self.new (Take message ∷ []) old.rows new.rows)) }
+        ensures trail { OnShelf B.tells shelf.old shelf.new (AddsFronts self.old (Take message ∷ [])) }
         ensures cause { HasOutsideCause (B.faults shelf.old) (B.faults shelf.new) result }
     {
         let answer = match self.take_short(shelf, message) {
@@ -101,8 +101,8 @@ impl Kept {
         ensures prepares { IfOk result (λ reply. Prepares self.old.producer self.new.producer (Some message) (message_response message) reply) }
         ensures written { IfOk result CanBeWritten }
         ensures name { OnOk result (self.new.producer.responder.name ≡ self.old.producer.responder.name) }
-        ensures ok { OnOk result (WhereTold (B.tells shelf.old) (B.tells shelf.new) (λ old new. LeavesKept self.old self.new (Take message ∷ []) old.rows new.rows)) }
-        ensures trail { WhereTold (B.tells shelf.old) (B.tells shelf.new) (AddsFronts self.old (Take message ∷ [])) }
+        ensures ok { OnOk result (OnShelf B.tells shelf.old shelf.new (λ old new. LeavesKept self.old self.new (Take message ∷ []) old.rows new.rows)) }
+        ensures trail { OnShelf B.tells shelf.old shelf.new (AddsFronts self.old (Take message ∷ [])) }
         ensures cause { HasOutsideCause (B.faults shelf.old) (B.faults shelf.new) result }
     {
         if changes_rows(&message) {
@@ -128,9 +128,9 @@ impl Kept {
         ensures long { IfOk result (λ answer. has_long_row message ≡ true → (answer ≡ reply.Made (Some row_too_long)) × (self.new ≡ self.old)) }
         ensures written { IfOk result CanBeWritten }
         ensures name { OnOk result (self.new.producer.responder.name ≡ self.old.producer.responder.name) }
-        ensures ok { has_long_row message ≡ false → OnOk result (WhereTold (B.tells shelf.old) (B.tells shelf.new) (λ old new. LeavesKept self.old self.new (Take message ∷ []) old.rows new.rows)) }
+        ensures ok { has_long_row message ≡ false → OnOk result (OnShelf B.tells shelf.old shelf.new (λ old new. LeavesKept self.old self.new (Take message ∷ []) old.rows new.rows)) }
         ensures same { has_long_row message ≡ true → shelf.new ≡ shelf.old }
-        ensures trail { has_long_row message ≡ false → WhereTold (B.tells shelf.old) (B.tells shelf.new) (AddsFronts self.old (Take message ∷ [])) }
+        ensures trail { has_long_row message ≡ false → OnShelf B.tells shelf.old shelf.new (AddsFronts self.old (Take message ∷ [])) }
         ensures cause { HasOutsideCause (B.faults shelf.old) (B.faults shelf.new) result }
     {
         if has_long_row(self.alloc, &message)? {
@@ -155,8 +155,8 @@ impl Kept {
         ensures long { IfOk result (λ answer. has_long_asked asked.now ≡ true → (answer ≡ reply.Made (Some row_too_long)) × (self.new ≡ self.old)) }
         ensures written { IfOk result CanBeWritten }
         ensures name { OnOk result (self.new.producer.responder.name ≡ self.old.producer.responder.name) }
-        ensures ok { OnOk result (WhereTold (B.tells shelf.old) (B.tells shelf.new) (λ old new. LeavesKept self.old self.new (taking (message_kept asked.now)) old.rows new.rows)) }
-        ensures trail { WhereTold (B.tells shelf.old) (B.tells shelf.new) (AddsFronts self.old (taking (message_kept asked.now))) }
+        ensures ok { OnOk result (OnShelf B.tells shelf.old shelf.new (λ old new. LeavesKept self.old self.new (taking (message_kept asked.now)) old.rows new.rows)) }
+        ensures trail { OnShelf B.tells shelf.old shelf.new (AddsFronts self.old (taking (message_kept asked.now))) }
         ensures cause { HasOutsideCause (B.faults shelf.old) (B.faults shelf.new) result }
     {
         let _ = asked;
@@ -174,8 +174,8 @@ impl Kept {
         ensures long { IfOk result (λ answer. has_long_asked asked.now ≡ true → (answer ≡ reply.Made (Some row_too_long)) × (self.new ≡ self.old)) }
         ensures written { IfOk result CanBeWritten }
         ensures name { OnOk result (self.new.producer.responder.name ≡ self.old.producer.responder.name) }
-        ensures ok { OnOk result (WhereTold (B.tells shelf.old) (B.tells shelf.new) (λ old new. LeavesKept self.old self.new (taking (message_kept asked.now)) old.rows new.rows)) }
-        ensures trail { WhereTold (B.tells shelf.old) (B.tells shelf.new) (AddsFronts self.old (taking (message_kept asked.now))) }
+        ensures ok { OnOk result (OnShelf B.tells shelf.old shelf.new (λ old new. LeavesKept self.old self.new (taking (message_kept asked.now)) old.rows new.rows)) }
+        ensures trail { OnShelf B.tells shelf.old shelf.new (AddsFronts self.old (taking (message_kept asked.now))) }
         ensures cause { HasOutsideCause (B.faults shelf.old) (B.faults shelf.new) result }
     {
         match brought_by(self.alloc, asked)? {
@@ -193,9 +193,9 @@ impl<B: Shelf> Taker<B> for Kept {
 
     type Target = ();
 
-    ghost Kept = { List ℕ };
+    ghost Identity = { List ℕ };
 
-    ghost kept = { λ kept. kept.producer.responder.name };
+    ghost identity = { λ kept. kept.producer.responder.name };
 
     ghost State = { History };
 
@@ -205,11 +205,11 @@ impl<B: Shelf> Taker<B> for Kept {
 
     ghost holds = { λ kept shelf h. IsSomeAnd (B.tells shelf) (λ state. Holds kept state.rows h) };
 
-    ghost may_leave = { λ kept occasion before after. WhereTold (B.tells before) (B.tells after) (AddsFronts kept (steps_of occasion)) };
+    ghost may_leave = { λ kept occasion before after. OnShelf B.tells before after (AddsFronts kept (steps_of occasion)) };
 
-    ghost has_left = { λ kept asked before after. WhereTold (B.tells before) (B.tells after) (λ old new. KeepsOn kept (taking (message_kept asked)) old.rows new.rows) };
+    ghost has_left = { λ kept asked before after. OnShelf B.tells before after (λ old new. KeepsOn kept (taking (message_kept asked)) old.rows new.rows) };
 
-    ghost has_ended = { λ kept made before after. WhereTold (B.tells before) (B.tells after) (λ old new. LeavesLiveAt kept made old.rows new.rows) };
+    ghost has_ended = { λ kept made before after. OnShelf B.tells before after (λ old new. LeavesLiveAt kept made old.rows new.rows) };
 
     ghost faults = { λ shelf. B.faults shelf };
 
@@ -311,8 +311,8 @@ impl Kept {
         ensures ok { OnOk result (GoesOnServing (at_of self.old tally.old (W.tells wire.old) (W.faults wire.old)) (at_of self.new tally.new (W.tells wire.new) (W.faults wire.new)) (B.tells shelf.old) (B.tells shelf.new)) }
         ensures err { self.old.is_closed ≡ false → OnErr result ((h : History) → StandsFor self.old.producer h → ServesKeptSome self.old.producer.responder.name (at_of h tally.old (W.tells wire.old) (W.faults wire.old)) (W.tells wire.new)) }
         ensures closed { self.old.is_closed ≡ true → (result ≡ Err error.Closed) × (self.new ≡ self.old) × (wire.new ≡ wire.old) × (shelf.new ≡ shelf.old) × (tally.new ≡ tally.old) }
-        ensures answered { WhereTold (B.tells shelf.old) (B.tells shelf.new) (KeepsWhatIsAnswered self.old (W.tells wire.old) (W.tells wire.new)) }
-        ensures trail { WhereTold (B.tells shelf.old) (B.tells shelf.new) (AddsTurn self.old (W.tells wire.old)) }
+        ensures answered { OnShelf B.tells shelf.old shelf.new (KeepsWhatIsAnswered self.old (W.tells wire.old) (W.tells wire.new)) }
+        ensures trail { OnShelf B.tells shelf.old shelf.new (AddsTurn self.old (W.tells wire.old)) }
         ensures too_long { ¬ IsErrOf result error.RowTooLong }
         ensures closes { ClosesBy self.old.is_closed self.new.is_closed result }
         ensures cause { HasKeepCause (B.faults shelf.old) (B.faults shelf.new) result }

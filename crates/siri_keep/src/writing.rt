@@ -1,9 +1,9 @@
 //! One write.
 
 ghost use Rattle.std.specs.Prelude.{false, is_err, IsErrOf};
-ghost use Rattle.siri_base.specs.OutsideCalls.{WhereTold};
+ghost use Rattle.siri_shelf.specs.Shelves.{OnShelf};
 ghost use Rattle.siri_keep.specs.declared.errors.KeepError.TheVariants as error;
-ghost use Rattle.siri_keep.specs.Calls.{ClosesBy, HasKeepCause};
+ghost use Rattle.siri_keep.specs.Calls.{ClosesBy, CountsKept, HasKeepCause};
 ghost use Rattle.siri_keep.specs.Planning.{WritesAll};
 
 use crate::KeepError;
@@ -14,8 +14,9 @@ use siri_shelf::{Put, Shelf};
 pub(crate) fn write_all<B: Shelf>(shelf: &mut B, puts: &List<Put>) -> Result<(), KeepError>
     requires { B.is_open shelf.old }
     ensures open { B.is_open shelf.new }
-    ensures told { WhereTold (B.tells shelf.old) (B.tells shelf.new) (λ old new. WritesAll puts.now old new result) }
+    ensures told { OnShelf B.tells shelf.old shelf.new (λ old new. WritesAll puts.now old new result) }
     ensures cause { HasKeepCause (B.faults shelf.old) (B.faults shelf.new) result }
+    ensures counted { CountsKept (B.faults shelf.old) (B.faults shelf.new) result }
     ensures closes { ClosesBy false (is_err result) result }
     ensures too_long { ¬ IsErrOf result error.RowTooLong }
 {

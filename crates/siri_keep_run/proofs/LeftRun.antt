@@ -1,7 +1,7 @@
 -- What a run leaves on a shelf that tells its rows.
 use Rattle.std.specs.Prelude.{⊤}
 use Rattle.std.specs.List.{AllByRecursion as All}
-use Rattle.std.proofs.Common.{◌≡◌, ◌⊎◌, ◌≤◌, ◌<◌, ℕ, zero, suc, List, Option, None, Some, refl, sym, subst, inl, inr, arith}
+use Rattle.std.proofs.Common.{◌≡◌, ◌⊎◌, ◌≤◌, ◌<◌, ℕ, zero, suc, List, [], ◌∷◌, ◌++◌, Option, None, Some, refl, sym, ◌∙◌, subst, inl, inr, arith}
 use Rattle.siri_base.specs.OutsideCalls.{WhereTold}
 use Rattle.siri_base.specs.Wires.{WireState}
 use Rattle.siri_base.specs.declared.status.Status.{Status}
@@ -25,16 +25,16 @@ use Rattle.siri_keep_run.specs.Runs.{keep_procedure}
 use Rattle.siri_keep_run.specs.Serving.{Keeping, KeepsInTurn, KeepsTurn, KeepsTurns, KeepsWhole, LeavesAmid, LeavesAtTurn, LeavesWhole, given}
 
 -- with the outside as it is
-module _ (name listen : List ℕ) (count : ℕ) (before : ShelfState) (from : Outside) where
+module _ (name listen file : List ℕ) (count : ℕ) (before : ShelfState) (from : Outside) where
   abbrev Left_ : Rows → Type 0
-  Left_ = IsLeft name listen count from before
+  Left_ = IsLeft name listen file count from before
 
   module _ (start moment : ℕ) (open_ : Outside) (opens : Opens listen start moment from open_) (shelf : Option ShelfState) (first : History)
-      (begins : BeginsWith name start moment (Some before) shelf first) where
+      (begins : BeginsWith name file start moment (Some before) shelf first) where
     abbrev First : Running Keeping
     First = begun first shelf open_
 
-    so_far : (made : ℕ) (at : Running Keeping) → made ≤ count → KeepsTurns name made First at → SoFar name listen count before from at
+    so_far : (made : ℕ) (at : Running Keeping) → made ≤ count → KeepsTurns name made First at → SoFar name listen file count before from at
     so_far made at most turns = record {
       start = start;
       moment = moment;
@@ -71,21 +71,23 @@ module _ (name listen : List ℕ) (count : ℕ) (before : ShelfState) (from : Ou
 
     -- of a shelf after turns
     abbrev Trailed : Option ShelfState → Type 0
-    Trailed x = WhereTold (Some before) x (λ s t. All Left_ t.trail × Left_ t.rows)
+    Trailed x = WhereTold (Some before) x (λ s t. (t.named ≡ s.named ++ file ∷ []) × All Left_ t.trail × Left_ t.rows)
 
     trailed_then : (x y : Option ShelfState) (B A : Rows → Type 0) → Trailed x → WhereTold x y (λ s t. AddsOnly B A s t)
         → ((r : Rows) → (B r ⊎ A r) → Left_ r) → Trailed y
     trailed_then None y B A trailed adds f = absurd trailed
     trailed_then (Some s) None B A trailed adds f = absurd adds
     trailed_then (Some s) (Some t) B A trailed adds f = (
-      subst (All Left_) (sym adds.trail) (all_appended Left_ s.trail adds.added trailed.0
+      adds.named ∙ trailed.0,
+      subst (All Left_) (sym adds.trail) (all_appended Left_ s.trail adds.added trailed.1
           (all_weaker (λ r. B r ⊎ A r) Left_ f adds.added adds.each)),
       f t.rows adds.present,
     )
 
-    first_trailed : (x : Option ShelfState) → BeginsWith name start moment (Some before) x first → Trailed x
+    first_trailed : (x : Option ShelfState) → BeginsWith name file start moment (Some before) x first → Trailed x
     first_trailed None b = b
-    first_trailed (Some t) b = (all_weaker (λ r. (r ≡ before.rows) ⊎ Keeps name r first) Left_ first_row t.trail b.trail, first_row t.rows (inr b.keeps))
+    first_trailed (Some t) b =
+        (b.named, all_weaker (λ r. (r ≡ before.rows) ⊎ Keeps name r first) Left_ first_row t.trail b.trail, first_row t.rows (inr b.keeps))
 
     trailed : (made : ℕ) (at : Running Keeping) → made ≤ count → KeepsTurns name made First at → Trailed at.state.shelf
     unfolding Turns
@@ -116,7 +118,7 @@ module _ (name listen : List ℕ) (count : ℕ) (before : ShelfState) (from : Ou
     kept : (made : ℕ) (at : Running Keeping) → KeepsTurns name made First at → Kept_ at at.state.shelf
     unfolding Turns
     kept zero at is = subst (λ (a : Running Keeping). Kept_ a a.state.shelf) (sym is)
-        (told_weaker (λ s t. BeginsBy name start moment s t first) (λ s t. Keeps name t.rows first) (Some before) shelf (λ s t b. b.keeps) begins)
+        (told_weaker (λ s t. BeginsBy name file start moment s t first) (λ s t. Keeps name t.rows first) (Some before) shelf (λ s t b. b.keeps) begins)
     kept (suc made) at some = kept_then at some.0.state.shelf at.state.shelf (LeavesWhole name (given some.2.moment some.0.state) at.state some.2.wire.tells)
         (kept_told some.0 some.0.state.shelf (kept made some.0 some.1)) some.2.answers.leaves (λ s t leaves. leaves.keeps)
 
@@ -146,17 +148,17 @@ module _ (name listen : List ℕ) (count : ℕ) (before : ShelfState) (from : Ou
           last.state.shelf y (λ s t leaves. leaves.trail) b.leaves)
           (λ r k. left_by made last (omega (arith, fewer)) turns r (amid_row b.moment b.wire to.wire begun_ r k))
 
-      trailed_as : (y : Option ShelfState) → Trailed y → WhereTold (Some before) y (KeepTrail name listen count from)
+      trailed_as : (y : Option ShelfState) → Trailed y → WhereTold (Some before) y (KeepTrail name listen file count from)
       trailed_as None t = t
-      trailed_as (Some after) t = inr t
+      trailed_as (Some after) t = inr (inr t)
 
-      pub trail_ended : (y : Option ShelfState) → LeavesAtTurn name y last to → WhereTold (Some before) y (KeepTrail name listen count from)
+      pub trail_ended : (y : Option ShelfState) → LeavesAtTurn name y last to → WhereTold (Some before) y (KeepTrail name listen file count from)
       trail_ended y leaves = trailed_as y (trailed_amid y leaves)
 
       abbrev Answers_ : Option ShelfState → Type 0
-      Answers_ y = WhereTold (Some before) y (KeepsAnswers name listen count from to)
+      Answers_ y = WhereTold (Some before) y (KeepsAnswers name listen file count from to)
 
-      reached : SoFar name listen count before from last
+      reached : SoFar name listen file count before from last
       reached = so_far made last (omega (arith, fewer)) turns
 
       answers_stayed : (x y : Option ShelfState) → Kept_ last x → WhereTold x y (λ s t. t ≡ s) → AnswersNone last.outside to → Answers_ y
@@ -188,13 +190,13 @@ module _ (name listen : List ℕ) (count : ℕ) (before : ShelfState) (from : Ou
     -- ---- where all connections were served
 
     pub trail_whole : (end : Running Keeping) (y : Option ShelfState) → KeepsTurns name count First end
-        → WhereTold (Some before) y (λ s t. end.state.shelf ≡ Some t) → WhereTold (Some before) y (KeepTrail name listen count from)
+        → WhereTold (Some before) y (λ s t. end.state.shelf ≡ Some t) → WhereTold (Some before) y (KeepTrail name listen file count from)
     trail_whole end None turns leaves = absurd leaves
-    trail_whole end (Some t) turns leaves = inr (subst Trailed leaves (trailed count end (omega arith) turns))
+    trail_whole end (Some t) turns leaves = inr (inr (subst Trailed leaves (trailed count end (omega arith) turns)))
 
     pub answers_whole : (end : Running Keeping) (to : Outside) (y : Option ShelfState) → KeepsTurns name count First end → to ≡ end.outside
         → WhereTold (Some before) y (λ s t. Keeps name t.rows end.state.history)
-        → WhereTold (Some before) y (KeepsAnswers name listen count from to)
+        → WhereTold (Some before) y (KeepsAnswers name listen file count from to)
     answers_whole end to None turns is keeps = absurd keeps
     answers_whole end to (Some t) turns is keeps = record {
       last = end;
@@ -205,60 +207,62 @@ module _ (name listen : List ℕ) (count : ℕ) (before : ShelfState) (from : Ou
 
 -- ---- by how it ended
 
-module _ (name listen : List ℕ) (count : ℕ) (from to : Outside) where
+module _ (name listen file : List ℕ) (count : ℕ) (from to : Outside) where
   abbrev Trail_ : Option ShelfState → Option ShelfState → Type 0
-  Trail_ x y = WhereTold x y (KeepTrail name listen count from)
+  Trail_ x y = WhereTold x y (KeepTrail name listen file count from)
 
   unopened_row : (start moment : ℕ) → Opens listen start moment from to → (s : ShelfState) (r : Rows) → AreAsOpened name start moment s.rows r
-      → IsLeft name listen count from s r
+      → IsLeft name listen file count from s r
   unopened_row start moment opens s r rows = inr (inl (start, moment, to, opens, rows))
 
-  unopened_trail : (start moment : ℕ) → Opens listen start moment from to → (s t : ShelfState) → LeavesUnopened name start moment s t
-      → KeepTrail name listen count from s t
+  unopened_trail : (start moment : ℕ) → Opens listen start moment from to → (s t : ShelfState) → LeavesUnopened name file start moment s t
+      → KeepTrail name listen file count from s t
   unopened_trail start moment opens s t (inl same) = inl same
-  unopened_trail start moment opens s t (inr rows) =
-      inr (
-        all_weaker (AreAsOpened name start moment s.rows) (IsLeft name listen count from s) (unopened_row start moment opens s) t.trail rows.0,
-        unopened_row start moment opens s t.rows rows.1,
-      )
+  unopened_trail start moment opens s t (inr (inl called)) = inr (inl called)
+  unopened_trail start moment opens s t (inr (inr rows)) =
+      inr (inr (
+        rows.0,
+        all_weaker (AreAsOpened name start moment s.rows) (IsLeft name listen file count from s) (unopened_row start moment opens s) t.trail rows.1,
+        unopened_row start moment opens s t.rows rows.2,
+      ))
 
   trail_same : (x : Option ShelfState) → Trail_ x x
   trail_same None = tt
   trail_same (Some s) = inl refl
 
   -- the turns of a run that opened so
-  turns_from : (x : Option ShelfState) (first at : Running Keeping) (made : ℕ) (opens : BeginsKeeping name listen x from first)
+  turns_from : (x : Option ShelfState) (first at : Running Keeping) (made : ℕ) (opens : BeginsKeeping name listen file x from first)
       → KeepsTurns name made first at → KeepsTurns name made (begun opens.history opens.shelf first.outside) at
   turns_from x first at made opens turns = subst (λ (f : Running Keeping). KeepsTurns name made f at) opens.first_is turns
 
-  pub trail_all : (text : List ℕ) (x y : Option ShelfState) → Completes (keep_procedure name listen x y) count text from to → Trail_ x y
+  pub trail_all : (text : List ℕ) (x y : Option ShelfState) → Completes (keep_procedure name listen file x y) count text from to → Trail_ x y
   trail_all text None y all = tt
-  trail_all text (Some s) y all = trail_whole name listen count s from all.opens.start all.opens.moment all.first.outside all.opens.opens
+  trail_all text (Some s) y all = trail_whole name listen file count s from all.opens.start all.opens.moment all.first.outside all.opens.opens
       all.opens.shelf all.opens.history all.opens.begins (running all.end to) y
       (turns_from (Some s) all.first (running all.end to) count all.opens all.turns) all.leaves.1
 
-  pub trail_not : (end : Status) (x y : Option ShelfState) → EndsBefore (keep_procedure name listen x y) count end from to → Trail_ x y
+  pub trail_not : (end : Status) (x y : Option ShelfState) → EndsBefore (keep_procedure name listen file x y) count end from to → Trail_ x y
   trail_not end None y not = tt
   trail_not end (Some s) y (inl (inl fails)) = subst (Trail_ (Some s)) (sym fails.same) (trail_same (Some s))
-  trail_not end (Some s) y (inl (inr fails)) = told_weaker (LeavesUnopened name fails.start fails.moment) (KeepTrail name listen count from) (Some s) y
+  trail_not end (Some s) y (inl (inr fails)) = told_weaker (LeavesUnopened name file fails.start fails.moment) (KeepTrail name listen file count from) (Some s) y
       (unopened_trail fails.start fails.moment fails.opens) fails.leaves
-  trail_not end (Some s) y (inr fails) = trail_ended name listen count s from fails.opens.start fails.opens.moment fails.first.outside
+  trail_not end (Some s) y (inr fails) = trail_ended name listen file count s from fails.opens.start fails.opens.moment fails.first.outside
       fails.opens.opens fails.opens.shelf fails.opens.history fails.opens.begins fails.fails.made fails.fails.last fails.fails.fewer
       (turns_from (Some s) fails.first fails.fails.last fails.fails.made fails.opens fails.fails.turns) to y fails.leaves
 
   abbrev Answered_ : Status → Option ShelfState → Option ShelfState → Type 0
-  Answered_ end x y = WhereTold x y (KeepAnswered name listen count end from to)
+  Answered_ end x y = WhereTold x y (KeepAnswered name listen file count end from to)
 
-  pub answered_all : (text : List ℕ) (end : Status) (x y : Option ShelfState) → Completes (keep_procedure name listen x y) count text from to
+  pub answered_all : (text : List ℕ) (end : Status) (x y : Option ShelfState) → Completes (keep_procedure name listen file x y) count text from to
       → Answered_ end x y
   answered_all text end None y all = tt
-  answered_all text end (Some s) y all = told_weaker (KeepsAnswers name listen count from to) (KeepAnswered name listen count end from to) (Some s) y
+  answered_all text end (Some s) y all = told_weaker (KeepsAnswers name listen file count from to) (KeepAnswered name listen file count end from to) (Some s) y
       (λ s t answers. inr answers)
-      (answers_whole name listen count s from all.opens.start all.opens.moment all.first.outside all.opens.opens all.opens.shelf
+      (answers_whole name listen file count s from all.opens.start all.opens.moment all.first.outside all.opens.opens all.opens.shelf
       all.opens.history all.opens.begins (running all.end to) to y
       (turns_from (Some s) all.first (running all.end to) count all.opens all.turns) refl all.leaves.0)
 
-  answered_unopened : (end : Status) (s : ShelfState) (y : Option ShelfState) → FailsToOpen name listen end (Some s) y from to
+  answered_unopened : (end : Status) (s : ShelfState) (y : Option ShelfState) → FailsToOpen name listen file end (Some s) y from to
       → WhereTold (Some s) y (λ s t. ⊤) → Answered_ end (Some s) y
   answered_unopened end s None fails told = told
   answered_unopened end s (Some t) fails told = inl fails
@@ -266,13 +270,13 @@ module _ (name listen : List ℕ) (count : ℕ) (from to : Outside) where
   told_same_shelf : (s : ShelfState) (y : Option ShelfState) → y ≡ Some s → WhereTold (Some s) y (λ s t. ⊤)
   told_same_shelf s y is = subst (λ x. WhereTold (Some s) x (λ s t. ⊤)) (sym is) tt
 
-  pub answered_not : (end : Status) (x y : Option ShelfState) → EndsBefore (keep_procedure name listen x y) count end from to → Answered_ end x y
+  pub answered_not : (end : Status) (x y : Option ShelfState) → EndsBefore (keep_procedure name listen file x y) count end from to → Answered_ end x y
   answered_not end None y not = tt
   answered_not end (Some s) y (inl (inl fails)) = answered_unopened end s y (inl fails) (told_same_shelf s y fails.same)
   answered_not end (Some s) y (inl (inr fails)) = answered_unopened end s y (inr fails)
-      (told_weaker (LeavesUnopened name fails.start fails.moment) (λ s t. ⊤) (Some s) y (λ s t l. tt) fails.leaves)
-  answered_not end (Some s) y (inr fails) = told_weaker (KeepsAnswers name listen count from to) (KeepAnswered name listen count end from to) (Some s) y
+      (told_weaker (LeavesUnopened name file fails.start fails.moment) (λ s t. ⊤) (Some s) y (λ s t l. tt) fails.leaves)
+  answered_not end (Some s) y (inr fails) = told_weaker (KeepsAnswers name listen file count from to) (KeepAnswered name listen file count end from to) (Some s) y
       (λ s t answers. inr answers)
-      (answers_ended name listen count s from fails.opens.start fails.opens.moment fails.first.outside fails.opens.opens fails.opens.shelf
+      (answers_ended name listen file count s from fails.opens.start fails.opens.moment fails.first.outside fails.opens.opens fails.opens.shelf
       fails.opens.history fails.opens.begins fails.fails.made fails.fails.last fails.fails.fewer
       (turns_from (Some s) fails.first fails.fails.last fails.fails.made fails.opens fails.fails.turns) to y fails.leaves)

@@ -27,9 +27,9 @@ use Rattle.siri_keep_run.specs.Serving.{IsOwn, end_at, end_left}
 abbrev pub EndsApart : (name : List ℕ) → Option ShelfState → Status → Type 0
 EndsApart name shelf end = (start : ℕ) × EndsOpening name start end shelf
 
-opening_fails : (name listen : List ℕ) (shelf after : Option ShelfState) (end : Status) (from to : Outside)
-    → FailsToOpen name listen end shelf after from to → ByError (CallFails listen) end from to ⊎ EndsApart name shelf end
-opening_fails name listen shelf after end from to (inl before) =
+opening_fails : (name listen file : List ℕ) (shelf after : Option ShelfState) (end : Status) (from to : Outside)
+    → FailsToOpen name listen file end shelf after from to → ByError (CallFails listen) end from to ⊎ EndsApart name shelf end
+opening_fails name listen file shelf after end from to (inl before) =
     inl (record { error = before.error; end_is = before.end_is; fails = by before.error before.fails })
   where
     by : (e : NetworkError) → serving.FailsToRaise e from to ⊎ (serving.FailsToListen listen e from to ⊎ serving.FailsToTell listen e from to)
@@ -37,7 +37,7 @@ opening_fails name listen shelf after end from to (inl before) =
     by e (inl raise) = inl raise.raises
     by e (inr (inl fails)) = inr (inl fails.listens)
     by e (inr (inr tell)) = inr (inr tell.tells)
-opening_fails name listen shelf after end from to (inr over) = inr (over.start, over.ends)
+opening_fails name listen file shelf after end from to (inr over) = inr (over.start, over.ends)
 
 apart_reason : (name : List ℕ) (shelf : Option ShelfState) (from to : Outside) (end : Status) → EndsApart name shelf end
     → HasReason is_of_shelf from to end
@@ -51,10 +51,10 @@ own_reason from to error.ShelfFault own = refl
 own_reason from to error.OutOfMemory own = tt
 own_reason from to other own = absurd own
 
-pub keep_is_sound : (name listen : List ℕ) (before after : Option ShelfState)
-    → IsSound (keep_procedure name listen before after) listen (EndsApart name before) IsOwn
-keep_is_sound name listen before after = record {
-  fails = opening_fails name listen before after;
+pub keep_is_sound : (name listen file : List ℕ) (before after : Option ShelfState)
+    → IsSound (keep_procedure name listen file before after) listen (EndsApart name before) IsOwn
+keep_is_sound name listen file before after = record {
+  fails = opening_fails name listen file before after;
   apart = apart_reason name before;
   own = record { refuses = λ e state own. own; stops = λ e state before after stops. stops.0 };
   own_reason = own_reason;

@@ -65,7 +65,7 @@ keeps_after name h xs ys rows k = front_keeps_after name h xs ys rows (keeps_non
 -- ---- the rows that a stop may have left
 
 pub adds_nothing : (B A : Rows → Type 0) (s : ShelfState) → B s.rows → AddsOnly B A s s
-adds_nothing B A s b = record { added = []; trail = sym (append-nil s.trail); each = tt; present = inl b }
+adds_nothing B A s b = record { added = []; trail = sym (append-nil s.trail); each = tt; present = inl b; named = refl }
 
 pub adds_then : (B A C D E F : Rows → Type 0) → ((r : Rows) → (B r ⊎ A r) → (E r ⊎ F r)) → ((r : Rows) → (C r ⊎ D r) → (E r ⊎ F r))
     → (s t u : ShelfState) → AddsOnly B A s t → AddsOnly C D t u → AddsOnly E F s u
@@ -75,6 +75,7 @@ adds_then B A C D E F f g s t u a b = record {
   each = all_appended (λ r. E r ⊎ F r) a.added b.added (all_weaker (λ r. B r ⊎ A r) (λ r. E r ⊎ F r) f a.added a.each)
       (all_weaker (λ r. C r ⊎ D r) (λ r. E r ⊎ F r) g b.added b.each);
   present = g u.rows b.present;
+  named = b.named ∙ a.named;
 }
 
 pub adds_as : (B A E F : Rows → Type 0) → ((r : Rows) → (B r ⊎ A r) → (E r ⊎ F r)) → (s t : ShelfState) → AddsOnly B A s t → AddsOnly E F s t
@@ -83,6 +84,7 @@ adds_as B A E F f s t a = record {
   trail = a.trail;
   each = all_weaker (λ r. B r ⊎ A r) (λ r. E r ⊎ F r) f a.added a.each;
   present = f t.rows a.present;
+  named = a.named;
 }
 
 -- with a front of some steps, and then with a front of further ones

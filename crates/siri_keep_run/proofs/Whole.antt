@@ -36,9 +36,9 @@ told_on name (suc count) x from to some told =
     told_then (λ s t. ⊤) (LeavesWhole name (given some.2.moment some.0.state) to.state some.2.wire.tells) (λ s t. ⊤) x some.0.state.shelf to.state.shelf
     (λ s t u p q. tt) (told_on name count x from some.0 some.1 told) some.2.answers.leaves
 
-begins_told : (name : List ℕ) (start moment : ℕ) (x shelf : Option ShelfState) (h : History) → BeginsWith name start moment x shelf h
+begins_told : (name file : List ℕ) (start moment : ℕ) (x shelf : Option ShelfState) (h : History) → BeginsWith name file start moment x shelf h
     → WhereTold x shelf (λ s t. ⊤)
-begins_told name start moment x shelf h begins = told_weaker (λ s t. BeginsBy name start moment s t h) (λ s t. ⊤) x shelf (λ s t b. tt) begins
+begins_told name file start moment x shelf h begins = told_weaker (λ s t. BeginsBy name file start moment s t h) (λ s t. ⊤) x shelf (λ s t b. tt) begins
 
 -- a shelf at rest is as the last turn left it
 left_at_rest : (kept : Kept) (state : Keeping) (x y : Option ShelfState) → state.since ≡ [] → WhereTold x state.shelf (λ s t. ⊤)
@@ -59,11 +59,11 @@ keeps_at_rest kept state x y none told since =
     (λ s t u p i. subst (Keeps kept.producer.responder.name u.rows) (ap (λ l. state.history ++ l) none ∙ append-nil state.history)
     (keeps_of kept u.rows (history_now state) i.holds)) told since
 
-module _ (name listen : List ℕ) (count : ℕ) (kept : Kept) (x y : Option ShelfState) (from open_ : Outside)
-    (opens : OpensKept name listen kept x y from open_) where
-  abbrev begins : (shelf : Option ShelfState) × (h : History) × BeginsWith name opens.start opens.moment x shelf h
+module _ (name listen file : List ℕ) (count : ℕ) (kept : Kept) (x y : Option ShelfState) (from open_ : Outside)
+    (opens : OpensKept name listen file kept x y from open_) where
+  abbrev begins : (shelf : Option ShelfState) × (h : History) × BeginsWith name file opens.start opens.moment x shelf h
       × StandsOver kept nothing_yet 0 y (begun h shelf open_).state
-  begins = begins_over name opens.start opens.moment kept x y open_ opens.opened
+  begins = begins_over name file opens.start opens.moment kept x y open_ opens.opened
 
   -- what it stands for as it opened
   abbrev pub first_state : Keeping
@@ -72,7 +72,7 @@ module _ (name listen : List ℕ) (count : ℕ) (kept : Kept) (x y : Option Shel
   pub first_rests : (tally : Tally) → tally ≡ nothing_yet → RestsOver kept tally 0 y first_state
   first_rests tally none = record { stands = subst (λ t. StandsOver kept t 0 y first_state) (sym none) begins.3; rests = refl }
 
-  opened : BeginsKeeping name listen x from (running first_state open_)
+  opened : BeginsKeeping name listen file x from (running first_state open_)
   opened = record {
     start = opens.start;
     moment = opens.moment;
@@ -87,11 +87,11 @@ module _ (name listen : List ℕ) (count : ℕ) (kept : Kept) (x y : Option Shel
   pub all_kept : (last : Kept) (tally : Tally) (z : Option ShelfState) (to : Outside)
       → (end : Keeping) × RestsOver last tally count z end × KeepsTurns name count (running first_state open_) (running end to)
       × (last.producer.responder.name ≡ name)
-      → Completes (keep_procedure name listen x z) count (summary_text tally) from to
+      → Completes (keep_procedure name listen file x z) count (summary_text tally) from to
   all_kept last tally z to one =
       let over = one.1.stands.over in
       let told = told_on name count x (running first_state open_) (running one.0 to) one.2
-      (begins_told name opens.start opens.moment x begins.0 begins.1 begins.2) in
+      (begins_told name file opens.start opens.moment x begins.0 begins.1 begins.2) in
       record {
         first = running first_state open_;
         opens = opened;
@@ -107,7 +107,7 @@ module _ (name listen : List ℕ) (count : ℕ) (kept : Kept) (x y : Option Shel
   -- a turn ended it
   pub turn_ended : (z : Option ShelfState) (e : NetworkError) (end : Status) (to : Outside) → end ≡ status_of e
       → (fails : EndsInTurns (turning name) count e (running first_state open_) to) × LeavesAtTurn name z fails.last to
-      → EndsBefore (keep_procedure name listen x z) count end from to
+      → EndsBefore (keep_procedure name listen file x z) count end from to
   turn_ended z e end to is one = inr (record {
     first = running first_state open_;
     opens = opened;

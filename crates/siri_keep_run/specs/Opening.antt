@@ -1,6 +1,6 @@
 -- How a run of `keep` opens: the number of its start is raised, it listens, the clock tells its first moment, and then the rows of its
 -- file are read, which say what it begins with.
-use Rattle.std.specs.Prelude.{◌≡◌, ◌≢◌, ◌⊎◌, ⊤, ◌≤◌, ℕ, List, [], Option, None, Some, Ok, Err}
+use Rattle.std.specs.Prelude.{◌≡◌, ◌≢◌, ◌⊎◌, ⊤, ◌≤◌, ℕ, List, [], ◌∷◌, ◌++◌, Option, None, Some, Result, Ok, Err}
 use Rattle.std.specs.List.{AllByRecursion}
 use Rattle.siri_base.specs.OutsideCalls.{WhereTold}
 use Rattle.siri_base.specs.declared.reason.ShelfReason.{ShelfReason}
@@ -10,9 +10,9 @@ use Rattle.siri_base.specs.declared.status.Status.TheVariants as status
 use Rattle.siri_http.specs.Tallies.{nothing_yet}
 use Rattle.siri_model.specs.History.{History}
 use Rattle.siri_shelf.specs.Rows.{Rows}
-use Rattle.siri_shelf.specs.Shelves.{ShelfState}
+use Rattle.siri_shelf.specs.Shelves.{ShelfState, after_fault, open_called}
 use Rattle.siri_keeping.specs.Keeps.{Keeps}
-use Rattle.siri_keeping.specs.Opening.{Kept as SaysKept, Said, WhatIsKept, reopened, said}
+use Rattle.siri_keeping.specs.Opening.{SaysKept, Said, WhatIsKept, reopened, said}
 use Rattle.siri_keep.specs.Calls.{Holds, IsBegun, IsEarlier}
 use Rattle.siri_keep.specs.declared.errors.KeepError.{KeepError}
 use Rattle.siri_keep.specs.declared.errors.KeepError.TheVariants as keep
@@ -28,19 +28,20 @@ use Rattle.siri_keep_run.specs.Serving.{Keeping}
 -- ---- what the rows say
 
 -- A producer of this name begins so at this start and moment, by the rows that a shelf had, which are of this name and of an
--- earlier start: they make its history. It leaves the shelf so: its rows keep that history, and each of those that a stop may have
--- left since the file was opened are as they were, or keep it.
-pub record BeginsBy (name : List ℕ) (start moment : ℕ) (before after : ShelfState) (h : History) : Type 0 where
+-- earlier start: they make its history. It leaves the shelf so: this file was opened, and no other; its rows keep that history, and
+-- each of those that a stop may have left since the file was opened are as they were, or keep it.
+pub record BeginsBy (name file : List ℕ) (start moment : ℕ) (before after : ShelfState) (h : History) : Type 0 where
   pub what : Said
   pub says : said before.rows ≡ Ok what
   pub earlier : IsEarlier name start what
   pub history : h ≡ reopened start moment what
+  pub named : after.named ≡ before.named ++ file ∷ []
   pub keeps : Keeps name after.rows h
   pub trail : AllByRecursion (λ rows. (rows ≡ before.rows) ⊎ Keeps name rows h) after.trail
 
 -- the same of a shelf that tells its rows
-abbrev pub BeginsWith : (name : List ℕ) → (start moment : ℕ) → (before after : Option ShelfState) → History → Type 0
-BeginsWith name start moment before after h = WhereTold before after (λ s t. BeginsBy name start moment s t h)
+abbrev pub BeginsWith : (name file : List ℕ) → (start moment : ℕ) → (before after : Option ShelfState) → History → Type 0
+BeginsWith name file start moment before after h = WhereTold before after (λ s t. BeginsBy name file start moment s t h)
 
 -- the run after it: nothing was counted yet
 abbrev pub begun : History → Option ShelfState → Outside → Running Keeping
@@ -48,13 +49,13 @@ begun h shelf outside =
     record { state = record { history = h; tally = nothing_yet; turns = 0; shelf = shelf; since = [] }; outside = outside }
 
 -- it opened, and such a producer runs over a shelf that it left so
-pub record BeginsKeeping (name listen : List ℕ) (before : Option ShelfState) (from : Outside) (first : Running Keeping) : Type 0 where
+pub record BeginsKeeping (name listen file : List ℕ) (before : Option ShelfState) (from : Outside) (first : Running Keeping) : Type 0 where
   pub start : ℕ
   pub moment : ℕ
   pub opens : Opens listen start moment from first.outside
   pub shelf : Option ShelfState
   pub history : History
-  pub begins : BeginsWith name start moment before shelf history
+  pub begins : BeginsWith name file start moment before shelf history
   pub first_is : first ≡ begun history shelf first.outside
 
 -- why rows are refused: one of a table is the first that is bad, they are of another name, or of a start that isn't earlier
@@ -74,12 +75,14 @@ AreAsOpened name start moment before rows =
     (rows ≡ before)
     ⊎ ((what : Said) × (said before ≡ Ok what) × IsEarlier name start what × Keeps name rows (reopened start moment what))
 
--- An opening that ended leaves a shelf so: the file wasn't opened, and nothing changed; or the rows, and each of those that a stop may
--- have left since, are so.
-abbrev pub LeavesUnopened : (name : List ℕ) → (start moment : ℕ) → ShelfState → ShelfState → Type 0
-LeavesUnopened name start moment before after =
+-- An opening that ended leaves a shelf so: nothing was done to it; or this file wasn't opened, and nothing else was done; or it was,
+-- and no other, and the rows, and each of those that a stop may have left since, are so.
+abbrev pub LeavesUnopened : (name file : List ℕ) → (start moment : ℕ) → ShelfState → ShelfState → Type 0
+LeavesUnopened name file start moment before after =
     (after ≡ before)
-    ⊎ (AllByRecursion (AreAsOpened name start moment before.rows) after.trail × AreAsOpened name start moment before.rows after.rows)
+    ⊎ ((after ≡ open_called file before)
+    ⊎ ((after.named ≡ before.named ++ file ∷ [])
+    × AllByRecursion (AreAsOpened name start moment before.rows) after.trail × AreAsOpened name start moment before.rows after.rows))
 
 -- the statuses that a shelf ends the opening with
 abbrev pub EndsOpening : (name : List ℕ) → (start : ℕ) → Status → Option ShelfState → Type 0
@@ -98,16 +101,16 @@ pub record FailsBefore (listen : List ℕ) (end : Status) (before after : Option
   pub same : after ≡ before
 
 -- it listens and the clock told its moment, and the file wasn't opened, or its rows
-pub record FailsOverShelf (name listen : List ℕ) (end : Status) (before after : Option ShelfState) (from to : Outside) : Type 0 where
+pub record FailsOverShelf (name listen file : List ℕ) (end : Status) (before after : Option ShelfState) (from to : Outside) : Type 0 where
   pub start : ℕ
   pub moment : ℕ
   pub opens : Opens listen start moment from to
   pub ends : EndsOpening name start end before
-  pub leaves : WhereTold before after (LeavesUnopened name start moment)
+  pub leaves : WhereTold before after (LeavesUnopened name file start moment)
 
-abbrev pub FailsToOpen : (name listen : List ℕ) → Status → (before after : Option ShelfState) → Outside → Outside → Type 0
-FailsToOpen name listen end before after from to =
-    FailsBefore listen end before after from to ⊎ FailsOverShelf name listen end before after from to
+abbrev pub FailsToOpen : (name listen file : List ℕ) → Status → (before after : Option ShelfState) → Outside → Outside → Type 0
+FailsToOpen name listen file end before after from to =
+    FailsBefore listen end before after from to ⊎ FailsOverShelf name listen file end before after from to
 
 -- ---- inner words, cited by private functions alone
 
@@ -119,13 +122,19 @@ opening_end keep.OtherName = status.BadShelf reason.Name
 opening_end (keep.OldStart kept) = status.BadShelf (reason.Start kept)
 opening_end other = status.OutOfMemory
 
--- a producer that was opened over a shelf stands for what it begins with, and the shelf is as it left it
-pub record IsOpened (name : List ℕ) (start moment : ℕ) (kept : Kept) (before after : Option ShelfState) : Type 0 where
-  pub begun : IsBegun name kept
-  pub over : WhereTold before after (λ s t. (h : History) × BeginsBy name start moment s t h × Holds kept t.rows h)
+-- the count of the shelf's faults rises by one where it failed in the opening, and nowhere else: nothing is tried again, and no other
+-- status hides it
+abbrev pub CountsOpening : {T : Type 0} → ℕ → ℕ → Result T Status → Type 0
+CountsOpening before now (Err status.ShelfFault) = now ≡ after_fault before
+CountsOpening before now other = now ≡ before
 
-pub record OpensKept (name listen : List ℕ) (kept : Kept) (before after : Option ShelfState) (from to : Outside) : Type 0 where
+-- a producer that was opened over a shelf stands for what it begins with, and the shelf is as it left it
+pub record IsOpened (name file : List ℕ) (start moment : ℕ) (kept : Kept) (before after : Option ShelfState) : Type 0 where
+  pub begun : IsBegun name kept
+  pub over : WhereTold before after (λ s t. (h : History) × BeginsBy name file start moment s t h × Holds kept t.rows h)
+
+pub record OpensKept (name listen file : List ℕ) (kept : Kept) (before after : Option ShelfState) (from to : Outside) : Type 0 where
   pub start : ℕ
   pub moment : ℕ
   pub opens : Opens listen start moment from to
-  pub opened : IsOpened name start moment kept before after
+  pub opened : IsOpened name file start moment kept before after

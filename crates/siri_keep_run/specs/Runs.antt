@@ -19,12 +19,12 @@ is_of_shelf status.ShelfFault = true
 is_of_shelf (status.BadShelf why) = true
 is_of_shelf other = false
 
--- Under this name, at this address, of a shelf that tells this before and after it. After every turn it keeps the history of all of
+-- Under this name, at this address, over the shelf of this file, which tells this before and after it. After every turn it keeps the history of all of
 -- them, and is as the last one left it.
-abbrev pub keep_procedure : (name listen : List ℕ) → (before after : Option ShelfState) → Procedure Keeping
-keep_procedure name listen before after = record {
-  Opens = BeginsKeeping name listen before;
-  FailsToOpen = λ end from to. FailsToOpen name listen end before after from to;
+abbrev pub keep_procedure : (name listen file : List ℕ) → (before after : Option ShelfState) → Procedure Keeping
+keep_procedure name listen file before after = record {
+  Opens = BeginsKeeping name listen file before;
+  FailsToOpen = λ end from to. FailsToOpen name listen file end before after from to;
   turning = turning name;
   Leaves = λ keeping. WhereTold before after (λ s t. Keeps name t.rows keeping.history) × WhereTold before after (λ s t. keeping.shelf ≡ Some t);
   LeavesInTurn = LeavesAtTurn name after;
@@ -34,8 +34,8 @@ keep_procedure name listen before after = record {
 
 -- What it does to the outside and to the shelf over so many connections, what it writes, and how it ends. Want of memory and a failure
 -- of the shelf leave the first of its steps.
-abbrev pub KeepRun : (name listen : List ℕ) → ℕ → (before after : Option ShelfState) → Outside → Outside → Bytes → Bytes → Status → Type 0
-KeepRun name listen count before after from to old new end = Run (keep_procedure name listen before after) count from to old new end
+abbrev pub KeepRun : (name listen file : List ℕ) → ℕ → (before after : Option ShelfState) → Outside → Outside → Bytes → Bytes → Status → Type 0
+KeepRun name listen file count before after from to old new end = Run (keep_procedure name listen file before after) count from to old new end
 
 -- the statuses of a run in which nothing was written
 abbrev pub EndsKeeping : Status → Type 0

@@ -3,9 +3,9 @@
 ghost use Rattle.std.specs.Prelude.{◌≡◌, IfErr, IfOk, Some, []};
 ghost use Rattle.siri_base.specs.Causes.{Rose};
 ghost use Rattle.siri_base.specs.MetFailures.{SinkMeets, is_write_fault};
-ghost use Rattle.siri_base.specs.OutsideCalls.{WhereTold};
 ghost use Rattle.siri_base.specs.declared.status.Status.TheVariants as status;
-ghost use Rattle.siri_runs.specs.Calls.{outside_told};
+ghost use Rattle.siri_shelf.specs.Shelves.{OnShelf};
+ghost use Rattle.siri_runs.specs.Calls.{outside};
 ghost use Rattle.siri_runs.specs.Enough.{HasEnough};
 ghost use Rattle.siri_keep_run.specs.Left.{KeepAnswered, KeepTrail};
 ghost use Rattle.siri_keep_run.specs.Runs.{EndsKeeping, EndsWholeOrByShelf, KeepRun, keep_procedure};
@@ -21,9 +21,10 @@ use siri_shelf::Shelf;
 use std::alloc::Global;
 
 /// A producer of this name over the shelf of a file, for so many connections at `HOST:PORT`: it raises the number of its
-/// start, listens, reads the clock for its first moment, opens the file, and begins with what its rows keep; then it
-/// serves each connection at the clock's moment. What a message changes is in the file before it is answered. After each
-/// 1,000 connections the rows of dead items leave. Then it writes `served N refused R dropped D unsent U`.
+/// start, listens, reads the clock for its first moment, opens that file, once and no other, and begins with what its
+/// rows keep; then it serves each connection at the clock's moment. What a message changes is in the file before it is
+/// answered. After each 1,000 connections the rows of dead items leave. Then it writes
+/// `served N refused R dropped D unsent U`.
 ///
 /// However it ends, and wherever it is cut off, the rows are as they were before, or keep what it opened with, or all that
 /// so many of its turns made, with a front of the next. Where it ends, they keep each message whose connection was
@@ -45,20 +46,20 @@ pub fn keep<K: Sink, W: Wire, C: Clock, E: Keeper, B: Shelf>(
     keeper: &mut E,
     shelf: &mut B,
 ) -> Status
-    ensures run { KeepRun name address.now count (B.tells shelf.old) (B.tells shelf.new)
-        (outside_told W.Wire C.Clock E.Keeper wire.old clock.old keeper.old)
-        (outside_told W.Wire C.Clock E.Keeper wire.new clock.new keeper.new)
+    ensures run { KeepRun name address.now file.now count (B.tells shelf.old) (B.tells shelf.new)
+        (outside W.Wire C.Clock E.Keeper wire.old clock.old keeper.old)
+        (outside W.Wire C.Clock E.Keeper wire.new clock.new keeper.new)
         (K.held sink.old) (K.held sink.new) result }
     // What it leaves on the shelf, at every moment and at whatever status.
-    ensures keep_trail { WhereTold (B.tells shelf.old) (B.tells shelf.new) (KeepTrail name address.now count
-        (outside_told W.Wire C.Clock E.Keeper wire.old clock.old keeper.old)) }
-    ensures keep_answered { WhereTold (B.tells shelf.old) (B.tells shelf.new) (KeepAnswered name address.now count result
-        (outside_told W.Wire C.Clock E.Keeper wire.old clock.old keeper.old)
-        (outside_told W.Wire C.Clock E.Keeper wire.new clock.new keeper.new)) }
+    ensures keep_trail { OnShelf B.tells shelf.old shelf.new (KeepTrail name address.now file.now count
+        (outside W.Wire C.Clock E.Keeper wire.old clock.old keeper.old)) }
+    ensures keep_answered { OnShelf B.tells shelf.old shelf.new (KeepAnswered name address.now file.now count result
+        (outside W.Wire C.Clock E.Keeper wire.old clock.old keeper.old)
+        (outside W.Wire C.Clock E.Keeper wire.new clock.new keeper.new)) }
     ensures unwritten { EndsKeeping result → sink.new ≡ sink.old }
     ensures meets { SinkMeets (is_write_fault result) (K.held sink.old) (K.held sink.new) (K.fails sink.old) (K.fails sink.new) }
     // Where there is enough for so many connections, and no failure is named for the sink.
-    ensures complete { HasEnough count (outside_told W.Wire C.Clock E.Keeper wire.old clock.old keeper.old)
+    ensures complete { HasEnough count (outside W.Wire C.Clock E.Keeper wire.old clock.old keeper.old)
         → K.fails sink.old ≡ Some [] → EndsWholeOrByShelf result }
     // When each fault comes.
     ensures write_fault { result ≡ status.WriteFault → Rose (K.faults sink.old) (K.faults sink.new) }
@@ -91,12 +92,12 @@ fn keep_all<W: Wire, C: Clock, E: Keeper, B: Shelf>(
     keeper: &mut E,
     shelf: &mut B,
 ) -> Result<Tally, Status>
-    ensures ok { IfOk result (λ tally. Completes (keep_procedure name address.now (B.tells shelf.old) (B.tells shelf.new)) count (summary_text tally)
-        (outside_told W.Wire C.Clock E.Keeper wire.old clock.old keeper.old)
-        (outside_told W.Wire C.Clock E.Keeper wire.new clock.new keeper.new)) }
-    ensures err { IfErr result (λ end. EndsBefore (keep_procedure name address.now (B.tells shelf.old) (B.tells shelf.new)) count end
-        (outside_told W.Wire C.Clock E.Keeper wire.old clock.old keeper.old)
-        (outside_told W.Wire C.Clock E.Keeper wire.new clock.new keeper.new)) }
+    ensures ok { IfOk result (λ tally. Completes (keep_procedure name address.now file.now (B.tells shelf.old) (B.tells shelf.new)) count (summary_text tally)
+        (outside W.Wire C.Clock E.Keeper wire.old clock.old keeper.old)
+        (outside W.Wire C.Clock E.Keeper wire.new clock.new keeper.new)) }
+    ensures err { IfErr result (λ end. EndsBefore (keep_procedure name address.now file.now (B.tells shelf.old) (B.tells shelf.new)) count end
+        (outside W.Wire C.Clock E.Keeper wire.old clock.old keeper.old)
+        (outside W.Wire C.Clock E.Keeper wire.new clock.new keeper.new)) }
     ensures fault { IfErr result (λ end. end ≡ status.ShelfFault → Rose (B.faults shelf.old) (B.faults shelf.new)) }
 {
     let mut kept = open(alloc, name, address, file, wire, clock, keeper, shelf)?;

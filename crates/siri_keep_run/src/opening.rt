@@ -2,10 +2,10 @@
 
 ghost use Rattle.std.specs.Prelude.{◌≡◌, ◌≤◌, IfErr, IfOk, OnErr, OnOk};
 ghost use Rattle.siri_base.specs.Causes.{Rose};
-ghost use Rattle.siri_base.specs.OutsideCalls.{WhereTold};
 ghost use Rattle.siri_base.specs.declared.status.Status.TheVariants as status;
-ghost use Rattle.siri_runs.specs.Calls.{outside_told};
-ghost use Rattle.siri_keep_run.specs.Opening.{EndsOpening, FailsToOpen, IsOpened, LeavesUnopened, OpensKept, opening_end};
+ghost use Rattle.siri_shelf.specs.Shelves.{OnShelf};
+ghost use Rattle.siri_runs.specs.Calls.{outside};
+ghost use Rattle.siri_keep_run.specs.Opening.{CountsOpening, EndsOpening, FailsToOpen, IsOpened, LeavesUnopened, OpensKept, opening_end};
 
 use siri_base::{Clock, Keeper, Moment, Name, OutsideError, ShelfReason, Status, Wire};
 use siri_keep::{KeepError, Kept};
@@ -33,6 +33,7 @@ fn opening_end(error: KeepError) -> Status
 }
 
 /// Opens the file of a shelf, and a producer of what it keeps.
+#[tactic(auto, using(crate::proofs::Opened::opening_counts))]
 fn open_shelf<B: Shelf>(
     alloc: Global,
     name: Name,
@@ -43,12 +44,13 @@ fn open_shelf<B: Shelf>(
 ) -> Result<Kept, Status>
     requires from_one { 1 ≤ start }
     requires small { start ≤ 99999999999 }
-    ensures ok { IfOk result (λ kept. IsOpened name start moment kept (B.tells shelf.old) (B.tells shelf.new)) }
+    ensures ok { IfOk result (λ kept. IsOpened name file.now start moment kept (B.tells shelf.old) (B.tells shelf.new)) }
     ensures err { IfErr result (λ end. EndsOpening name start end (B.tells shelf.old)) }
-    ensures leaves { OnErr result (WhereTold (B.tells shelf.old) (B.tells shelf.new) (LeavesUnopened name start moment)) }
+    ensures leaves { OnErr result (OnShelf B.tells shelf.old shelf.new (LeavesUnopened name file.now start moment)) }
     ensures open { OnOk result (B.is_open shelf.new) }
     ensures later { B.faults shelf.old ≤ B.faults shelf.new }
     ensures fault { IfErr result (λ end. end ≡ status.ShelfFault → Rose (B.faults shelf.old) (B.faults shelf.new)) }
+    ensures counted { CountsOpening (B.faults shelf.old) (B.faults shelf.new) result }
 {
     match shelf.open(file) {
         Ok(()) => {}
@@ -72,15 +74,16 @@ pub(crate) fn open<W: Wire, C: Clock, E: Keeper, B: Shelf>(
     keeper: &mut E,
     shelf: &mut B,
 ) -> Result<Kept, Status>
-    ensures ok { IfOk result (λ kept. OpensKept name address.now kept (B.tells shelf.old) (B.tells shelf.new)
-        (outside_told W.Wire C.Clock E.Keeper wire.old clock.old keeper.old)
-        (outside_told W.Wire C.Clock E.Keeper wire.new clock.new keeper.new)) }
-    ensures err { IfErr result (λ end. FailsToOpen name address.now end (B.tells shelf.old) (B.tells shelf.new)
-        (outside_told W.Wire C.Clock E.Keeper wire.old clock.old keeper.old)
-        (outside_told W.Wire C.Clock E.Keeper wire.new clock.new keeper.new)) }
+    ensures ok { IfOk result (λ kept. OpensKept name address.now file.now kept (B.tells shelf.old) (B.tells shelf.new)
+        (outside W.Wire C.Clock E.Keeper wire.old clock.old keeper.old)
+        (outside W.Wire C.Clock E.Keeper wire.new clock.new keeper.new)) }
+    ensures err { IfErr result (λ end. FailsToOpen name address.now file.now end (B.tells shelf.old) (B.tells shelf.new)
+        (outside W.Wire C.Clock E.Keeper wire.old clock.old keeper.old)
+        (outside W.Wire C.Clock E.Keeper wire.new clock.new keeper.new)) }
     ensures open { OnOk result (B.is_open shelf.new) }
     ensures later { B.faults shelf.old ≤ B.faults shelf.new }
     ensures fault { IfErr result (λ end. end ≡ status.ShelfFault → Rose (B.faults shelf.old) (B.faults shelf.new)) }
+    ensures counted { CountsOpening (B.faults shelf.old) (B.faults shelf.new) result }
 {
     let start = raise(keeper)?;
     listen(wire, address)?;

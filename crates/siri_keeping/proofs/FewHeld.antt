@@ -3,7 +3,7 @@ use Rattle.std.proofs.Common.{◌≡◌, ◌≤◌, ℕ, suc, ◌+◌, max, List
 use Rattle.std.specs.Prelude.{◌==◌, nat_lt, option_map, find}
 use Rattle.std.proofs.lemmas.Bool.{leb-false}
 use Rattle.std.proofs.lemmas.List.{length-map}
-use Rattle.siri_messages.specs.Asked.{Asked, asked_in}
+use Rattle.siri_messages.specs.Asked.{AskedFor, asked_in}
 use Rattle.siri_messages.specs.declared.message.Message.{Message}
 use Rattle.siri_messages.specs.declared.message.Message.TheVariants as message
 use Rattle.siri_messages.specs.declared.supplies.Mark.{Mark as MarkOf}
@@ -80,7 +80,7 @@ module _ (row : Row KeptLife) (rows : Rows) (few : AreFew rows) where
 few_accepted : (now : ℕ) (row : Row KeptLife) (rows : Rows) → AreFew rows → AreFew (accepted now row rows)
 few_accepted now row rows few = few_by row rows few (is_terminated now row) (number_of row.wanted.subscriber row.wanted.identifier rows) refl
 
-few_asked : (now number : ℕ) (asked : List Asked) (rows : Rows) → AreFew rows → AreFew (rows_asked now number asked rows)
+few_asked : (now number : ℕ) (asked : List AskedFor) (rows : Rows) → AreFew rows → AreFew (rows_asked now number asked rows)
 few_asked now number [] rows few = few
 few_asked now number (a ∷ asked) rows few =
     few_asked now number asked (accepted now (new_row now number a) rows) (few_accepted now (new_row now number a) rows few)

@@ -247,7 +247,7 @@ pub stop_leaves : {T : Type 0} (Before After : Rows → Type 0) (puts : List Put
     → Writes puts old new result → Before old.rows → After (with_puts old.rows puts) → AddsOnly Before After old new
 stop_leaves Before After puts old new (Ok done) w was will =
     let there : After new.rows = subst After (sym w.rows) will in
-    record { added = new.rows ∷ []; trail = w.trail; each = (inr there, tt); present = inr there }
+    record { added = new.rows ∷ []; trail = w.trail; each = (inr there, tt); present = inr there; named = w.named }
 stop_leaves Before After puts old new (Err outside.Failed) w was will =
     record {
       added =
@@ -255,6 +255,7 @@ stop_leaves Before After puts old new (Err outside.Failed) w was will =
       trail = w.trail;
       each = (inr will, (inl was, tt));
       present = inl (subst Before (sym w.rows) was);
+      named = w.named;
     }
 stop_leaves Before After puts old new (Err outside.OutOfMemory) (inl same) was will =
     record {
@@ -263,6 +264,7 @@ stop_leaves Before After puts old new (Err outside.OutOfMemory) (inl same) was w
       trail = ap (λ (s : ShelfState). s.trail) same ∙ sym (append-nil old.trail);
       each = tt;
       present = inl (subst (λ (s : ShelfState). Before s.rows) (sym same) was);
+      named = ap (λ (s : ShelfState). s.named) same;
     }
 stop_leaves Before After puts old new (Err outside.OutOfMemory) (inr w) was will =
     record {
@@ -271,6 +273,7 @@ stop_leaves Before After puts old new (Err outside.OutOfMemory) (inr w) was will
       trail = w.trail;
       each = (inr will, (inl was, tt));
       present = inl (subst Before (sym w.rows) was);
+      named = w.named;
     }
 
 -- what was there, or what is there with the puts

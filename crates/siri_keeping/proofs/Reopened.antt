@@ -30,7 +30,7 @@ use Rattle.siri_row_texts.specs.SubscriptionRows.{renewal_of}
 use Rattle.siri_shelf.specs.Rows.{InOrder, RowPlace, Rows}
 use Rattle.siri_tables.proofs.TableLaws.{all_joined}
 use Rattle.siri_keeping.specs.Keeps.{Keeps}
-use Rattle.siri_keeping.specs.Opening.{Kept, Nothing, Said, WhatIsKept, by_service, kept_in, live_items, reopened, said}
+use Rattle.siri_keeping.specs.Opening.{SaysKept, Nothing, Said, WhatIsKept, by_service, kept_in, live_items, reopened, said}
 use Rattle.siri_keeping.specs.Subscribed.{unexpired}
 use Rattle.siri_keeping.proofs.Feeding.{fed_items}
 use Rattle.siri_keeping.proofs.FewHeld.{few_rows}
@@ -129,10 +129,10 @@ module _ (name : List ℕ) (rows : Rows) (h : History) (ordered : InOrder rows) 
   once : EachOnce old
   once = (well_after h).once
 
-  pub says : said rows ≡ Ok (Kept what)
+  pub says : said rows ≡ Ok (SaysKept what)
   says = says_kept name moment (start_of h) live keeps.kept keeps.places old rows keeps.these ordered few once (few_rows h)
 
-  pub says_this : (other : Said) → said rows ≡ Ok other → Kept what ≡ other
+  pub says_this : (other : Said) → said rows ≡ Ok other → SaysKept what ≡ other
   unfolding said_in
   says_this other is = ap said_in (sym says ∙ is)
 
@@ -154,7 +154,7 @@ module _ (name : List ℕ) (rows : Rows) (h : History) (ordered : InOrder rows) 
     abbrev messages : List Message
     messages = map request_message helds ++ filter_map renewal_message helds
 
-    reopened_is : reopened start now (Kept what) ≡ first ++ map Take messages
+    reopened_is : reopened start now (SaysKept what) ≡ first ++ map Take messages
     unfolding reopened
     reopened_is =
         let requests = requests_said name moment (start_of h) live keeps.kept keeps.places old rows keeps.these ordered few once (few_rows h) in
@@ -186,7 +186,7 @@ module _ (name : List ℕ) (rows : Rows) (h : History) (ordered : InOrder rows) 
     all_quiet : All FeedsNothing messages
     all_quiet = all_joined FeedsNothing (map request_message helds) (filter_map renewal_message helds) (quiet_requests helds) (quiet_renewals helds)
 
-    known_is : state_of (reopened start now (Kept what)) ≡ known
+    known_is : state_of (reopened start now (SaysKept what)) ≡ known
     known_is = ap state_of reopened_is ∙ (goes_on first messages all_quiet).state ∙ first_known
 
     -- ---- what it shows
@@ -206,7 +206,7 @@ module _ (name : List ℕ) (rows : Rows) (h : History) (ordered : InOrder rows) 
         ∙ direct_live later (current h) topic
         ∙ ap (λ n. direct_to n (current h) topic) (max_comm now moment)
 
-    shows_by : (topic : Topic) → direct_to (now_of (reopened start now (Kept what))) (current (reopened start now (Kept what))) topic
+    shows_by : (topic : Topic) → direct_to (now_of (reopened start now (SaysKept what))) (current (reopened start now (SaysKept what))) topic
         ≡ direct_to (now_of (h ++ Clock now ∷ [])) (current (h ++ Clock now ∷ [])) topic
     shows_by topic =
         ap (λ (s : State). direct_to s.now s.current topic) known_is ∙ direct_then topic
@@ -221,7 +221,7 @@ module _ (name : List ℕ) (rows : Rows) (h : History) (ordered : InOrder rows) 
 
     -- ---- what it holds
 
-    holds_by : helds_of (table_of (reopened start now (Kept what))) ≡ helds_of (table_of (h ++ Clock now ∷ []))
+    holds_by : helds_of (table_of (reopened start now (SaysKept what))) ≡ helds_of (table_of (h ++ Clock now ∷ []))
     holds_by =
         ap (λ x. helds_of (table_of x)) reopened_is
         ∙ ap (map held_of) (goes_on first messages all_quiet).rows

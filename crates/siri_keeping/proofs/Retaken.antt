@@ -18,7 +18,7 @@ use Rattle.siri_subs.proofs.Once.{put_last}
 use Rattle.siri_model.specs.Held.{Held, held_of}
 use Rattle.siri_model.specs.Rows.{KeptLife, asked_of, new_row, nothing_kept, renewed_row, rows_asked, rows_taken, with_row_of}
 use Rattle.siri_row_texts.specs.SubscriptionRows.{renewal_of, request_of}
-use Rattle.siri_messages.specs.Asked.{Asked}
+use Rattle.siri_messages.specs.Asked.{AskedFor}
 use Rattle.siri_keeping.specs.Subscribed.{unexpired}
 use Rattle.siri_keeping.proofs.KeptRequests.{asks_alone, number_is}
 use Rattle.siri_keeping.proofs.SaidRows.{renewal_message, request_message}
@@ -50,7 +50,7 @@ IsNew rows row = is_held row.wanted.subscriber row.wanted.identifier rows ≡ fa
 
 -- ---- a request that begins a subscription
 
-requested : (start now base : ℕ) (a : Asked) (rows : Rows)
+requested : (start now base : ℕ) (a : AskedFor) (rows : Rows)
     → rows_taken start now (message.SubscriptionRequest (request_of a base)) rows ≡ accepted now (new_row now base a) rows
 unfolding rows_taken
 requested start now base a rows = λ i. rows_asked now (number_is a base i) (asks_alone a base i) rows

@@ -28,7 +28,7 @@ use Rattle.siri_row_texts.specs.Reading.{began_of_row, renewal_of_row, request_o
 use Rattle.siri_wire.proofs.MessageValues.{all_map}
 use Rattle.siri_keeping.specs.Keeping.{is_place, most_rows}
 use Rattle.siri_keeping.specs.Keeps.{KeepsThese}
-use Rattle.siri_keeping.specs.Opening.{Kept, Said, are_same, began_in, exceeds, is_any, is_bad, is_bad_beginning, is_bad_item, is_bad_request, is_live_at, is_live_in, is_of_same, item_in, kept_in, renewal_in, renewal_of_request, request_in, said, said_unless, subscription_in, up_to}
+use Rattle.siri_keeping.specs.Opening.{SaysKept, Said, are_same, began_in, exceeds, is_any, is_bad, is_bad_beginning, is_bad_item, is_bad_request, is_live_at, is_live_in, is_of_same, item_in, kept_in, renewal_in, renewal_of_request, request_in, said, said_unless, subscription_in, up_to}
 use Rattle.siri_keeping.proofs.Feeding.{few_passing}
 use Rattle.siri_keeping.proofs.SaidItems.{IsItemRow, few_items, few_live_rows, item_row}
 use Rattle.siri_keeping.proofs.TableRows.{IsIn, IsThere, all_in, all_passing, all_there, entries_at, is_in, pair_of, placed, table_is}
@@ -351,7 +351,7 @@ module _ (name : List ℕ) (moment start : ℕ) (live kept : Items) (places : Li
   -- ---- what they say
 
   says_by : (rs : Rows) (text : List ℕ) → text_at rs 0 [] ≡ Some text → find (is_bad rs) rs ≡ None → began_in rs ≡ Some began
-      → said rs ≡ Ok (Kept (kept_in rs began))
+      → said rs ≡ Ok (SaysKept (kept_in rs began))
   unfolding said
   says_by [] text there none is = absurd (none-some text there)
   says_by (row ∷ rest) text there none is =
@@ -359,9 +359,9 @@ module _ (name : List ℕ) (moment start : ℕ) (live kept : Items) (places : Li
       let nowhere : RowPlace = (0, []) in
       let first : Result Said RowPlace = Err nowhere in
       (λ i. cond (is_none (there i)) first (said_unless (none i) rs))
-      ∙ ap (λ o. ok_or (option_map (λ b. Kept (kept_in rs b)) o) nowhere) is
+      ∙ ap (λ o. ok_or (option_map (λ b. SaysKept (kept_in rs b)) o) nowhere) is
 
-  pub says_kept : said rows ≡ Ok (Kept (kept_in rows began))
+  pub says_kept : said rows ≡ Ok (SaysKept (kept_in rows began))
   says_kept = says_by rows (moment_row moment start name) these.moment_is none_bad began_is
 
   requests_of : (ps : List (List ℕ)) (list : List Held) → AllZip IsAt ps list → All Reads list

@@ -30,16 +30,6 @@ decided p q = decided_by p q (is_eq (place_cmp p q)) refl
 pub put_is : (rows : Rows) (put : Put) (table : ℕ) (key : List ℕ) → at table key ≡ at put.table put.key → text_at (with_put rows put) table key ≡ put.text
 put_is rows put table key same = ap (λ (p : RowPlace). text_at (with_put rows put) p.0 p.1) same ∙ text_there put rows
 
--- no put is at a place
-abbrev IsSpared : ℕ → List ℕ → List Put → Type 0
-IsSpared table key = All (λ put. at table key ≢ at put.table put.key)
-
-pub spared_stay : (table : ℕ) (key : List ℕ) (puts : List Put) (rows : Rows) → IsSpared table key puts
-    → text_at (with_puts rows puts) table key ≡ text_at rows table key
-spared_stay table key [] rows spared = refl
-spared_stay table key (put ∷ puts) rows spared =
-    spared_stay table key puts (with_put rows put) spared.1 ∙ text_elsewhere put rows (table, key) spared.0
-
 -- ---- elements
 
 pub here : {X : Type 0} (x : X) (xs : List X) → Contains (x ∷ xs) x

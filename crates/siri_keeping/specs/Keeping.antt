@@ -88,9 +88,10 @@ subscription_puts places helds = flat_map removed_at places ++ flat_map kept_at 
 
 -- ---- stops
 
--- each of the rows that a call added to the trail, and the present ones, are as before it or as after it
+-- each of the rows that a call added to the trail, and the present ones, are as before it or as after it, and no file was to be opened
 pub record AddsOnly (Before After : Rows → Type 0) (old new : ShelfState) : Type 0 where
   pub added : List Rows
   pub trail : new.trail ≡ old.trail ++ added
   pub each : AllByRecursion (λ rows. Before rows ⊎ After rows) added
   pub present : Before new.rows ⊎ After new.rows
+  pub named : new.named ≡ old.named

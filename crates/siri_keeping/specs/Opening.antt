@@ -114,7 +114,7 @@ pub record WhatIsKept : Type 0 where
 -- no rows say nothing
 pub data Said : Type 0 where
   Nothing : Said
-  Kept : WhatIsKept → Said
+  SaysKept : WhatIsKept → Said
 
 abbrev pub kept_in : Rows → Began → WhatIsKept
 kept_in rows began = record {
@@ -127,7 +127,7 @@ kept_in rows began = record {
 -- unless a row is bad
 abbrev pub said_unless : Option StoredRow → Rows → Result Said RowPlace
 said_unless (Some bad) rows = Err (place_of bad)
-said_unless None rows = ok_or (option_map (λ began. Kept (kept_in rows began)) (began_in rows)) (0, [])
+said_unless None rows = ok_or (option_map (λ began. SaysKept (kept_in rows began)) (began_in rows)) (0, [])
 
 -- what rows say, or else the place of the first bad one; where the row of the moment is missing that is its place
 unfoldable pub said : Rows → Result Said RowPlace
@@ -160,5 +160,5 @@ live_items k = filter (λ i. not (is_dead i k.began.moment)) k.items
 -- subscriptions, and those that gave some of them their numbers.
 unfoldable pub reopened : (start now : ℕ) → Said → History
 reopened start now Nothing = Start start now ∷ []
-reopened start now (Kept k) =
+reopened start now (SaysKept k) =
     Start start now ∷ Clock k.began.moment ∷ Feed (map Observed (by_service (live_items k))) ∷ map Take (k.requests ++ k.renewals)

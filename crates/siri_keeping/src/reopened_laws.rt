@@ -8,13 +8,13 @@ ghost use Rattle.siri_model.specs.History.{Clock, History, current, now_of, star
 ghost use Rattle.siri_model.specs.Lives.{table_of};
 ghost use Rattle.siri_shelf.specs.Rows.{InOrder, Rows};
 ghost use Rattle.siri_keeping.specs.Keeps.{Keeps};
-ghost use Rattle.siri_keeping.specs.Opening.{Kept, Said, WhatIsKept, reopened, said};
+ghost use Rattle.siri_keeping.specs.Opening.{SaysKept, Said, WhatIsKept, reopened, said};
 
 /// A law, which does nothing when it is called: no row is bad of rows in order that keep a history. They say its name, its
 /// start and its moment.
 pub fn what_is_kept_is_said()
     ensures { (name : List ℕ) (rows : Rows) (h : History) → InOrder rows → Keeps name rows h
-        → (what : WhatIsKept) × (said rows ≡ Ok (Kept what)) × (what.began ≡ record { moment = now_of h; start = start_of h; name = name }) }
+        → (what : WhatIsKept) × (said rows ≡ Ok (SaysKept what)) × (what.began ≡ record { moment = now_of h; start = start_of h; name = name }) }
 {}
 
 /// A law: a producer that is opened over the rows that keep a history, at a moment, shows to each topic what the producer of

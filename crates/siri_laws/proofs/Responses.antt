@@ -20,7 +20,7 @@ use Rattle.siri_model.specs.History.{History, entries_of, now_of, current}
 use Rattle.siri_model.proofs.Current.{few_live}
 use Rattle.siri_responder.proofs.Shown.{response_live}
 use Rattle.siri_tables.specs.Proper.{IsName, IsMoment, IsListWithin}
-use Rattle.siri_items.specs.Proper.{IsProper as IsProperItem, service_of}
+use Rattle.siri_items.specs.Proper.{IsProper as IsProperItem}
 use Rattle.siri_wire.specs.Canonical.{canonical}
 use Rattle.siri_wire.specs.Documents.{message_of}
 use Rattle.siri_wire.specs.laws.ProperDeliveries.{IsProperOf, IsProperDelivery, IsProperServiceDelivery}
@@ -33,6 +33,7 @@ use Rattle.siri_laws.proofs.Current.{AreProper, entries_proper, moment_proper, c
 use Rattle.siri_deliveries.specs.Limits.{most_entries}
 use Rattle.siri_records.specs.Keyed.{most_live}
 use Rattle.siri_json.specs.Tree.{longest_document}
+use Rattle.siri_records.specs.Services.{service_of}
 
 -- ---- what is shown to a topic is of its service
 

@@ -5,7 +5,7 @@ use Rattle.std.specs.Prelude.{◌&&◌, int_lt}
 use Rattle.std.proofs.lemmas.Bool.{lt-leb, lt-ltb}
 use Rattle.siri_records.specs.Keyed.{Items}
 use Rattle.siri_change.specs.Parts.{Carried}
-use Rattle.siri_messages.specs.Asked.{Asked}
+use Rattle.siri_messages.specs.Asked.{AskedFor}
 use Rattle.siri_subs.specs.Beats as status
 use Rattle.siri_life.specs.Life.{Outstanding, is_due, resend_interval}
 use Rattle.siri_life.specs.Slot.{Slot, is_message_due, opens_round}
@@ -24,7 +24,7 @@ use Rattle.siri_producer.specs.Sends.{sends}
 sent_is_not_due : (now : ℕ) → is_due (Some now) now ≡ false
 sent_is_not_due now = lt-leb (now + resend_interval) now (omega arith)
 
-module _ (asked : Asked) (direct : Items) (now : ℕ) where
+module _ (asked : AskedFor) (direct : Items) (now : ℕ) where
   -- none is outstanding, and a round opens or none does
   level_is_quiet : (s : Slot Items Carried) (opens : Bool) → opens_round meaning None s asked direct ≡ opens
       → is_message_due (looked asked direct now (sent_if_due now (looked asked direct now (record s { outstanding = None })))) now ≡ false

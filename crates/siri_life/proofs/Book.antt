@@ -23,8 +23,8 @@ module _ {V P W H E : Type 0} (f : Meaning V P W H E) where
   fresh_same n s k t m b w (l ∷ ls) = ap (λ rs. cond (matches l n s) l.rounds rs) (fresh_same n s k t m b w ls)
 
   -- no round is lost, and none changes
-  abbrev pub Kept : Option (Life V P W) → List (Life V P W) → Option (Life V P W) → List (Life V P W) → Type 0
-  Kept e ls e' ls' = (n s i : ℕ) (x : Round V P) → slice_get (rounds_of n s e ls) i ≡ Some x → slice_get (rounds_of n s e' ls') i ≡ Some x
+  abbrev pub NoneLost : Option (Life V P W) → List (Life V P W) → Option (Life V P W) → List (Life V P W) → Type 0
+  NoneLost e ls e' ls' = (n s i : ℕ) (x : Round V P) → slice_get (rounds_of n s e ls) i ≡ Some x → slice_get (rounds_of n s e' ls') i ≡ Some x
 
   kept_cond : (b : Bool) (rs : List (Round V P)) (xs ys : List (Round V P)) (i : ℕ) (x : Round V P)
       → (slice_get xs i ≡ Some x → slice_get ys i ≡ Some x) → slice_get (cond b rs xs) i ≡ Some x
@@ -33,7 +33,7 @@ module _ {V P W H E : Type 0} (f : Meaning V P W H E) where
   kept_cond false rs xs ys i x g h = g h
 
   kept_by : (e e' : Option (Life V P W)) → ((n s i : ℕ) (x : Round V P) → slice_get (life_rounds n s e) i ≡ Some x
-      → slice_get (life_rounds n s e') i ≡ Some x) → (ls : List (Life V P W)) → Kept e ls e' ls
+      → slice_get (life_rounds n s e') i ≡ Some x) → (ls : List (Life V P W)) → NoneLost e ls e' ls
   kept_by e e' g [] n s i x = g n s i x
   kept_by e e' g (l ∷ ls) n s i x = kept_cond (matches l n s) l.rounds (rounds_of n s e ls) (rounds_of n s e' ls) i x (kept_by e e' g ls n s i x)
 
@@ -46,25 +46,21 @@ module _ {V P W H E : Type 0} (f : Meaning V P W H E) where
   -- the life in the table goes on
   pub kept_life : (l l' : Life V P W) → l.number ≡ l'.number → l.start ≡ l'.start
       → ((i : ℕ) (x : Round V P) → slice_get l.rounds i ≡ Some x → slice_get l'.rounds i ≡ Some x)
-      → (ls : List (Life V P W)) → Kept (Some l) ls (Some l') ls
+      → (ls : List (Life V P W)) → NoneLost (Some l) ls (Some l') ls
   kept_life l l' en es g ls = kept_by (Some l) (Some l')
       (λ n s i x h. subst (λ (q : ℕ × ℕ). slice_get (cond (q.0 == n && q.1 == s) l'.rounds []) i ≡ Some x)
       (λ j. (en j, es j)) (kept_more (l.number == n && l.start == s) l.rounds l'.rounds i x (g i x) h)) ls
 
-  pub kept_same : (e : Option (Life V P W)) (ls : List (Life V P W)) → Kept e ls e ls
+  pub kept_same : (e : Option (Life V P W)) (ls : List (Life V P W)) → NoneLost e ls e ls
   kept_same e ls n s i x h = h
 
-  pub kept_ended : (e : Option (Life V P W)) (ls : List (Life V P W)) → Kept e ls None (ls ++ retire f e)
+  pub kept_ended : (e : Option (Life V P W)) (ls : List (Life V P W)) → NoneLost e ls None (ls ++ retire f e)
   kept_ended e ls n s i x h = subst (λ rs. slice_get rs i ≡ Some x) (sym (ended_same n s e ls)) h
 
   pub kept_fresh : (e : Option (Life V P W)) (ls : List (Life V P W)) (k t m b : ℕ) (w : W)
-      → Kept e ls (Some (new_life f k t m b w)) (ls ++ retire f e)
+      → NoneLost e ls (Some (new_life f k t m b w)) (ls ++ retire f e)
   kept_fresh e ls k t m b w n s i x h = subst (λ rs. slice_get rs i ≡ Some x)
       (sym (fresh_same n s k t m b w (ls ++ retire f e) ∙ ended_same n s e ls)) h
-
-  none_cond : (b c : Bool) (xs ys : List (Round V P)) → (b || c) ≡ false → (c ≡ false → xs ≡ ys) → cond b ys xs ≡ ys
-  none_cond true c xs ys h g = refl
-  none_cond false c xs ys h g = g h
 
   off_left : (b c : Bool) → (b || c) ≡ false → b ≡ false
   off_left true c h = h
@@ -92,10 +88,6 @@ module _ {V P W H E : Type 0} (f : Meaning V P W H E) where
   -- the life in the table is the first under its number and start
   pub rounds_here : (l : Life V P W) (n s : ℕ) (ls : List (Life V P W)) → l.number ≡ n → l.start ≡ s → has n s ls ≡ false → rounds_of n s (Some l) ls ≡ l.rounds
   rounds_here l n s ls en es h = none_before n s (Some l) ls h ∙ ap (λ b. cond b l.rounds []) (match_true l n s en es)
-
-  some_cond : (b c : Bool) → (c ≡ true) → (b || c) ≡ true
-  some_cond true c h = refl
-  some_cond false c h = h
 
   -- a life with a round ended, where the one in the table has none under that number and start
   pub some_before : (n s i : ℕ) (x : Round V P) (e : Option (Life V P W)) (ls : List (Life V P W))

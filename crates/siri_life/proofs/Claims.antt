@@ -114,8 +114,6 @@ module _ {V P W H E : Type 0} (f : Meaning V P W H E) where
   carries_its_round laws t es k p at = let w = link_after f es (first_link f t) in carries_of w w.held k p (reached laws t es).tied at
 
   -- ---- no gap
-  abbrev NotSaid : Outcome → Outcome → Type 0
-  NotSaid o p = o ≡ p → ⊥
 
   no_gap_mark : (h : Holding V P W) (m : Mark)
       → (m.number ≡ h.number → (NotPast f h m) × (m.round ≤ greatest_round) × (m.part ≤ most_parts)) → (o : Outcome)

@@ -10,7 +10,7 @@ use Rattle.siri_life.specs.Life.{Delivery, new_life, with_round, new_round, with
 use Rattle.siri_life.specs.Life.{part_message, message_by}
 use Rattle.siri_life.specs.Link.{Holding, has, matches, rounds_of, life_rounds, GoalAt, retire}
 use Rattle.siri_life.proofs.Lists.{Each, each_map, each_append, get_front, get_end, length_push}
-use Rattle.siri_life.proofs.Book.{Kept, kept_life, kept_ended, kept_fresh, rounds_here, some_before, no_match_rounds, match_number}
+use Rattle.siri_life.proofs.Book.{NoneLost, kept_life, kept_ended, kept_fresh, rounds_here, some_before, no_match_rounds, match_number}
 use Rattle.siri_life.proofs.Book.{match_start, has_one, has_retired}
 use Rattle.siri_life.proofs.Facts.{IsOutstanding, OutstandingFact, LifeFact, TableFact, Content, Tells, NotPast, Before, PartBehind}
 use Rattle.siri_life.proofs.Facts.{BehindLife, Delivers, Fact, Ahead, Level, Wanting, SharedLife, Buffer, Tied, HeldFact, Old}
@@ -18,19 +18,19 @@ use Rattle.siri_life.proofs.Facts.{BehindLife, Delivers, Fact, Ahead, Level, Wan
 module _ {V P W H E : Type 0} (f : Meaning V P W H E) where
   -- ---- what no move loses
   pub goal_kept : (e : Option (Life V P W)) (ls : List (Life V P W)) (e' : Option (Life V P W))
-      (ls' : List (Life V P W)) → Kept f e ls e' ls' → (n s r : ℕ) (v : V) → GoalAt f (rounds_of n s e ls) r v
+      (ls' : List (Life V P W)) → NoneLost f e ls e' ls' → (n s r : ℕ) (v : V) → GoalAt f (rounds_of n s e ls) r v
       → GoalAt f (rounds_of n s e' ls') r v
   goal_kept e ls e' ls' kept n s zero v g = g
   goal_kept e ls e' ls' kept n s (suc i) v g = (g.0, kept n s i g.0 g.1, g.2)
 
   pub buffer_kept : (e : Option (Life V P W)) (ls : List (Life V P W)) (e' : Option (Life V P W))
-      (ls' : List (Life V P W)) → Kept f e ls e' ls' → (n s i : ℕ) (ps : List P) → Buffer f (rounds_of n s e ls) i ps
+      (ls' : List (Life V P W)) → NoneLost f e ls e' ls' → (n s i : ℕ) (ps : List P) → Buffer f (rounds_of n s e ls) i ps
       → Buffer f (rounds_of n s e' ls') i ps
   buffer_kept e ls e' ls' kept n s i [] b = tt
   buffer_kept e ls e' ls' kept n s i (p ∷ ps) b = (b.0, kept n s i b.0 b.1, b.2)
 
   pub content_kept : (e : Option (Life V P W)) (ls : List (Life V P W)) (e' : Option (Life V P W))
-      (ls' : List (Life V P W)) → Kept f e ls e' ls' → (n s : ℕ) (w : W) (m : Mark) (moment : ℕ) (more : Bool) (x : P)
+      (ls' : List (Life V P W)) → NoneLost f e ls e' ls' → (n s : ℕ) (w : W) (m : Mark) (moment : ℕ) (more : Bool) (x : P)
       → Content f (rounds_of n s e ls) w m moment more x → Content f (rounds_of n s e' ls') w m moment more x
   content_kept e ls e' ls' kept n s w m moment more x c =
       record {
@@ -52,7 +52,7 @@ module _ {V P W H E : Type 0} (f : Meaning V P W H E) where
       }
 
   pub tells_kept : (e : Option (Life V P W)) (ls : List (Life V P W)) (e' : Option (Life V P W))
-      (ls' : List (Life V P W)) → Kept f e ls e' ls' → (n s : ℕ) (m : Mark) (moment : ℕ)
+      (ls' : List (Life V P W)) → NoneLost f e ls e' ls' → (n s : ℕ) (m : Mark) (moment : ℕ)
       → Tells f (rounds_of n s e ls) m moment → Tells f (rounds_of n s e' ls') m moment
   tells_kept e ls e' ls' kept n s m moment c = record { i = c.i; r = c.r; round = c.round; at = kept n s c.i c.r c.at; moment_is = c.moment_is }
 
@@ -60,7 +60,7 @@ module _ {V P W H E : Type 0} (f : Meaning V P W H E) where
   pub tied_moves : (k now k' now' : ℕ) (e e' : Option (Life V P W)) (ended ended' : List (Life V P W)) (next : ℕ)
       (packets : List (Packet P W)) (h : Holding V P W)
       → k ≤ k'
-      → Kept f e ended e' ended'
+      → NoneLost f e ended e' ended'
       → ((m : Mark) (moment : ℕ) (more : Bool) (x : P) → Delivers f k e ended h m moment more x → BehindLife f h.number k' e' m)
       → SharedLife f k' h e'
       → (has h.number k' ended' ≡ true → f.termination h.wanted ≤ now')

@@ -23,7 +23,7 @@ use Rattle.std.specs.Str.Lines.{lines}
 use Rattle.siri_lines.proofs.LineBreaks.{no_break_append}
 use Rattle.siri_lines.proofs.Steps.{advances_none, advances_more, breaks_longer, breaks_more, finished_early, finished_whole, goes_to_end}
 use Rattle.siri_lines.proofs.Steps.{line_breaks, line_taken, run_advances, run_no_memory, run_too_long}
-use Rattle.siri_lines.proofs.Whole.{ends_in_piece, follows_start, follows_more, follows_break, follows_end, follows_fault, passes_start}
+use Rattle.siri_lines.proofs.Whole.{ends_in_piece, follows_more, follows_break, follows_end, follows_fault}
 use Rattle.siri_lines.proofs.Whole.{passes_more, passes_end}
 
 -- ---- a run of bytes that end no line
@@ -200,16 +200,6 @@ pub record ReadsOn {T W : Type 0} (Fits : T → W → Type 0) (event : Events W)
   pub stands : Fits taker world
   pub follows : Follows event fresh input left held (progress r world) now
   pub passes : Passes event fresh input left (progress r world)
-
-pub reads_start : {T W : Type 0} (Fits : T → W → Type 0) (event : Events W) (fresh : W) (input held : Bytes) (taker : T)
-    (r : Reader) → Fits taker fresh → r.lines ≡ 0 → r.line.items ≡ []
-    → ReadsOn Fits event fresh input input held taker r held
-reads_start Fits event fresh input held taker r stands number line = record {
-  world = fresh;
-  stands = stands;
-  follows = rw (number, line) (follows_start event fresh input held);
-  passes = rw (number, line) (passes_start event fresh input);
-}
 
 pub reads_more : {T W : Type 0} (Fits : T → W → Type 0) (event : ℕ → Events W) (most : ℕ) (fresh : W)
     (input held left later mid now : Bytes) (before after : T) (r new : Reader) (piece : List ℕ) → r.most ≡ most

@@ -1,10 +1,11 @@
 //! Lines that come in pieces.
 
-ghost use Rattle.std.specs.Prelude.{◌≡◌, ◌≤◌, ◌<◌, ◌+◌, ◌∷◌, ◌++◌, [], length, take, OnOk, IfErr};
+ghost use Rattle.std.specs.Prelude.{◌≡◌, ◌≤◌, ◌<◌, ◌+◌, ◌∷◌, ◌++◌, [], length, take, OnOk, IfErr, IsErrOf};
 ghost use Rattle.std.specs.Str.Lines.{strip_carriage_return};
 ghost use Rattle.siri_base.specs.MetFailures.{SinkMeets, is_write_fault};
 ghost use Rattle.siri_lines.specs.RunResult.{verdict};
 ghost use Rattle.siri_lines.specs.Ends.{HasNoBreak};
+ghost use Rattle.siri_lines.specs.declared.stop.Stop.TheVariants as stop;
 ghost use Rattle.siri_lines.specs.Brings.{StopCause, has_failed_to_write};
 ghost use Rattle.siri_lines.specs.inner.Reading.{Advances, Breaks, Finishes, GoesToEnd, LineBreaks, TakesLine};
 ghost use Rattle.siri_lines.specs.inner.Standing.{EndCause, HasNoRoom, InEachWorld, IsWithin, Leads, room};
@@ -104,6 +105,7 @@ impl Reader {
             Advances (verdict self.old.most T.event) (K.held sink.old) from (run.now ++ 10 ∷ []) (K.held sink.new) to)) }
         ensures err { IfErr result (λ stop. InEachWorld T.fits taker.old self.old (λ from.
             Breaks (verdict self.old.most T.event) (K.held sink.old) from (run.now ++ 10 ∷ []) (K.held sink.new) stop)) }
+        ensures memory { IsErrOf result stop.OutOfMemory → length (self.old.line.items ++ run.now) ≤ 1048577 }
         ensures most { self.new.most ≡ self.old.most }
         ensures within { OnOk result (IsWithin self.new) }
         ensures room { OnOk result (room self.new + length run.now < room self.old) }
@@ -148,6 +150,7 @@ impl Reader {
             TakesLine (verdict self.old.most T.event) (K.held sink.old) from (take ended self.old.line.items) (K.held sink.new) to)) }
         ensures err { IfErr result (λ stop. InEachWorld T.fits taker.old self.old (λ from.
             LineBreaks (verdict self.old.most T.event) (K.held sink.old) from (take ended self.old.line.items) (K.held sink.new) stop)) }
+        ensures memory { IsErrOf result stop.OutOfMemory → (ended ≤ 1048576) × (self.old.lines < self.old.most) }
         ensures most { self.new.most ≡ self.old.most }
         ensures empty { OnOk result ((self.new.line.items ≡ []) × (self.new.lines ≡ self.old.lines + 1) × (self.new.lines ≤ self.new.most)) }
         ensures cause { StopCause (K.faults sink.old) (K.faults sink.new) result }

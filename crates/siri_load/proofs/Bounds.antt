@@ -4,7 +4,7 @@ use Rattle.std.proofs.Common.{length-append, if◌then◌else◌, arith}
 use Rattle.std.specs.Prelude.{fold}
 use Rattle.std.proofs.lemmas.Bool.{ltb-true, ltb-false}
 use Rattle.siri_view.specs.Consuming.{Consuming}
-use Rattle.siri_view.specs.Kept.{KeptSubscription, kept_of}
+use Rattle.siri_view.specs.Kept.{HeldSubscription, kept_of}
 use Rattle.siri_world_model.specs.declared.event.Event.{Event}
 use Rattle.siri_world_model.specs.declared.event.Event.TheVariants as event
 use Rattle.siri_world_model.specs.declared.step_error.StepError.{StepError}
@@ -78,7 +78,7 @@ view_sends_none : (world : World) (name identifier : List ℕ) → (effect world
 unfolding effect
 view_sends_none world name identifier = by_consumer (consumer_of name world.consumers)
   where
-    by_kept : (consumer : Consuming) (kept : Option KeptSubscription) → (viewed_if world consumer identifier kept).packets ≡ []
+    by_kept : (consumer : Consuming) (kept : Option HeldSubscription) → (viewed_if world consumer identifier kept).packets ≡ []
     by_kept consumer None = refl
     by_kept consumer (Some kept) = refl
 

@@ -3,7 +3,7 @@ use Rattle.std.proofs.Common.{◌≡◌, ℕ, List, [], ◌∷◌, ◌++◌, Opt
 use Rattle.std.specs.Prelude.{fold}
 use Rattle.std.specs.Fmt.{decimal}
 use Rattle.siri_view.specs.Consuming.{Consuming}
-use Rattle.siri_view.specs.Kept.{KeptSubscription, kept_of}
+use Rattle.siri_view.specs.Kept.{HeldSubscription, kept_of}
 use Rattle.siri_world_model.specs.declared.event.Event.{Event}
 use Rattle.siri_world_model.specs.declared.event.Event.TheVariants as event
 use Rattle.siri_world_model.specs.declared.line.Line.{Line}
@@ -29,7 +29,7 @@ viewed_changes_nothing : (world : World) (name identifier : List ℕ) (consumer 
 viewed_changes_nothing world name identifier None = with_none world
 viewed_changes_nothing world name identifier (Some consumer) = by_kept (kept_of identifier consumer.held)
   where
-    by_kept : (kept : Option KeptSubscription) → with_packets (viewed_if world consumer identifier kept) ≡ world
+    by_kept : (kept : Option HeldSubscription) → with_packets (viewed_if world consumer identifier kept) ≡ world
     by_kept None = with_none world
     by_kept (Some kept) = with_none world
 

@@ -4,7 +4,7 @@ use Rattle.siri_topic.specs.declared.subscription.Subscription.{Subscription}
 use Rattle.siri_messages.specs.declared.subscriptions.SubscriptionRequest.{SubscriptionRequest}
 
 -- all that is asked for with one subscription: the subscription, where its messages are to be sent, how often a heartbeat is
-pub record Asked : Type 0 where
+pub record AskedFor : Type 0 where
   pub subscription : Subscription
   pub address : Option (List ℕ)  -- ConsumerAddress
   pub beat : ℤ  -- HeartbeatInterval in milliseconds; zero is never
@@ -17,7 +17,7 @@ subscriptions_in r =
     ++ r.vehicle_monitoring_subscription_request ++ r.situation_exchange_subscription_request
 
 -- what it asks for with one of them
-abbrev pub asked_with : SubscriptionRequest → Subscription → Asked
+abbrev pub asked_with : SubscriptionRequest → Subscription → AskedFor
 asked_with r subscription = record {
   subscription = subscription;
   address = r.consumer_address;
@@ -25,5 +25,5 @@ asked_with r subscription = record {
 }
 
 -- what it asks for, in their order
-abbrev pub asked_in : SubscriptionRequest → List Asked
+abbrev pub asked_in : SubscriptionRequest → List AskedFor
 asked_in r = map (asked_with r) (subscriptions_in r)

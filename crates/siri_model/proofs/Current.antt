@@ -153,10 +153,10 @@ keyed_all : (now : ℕ) (items : Items) (entries : List Entry) → IsKeyed items
 keyed_all now items [] k = k
 keyed_all now items (e ∷ entries) k = keyed_all now (after_entry now items e) entries (keyed_after now items e k)
 
-none_keyed : IsKeyed []
+pub none_keyed : IsKeyed []
 none_keyed = All-nil (λ (e : Key × Item). e.0 ≡ key_of e.1)
 
-keyed_step : (state : State) (step : Step) → IsKeyed state.current → IsKeyed (after_step state step).current
+pub keyed_step : (state : State) (step : Step) → IsKeyed state.current → IsKeyed (after_step state step).current
 unfolding after_step
 keyed_step state (Start n m) k = none_keyed
 keyed_step state (Clock m) k = k

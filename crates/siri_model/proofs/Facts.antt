@@ -21,7 +21,7 @@ use Rattle.siri_model.specs.Direct.{at_most, direct_to, most_of, shown}
 use Rattle.siri_model.specs.Followed.{goal_by, goal_of, keys_apart, opens, look_at}
 use Rattle.siri_model.specs.Facts.{GoalStays, StepFollows, LookFollows, FactsSuffice, DirectStays}
 use Rattle.siri_model.proofs.Lawful.{direct_in_order, shown_in_order, unlimited}
-use Rattle.siri_model.proofs.Outside.{same_shown}
+use Rattle.siri_model.proofs.Outside.{same_by_key}
 
 abbrev Rounds : Type 0
 Rounds = Slot Items Carried
@@ -74,6 +74,7 @@ pub step_follows : StepFollows
 step_follows slack topic now later held after goal look touched le covers f = record {
   then = f.then;
   ordered = f.ordered;
+  keyed = f.keyed;
   earlier = omega (arith, le, f.earlier);
   untouched = λ key out. (covers key out).1 ∙ f.untouched key (covers key out).0;
   agrees = f.agrees;
@@ -138,9 +139,10 @@ differs_case false now held row h level q on =
     ap (λ (view : Items). agree_on (is_near row.wanted.slack) view direct q) goal ∙ apart_differs row.wanted.slack row.slot.rounds.acknowledged direct q apart
 
 pub look_follows : LookFollows
-look_follows now held row s level = record {
+look_follows now held row s own level = record {
   then = held;
   ordered = s;
+  keyed = own;
   earlier = omega arith;
   untouched = λ key out. refl;
   agrees = λ key out.
@@ -154,19 +156,20 @@ look_follows now held row s level = record {
 -- ---- the keys that a look needs
 
 pub facts_suffice : FactsSuffice
-facts_suffice slack topic now held goal look keys none s r t f outs =
+facts_suffice slack topic now held goal look keys none s own r t f outs =
     looks_by_keys slack goal (direct_to now held topic) keys r (direct_in_order now held topic s) t
     (λ key out. let o = outs key out in
     ap (option_eq (is_near slack) (item_of goal key))
     (ap (λ items. item_of items key) (unlimited now held topic none)
-    ∙ (same_shown topic look.moment now f.then held key f.ordered s f.earlier (f.untouched key o.untouched) o.uncrossed
+    ∙ (same_by_key topic look.moment now f.then held key f.ordered f.keyed s own f.earlier
+    (λ may. let is = o.as_then may in (f.untouched key is.untouched, is.uncrossed))
     ∙ ap (λ items. item_of items key) (sym (unlimited look.moment f.then topic none))))
     ∙ f.agrees key o.together)
 
 pub direct_stays : DirectStays
-direct_stays slack topic now held goal look s f none uncrossed =
+direct_stays slack topic now held goal look s own f as_then =
     ap (at_most (most_of topic))
     (same_views (shown now held topic) (shown look.moment f.then topic)
     (shown_in_order now held topic s) (shown_in_order look.moment f.then topic f.ordered)
-    (λ key. same_shown topic look.moment now f.then held key f.ordered s f.earlier
-    (f.untouched key (ap (is_among key) none)) (uncrossed key)))
+    (λ key. same_by_key topic look.moment now f.then held key f.ordered f.keyed s own f.earlier
+    (λ may. let is = as_then key may in (f.untouched key is.untouched, is.uncrossed))))

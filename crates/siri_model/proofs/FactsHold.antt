@@ -12,7 +12,7 @@ use Rattle.siri_records.specs.Order.{key_cmp}
 use Rattle.siri_records.specs.Keyed.{Items, InOrder, living}
 use Rattle.siri_topic.specs.declared.topics.Topic.{Topic}
 use Rattle.siri_topic.specs.declared.subscription.Subscription.{Subscription}
-use Rattle.siri_messages.specs.Asked.{Asked, asked_in}
+use Rattle.siri_messages.specs.Asked.{AskedFor, asked_in}
 use Rattle.siri_messages.specs.declared.message.Message.{Message}
 use Rattle.siri_messages.specs.declared.message.Message.TheVariants as message
 use Rattle.siri_messages.specs.declared.supplies.Mark.{Mark as MarkOf}
@@ -26,7 +26,7 @@ use Rattle.siri_subs.specs.Table.{is_of, expired, is_renumbered_by}
 use Rattle.siri_model.specs.Facts.{Follows}
 use Rattle.siri_model.specs.Followed.{Followed, Look, followed_after, followed_from, followed_settled, goal_by, goal_of, life_row, lifted}
 use Rattle.siri_model.specs.Followed.{keys_apart, keys_dying, look_at, look_by, new_row, opens, rows_acknowledged, rows_supplied, rows_taken, touch, touched_look, with_row_of}
-use Rattle.siri_model.specs.History.{Entry, State, Step, Start, Clock, Feed, Take, Settle, History, after_step, entries_fed, nothing}
+use Rattle.siri_model.specs.History.{Entry, IsKeyed, State, Step, Start, Clock, Feed, Take, Settle, History, after_step, entries_fed, nothing}
 use Rattle.siri_model.specs.Last.{entry_key}
 use Rattle.siri_model.specs.Lives.{mark_of}
 use Rattle.siri_model.specs.Rows.{KeptLife, acknowledged_row, asked_of, is_numbered, looked, next_round, nothing_kept, sent_if_due, settled_row, supplied_row}
@@ -34,6 +34,7 @@ use Rattle.siri_model.specs.Direct.{direct_to}
 use Rattle.siri_model.specs.Meaning.{meaning}
 use Rattle.siri_model.specs.laws.Followed.{HoldsBy, RowHolds, AllHold, FactsHold}
 use Rattle.siri_model.proofs.AllRows.{accepted_all, ended_all, expired_all}
+use Rattle.siri_model.proofs.Current.{keyed_passing, keyed_step, none_keyed}
 use Rattle.siri_model.proofs.Entries.{sorted_passing}
 use Rattle.siri_model.proofs.Facts.{goal_stays, look_follows}
 use Rattle.siri_model.proofs.InOrder.{in_order_step, none_in_order}
@@ -226,7 +227,7 @@ due_alike : (s : Slot Items Carried) (now : ℕ) → IsAlike (sent_if_due now s)
 due_alike s now = sent_alike (is_message_due s now) s s.outstanding now refl
 
 -- while a round is outstanding no other opens
-looked_stays : (asked : Asked) (direct : Items) (now : ℕ) (s : Slot Items Carried) (o : Outstanding Items Carried)
+looked_stays : (asked : AskedFor) (direct : Items) (now : ℕ) (s : Slot Items Carried) (o : Outstanding Items Carried)
     → s.outstanding ≡ Some o
     → looked asked direct now s ≡ s
 looked_stays asked direct now s o is =
@@ -317,22 +318,23 @@ module _ (now : ℕ) (items : Items) (row : Row KeptLife) (level : row.slot.roun
 
 module _ (now : ℕ) (items : Items) where
   -- a look by the current items is one by the live ones
-  looks_live : (row : Row KeptLife) → InOrder items → row.slot.rounds.outstanding ≡ None
+  looks_live : (row : Row KeptLife) → InOrder items → IsKeyed items → row.slot.rounds.outstanding ≡ None
       → Follows row.wanted.slack row.wanted.topic now (living now items)
       (goal_of (settled_row now items row).slot.rounds) (look_at now items row)
-  looks_live row s none =
+  looks_live row s own none =
       rw (← direct_live now items row.wanted.topic)
-      (look_follows now (living now items) row (living_in_order now items s) none)
+      (look_follows now (living now items) row (living_in_order now items s)
+      (keyed_passing (λ (item : Item). not (is_dead item now)) items own) none)
 
-  settled_one : InOrder items → (row : Row Followed) → RowHolds now (living now items) row
+  settled_one : InOrder items → IsKeyed items → (row : Row Followed) → RowHolds now (living now items) row
       → RowHolds now (living now items) (followed_settled now items row)
-  settled_one s row holds = by row.slot.life.rounds.outstanding refl
+  settled_one s own row holds = by row.slot.life.rounds.outstanding refl
     where
       by : (o : Option (Outstanding Items Carried)) → row.slot.life.rounds.outstanding ≡ o
           → HoldsBy now (living now items) row.wanted (settled_row now items (life_row row)).slot.rounds
           (look_by o row.slot.look (look_at now items (life_row row)))
       by None e = record {
-        facts = looks_live (life_row row) s e;
+        facts = looks_live (life_row row) s own e;
         used_up = used_up now items (life_row row) e (opens (direct_to now items row.wanted.topic) (life_row row)) refl;
         some_opened = some_opened now items (life_row row) e (opens (direct_to now items row.wanted.topic) (life_row row)) refl;
       }
@@ -340,11 +342,11 @@ module _ (now : ℕ) (items : Items) where
           (settled_row now items (life_row row)).slot.rounds row.slot.look
           (outstanding_alike now items (life_row row) o e) holds
 
-  settled_rows : InOrder items → (rows : List (Row Followed)) → AllHold now (living now items) rows
+  settled_rows : InOrder items → IsKeyed items → (rows : List (Row Followed)) → AllHold now (living now items) rows
       → AllHold now (living now items) (map (followed_settled now items) rows)
-  settled_rows s rows all = All-map (RowHolds now (living now items)) (followed_settled now items) rows
+  settled_rows s own rows all = All-map (RowHolds now (living now items)) (followed_settled now items) rows
       (All-weaker (RowHolds now (living now items))
-      (λ row. RowHolds now (living now items) (followed_settled now items row)) (settled_one s) rows all)
+      (λ row. RowHolds now (living now items) (followed_settled now items row)) (settled_one s own) rows all)
 
 -- ---- a step
 
@@ -360,31 +362,31 @@ fed_rows state entries rows s all =
     (living state.now (after_step state (Feed entries)).current) (map entry_key entries)
     (λ slack topic goal look f. feed_follows slack topic state.now state.current goal look entries s f) rows all
 
-hold_after : (state : State) (step : Step) (rows : List (Row Followed)) → InOrder state.current → AllHoldIn state rows
-    → AllHoldIn (after_step state step) (followed_after state step rows)
+hold_after : (state : State) (step : Step) (rows : List (Row Followed)) → InOrder state.current → IsKeyed state.current
+    → AllHoldIn state rows → AllHoldIn (after_step state step) (followed_after state step rows)
 unfolding after_step followed_after
-hold_after state (Start number moment) rows s all = All-nil (RowHolds moment [])
-hold_after state (Clock moment) rows s all =
+hold_after state (Start number moment) rows s own all = All-nil (RowHolds moment [])
+hold_after state (Clock moment) rows s own all =
     let later = max state.now moment in
     touched_rows state.now later (living state.now state.current) (living later state.current) (keys_dying state moment)
     (λ slack topic goal look f. clock_follows slack topic state.now later state.current goal look (omega arith) s f)
     (expired later rows)
     (expired_all (RowHolds state.now (living state.now state.current)) later rows all)
-hold_after state (Feed entries) rows s all = fed_rows state entries rows s all
-hold_after state (Take m) rows s all =
+hold_after state (Feed entries) rows s own all = fed_rows state entries rows s all
+hold_after state (Take m) rows s own all =
     fed_rows state (entries_fed m) (rows_taken state.start state.now m rows) s
     (taken_rows state.now (living state.now state.current) state.start state.now m rows all)
-hold_after state Settle rows s all = settled_rows state.now state.current s rows all
+hold_after state Settle rows s own all = settled_rows state.now state.current s own rows all
 
 -- ---- histories
 
-hold_from : (state : State) (rows : List (Row Followed)) (steps : History) → InOrder state.current
+hold_from : (state : State) (rows : List (Row Followed)) (steps : History) → InOrder state.current → IsKeyed state.current
     → AllHoldIn state rows
     → AllHoldIn (fold after_step state steps) (followed_from state rows steps)
-hold_from state rows [] s all = all
-hold_from state rows (step ∷ steps) s all =
-    hold_from (after_step state step) (followed_after state step rows) steps (in_order_step state step s)
-    (hold_after state step rows s all)
+hold_from state rows [] s own all = all
+hold_from state rows (step ∷ steps) s own all =
+    hold_from (after_step state step) (followed_after state step rows) steps (in_order_step state step s) (keyed_step state step own)
+    (hold_after state step rows s own all)
 
 pub facts_hold : FactsHold
-facts_hold h = hold_from nothing [] h none_in_order (All-nil (RowHolds 0 []))
+facts_hold h = hold_from nothing [] h none_in_order none_keyed (All-nil (RowHolds 0 []))

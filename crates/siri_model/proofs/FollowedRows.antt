@@ -2,7 +2,7 @@
 use Rattle.std.proofs.Common.{◌≡◌, ℕ, max, List, [], ◌∷◌, ◌++◌, map, fold, Bool, true, false, cond, Option, Some, None, refl}
 use Rattle.std.proofs.Common.{ap, sym, ◌∙◌, append_assoc, append-nil}
 use Rattle.siri_records.specs.declared.key.Key.{Key}
-use Rattle.siri_messages.specs.Asked.{Asked, asked_in}
+use Rattle.siri_messages.specs.Asked.{AskedFor, asked_in}
 use Rattle.siri_messages.specs.declared.message.Message.{Message}
 use Rattle.siri_messages.specs.declared.message.Message.TheVariants as message
 use Rattle.siri_messages.specs.declared.supplies.Mark.{Mark as MarkOf}
@@ -42,7 +42,7 @@ settled_lives : (now : ℕ) (items : Items) (rows : List (Row Followed))
 settled_lives now items [] = refl
 settled_lives now items (row ∷ rows) = ap (λ l. settled_row now items (life_row row) ∷ l) (settled_lives now items rows)
 
-asked_lives : (now number : ℕ) (asked : List Asked) (followed : List (Row Followed))
+asked_lives : (now number : ℕ) (asked : List AskedFor) (followed : List (Row Followed))
     → lives (fold (λ rows wanted. accepted now (new_row now number wanted) rows) followed asked)
     ≡ rows.rows_asked now number asked (lives followed)
 asked_lives now number [] followed = refl

@@ -8,10 +8,9 @@ use Rattle.siri_messages.specs.Rounds.{has_round}
 use Rattle.siri_messages.specs.declared.message.Message.{Message}
 use Rattle.siri_messages.specs.declared.message.Message.TheVariants as message
 use Rattle.siri_messages.specs.declared.supplies.Mark.{Mark}
-use Rattle.siri_change.specs.Parts.{Carried}
 use Rattle.siri_life.specs.Life.{Subscribe, Terminate, can_renew, is_before, after_acknowledgement, after_supply, new_life}
 use Rattle.siri_life.specs.Named.{Name, Of, same_name, same_subscription, those, first, find, put, without, keep}
-use Rattle.siri_life.specs.Serving.{Act, Fed, Heard, accepted_if, accepts, acknowledged, clocked_serving, ended_if, expired_serving}
+use Rattle.siri_life.specs.Serving.{Fed, Heard, accepted_if, accepts, acknowledged, clocked_serving, ended_if, expired_serving}
 use Rattle.siri_life.specs.Serving.{heard, lives_on, renewed, renewed_if, serving_after, settled_rows, supplied, with_rows}
 use Rattle.siri_subs.specs.declared.entry.Row.{Row}
 use Rattle.siri_subs.specs.Table as table
@@ -20,7 +19,7 @@ use Rattle.siri_subs.proofs.Once.{once_put, once_kept}
 use Rattle.siri_model.specs.Direct.{direct_to}
 use Rattle.siri_model.specs.History.{Entry, Step, Start, Clock, Feed, Take, Settle, History, State, entries_of, now_of, current, state_of}
 use Rattle.siri_model.specs.Lives.{Living, Served, acknowledgement_of, acts_in, mark_of, supply_of, none_served, served_after, serving_of, table_of, life_of}
-use Rattle.siri_messages.specs.Asked.{Asked, asked_in}
+use Rattle.siri_messages.specs.Asked.{AskedFor, asked_in}
 use Rattle.siri_model.specs.Meaning.{meaning}
 use Rattle.siri_model.specs.Rows.{KeptLife, acknowledged_row, supplied_row, renewed_row, nothing_kept, row_of, rows_of, settled_row, with_row_of, rows_asked}
 use Rattle.siri_model.specs.Rows.{rows_ended as rows_terminated, rows_acknowledged, rows_supplied, rows_taken, rows_after}
@@ -60,9 +59,9 @@ named_settled known now [] n = tt
 named_settled known now (x ∷ xs) n =
     let wanted = settled_like x.it (meaning.direct known x.it.wanted) now in (
       (
-        n.0.0 ∙ ap (λ (w : Asked). w.subscription.subscriber) (sym wanted),
+        n.0.0 ∙ ap (λ (w : AskedFor). w.subscription.subscriber) (sym wanted),
         n.0.1
-            ∙ ap (λ (w : Asked). w.subscription.identifier) (sym wanted),
+            ∙ ap (λ (w : AskedFor). w.subscription.identifier) (sym wanted),
       ),
       named_settled known now xs n.1,
     )
@@ -117,7 +116,7 @@ well_clocked v moment well =
       once = subst EachOnce (sym (rows_expired now v.table)) (once_kept (λ (h : Row KeptLife). not (table.is_terminated now h)) (rows_of v.table) well.once);
     }
 
-well_accepted : (v : Served) (n : ℕ) (x : Asked) (b : Bool) → IsWell v
+well_accepted : (v : Served) (n : ℕ) (x : AskedFor) (b : Bool) → IsWell v
     → IsWell (accepted_if meaning b v x.subscription.subscriber x.subscription.identifier n x)
 well_accepted v n x true well =
     let l = new_life meaning v.start v.now n n x in
@@ -141,8 +140,8 @@ well_put : (v : Served) (c s : Name) (l l' : Living) (ended : List (Of Living)) 
 well_put v c s l l' ended is same well =
     let names = found_named c s v.table l well.named is in
     let wanted = sym same in
-    let a = names.0 ∙ ap (λ (w : Asked). w.subscription.subscriber) wanted in
-    let b = names.1 ∙ ap (λ (w : Asked). w.subscription.identifier) wanted in
+    let a = names.0 ∙ ap (λ (w : AskedFor). w.subscription.subscriber) wanted in
+    let b = names.1 ∙ ap (λ (w : AskedFor). w.subscription.identifier) wanted in
     record {
       named = named_put c s l' v.table well.named a b;
       once = subst EachOnce (sym (rows_put c s l' v.table well.named a b)) (once_put (row_of l') (rows_of v.table) well.once);
@@ -185,22 +184,18 @@ well_asked_for v false c mark well = well_supplied v c mark.subscription (mark_o
 
 -- ---- what a message does
 
--- a request for subscriptions
-asked_acts : ℕ → List Asked → List (Act Carried Asked Entry)
-asked_acts n asked = map (λ x. Heard x.subscription.subscriber x.subscription.identifier (Subscribe n x)) asked
-
-abbrev heard_asked : Served → ℕ → Asked → Served
+abbrev heard_asked : Served → ℕ → AskedFor → Served
 heard_asked v n x = accepted_if meaning (accepts meaning v x.subscription.subscriber x.subscription.identifier n x) v
     x.subscription.subscriber x.subscription.identifier n x
 
-well_asked : (v : Served) (n : ℕ) (asked : List Asked) → IsWell v
+well_asked : (v : Served) (n : ℕ) (asked : List AskedFor) → IsWell v
     → IsWell (serving_after meaning (map (λ x. Heard x.subscription.subscriber x.subscription.identifier
     (Subscribe n x)) asked) v)
 well_asked v n [] well = well
 well_asked v n (x ∷ asked) well = well_asked (heard_asked v n x) n asked
     (well_accepted v n x (accepts meaning v x.subscription.subscriber x.subscription.identifier n x) well)
 
-rows_after_asked : (v : Served) (n : ℕ) (asked : List Asked) → IsWell v
+rows_after_asked : (v : Served) (n : ℕ) (asked : List AskedFor) → IsWell v
     → rows_of (serving_after meaning (map (λ x. Heard x.subscription.subscriber x.subscription.identifier
     (Subscribe n x)) asked) v).table ≡ rows_asked v.now n asked (rows_of v.table)
 rows_after_asked v n [] well = refl

@@ -24,7 +24,7 @@ use Rattle.siri_change.proofs.Viewed.{view_parts, view_from, view_stated, own_ke
 use Rattle.siri_life.specs.Meaning.{IsLawful, apply_parts}
 use Rattle.siri_model.specs.Direct.{at_most, direct_to, items_before, most_of, shown}
 use Rattle.siri_model.specs.History.{History, IsKeyed, now_of, current}
-use Rattle.siri_messages.specs.Asked.{Asked}
+use Rattle.siri_messages.specs.Asked.{AskedFor}
 use Rattle.siri_model.specs.Meaning.{direct_of, meaning}
 use Rattle.siri_model.proofs.Current.{current_keyed, few_live, keyed_passing}
 use Rattle.siri_model.proofs.Entries.{filter_stronger, sorted_passing}
@@ -118,7 +118,7 @@ pub unlimited : (now : ℕ) (items : Items) (topic : Topic) → most_of topic �
 unlimited now items topic none = ap (λ most. at_most most (shown now items topic)) none
 
 -- a direct response is a view
-pub direct_view : (h : History) (wanted : Asked) → is_view (direct_of h wanted) ≡ true
+pub direct_view : (h : History) (wanted : AskedFor) → is_view (direct_of h wanted) ≡ true
 direct_view h wanted =
     let topic = wanted.subscription.topic in
     limited_view (most_of topic) (shown (now_of h) (current h) topic) (shown_view h topic)

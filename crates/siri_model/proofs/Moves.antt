@@ -14,7 +14,7 @@ use Rattle.siri_life.proofs.Slots.{slot_begins, slot_sends, slot_acknowledges, s
 use Rattle.siri_model.specs.Direct.{direct_to}
 use Rattle.siri_model.specs.History.{History}
 use Rattle.siri_model.specs.Lives.{Living}
-use Rattle.siri_messages.specs.Asked.{Asked}
+use Rattle.siri_messages.specs.Asked.{AskedFor}
 use Rattle.siri_model.specs.Meaning.{meaning}
 use Rattle.siri_model.specs.Rows.{row_of, rows_of, is_numbered, acknowledged_row, supplied_row, looked, sent_if_due, settled_row}
 
@@ -211,7 +211,7 @@ settled_like l direct now =
 
 -- all rows
 pub rows_settled : (known : History) (now : ℕ) (items : Items) (t : List (Of Living))
-    → ((wanted : Asked) → meaning.direct known wanted ≡ direct_to now items wanted.subscription.topic)
+    → ((wanted : AskedFor) → meaning.direct known wanted ≡ direct_to now items wanted.subscription.topic)
     → rows_of (settled_rows meaning known now t) ≡ map (settled_row now items) (rows_of t)
 rows_settled known now items [] knows = refl
 rows_settled known now items (x ∷ xs) knows = λ i.

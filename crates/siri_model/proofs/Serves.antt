@@ -12,7 +12,7 @@ use Rattle.siri_life.specs.Named.{Name, Of, find}
 use Rattle.siri_life.specs.Serving.{Fed, Heard, accepted_if, accepts, ended_if, renewed, renewed_if, supplied, acknowledged, heard, serving_after}
 use Rattle.siri_model.specs.History.{Entry, Step, Start, Clock, Feed, Take, Settle, History, State, after_step, entries_of, entries_fed, fed, nothing, state_of}
 use Rattle.siri_model.specs.Lives.{Living, Served, acknowledgement_of, acts_in, mark_of, supply_of, none_served, served_after, serving_of}
-use Rattle.siri_messages.specs.Asked.{Asked, asked_in}
+use Rattle.siri_messages.specs.Asked.{AskedFor, asked_in}
 use Rattle.siri_model.specs.Meaning.{meaning}
 use Rattle.siri_model.proofs.InOrder.{more_steps}
 
@@ -31,7 +31,7 @@ keeps_then : (a b c : Served) → Keeps b a → Keeps c b → Keeps c a
 keeps_then a b c first later = record { start = later.start ∙ first.start; now = later.now ∙ first.now; known = later.known ∙ first.known }
 
 -- what is heard of a subscription changes the table alone
-pub heard_keeps : (v : Served) (c s : Name) (p : Packet Carried Asked) → Keeps (heard meaning v c s p) v
+pub heard_keeps : (v : Served) (c s : Name) (p : Packet Carried AskedFor) → Keeps (heard meaning v c s p) v
 heard_keeps v c s (Subscribe n x) = by (accepts meaning v c s n x)
   where
     by : (b : Bool) → Keeps (accepted_if meaning b v c s n x) v
@@ -44,7 +44,7 @@ heard_keeps v c s (Terminate n) = by (is_before meaning (find c s v.table) n)
     by false = record { start = refl; now = refl; known = refl }
 heard_keeps v c s (AllData n b) = by (find c s v.table)
   where
-    test : (t : Bool) (x : Asked) → Keeps (renewed_if meaning t v c s n b x) v
+    test : (t : Bool) (x : AskedFor) → Keeps (renewed_if meaning t v c s n b x) v
     test true x = record { start = refl; now = refl; known = refl }
     test false x = record { start = refl; now = refl; known = refl }
 
@@ -65,7 +65,7 @@ heard_keeps v c s (Notify m t) = keeps_itself v
 heard_keeps v c s (Delivery m t more x) = keeps_itself v
 
 -- nor does what is heard of many
-pub all_keep : {A : Type 0} (c s : A → Name) (p : A → Packet Carried Asked) (xs : List A) (v : Served)
+pub all_keep : {A : Type 0} (c s : A → Name) (p : A → Packet Carried AskedFor) (xs : List A) (v : Served)
     → Keeps (serving_after meaning (map (λ x. Heard (c x) (s x) (p x)) xs) v) v
 all_keep c s p [] v = keeps_itself v
 all_keep c s p (x ∷ xs) v = keeps_then v (heard meaning v (c x) (s x) (p x)) _ (heard_keeps v (c x) (s x) (p x))
@@ -106,7 +106,7 @@ unfolding acts_in
 goes_taken v state (message.ServiceRequest m) goes = goes
 goes_taken v state (message.ServiceDelivery d) goes = goes_delivered v state (entries_of d) (has_round d) goes
 goes_taken v state (message.SubscriptionRequest r) goes =
-    goes_on _ v state (all_keep (λ (a : Asked). a.subscription.subscriber) (λ (a : Asked). a.subscription.identifier)
+    goes_on _ v state (all_keep (λ (a : AskedFor). a.subscription.subscriber) (λ (a : AskedFor). a.subscription.identifier)
     (λ a. Subscribe r.message_identifier a) (asked_in r) v) goes
 goes_taken v state (message.SubscriptionResponse m) goes = goes
 goes_taken v state (message.TerminateSubscriptionRequest r) goes =

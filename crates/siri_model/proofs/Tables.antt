@@ -14,7 +14,7 @@ use Rattle.siri_subs.specs.Table as table
 use Rattle.siri_subs.specs.Table.{EachOnce, is_of, is_held, is_above}
 use Rattle.siri_subs.proofs.Once.{held_like}
 use Rattle.siri_model.specs.Lives.{Living, Served}
-use Rattle.siri_messages.specs.Asked.{Asked}
+use Rattle.siri_messages.specs.Asked.{AskedFor}
 use Rattle.siri_model.specs.Meaning.{meaning}
 use Rattle.siri_model.specs.Rows.{KeptLife, new_row, row_of, rows_of, with_row_of}
 use Rattle.siri_model.proofs.Serves.{IsNamed, AreNamed}
@@ -103,7 +103,7 @@ lt_or a b = by (a == b) (nat_lt b a) refl refl
     by false true e f = le-ltb a b (let less = ltb-true b a f in omega arith)
     by false false e f = lt-ltb a b (let apart = eqb-false a b e in let le = ltb-false b a f in omega (arith))
 
-module _ (v : Served) (x : Asked) (n : ℕ) (named : AreNamed v.table) where
+module _ (v : Served) (x : AskedFor) (n : ℕ) (named : AreNamed v.table) where
   taken : (b : Bool) → b ≡ true → rows_of (accepted_if meaning b v x.subscription.subscriber x.subscription.identifier n
       x).table ≡ table.put (new_row v.now n x) (rows_of v.table)
   taken true e = rows_put x.subscription.subscriber x.subscription.identifier (new_life meaning v.start v.now n n x) v.table named refl refl

@@ -1,15 +1,16 @@
 -- The two facts that hold of a subscription after its first look, by what is held.
-use Rattle.std.specs.Prelude.{◌≡◌, ℕ, ℤ, ◌≤◌, true, false, List, [], map, fold, None}
+use Rattle.std.specs.Prelude.{◌≡◌, ℕ, ℤ, ◌≤◌, true, false, List, map, fold, None}
 use Rattle.std.specs.Map.{keys_of}
 use Rattle.siri_records.specs.declared.key.Key.{Key}
 use Rattle.siri_records.specs.Near.{is_near}
 use Rattle.siri_records.specs.Keyed.{Items, InOrder, item_of, living, dead_of}
 use Rattle.siri_topic.specs.declared.topics.Topic.{Topic}
+use Rattle.siri_store.specs.Candidates.{may_be_shown}
 use Rattle.siri_change.specs.Changes.{agree_on}
 use Rattle.siri_change.specs.Parts.{Carried}
 use Rattle.siri_life.specs.Slot.{Slot, with_acknowledgement, with_supply}
 use Rattle.siri_subs.specs.declared.entry.Row.{Row}
-use Rattle.siri_model.specs.History.{Entry, after_entry}
+use Rattle.siri_model.specs.History.{Entry, IsKeyed, after_entry}
 use Rattle.siri_model.specs.Last.{entry_key}
 use Rattle.siri_model.specs.Rows.{KeptLife, settled_row}
 use Rattle.siri_records.specs.KeyLists.{is_among, KeysInOrder}
@@ -19,10 +20,12 @@ use Rattle.siri_model.specs.Looks.{IsUncrossed}
 use Rattle.siri_model.specs.Followed.{Look, touched_look, goal_of, look_at}
 
 -- each key that wasn't touched since the look has the same item as then, or none as then; and the view that the consumer is led to
--- agrees with the direct response as it was then, but for exactly the keys that are kept apart
+-- agrees with the direct response as it was then, but for exactly the keys that are kept apart; what was held then stood
+-- under its own keys
 pub record Follows (slack : ℤ) (topic : Topic) (now : ℕ) (held goal : Items) (look : Look) : Type 0 where
   pub then : Items
   pub ordered : InOrder then
+  pub keyed : IsKeyed then
   pub earlier : look.moment ≤ now
   pub untouched : (key : Key) → is_among key look.touched ≡ false → item_of held key ≡ item_of then key
   pub agrees : (key : Key) → is_among key look.apart ≡ false → agree_on (is_near slack) goal (direct_to look.moment then topic) key ≡ true
@@ -55,27 +58,31 @@ ClockFollows = (slack : ℤ) (topic : Topic) (now later : ℕ) (current goal : I
 
 -- a look begins anew
 abbrev pub LookFollows : Type 0
-LookFollows = (now : ℕ) (held : Items) (row : Row KeptLife) → InOrder held → row.slot.rounds.outstanding ≡ None
+LookFollows = (now : ℕ) (held : Items) (row : Row KeptLife) → InOrder held → IsKeyed held → row.slot.rounds.outstanding ≡ None
     → Follows row.wanted.slack row.wanted.topic now held (goal_of (settled_row now held row).slot.rounds) (look_at now held row)
 
 -- ---- so a look needs those keys alone, unless the topic has MaximumStopVisits
 
--- a key that isn't one of these was neither touched nor kept apart, and no live item of it was crossed
-pub record IsOut (topic : Topic) (now : ℕ) (held : Items) (look : Look) (key : Key) : Type 0 where
+-- a key wasn't touched, and no live item of it was crossed
+pub record IsAsThen (topic : Topic) (now : ℕ) (held : Items) (look : Look) (key : Key) : Type 0 where
   pub untouched : is_among key look.touched ≡ false
-  pub together : is_among key look.apart ≡ false
   pub uncrossed : IsUncrossed topic look.moment now (item_of held key)
+
+-- a key that isn't one of these isn't kept apart, and where its item may be shown it was neither touched nor crossed
+pub record IsOut (topic : Topic) (now : ℕ) (held : Items) (look : Look) (key : Key) : Type 0 where
+  pub together : is_among key look.apart ≡ false
+  pub as_then : may_be_shown topic key ≡ true → IsAsThen topic now held look key
 
 -- of a topic without MaximumStopVisits
 abbrev pub FactsSuffice : Type 0
 FactsSuffice = (slack : ℤ) (topic : Topic) (now : ℕ) (held goal : Items) (look : Look) (keys : List Key) → most_of topic ≡ None
-    → InOrder held → InOrder goal → KeysInOrder keys
+    → InOrder held → IsKeyed held → InOrder goal → KeysInOrder keys
     → Follows slack topic now held goal look → ((key : Key) → is_among key keys ≡ false → IsOut topic now held look key)
     → IsLook slack goal (direct_to now held topic) keys
 
--- where no key was touched, and no live item was crossed, the direct response is as it was at the look, whatever the topic
+-- where no key was touched or crossed whose item may be shown, the direct response is as it was at the look, whatever the topic
 abbrev pub DirectStays : Type 0
-DirectStays = (slack : ℤ) (topic : Topic) (now : ℕ) (held goal : Items) (look : Look) → InOrder held
-    → (follows : Follows slack topic now held goal look) → look.touched ≡ []
-    → ((key : Key) → IsUncrossed topic look.moment now (item_of held key))
+DirectStays = (slack : ℤ) (topic : Topic) (now : ℕ) (held goal : Items) (look : Look) → InOrder held → IsKeyed held
+    → (follows : Follows slack topic now held goal look)
+    → ((key : Key) → may_be_shown topic key ≡ true → IsAsThen topic now held look key)
     → direct_to now held topic ≡ direct_to look.moment follows.then topic

@@ -4,7 +4,6 @@ use Rattle.std.specs.List.{list_any, sum_by}
 use Rattle.std.specs.Map.{keys_of}
 use Rattle.std.specs.Ordering.{is_lt}
 use Rattle.siri_records.specs.declared.item.Item.{Item}
-use Rattle.siri_records.specs.declared.item.Item.TheVariants as item
 use Rattle.siri_records.specs.declared.key.Key.{Key}
 use Rattle.siri_records.specs.Near.{is_near}
 use Rattle.siri_records.specs.KeyLists.{with_keys}
@@ -13,7 +12,8 @@ use Rattle.siri_topic.specs.declared.topics.Topic.{Topic}
 use Rattle.siri_topic.specs.declared.topics.Topic.TheVariants as topic
 use Rattle.siri_topic.specs.declared.windows.Window.{Window}
 use Rattle.siri_topic.specs.Shown.{window_of, is_from, is_before}
-use Rattle.siri_messages.specs.Asked.{Asked, asked_in}
+use Rattle.siri_store.specs.Candidates.{candidates, may_be_shown}
+use Rattle.siri_messages.specs.Asked.{AskedFor, asked_in}
 use Rattle.siri_messages.specs.declared.message.Message.{Message}
 use Rattle.siri_messages.specs.declared.message.Message.TheVariants as message
 use Rattle.siri_messages.specs.declared.supplies.Mark.{Mark as MarkOf}
@@ -33,6 +33,7 @@ use Rattle.siri_model.specs.Rows.{KeptLife, asked_of, nothing_kept, settled_row,
 use Rattle.siri_records.specs.Edges.{has_edge}
 use Rattle.siri_records.specs.Ends.{entry_of}
 use Rattle.siri_model.specs.Direct.{direct_to, most_of, soonest_cmp}
+use Rattle.siri_topic.specs.Services.{is_served}
 
 -- ---- the last look
 
@@ -79,7 +80,7 @@ abbrev pub with_row_of : Name → Name → (Row KeptLife → Row KeptLife) → L
 with_row_of subscriber identifier change rows = map (λ row. if is_of subscriber identifier row then lifted change row else row) rows
 
 -- a subscription that is accepted wasn't looked at yet
-abbrev pub new_row : ℕ → ℕ → Asked → Row Followed
+abbrev pub new_row : ℕ → ℕ → AskedFor → Row Followed
 new_row now number asked = record {
   wanted = asked.subscription;
   number = number;
@@ -169,13 +170,6 @@ followed_of history = followed_from nothing [] history
 
 -- ---- how many stored items a look may read
 
-abbrev pub is_served : Topic → Item → Bool
-is_served (topic.Stop t) (item.Visit v) = true
-is_served (topic.Timetable t) (item.Journey j) = true
-is_served (topic.Vehicle t) (item.Vehicle v) = true
-is_served (topic.Situation t) (item.Situation s) = true
-is_served t i = false
-
 -- how many of these items, of the topic's service, have an edge from one moment on and before another
 abbrev pub edges_passed : Topic → Items → ℤ → ℤ → ℕ
 edges_passed topic items from to = count_by (λ entry. is_served topic entry.1 && has_edge from to entry.1) items
@@ -222,12 +216,17 @@ first_visits now live topic (Some most) = visits_to topic most (window_of topic 
 abbrev pub changed_since : ℕ → Items → Topic → Look → ℕ
 changed_since now live topic look = length look.touched + items_passed topic live look.moment now
 
+-- how many of them may be shown to the topic by their keys
+abbrev pub asked_since : ℕ → Items → Topic → Look → ℕ
+asked_since now live topic look =
+    count_by (may_be_shown topic) look.touched + items_passed topic (candidates topic live) look.moment now
+
 abbrev pub bound_since : ℕ → Items → Row KeptLife → Option Look → ℕ
 bound_since now live row None = length live
 bound_since now live row (Some look) =
     let topic = row.wanted.topic in
-    let changed = changed_since now live topic look in
-    changed + complete_set row (direct_to now live topic) + (if changed == 0 then 0 else first_visits now live topic (most_of topic))
+    changed_since now live topic look + complete_set row (direct_to now live topic)
+    + (if asked_since now live topic look == 0 then 0 else first_visits now live topic (most_of topic))
 
 -- where a round is outstanding a settle is no look
 abbrev pub look_bound : ℕ → Items → Row Followed → ℕ

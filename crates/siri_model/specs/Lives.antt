@@ -2,7 +2,7 @@
 use Rattle.std.specs.Prelude.{ℕ, List, [], ◌∷◌, map, fold, Bool, true, false, Option, Some, None, if◌then◌else◌}
 use Rattle.std.specs.List.{last_or}
 use Rattle.siri_records.specs.Keyed.{Items}
-use Rattle.siri_messages.specs.Asked.{Asked, asked_in}
+use Rattle.siri_messages.specs.Asked.{AskedFor, asked_in}
 use Rattle.siri_messages.specs.Rounds.{has_round}
 use Rattle.siri_messages.specs.declared.message.Message.{Message}
 use Rattle.siri_messages.specs.declared.message.Message.TheVariants as message
@@ -23,17 +23,17 @@ mark_of m = record { number = m.number; start = m.start; round = m.round; part =
 
 -- a DataSupplyRequest: it fetches a part; or with AllData it asks for all of an acceptance, and its mark has the request's
 -- number as Number and the base of the acceptance as Round
-abbrev pub supply_of : (all_data : Bool) → Mark → Packet Carried Asked
+abbrev pub supply_of : (all_data : Bool) → Mark → Packet Carried AskedFor
 supply_of true mark = AllData mark.number mark.round
 supply_of false mark = Supply (mark_of mark)
 
 -- the acknowledgement of a part: it has Status true, a ConsumerRef and a mark
-abbrev pub acknowledgement_of : Bool → Option Name → Option Mark → List (Act Carried Asked Entry)
+abbrev pub acknowledgement_of : Bool → Option Name → Option Mark → List (Act Carried AskedFor Entry)
 acknowledgement_of true (Some consumer) (Some mark) = Heard consumer mark.subscription (Acknowledge (mark_of mark)) ∷ []
 acknowledgement_of status consumer mark = []
 
 -- a message that is taken, as each subscription hears it; a ServiceDelivery of no round is a feed
-unfoldable pub acts_in : Message → List (Act Carried Asked Entry)
+unfoldable pub acts_in : Message → List (Act Carried AskedFor Entry)
 acts_in (message.SubscriptionRequest r) =
     map (λ asked. Heard asked.subscription.subscriber asked.subscription.identifier (Subscribe r.message_identifier asked)) (asked_in r)
 acts_in (message.TerminateSubscriptionRequest r) = map (λ identifier. Heard r.subscriber_ref identifier (Terminate r.message_identifier)) r.subscription_ref
@@ -43,7 +43,7 @@ acts_in (message.ServiceDelivery d) = if has_round d then [] else Fed (entries_o
 acts_in other = []
 
 -- a step, as each subscription hears it
-abbrev pub acts_of : Step → List (Act Carried Asked Entry)
+abbrev pub acts_of : Step → List (Act Carried AskedFor Entry)
 acts_of (Start number moment) = []
 acts_of (Clock moment) = Clocked moment ∷ []
 acts_of (Feed entries) = Fed entries ∷ []
@@ -54,11 +54,11 @@ acts_of Settle = Settled ∷ []
 
 -- a producer's side: its table, and the lives that ended
 abbrev pub Served : Type 0
-Served = Serving Items Carried Asked History
+Served = Serving Items Carried AskedFor History
 
 -- the life of a subscription that is held
 abbrev pub Living : Type 0
-Living = Life Items Carried Asked
+Living = Life Items Carried AskedFor
 
 -- after one step: a start starts anew, wherever it stands
 unfoldable pub served_after : Served → Step → Served

@@ -1,7 +1,7 @@
 -- What lives of subscriptions are about: items, parts of a hundred changes, what a request asks for, histories.
 use Rattle.std.specs.Prelude.{[], ◌∷◌, ◌++◌, map}
 use Rattle.siri_records.specs.Keyed.{Items, apply}
-use Rattle.siri_messages.specs.Asked.{Asked}
+use Rattle.siri_messages.specs.Asked.{AskedFor}
 use Rattle.siri_change.specs.Changes as change
 use Rattle.siri_change.specs.Parts as part
 use Rattle.siri_change.specs.Parts.{Carried, carried, changes_in, parts_of}
@@ -12,12 +12,12 @@ use Rattle.siri_model.specs.Direct.{direct_to}
 use Rattle.siri_model.specs.History.{Entry, Start, Clock, Feed, History, now_of, current}
 
 -- the direct response to a subscription after a history: that to its topic
-abbrev pub direct_of : History → Asked → Items
+abbrev pub direct_of : History → AskedFor → Items
 direct_of history wanted = direct_to (now_of history) (current history) wanted.subscription.topic
 
 -- views are current items, a part is what a functional delivery carries, and what a producer knows is its history, in
 -- which the messages that it takes and its settles play no part
-abbrev pub meaning : Meaning Items Carried Asked History Entry
+abbrev pub meaning : Meaning Items Carried AskedFor History Entry
 meaning = record {
   empty = [];
   is_view = is_view;

@@ -1,7 +1,7 @@
 -- What a producer keeps of the subscriptions of its history, row by row of its table, and what its steps do to a row.
 use Rattle.std.specs.Prelude.{ℕ, ◌==◌, max, List, [], map, fold, Bool, true, false, ◌&&◌, Option, Some, None, if◌then◌else◌}
 use Rattle.siri_records.specs.Keyed.{Items}
-use Rattle.siri_messages.specs.Asked.{Asked, asked_in}
+use Rattle.siri_messages.specs.Asked.{AskedFor, asked_in}
 use Rattle.siri_messages.specs.declared.message.Message.{Message}
 use Rattle.siri_messages.specs.declared.message.Message.TheVariants as message
 use Rattle.siri_messages.specs.declared.supplies.Mark.{Mark as MarkOf}
@@ -26,7 +26,7 @@ abbrev pub kept_of : Living → KeptLife
 kept_of life = record { rounds = slot_of meaning life; last_heartbeat = life.last_heartbeat }
 
 -- the row of what was asked for under a number, by the SubscriptionRequest whose number is the base
-abbrev pub row_with : (number base : ℕ) → Asked → KeptLife → Row KeptLife
+abbrev pub row_with : (number base : ℕ) → AskedFor → KeptLife → Row KeptLife
 row_with number base asked kept = record {
   wanted = asked.subscription;
   number = number;
@@ -45,20 +45,20 @@ abbrev pub rows_of : List (Of Living) → List (Row KeptLife)
 rows_of table = map (λ held. row_of held.it) table
 
 -- what a row's request asked for
-abbrev pub asked_of : Row KeptLife → Asked
+abbrev pub asked_of : Row KeptLife → AskedFor
 asked_of row = record { subscription = row.wanted; address = row.address; beat = row.beat }
 
 -- ---- what a step does to a row
 
 -- nothing was acknowledged, and no round was opened
-abbrev pub nothing_kept : ℕ → Asked → KeptLife
+abbrev pub nothing_kept : ℕ → AskedFor → KeptLife
 nothing_kept now asked = record {
   rounds = record { fetched = asked.subscription.fetched; acknowledged = []; rounds_opened = 0; outstanding = None };
   last_heartbeat = now;
 }
 
 -- the row of a subscription that is accepted at a moment
-abbrev pub new_row : ℕ → ℕ → Asked → Row KeptLife
+abbrev pub new_row : ℕ → ℕ → AskedFor → Row KeptLife
 new_row now number asked = row_with number number asked (nothing_kept now asked)
 
 -- a row with other rounds
@@ -89,13 +89,13 @@ abbrev pub with_row_of : Name → Name → (Row KeptLife → Row KeptLife) → L
 with_row_of subscriber identifier change rows = map (λ row. if is_of subscriber identifier row then change row else row) rows
 
 -- the round that a direct response makes at a moment
-abbrev pub next_round : Asked → Items → ℕ → Slot Items Carried → Round Items Carried
+abbrev pub next_round : AskedFor → Items → ℕ → Slot Items Carried → Round Items Carried
 next_round asked direct now rounds =
     let target = meaning.target rounds.acknowledged direct asked in
     record { moment = now; base = rounds.acknowledged; target = target; parts = meaning.load rounds.acknowledged target asked }
 
 -- a look: a round opens where one is due
-abbrev pub looked : Asked → Items → ℕ → Slot Items Carried → Slot Items Carried
+abbrev pub looked : AskedFor → Items → ℕ → Slot Items Carried → Slot Items Carried
 looked asked direct now rounds =
     if opens_round meaning rounds.outstanding rounds asked direct then begun rounds (next_round asked direct now rounds) else rounds
 
@@ -120,7 +120,7 @@ settled_row now items row =
 -- ---- the rows after a step
 
 -- after requests for subscriptions under a number, one after the other
-abbrev pub rows_asked : ℕ → ℕ → List Asked → List (Row KeptLife) → List (Row KeptLife)
+abbrev pub rows_asked : ℕ → ℕ → List AskedFor → List (Row KeptLife) → List (Row KeptLife)
 rows_asked now number asked rows = fold (λ rows wanted. accepted now (new_row now number wanted) rows) rows asked
 
 -- after terminations under a number, one after the other

@@ -26,9 +26,7 @@ use Rattle.siri_subs.specs.declared.errors.Accepted.{Accepted}
 use Rattle.siri_subs.specs.declared.errors.RenumberError.{RenumberError}
 use Rattle.siri_subs.specs.Table.{is_of}
 use Rattle.siri_model.specs.Direct.{answer, answering, at_most, direct_to, most_of, response, shown}
-use Rattle.siri_model.specs.Followed.{Followed, followed_after, followed_of}
-use Rattle.siri_model.specs.Followed as followed
-use Rattle.siri_model.specs.History.{History, State, Step, Take, Settle, after_step, current, now_of, start_of}
+use Rattle.siri_model.specs.History.{History, Step, Take, Settle, after_step, current, now_of, start_of}
 use Rattle.siri_model.specs.History.{state_of}
 use Rattle.siri_model.specs.Lives.{is_settle, is_settled, mark_of, table_of}
 use Rattle.siri_model.specs.Meaning.{meaning}
@@ -36,7 +34,6 @@ use Rattle.siri_model.specs.Rows.{KeptLife, asked_of, is_numbered, looked, next_
 use Rattle.siri_model.specs.Rows.{rows_supplied, rows_taken, sent_if_due, settled_row, supplied_row, with_rounds}
 use Rattle.siri_model.specs.Rows.{with_row_of}
 use Rattle.siri_model.proofs.Current.{last_appended}
-use Rattle.siri_model.proofs.FollowedRows.{go_on}
 use Rattle.siri_model.proofs.Histories.{rows_go_on}
 use Rattle.siri_model.proofs.InOrder.{more_steps}
 use Rattle.siri_subscriptions.specs.replies.Parts.{part_delivery, refused_supply}
@@ -48,14 +45,13 @@ use Rattle.siri_subscriptions.specs.declared.supplies.SupplyAnswer.{SupplyAnswer
 use Rattle.siri_subscriptions.specs.Supplies.{not_supplied, supplied, supply_answer, supply_by, supply_in}
 use Rattle.siri_producer.specs.Answers.{answer_to, renew_note, supply_answer_to, supply_note}
 use Rattle.siri_producer.specs.declared.answers.Answer.{Answer}
-use Rattle.siri_producer.specs.Known.{Known, StandsFor, Follows}
+use Rattle.siri_producer.specs.Known.{Known, StandsFor}
 use Rattle.siri_producer.specs.Lent.{OwnPart, has_all, head_of, if_it_has_all, is_lent, lent_topic, own_part, part_in}
 use Rattle.siri_producer.specs.Lent.{supplied_by, topics_of}
 use Rattle.siri_producer.specs.Sends.{sends}
 use Rattle.siri_producer.specs.declared.answers.Note.TheVariants as note
 use Rattle.siri_producer.specs.declared.lending.Supplied.{Supplied}
 use Rattle.siri_producer.specs.declared.lending.Supplied.TheVariants as told
-use Rattle.siri_producer.proofs.Follows.{untouched}
 
 -- ---- a step of which nothing is known after it
 
@@ -75,11 +71,6 @@ rows_asked : (h : History) (r : ServiceRequest)
     → rows_of (table_of (h ++ Take (message.ServiceRequest r) ∷ [])) ≡ rows_of (table_of h)
 unfolding rows_after rows_taken
 rows_asked h r = rows_go_on h (Take (message.ServiceRequest r))
-
-followed_asked : (h : History) (r : ServiceRequest)
-    → followed_of (h ++ Take (message.ServiceRequest r) ∷ []) ≡ followed_of h
-unfolding followed_after followed.rows_taken
-followed_asked h r = go_on h (Take (message.ServiceRequest r)) ∙ untouched (followed_of h)
 
 -- ---- a request is forgotten
 
@@ -118,13 +109,6 @@ module _ (h : History) (r : ServiceRequest) where
       ∙ sym (rows_go_on (h ++ Take (message.ServiceRequest r) ∷ []) Settle)
       ∙ ap (λ (h : History). rows_of (table_of h)) settle_last
 
-  followed_forgets : followed_of (h ++ Settle ∷ []) ≡ followed_of with_request
-  followed_forgets =
-      go_on h Settle
-      ∙ (λ i. followed_after (sym (state_asked h r) i) Settle (sym (followed_asked h r) i))
-      ∙ sym (go_on (h ++ Take (message.ServiceRequest r) ∷ []) Settle)
-      ∙ ap followed_of settle_last
-
   settled_forgets : is_settled (h ++ Settle ∷ []) ≡ is_settled with_request
   settled_forgets =
       ap is_settle (last_appended None h Settle)
@@ -140,24 +124,7 @@ module _ (h : History) (r : ServiceRequest) where
     settled = s.settled ∙ settled_forgets;
   }
 
-  pub request_followed : (known : Known) → Follows known (h ++ Settle ∷ []) → Follows known with_request
-  request_followed known f = record {
-    stands = request_forgotten known f.stands;
-    looks = f.looks ∙ ap (map (λ (row : Row Followed). row.slot.look)) followed_forgets;
-  }
-
 -- ---- a settle changes no item
-
-pub moment_settled : (h : History) → now_of (h ++ Settle ∷ []) ≡ now_of h
-moment_settled h = ap (λ (s : State). s.now) (state_settled h)
-
-pub current_settled : (h : History) → current (h ++ Settle ∷ []) ≡ current h
-current_settled h = ap (λ (s : State). s.current) (state_settled h)
-
--- the response after the settle is the one before it
-pub response_settled : (h : History) (name : List ℕ) (r : ServiceRequest)
-    → response name (now_of (h ++ Settle ∷ [])) (current (h ++ Settle ∷ [])) r ≡ response name (now_of h) (current h) r
-response_settled h name r = λ i. response name (state_settled h i).now (state_settled h i).current r
 
 -- with the request of which the producer isn't told, too
 pub response_forgets : (h : History) (name : List ℕ) (r : ServiceRequest)

@@ -3,7 +3,7 @@ use Rattle.std.proofs.Common.{◌≡◌, ℕ, ◌≤◌, List, [], ◌∷◌, ma
 use Rattle.std.specs.Prelude.{option_map}
 use Rattle.std.specs.List.{All}
 use Rattle.std.proofs.lemmas.List.Elements.{All-nil, All-cons, All-head, All-tail, All-map, All-weaker}
-use Rattle.siri_messages.specs.Asked.{Asked, asked_in}
+use Rattle.siri_messages.specs.Asked.{AskedFor, asked_in}
 use Rattle.siri_messages.specs.declared.message.Message.TheVariants as message
 use Rattle.siri_messages.specs.declared.subscriptions.SubscriptionRequest.{SubscriptionRequest}
 use Rattle.siri_messages.specs.declared.supplies.DataReceivedAcknowledgement.{DataReceivedAcknowledgement}
@@ -55,7 +55,7 @@ followed_noted marks [] = refl
 followed_noted marks (row ∷ rows) =
     ap (λ l. mapped_row (follow marks) (mapped_row noted row) ∷ l) (followed_noted marks rows)
 
-asked_mapped : (marks : Marked) (now number : ℕ) (asked : List Asked) (rows : List (Row Noted))
+asked_mapped : (marks : Marked) (now number : ℕ) (asked : List AskedFor) (rows : List (Row Noted))
     → with_mapped_slots (follow marks) (noted_asked now number asked rows)
     ≡ fold (λ rows wanted. accepted now (followed.new_row now number wanted) rows)
     (with_mapped_slots (follow marks) rows) asked
@@ -150,7 +150,7 @@ module _ (number : ℕ) (rows after : List (Row Course)) (numbered : AreNumbered
   numbered_by changed is all =
       all_unmapped (IsNotedUpTo number) (mapped_row noted) after (subst (All (IsNotedUpTo number)) (sym is) all)
 
-  pub asked_numbered : (now own : ℕ) (asked : List Asked)
+  pub asked_numbered : (now own : ℕ) (asked : List AskedFor)
       → noted_rows after ≡ noted_asked now own asked (noted_rows rows) → AreNumbered number after
   asked_numbered now own asked is = numbered_by (noted_asked now own asked (noted_rows rows)) is
       (accepted_all (IsNotedUpTo number) now (new_noted now own) (λ wanted looked none. absurd (cc)) asked

@@ -48,7 +48,7 @@ use Rattle.siri_producer.specs.declared.answers.Answer.{Answer}
 use Rattle.siri_producer.specs.declared.answers.Note.TheVariants as note
 use Rattle.siri_producer.specs.Answers.{acknowledged_note, answer_to, fed_reply, is_ignored, noted, renew_reply}
 use Rattle.siri_producer.specs.Answers.{replied, supply_answer_to, supply_reply}
-use Rattle.siri_producer.specs.Known.{Known, StandsFor, Follows, GoesOn, TookSome, CountsFor, AnswerFor, RefusedAt, RefusedIf, Takes, looks_of}
+use Rattle.siri_producer.specs.Known.{Known, StandsFor, Follows, GoesOn, TookSome, CountsFor, AnswerFor, RefusedAt, RefusedIf, TakesMessage, looks_of}
 use Rattle.siri_producer.specs.Standing.{AreNumbered, IsProducer, known_of}
 use Rattle.siri_producer.proofs.Follows.{goes, untouched}
 use Rattle.siri_producer.proofs.Noted.{acknowledged_followed, asked_followed, ended_followed, renewed_followed}
@@ -271,10 +271,10 @@ module _ (known : responder.Known) (rows : List (Row Course)) (settled : Bool) w
 
 pub refused : (old new : Known) (m : Message) (result : Result Answer OutOfMemory) (error : OutOfMemory)
     → result ≡ Err error
-    → RefusedAt old new m → new.responder.name ≡ old.responder.name → Takes old new m result
+    → RefusedAt old new m → new.responder.name ≡ old.responder.name → TakesMessage old new m result
 refused old new m result error is refusal name =
-    let at_error : Takes old new m (Err error) = record { ok = tt; answer = tt; err = refusal; name = name } in
-    subst (Takes old new m) (sym is) at_error
+    let at_error : TakesMessage old new m (Err error) = record { ok = tt; answer = tt; err = refusal; name = name } in
+    subst (TakesMessage old new m) (sym is) at_error
 
 -- ---- a ServiceDelivery of no round
 
@@ -343,7 +343,7 @@ pub takes_fed : (old new : Known) (d : ServiceDelivery) (fed : Fed) (result : Re
     → new.responder.name ≡ old.responder.name
     → IfOk result (λ answer. answer ≡ fed_reply new.responder.name new.responder.moment d.response_message_identifier
     fed)
-    → Takes old new (message.ServiceDelivery d) result
+    → TakesMessage old new (message.ServiceDelivery d) result
 takes_fed old new d fed (Ok answer) none on counts name is = record {
   ok = goes_as_fed old new d none on;
   answer = λ h s. is ∙ answer_fed old new d h fed none s on (counts h s) name;

@@ -89,7 +89,7 @@ SendsFor known outs = (h : History) → StandsFor known h → outs ≡ sends kno
 
 -- a producer takes a message with this result: where it answers, it stands for whatever it stood for and the message after it,
 -- and the answer is the one by that history; where memory was wanting, it refuses the message; its name stays
-pub record Takes (old new : Known) (message : Message) (result : Result Answer OutOfMemory) : Type 0 where
+pub record TakesMessage (old new : Known) (message : Message) (result : Result Answer OutOfMemory) : Type 0 where
   pub ok : OnOk result (GoesOn old new (Take message))
   pub answer : IfOk result (AnswerFor old message)
   pub err : OnErr result (RefusedAt old new message)

@@ -242,10 +242,11 @@ impl Producer {
         self.responder.now()
     }
 
-    /// How many items it holds, at most 20,000. There is a history that the producer stands for.
+    /// How many items it holds, at most 20,000. There is a history that the producer follows, and so stands for.
     pub fn held(&self) -> usize
         ensures number { result ≡ length self.now.responder.held }
         ensures stands { (h : History) × StandsFor self.now h }
+        ensures follows { (h : History) × Follows self.now h }
         ensures few { length self.now.responder.held ≤ most_live }
     {
         self.responder.held()

@@ -7,7 +7,7 @@ ghost use Rattle.siri_messages.specs.declared.message.Message.TheVariants as mes
 ghost use Rattle.siri_messages.specs.Rounds.{has_round};
 ghost use Rattle.siri_producer.specs.Answers.{fed_reply, is_ignored, renew_note, supply_note};
 ghost use Rattle.siri_model.specs.History.{Take};
-ghost use Rattle.siri_producer.specs.Known.{AnswerFor, GoesOn, Takes};
+ghost use Rattle.siri_producer.specs.Known.{AnswerFor, GoesOn, TakesMessage};
 
 use crate::{Answer, Fed, Note, Producer};
 use siri_base::{Copies, Name, OutOfMemory};
@@ -26,7 +26,7 @@ impl Producer {
         &mut self,
         request: &ServiceRequest,
     ) -> Result<Answer, OutOfMemory>
-        ensures takes { Takes self.old self.new (message.ServiceRequest request.now) result }
+        ensures takes { TakesMessage self.old self.new (message.ServiceRequest request.now) result }
         ensures risen { self.old.responder.reads ≤ self.new.responder.reads }
         ensures reads { self.new.responder.reads ≤ self.old.responder.reads + length self.old.responder.held * topics_in request.now }
     {
@@ -40,7 +40,7 @@ impl Producer {
         &mut self,
         request: &SubscriptionRequest,
     ) -> Result<Answer, OutOfMemory>
-        ensures takes { Takes self.old self.new (message.SubscriptionRequest request.now) result }
+        ensures takes { TakesMessage self.old self.new (message.SubscriptionRequest request.now) result }
         ensures reads { self.new.responder.reads ≡ self.old.responder.reads }
     {
         let response = subscribe(self.alloc, &mut self.table, self.responder.now(), request)?;
@@ -53,7 +53,7 @@ impl Producer {
         &mut self,
         request: &TerminateSubscriptionRequest,
     ) -> Result<Answer, OutOfMemory>
-        ensures takes { Takes self.old self.new (message.TerminateSubscriptionRequest request.now) result }
+        ensures takes { TakesMessage self.old self.new (message.TerminateSubscriptionRequest request.now) result }
         ensures reads { self.new.responder.reads ≡ self.old.responder.reads }
     {
         let response = terminate(self.alloc, &mut self.table, self.responder.now(), request)?;
@@ -69,7 +69,7 @@ impl Producer {
         &mut self,
         request: &DataSupplyRequest,
     ) -> Result<Answer, OutOfMemory>
-        ensures takes { Takes self.old self.new (message.DataSupplyRequest request.now) result }
+        ensures takes { TakesMessage self.old self.new (message.DataSupplyRequest request.now) result }
         ensures reads { self.new.responder.reads ≡ self.old.responder.reads }
     {
         if request.all_data {
@@ -82,7 +82,7 @@ impl Producer {
     /// A DataSupplyRequest of a part, which is answered by the part, or by why that isn't supplied.
     fn take_part_request(&mut self, request: &DataSupplyRequest) -> Result<Answer, OutOfMemory>
         requires { request.now.all_data ≡ false }
-        ensures takes { Takes self.old self.new (message.DataSupplyRequest request.now) result }
+        ensures takes { TakesMessage self.old self.new (message.DataSupplyRequest request.now) result }
         ensures reads { self.new.responder.reads ≡ self.old.responder.reads }
     {
         let start = self.responder.start();
@@ -99,7 +99,7 @@ impl Producer {
     /// A DataSupplyRequest with AllData, which renews the subscription that it names, or is told why it doesn't.
     fn take_all_data_request(&mut self, request: &DataSupplyRequest) -> Result<Answer, OutOfMemory>
         requires { request.now.all_data ≡ true }
-        ensures takes { Takes self.old self.new (message.DataSupplyRequest request.now) result }
+        ensures takes { TakesMessage self.old self.new (message.DataSupplyRequest request.now) result }
         ensures reads { self.new.responder.reads ≡ self.old.responder.reads }
     {
         let now = self.responder.now();
@@ -117,7 +117,7 @@ impl Producer {
         &mut self,
         acknowledgement: &DataReceivedAcknowledgement,
     ) -> Answer
-        ensures takes { Takes self.old self.new (message.DataReceivedAcknowledgement acknowledgement.now) (Ok result) }
+        ensures takes { TakesMessage self.old self.new (message.DataReceivedAcknowledgement acknowledgement.now) (Ok result) }
         ensures reads { self.new.responder.reads ≡ self.old.responder.reads }
     {
         let start = self.responder.start();
@@ -139,7 +139,7 @@ impl Producer {
         &mut self,
         request: &CheckStatusRequest,
     ) -> Result<Answer, OutOfMemory>
-        ensures takes { Takes self.old self.new (message.CheckStatusRequest request.now) result }
+        ensures takes { TakesMessage self.old self.new (message.CheckStatusRequest request.now) result }
         ensures reads { self.new.responder.reads ≡ self.old.responder.reads }
     {
         let now = self.responder.now();
@@ -154,7 +154,7 @@ impl Producer {
         &mut self,
         delivery: &ServiceDelivery,
     ) -> Result<Answer, OutOfMemory>
-        ensures takes { Takes self.old self.new (message.ServiceDelivery delivery.now) result }
+        ensures takes { TakesMessage self.old self.new (message.ServiceDelivery delivery.now) result }
         ensures reads { self.new.responder.reads ≡ self.old.responder.reads }
     {
         if delivery.has_round() {
@@ -171,7 +171,7 @@ impl Producer {
 
     /// A ServiceDelivery, which is a feed where it is of no round.
     pub(crate) fn take_delivery(&mut self, delivery: ServiceDelivery) -> Result<Answer, OutOfMemory>
-        ensures takes { Takes self.old self.new (message.ServiceDelivery delivery) result }
+        ensures takes { TakesMessage self.old self.new (message.ServiceDelivery delivery) result }
         ensures reads { self.new.responder.reads ≡ self.old.responder.reads }
     {
         if delivery.has_round() {
@@ -184,7 +184,7 @@ impl Producer {
     /// A ServiceDelivery of no round, whose items are kept.
     fn take_feed(&mut self, mut delivery: ServiceDelivery) -> Result<Answer, OutOfMemory>
         requires { has_round delivery ≡ false }
-        ensures takes { Takes self.old self.new (message.ServiceDelivery delivery) result }
+        ensures takes { TakesMessage self.old self.new (message.ServiceDelivery delivery) result }
         ensures reads { self.new.responder.reads ≡ self.old.responder.reads }
     {
         let identifier = delivery.response_message_identifier.take();
@@ -204,6 +204,7 @@ impl Producer {
 
     /// Any other message. Nothing changes, but that an event has begun.
     pub(crate) fn ignore(&mut self) -> Answer
+        // It isn't handed the message, so what it does is right for each that is ignored.
         ensures stands { (m : Message) → is_ignored m ≡ true → GoesOn self.old self.new (Take m) }
         ensures answer { (m : Message) → is_ignored m ≡ true → AnswerFor self.old m result }
         ensures name { self.new.responder.name ≡ self.old.responder.name }

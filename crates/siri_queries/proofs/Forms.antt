@@ -1,5 +1,5 @@
 -- The pairs of rows in a form, one after another.
-use Rattle.std.proofs.Common.{◌≡◌, ℕ, List, [], ◌∷◌, ◌++◌, Option, Some, None, refl, ◌∙◌}
+use Rattle.std.proofs.Common.{◌≡◌, ℕ, List, [], ◌∷◌, Option, Some, None, refl, ◌∙◌}
 use Rattle.std.specs.Prelude.{option_to_list}
 use Rattle.std.specs.List.{filter_map, cons_option}
 use Rattle.form_urlencoded.specs.Form.{extend_pairs}
@@ -16,8 +16,3 @@ pub rows_pairs : (form : List ℕ) (rows : List Row) → extend_pairs form (filt
 rows_pairs form [] = refl
 rows_pairs form (row ∷ rows) =
     one_more form (pair_of row) (filter_map pair_of rows) ∙ rows_pairs (with_pair form row) rows
-
--- the rows of one part behind those of another
-pub pairs_append : (form : List ℕ) (rows others : List Row) → with_pairs form (rows ++ others) ≡ with_pairs (with_pairs form rows) others
-pairs_append form [] others = refl
-pairs_append form (row ∷ rows) others = pairs_append (with_pair form row) rows others

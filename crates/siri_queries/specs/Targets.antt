@@ -6,8 +6,6 @@ use Rattle.std.specs.List.{filter_map}
 use Rattle.serde_json.specs.Data.{Data, string, number}
 use Rattle.serde_json.specs.Written.{number_text}
 use Rattle.form_urlencoded.specs.Form.{extend_pairs}
-use Rattle.siri_records.specs.declared.item.Service.{Service}
-use Rattle.siri_records.specs.declared.item.Service.TheVariants as service
 use Rattle.siri_topic.specs.declared.topics.TimetableTopic.{TimetableTopic}
 use Rattle.siri_topic.specs.declared.topics.Topic.{Topic}
 use Rattle.siri_topic.specs.declared.topics.Topic.TheVariants as topics
@@ -19,6 +17,7 @@ use Rattle.siri_deliveries.specs.Topics.{situation_topic_table}
 use Rattle.siri_items.specs.declared.names.TheConstants.{OPERATOR_REF}
 use Rattle.siri_deliveries.specs.declared.names.TheConstants.{PREVIEW_INTERVAL}
 use Rattle.siri_queries.specs.Paths.{path_of}
+use Rattle.siri_topic.specs.Services.{service_asked}
 
 -- ---- what one query can ask
 
@@ -85,19 +84,13 @@ form_of t = extend_pairs [] (pairs_of t)
 
 -- ---- its target
 
-abbrev pub service_of : Topic → Service
-service_of (topics.Stop t) = service.Stop
-service_of (topics.Timetable t) = service.Timetable
-service_of (topics.Vehicle t) = service.Vehicle
-service_of (topics.Situation t) = service.Situation
-
 -- `?` and a form, where it isn't empty
 abbrev pub behind_path : List ℕ → List ℕ
 behind_path [] = []
 behind_path (b ∷ bs) = 63 ∷ b ∷ bs
 
 abbrev pub topic_target : Topic → List ℕ
-topic_target t = path_of (service_of t) ++ behind_path (form_of t)
+topic_target t = path_of (service_asked t) ++ behind_path (form_of t)
 
 -- a target has at most 16,384 bytes
 abbrev pub unless_too_long : List ℕ → Option (List ℕ)

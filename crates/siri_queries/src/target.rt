@@ -4,7 +4,7 @@ ghost use Rattle.std.specs.Prelude.{◌≡◌, ◌++◌, None, Some, IfOk, OnOk,
 ghost use Rattle.siri_tables.specs.Tables.{all_written};
 ghost use Rattle.siri_tables.specs.Writing.{written_text, written_span, written_moment, written_number};
 ghost use Rattle.siri_deliveries.specs.Topics.{stop_topic_table, line_direction_table, vehicle_topic_table, situation_topic_table};
-ghost use Rattle.siri_queries.specs.Targets.{only, query_topic, unless_several_lines, rows_of, timetable_rows, service_of, topic_target, target_of, form_of, with_pair, with_pairs};
+ghost use Rattle.siri_queries.specs.Targets.{only, query_topic, unless_several_lines, rows_of, timetable_rows, topic_target, target_of, form_of, with_pair, with_pairs};
 
 use crate::errors::QueryError;
 use crate::paths::path_of;
@@ -14,7 +14,6 @@ use siri_base::{Moment, Name, OutOfMemory, Span, Text, TextError};
 use siri_deliveries::names;
 use siri_items::names as item_names;
 use siri_messages::ServiceRequest;
-use siri_records::Service;
 use siri_time::{write_moment, write_span, written_moment_is_ascii, written_span_is_ascii};
 use siri_topic::{LineDirection, SituationTopic, StopTopic, TimetableTopic, Topic, VehicleTopic};
 use std::alloc::{AllocError, Global};
@@ -168,24 +167,12 @@ fn form_of(alloc: Global, topic: &Topic) -> Result<String, AllocError>
     Ok(form.finish())
 }
 
-/// The service that a topic asks.
-fn service_of(topic: &Topic) -> Service
-    ensures { result ≡ service_of topic.now }
-{
-    match topic {
-        Topic::Stop(_) => Service::Stop,
-        Topic::Timetable(_) => Service::Timetable,
-        Topic::Vehicle(_) => Service::Vehicle,
-        Topic::Situation(_) => Service::Situation,
-    }
-}
-
 /// The target of a topic, however long.
 fn topic_target(alloc: Global, topic: &Topic) -> Result<String, AllocError>
     ensures { IfOk result (λ target. string_bytes target ≡ topic_target topic.now) }
 {
     let form = form_of(alloc, topic)?;
-    let mut target = String::from_str(alloc, path_of(service_of(topic)))?;
+    let mut target = String::from_str(alloc, path_of(topic.service()))?;
     if !form.is_empty() {
         target.push('?')?;
         target.push_str(&form)?;

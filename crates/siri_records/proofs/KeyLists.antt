@@ -1,5 +1,5 @@
 -- Lists of keys in order, each once.
-use Rattle.std.proofs.Common.{◌≡◌, ◌+◌, ◌≤◌, List, [], ◌∷◌, ◌++◌, length, filter, Bool, true, false, ◌&&◌}
+use Rattle.std.proofs.Common.{◌≡◌, ◌+◌, ◌≤◌, List, [], ◌∷◌, length, filter, Bool, true, false, ◌&&◌}
 use Rattle.std.proofs.Common.{◌||◌}
 use Rattle.std.proofs.Common.{is_some, refl, ap, sym, ◌∙◌, arith}
 use Rattle.std.specs.BTreeSet.{insert_key}
@@ -10,7 +10,6 @@ use Rattle.std.specs.Ordering.{is_eq, ordering_reverse}
 use Rattle.std.specs.declared.cmp.Ordering.{Ordering}
 use Rattle.std.specs.declared.cmp.Ordering.TheVariants.{Less, Equal, Greater}
 use Rattle.std.proofs.lemmas.List.Kept.{IsStrictlySortedBy-filter}
-use Rattle.std.proofs.lemmas.List.Sums.{fold-append}
 use Rattle.siri_records.specs.declared.item.Item.{Item}
 use Rattle.siri_records.specs.declared.key.Key.{Key}
 use Rattle.siri_records.specs.Keyed.{Items, item_of}
@@ -213,17 +212,6 @@ same_with xs ks ls s is =
 pub same_in_order : (ks ls : List Key) → ((q : Key) → is_among q ks ≡ is_among q ls) → in_order ks ≡ in_order ls
 unfolding IsStrictlySortedBy
 same_in_order ks ls is = same_with [] ks ls tt is
-
--- what is in order stays as it is
-pub in_order_itself : (ks : List Key) → KeysInOrder ks → in_order ks ≡ ks
-in_order_itself ks s = same_keys (in_order ks) ks (order_in_order ks) s (λ q. among_in_order q ks)
-
--- it doesn't matter in which order more keys come
-pub with_in_order : (xs ks : List Key) → KeysInOrder xs → with_keys xs (in_order ks) ≡ with_keys xs ks
-with_in_order xs ks s = same_with xs (in_order ks) ks s (λ q. among_in_order q ks)
-
-pub with_append : (xs ks ls : List Key) → with_keys xs (ks ++ ls) ≡ with_keys (with_keys xs ks) ls
-with_append xs ks ls = fold-append (insert_key key_cmp) xs ks ls
 
 length_inserted_case : (k x : Key) (xs : List Key) (o : Ordering) → key_cmp k x ≡ o
     → length (insert_key key_cmp xs k) ≤ length xs + 1 → length (insert_key key_cmp (x ∷ xs) k) ≤ length (x ∷ xs) + 1

@@ -7,3 +7,4 @@ pub mod Keys
 pub mod Near
 pub mod Order
 pub mod Places
+pub mod Services

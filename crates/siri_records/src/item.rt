@@ -1,6 +1,7 @@
 //! Items of the four services.
 
 ghost use Rattle.std.specs.Prelude.{◌≡◌};
+ghost use Rattle.siri_records.specs.Services.{service_of};
 
 use crate::{Journey, Situation, Vehicle, Visit};
 use siri_base::{Copies, OutOfMemory};
@@ -35,6 +36,20 @@ pub enum Service {
     Timetable,
     Vehicle,
     Situation,
+}
+
+impl Item {
+    /// The functional service that it is of.
+    pub fn service(&self) -> Service
+        ensures { result ≡ service_of self.now }
+    {
+        match self {
+            Item::Visit(_) => Service::Stop,
+            Item::Journey(_) => Service::Timetable,
+            Item::Vehicle(_) => Service::Vehicle,
+            Item::Situation(_) => Service::Situation,
+        }
+    }
 }
 
 impl Copies for Item {

@@ -130,10 +130,6 @@ clocked_among old new m fed view s g among q held =
 
 -- ---- the feeds of a view
 
-fed_state : (s : State) (a : List Entry) → after_step s (Feed a) ≡ record s { current = after_all s.now s.current a }
-unfolding after_step
-fed_state s a = refl
-
 twice_state : (s : State) (a b : List Entry) → fold after_step s (Feed a ∷ Feed b ∷ []) ≡ record s { current = after_all s.now (after_all s.now s.current a) b }
 unfolding after_step
 twice_state s a b = refl

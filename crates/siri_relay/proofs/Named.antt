@@ -23,7 +23,7 @@ use Rattle.siri_life.specs.Link.{base_of, taken_as, with_start_if}
 use Rattle.siri_life.specs.Meaning.{apply_parts, most_parts}
 use Rattle.siri_view.specs.Consuming.{Consuming, after_heard, after_message, kept_for}
 use Rattle.siri_view.specs.Hearing.{Heard, Delivered, Notified, Noted, Foreign, carried_by, heard, only, placed, placed_at}
-use Rattle.siri_view.specs.Kept.{meaning, KeptSubscription, kept_of}
+use Rattle.siri_view.specs.Kept.{meaning, HeldSubscription, kept_of}
 use Rattle.siri_relay.specs.Named.{IsRound, is_whole, named_by, named_if, named_in}
 use Rattle.siri_relay.specs.Relaying.{view_held, view_in}
 use Rattle.siri_relay.specs.Standing.{IsOwn}
@@ -98,7 +98,7 @@ none_before number start round parts m is same first =
     let part : m.part ≡ suc parts = eqb-true m.part (suc parts) ((and_parts (m.round == suc round) (m.part == suc parts) place).1) in
     omega (arith, part, first)
 
-round_start : (b more : Bool) (before : Items) (h : KeptSubscription) (m : Mark) (part : Carried) → nat_lt h.start m.start ≡ b
+round_start : (b more : Bool) (before : Items) (h : HeldSubscription) (m : Mark) (part : Carried) → nat_lt h.start m.start ≡ b
     → life.outcome meaning h m ≡ life.Wanted → m.part ≡ 1 → IsOwn h.view → IsRound (carried_keys part) before h.view
     → IsRound (carried_keys part) before (life.with_part meaning more (with_start_if meaning b h m.start) part).view
 round_start true true before h m part newer is first own r = r
@@ -110,7 +110,7 @@ round_start false false before h m part newer is first own r =
     (round_base (carried_keys part) before (h.round == 0) h.wanted.subscription.incremental h.view r) in
     subst (λ (parts : List Carried). IsRound (carried_keys part) before (apply_parts meaning (base_of meaning h) (parts ++ part ∷ []))) (sym none) whole
 
-round_taken : (o : life.Outcome) (before : Items) (h : KeptSubscription) (m : Mark) (more : Bool) (part : Carried)
+round_taken : (o : life.Outcome) (before : Items) (h : HeldSubscription) (m : Mark) (more : Bool) (part : Carried)
     → life.outcome meaning h m ≡ o → m.part ≡ 1 → IsOwn h.view → IsRound (carried_keys part) before h.view
     → IsRound (carried_keys part) before (taken_as meaning o h m more part).view
 round_taken life.Wanted before h m more part is first own r = round_start (nat_lt h.start m.start) more before h m part refl is first own r

@@ -3,7 +3,7 @@ use Rattle.std.specs.Prelude.{ℤ}
 use Rattle.std.proofs.Common.{◌≡◌, ℕ, ◌≤◌, ◌⊎◌, inl, inr, Bool, true, false, List, [], ◌∷◌, ◌++◌, length, is_some, Option, Some, None, refl, ap, sym, ◌∙◌, subst, arith}
 use Rattle.std.specs.Prelude.{Result, Ok, Err, OnOk, OnErr}
 use Rattle.siri_base.specs.declared.errors.OutOfMemory.{OutOfMemory}
-use Rattle.std.proofs.lemmas.Bool.{leb-true, le-leb}
+use Rattle.std.proofs.lemmas.Bool.{leb-true}
 use Rattle.siri_records.specs.declared.key.Key.{Key}
 use Rattle.siri_records.specs.Keyed.{Items, item_of, most_live}
 use Rattle.siri_topic.specs.declared.subscription.Subscription.{Subscription}
@@ -18,7 +18,7 @@ use Rattle.siri_view.specs.declared.outcome.Outcome.{Outcome}
 use Rattle.siri_view.specs.declared.outcome.Outcome.TheVariants as outcome
 use Rattle.siri_relay.specs.Feeds.{feeds_of, has_room}
 use Rattle.siri_relay.specs.Goes.{GoesBy, GoesSome}
-use Rattle.siri_relay.specs.Relaying.{KnownRelay, is_up, view_in, view_of}
+use Rattle.siri_relay.specs.Relaying.{KnownRelay, is_up, view_in}
 use Rattle.siri_relay.specs.Standing.{HoldsAmong, HoldsView, IsOwn, IsRelay}
 use Rattle.siri_relay.proofs.Goings.{goes_counted, goes_one}
 use Rattle.siri_relay.proofs.Held.{SameHeld, Stands, clocked_among, clocked_view, fed_among, fed_view, fed_within, none_same, same_among, same_view, settled_same, started_none, still_stands, taken_same}
@@ -142,10 +142,6 @@ fed_relay p q c u f level room r known is g = record {
   fed = r.view.order;
   unopened = r.unopened;
 }
-
--- a relay that is level has room for its view
-pub level_room : (r : KnownRelay) → IsRelay r → r.level ≡ true → r.level ≡ has_room (view_of r)
-level_room r i is = is ∙ sym (le-leb (length (view_of r)) most_live (i.level is).room)
 
 -- ---- a message for the consumer
 

@@ -14,7 +14,7 @@ use Rattle.siri_change.specs.Changes.{Meets, meets}
 use Rattle.siri_change.specs.Parts.{Carried}
 use Rattle.siri_change.proofs.Leads.{meets_stated, tied, one_key}
 use Rattle.siri_change.proofs.Walks.{Above, none_below}
-use Rattle.siri_messages.specs.Asked.{Asked}
+use Rattle.siri_messages.specs.Asked.{AskedFor}
 use Rattle.siri_life.specs.Life.{Outstanding, is_quiet, quiet_at}
 use Rattle.siri_model.specs.Direct.{at_most, direct_to, items_before, most_of, shown}
 use Rattle.siri_model.specs.History.{History, current, now_of}
@@ -111,7 +111,7 @@ some_item : (x : Option Item) → is_some x ≡ true → (i : Item) × (x ≡ So
 some_item None h = absurd (cc h)
 some_item (Some i) h = (i, refl)
 
-pub near_source : (p q : ℕ) (source : History) (asked : Asked) (view acknowledged : Items) (now : ℕ) (topic : Topic) → InOrder view
+pub near_source : (p q : ℕ) (source : History) (asked : AskedFor) (view acknowledged : Items) (now : ℕ) (topic : Topic) → InOrder view
     → Meets (pos p) view (direct_of source asked) → Meets (pos q) acknowledged (direct_to now view topic)
     → IsNearSource (p + q) acknowledged source
 near_source p q source asked view acknowledged now topic order up down key i is =

@@ -1,34 +1,20 @@
 -- The steps of a relay's producer, call by call.
-use Rattle.std.proofs.Common.{◌≡◌, Bool, true, false, List, [], ◌∷◌, ◌++◌, refl, ap, sym, ◌∙◌, subst}
+use Rattle.std.proofs.Common.{◌≡◌, Bool, true, false, List, [], ◌∷◌, refl, ap, sym, subst}
 use Rattle.std.specs.Prelude.{if◌then◌else◌}
 use Rattle.siri_messages.specs.declared.message.Message.{Message}
 use Rattle.siri_model.specs.History.{Step, Take}
-use Rattle.siri_producer.specs.Answers.{answer_to}
-use Rattle.siri_producer.specs.Known.{AnswerFor, Known}
-use Rattle.siri_producer.specs.declared.answers.Answer.{Answer}
-use Rattle.siri_view.specs.Consuming.{Consuming, after_message, seen_of}
-use Rattle.siri_view.specs.declared.outcome.Seen.{Seen}
+use Rattle.siri_producer.specs.Known.{Known}
+use Rattle.siri_view.specs.Consuming.{seen_of}
 use Rattle.siri_view.specs.declared.outcome.Outcome.{Outcome}
 use Rattle.siri_view.specs.declared.outcome.Outcome.TheVariants as outcome
 use Rattle.siri_records.specs.Keyed.{Items}
 use Rattle.siri_relay.proofs.ViewKept.{AppliesNothing}
-use Rattle.siri_relay.specs.declared.answers.RelayAnswer.TheVariants as answer
-use Rattle.siri_relay.specs.Feeds.{feeds_of, has_room}
+use Rattle.siri_relay.specs.Feeds.{has_room}
 use Rattle.siri_relay.specs.Goes.{GoesBy, GoesSome}
-use Rattle.siri_relay.specs.Relaying.{KnownRelay, applied_steps, catch_up_steps, consumer_after, down_steps, is_up, take_steps, up_steps, upper_of, view_after, view_of}
-use Rattle.siri_relay.specs.Taken.{AnswersFor}
-use Rattle.siri_relay.proofs.Goings.{goes_none, goes_then, some_first, some_later}
+use Rattle.siri_relay.specs.Relaying.{KnownRelay, applied_steps, catch_up_steps, down_steps, is_up, take_steps, up_steps, upper_of, view_after, view_of}
+use Rattle.siri_relay.proofs.Goings.{goes_none, some_first, some_later}
 
 -- ---- catching up
-
-pub level_steps : (r : KnownRelay) → r.level ≡ true → catch_up_steps r ≡ []
-level_steps r is = ap (λ (b : Bool). if b then [] else feeds_of false r.fed (view_of r)) is
-
-pub behind_steps : (r : KnownRelay) → r.level ≡ false → catch_up_steps r ≡ feeds_of false r.fed (view_of r)
-behind_steps r is = ap (λ (b : Bool). if b then [] else feeds_of false r.fed (view_of r)) is
-
-pub level_goes : (r : KnownRelay) → r.level ≡ true → GoesBy r.producer r.producer (catch_up_steps r)
-level_goes r is = subst (GoesBy r.producer r.producer) (sym (level_steps r is)) (goes_none r.producer)
 
 -- ---- a message, after the relay caught up
 
@@ -45,18 +31,6 @@ chosen_up r m up = ap (λ (b : Bool). if b then up_steps (upper_of r) m else dow
 
 chosen_down : (r : KnownRelay) (m : Message) → is_up m ≡ false → down_steps (upper_of r) m ≡ take_steps r m
 chosen_down r m down = ap (λ (b : Bool). if b then up_steps (upper_of r) m else down_steps (upper_of r) m) (sym down)
-
-pub up_goes : (r mid : KnownRelay) (new : Known) (m : Message) → is_up m ≡ true → mid ≡ caught_up r mid.producer
-    → GoesBy r.producer mid.producer (catch_up_steps r) → GoesBy mid.producer new (heard_steps mid m)
-    → GoesBy r.producer new (take_steps r m)
-up_goes r mid new m up same f g =
-    let went = subst (λ (k : KnownRelay). GoesBy mid.producer new (heard_steps k m)) same g in
-    subst (GoesBy r.producer new) (chosen_up r m up) (goes_then r.producer mid.producer new (catch_up_steps r) (heard_steps r m) f went)
-
-pub down_goes : (r mid : KnownRelay) (new : Known) (m : Message) → is_up m ≡ false → GoesBy r.producer mid.producer (catch_up_steps r)
-    → GoesBy mid.producer new (Take m ∷ []) → GoesBy r.producer new (take_steps r m)
-down_goes r mid new m down f g =
-    subst (GoesBy r.producer new) (chosen_down r m down) (goes_then r.producer mid.producer new (catch_up_steps r) (Take m ∷ []) f g)
 
 -- memory was wanting while it caught up
 pub caught_some : (r : KnownRelay) (new : Known) (m : Message) → GoesSome r.producer new (catch_up_steps r)
@@ -83,28 +57,7 @@ down_some r mid new m down f g =
 
 -- ---- what it answers
 
-pub up_answers : (r mid : KnownRelay) (m : Message) (seen : Seen) → is_up m ≡ true → mid ≡ caught_up r mid.producer
-    → seen ≡ seen_of mid.consumer m → AnswersFor r m (answer.Up seen)
-up_answers r mid m seen up same is = (up, is ∙ ap (λ (k : KnownRelay). seen_of k.consumer m) same)
-
-pub down_answers : (r mid : KnownRelay) (m : Message) (given : Answer) → is_up m ≡ false
-    → GoesBy r.producer mid.producer (catch_up_steps r) → AnswerFor mid.producer m given → AnswersFor r m (answer.Down given)
-down_answers r mid m given down f is =
-    (down, λ h s. is (h ++ catch_up_steps r) (f.stands h s) ∙ ap (λ name. answer_to name (h ++ catch_up_steps r) m) f.name)
-
 -- ---- its consumer
-
-pub up_consumer : (r mid : KnownRelay) (new : Consuming) (m : Message) → is_up m ≡ true → mid ≡ caught_up r mid.producer
-    → new ≡ after_message mid.consumer m → new ≡ consumer_after r.consumer m
-up_consumer r mid new m up same is =
-    is ∙ (ap (λ (k : KnownRelay). after_message k.consumer m) same
-    ∙ ap (λ (b : Bool). if b then after_message r.consumer m else r.consumer) (sym up))
-
-pub down_consumer : (r mid : KnownRelay) (new : Consuming) (m : Message) → is_up m ≡ false → mid ≡ caught_up r mid.producer
-    → new ≡ mid.consumer → new ≡ consumer_after r.consumer m
-down_consumer r mid new m down same is =
-    is ∙ (ap (λ (k : KnownRelay). k.consumer) same
-    ∙ ap (λ (b : Bool). if b then after_message r.consumer m else r.consumer) (sym down))
 
 -- ---- a message by which no round is applied
 

@@ -6,7 +6,7 @@ ghost use Rattle.siri_records.specs.Near.{is_near};
 ghost use Rattle.siri_records.specs.declared.item.Item.{Item};
 ghost use Rattle.siri_topic.specs.declared.topics.Topic.{Topic};
 ghost use Rattle.siri_change.specs.Changes.{Meets};
-ghost use Rattle.siri_messages.specs.Asked.{Asked};
+ghost use Rattle.siri_messages.specs.Asked.{AskedFor};
 ghost use Rattle.siri_messages.specs.declared.message.Message.{Message};
 ghost use Rattle.siri_model.specs.Direct.{direct_to};
 ghost use Rattle.siri_model.specs.History.{History, current, now_of};
@@ -35,7 +35,7 @@ pub fn a_level_relay_shows_its_view()
 /// does where the upstream subscription is quiet there, each item that the subscriber acknowledged is near, with the sum of
 /// the two slacks, to the source's current item of its key.
 pub fn items_are_near_the_source()
-    ensures { (p q : ℕ) (source : History) (asked : Asked) (view acknowledged : Items) (now : ℕ) (topic : Topic)
+    ensures { (p q : ℕ) (source : History) (asked : AskedFor) (view acknowledged : Items) (now : ℕ) (topic : Topic)
         → InOrder view → Meets (pos p) view (direct_of source asked) → Meets (pos q) acknowledged (direct_to now view topic)
         → IsNearSource (p + q) acknowledged source }
 {}

@@ -7,7 +7,7 @@ use Rattle.siri_relay.specs.Goes.{GoesBy}
 use Rattle.siri_relay.specs.Relaying.{KnownRelay, UpperSide, clock_steps, moment_steps, upper_clocked, upper_of, view_in, view_of}
 use Rattle.siri_relay_run.specs.Passing.{after_moment}
 use Rattle.siri_relay_run.specs.Relays.{Relaying}
-use Rattle.siri_relay_run.specs.Steps.{Stands, name_of}
+use Rattle.siri_relay_run.specs.Steps.{Stands}
 
 upper_is : (old new : KnownRelay) (now : ℕ) → new.consumer ≡ clocked old.consumer now → new.level ≡ has_room (view_of new)
     → new.fed ≡ view_of new → new.upstream ≡ old.upstream → upper_of new ≡ upper_clocked (upper_of old) now
@@ -23,6 +23,3 @@ clocks old new now goes consumer level fed upstream s so = record {
       (goes.stands s.history so.history);
   upper = ap (λ (u : UpperSide). upper_clocked u now) so.upper ∙ sym (upper_is old new now consumer level fed upstream);
 }
-
-pub clock_name : (old new : KnownRelay) (now : ℕ) → GoesBy old.producer new.producer (clock_steps old now) → name_of new ≡ name_of old
-clock_name old new now goes = goes.name

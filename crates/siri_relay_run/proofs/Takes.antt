@@ -26,7 +26,7 @@ use Rattle.siri_ends.specs.declared.response.Response.{Response}
 use Rattle.siri_relay_run.specs.declared.going.Going.{Going}
 use Rattle.siri_relay_run.specs.declared.taking.RelayTaker.{RelayTaker}
 use Rattle.siri_relay_run.specs.Relays.{Relaying, after_taking, all_up, consumer_replies, further_up, goings, heard_of, producer_answer, relay_reply, relaying, SendsGoings, settled}
-use Rattle.siri_relay_run.specs.Steps.{Hears, Stands, Takes, name_of}
+use Rattle.siri_relay_run.specs.Steps.{Hears, Stands, RelayTakes, name_of}
 
 -- ---- a message was taken
 
@@ -39,7 +39,7 @@ upper_is old new m consumer level fed upstream =
 
 pub takes : (old new : KnownRelay) (m : Message) → GoesBy old.producer new.producer (take_steps old m)
     → new.consumer ≡ consumer_after old.consumer m → new.level ≡ has_room (view_of new) → new.fed ≡ view_of new
-    → new.upstream ≡ old.upstream → Takes old new (Some m)
+    → new.upstream ≡ old.upstream → RelayTakes old new (Some m)
 takes old new m goes consumer level fed upstream = record {
   name = goes.name;
   stands = λ s so. record {
@@ -48,7 +48,7 @@ takes old new m goes consumer level fed upstream = record {
   };
 }
 
-takes_nothing : (relay : KnownRelay) → Takes relay relay None
+takes_nothing : (relay : KnownRelay) → RelayTakes relay relay None
 takes_nothing relay = record { name = refl; stands = λ s so. so }
 
 -- ---- what is answered
@@ -111,7 +111,7 @@ settles taken last goes rest s so = record {
 
 -- what a settle after a message sends, behind what goes up
 sent : (first taken : KnownRelay) (message : Option Message) (up : List Message) (list : List Going)
-    → Takes first taken message
+    → RelayTakes first taken message
     → ((h : History) → StandsFor taken.producer h → list ≡ goings up (sends (name_of taken) h))
     → (s : Relaying) → Stands first s → list ≡ goings up (sends (name_of first) (after_taking s message).history)
 sent first taken message up list takes is s so =
@@ -123,7 +123,7 @@ same_name taken last goes = goes.name
 
 -- ---- what is heard
 
-pub hears : (first taken last : KnownRelay) (m : Message) (up : List Message) (list : List Going) → Takes first taken (Some m)
+pub hears : (first taken last : KnownRelay) (m : Message) (up : List Message) (list : List Going) → RelayTakes first taken (Some m)
     → ((s : Relaying) → Stands first s → up ≡ all_up s m)
     → GoesBy taken.producer last.producer (Settle ∷ []) → last ≡ record taken { producer = last.producer }
     → ((h : History) → StandsFor taken.producer h → list ≡ goings up (sends (name_of taken) h))
@@ -156,7 +156,7 @@ IsReply name reply state response = response ≡ reply
 
 -- it went through the turn of a connection
 pub turned : (asked : Asked) (first last : RelayTaker) (taken : KnownRelay) (response : Option Response) (further : List Message)
-    (list : List Going) → Takes first.relay taken (message_asked asked)
+    (list : List Going) → RelayTakes first.relay taken (message_asked asked)
     → ((s : Relaying) → Stands first.relay s → response ≡ responding (relay_reply (name_of first.relay) s) asked)
     → ((s : Relaying) → Stands first.relay s → further ≡ further_up s (message_asked asked))
     → GoesBy taken.producer last.relay.producer (Settle ∷ []) → last.relay ≡ record taken { producer = last.relay.producer }

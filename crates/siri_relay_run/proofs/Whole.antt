@@ -21,7 +21,7 @@ use Rattle.siri_runs.specs.consumers.Views.{views_text}
 use Rattle.siri_runs.specs.declared.network_error.NetworkError.{NetworkError}
 use Rattle.siri_relay_run.specs.Made.{OpensRelay, SendsFirst, SendsFirstSome}
 use Rattle.siri_relay_run.specs.Opening.{begun}
-use Rattle.siri_relay_run.specs.Passing.{Asks, Passing, turning}
+use Rattle.siri_relay_run.specs.Passing.{RelayAsks, Passing, turning}
 use Rattle.siri_relay_run.specs.Relays.{FirstGoings, Relaying, SendsGoings, none_posted_going}
 use Rattle.siri_relay_run.specs.Runs.{BeginsRelaying, end_text, first_sent, parties_of, relay_procedure}
 use Rattle.siri_relay_run.specs.Steps.{Stands, name_of}
@@ -31,19 +31,19 @@ use Rattle.siri_relay_run.specs.declared.going.Going.TheVariants as going
 -- ---- what was asked
 
 -- its request was sent: what it stands for then, and that this is what the run does
-pub record Asked (name listen : List ℕ) (target : List ℕ × List ℕ) (start moment : ℕ) (wanted : Wanted) (open_ : Outside)
+pub record HasAsked (name listen : List ℕ) (target : List ℕ × List ℕ) (start moment : ℕ) (wanted : Wanted) (open_ : Outside)
     (relay : KnownRelay) (tally : Tally) (to : Outside) : Type 0 where
   pub state : Relaying
   pub stands : Stands relay state
   pub name_is : name_of relay ≡ name
-  pub asks : Asks (parties_of name target) (first_sent name listen start moment wanted) (begun name listen start moment wanted) open_
+  pub asks : RelayAsks (parties_of name target) (first_sent name listen start moment wanted) (begun name listen start moment wanted) open_
       (running (record { relay = state; tally = tally }) to)
 
 asked_all : (name listen : List ℕ) (target : List ℕ × List ℕ) (input : Bytes) (begins later : KnownRelay) (request : Message)
     (none tally : Tally) (from : Outside) (wire after : Told WireState) (clock : Told ClockState) (keeper : Told KeeperState)
     → none ≡ nothing_yet → (opens : OpensRelay name listen input begins request from (outside_of wire clock keeper))
     → SendsFirst target.0 target.1 request (at_of begins none wire.tells wire.faults) (at_of later tally after.tells after.faults)
-    → Asked name listen target opens.start opens.moment opens.wanted (outside_of wire clock keeper) later tally (outside_of after clock keeper)
+    → HasAsked name listen target opens.start opens.moment opens.wanted (outside_of wire clock keeper) later tally (outside_of after clock keeper)
 asked_all name listen target input begins later request none tally from wire after clock keeper nothing opens sends =
     let begun_is = opens.begins in
     let state = begun name listen opens.start opens.moment opens.wanted in
@@ -121,7 +121,7 @@ module _ (name listen : List ℕ) (target : List ℕ × List ℕ) (count : ℕ) 
     (clock : Told ClockState) (keeper : Told KeeperState) (nothing : none ≡ nothing_yet)
     (opens : OpensRelay name listen input begins request from (outside_of wire clock keeper))
     (sends : SendsFirst target.0 target.1 request (at_of begins none wire.tells wire.faults) (at_of relay tally after.tells after.faults)) where
-  pub asked : Asked name listen target opens.start opens.moment opens.wanted (outside_of wire clock keeper) relay tally
+  pub asked : HasAsked name listen target opens.start opens.moment opens.wanted (outside_of wire clock keeper) relay tally
       (outside_of after clock keeper)
   asked = asked_all name listen target input begins relay request none tally from wire after clock keeper nothing opens sends
 

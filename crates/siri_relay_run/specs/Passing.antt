@@ -45,13 +45,13 @@ end_at state wire = at_of state.relay state.tally wire.tells wire.faults
 -- ---- what is sent at first
 
 -- messages are sent, before anything was counted
-pub record Asks (parties : Parties) (list : List Going) (relay : Relaying) (from : Outside) (to : Running Passing) : Type 0 where
+pub record RelayAsks (parties : Parties) (list : List Going) (relay : Relaying) (from : Outside) (to : Running Passing) : Type 0 where
   pub sends : SendsGoings parties.host parties.path parties.name list
       (at_of relay nothing_yet from.wire.tells from.wire.faults) (end_at to.state to.outside.wire)
   pub rest : to.outside ≡ record from { wire = to.outside.wire }
 
 -- there was no memory to send them: the first of that was done
-pub record AsksSome (parties : Parties) (list : List Going) (relay : Relaying) (from to : Outside) : Type 0 where
+pub record RelayAsksSome (parties : Parties) (list : List Going) (relay : Relaying) (from to : Outside) : Type 0 where
   pub sends : FirstGoings parties.host parties.path parties.name list relay from.wire.tells to.wire.tells
   pub rest : to ≡ record from { wire = to.wire }
 

@@ -13,7 +13,7 @@ use Rattle.siri_runs.specs.consumers.Reading.{is_of_source}
 use Rattle.siri_runs.specs.consumers.Views.{views_text}
 use Rattle.siri_runs.specs.consumers.Wanting.{all_wanted}
 use Rattle.siri_relay_run.specs.Opening.{FailsToOpen, Opens, begun, first_request}
-use Rattle.siri_relay_run.specs.Passing.{Asks, AsksSome, Parties, Passing, turning}
+use Rattle.siri_relay_run.specs.Passing.{RelayAsks, RelayAsksSome, Parties, Passing, turning}
 use Rattle.siri_relay_run.specs.declared.going.Going.{Going}
 use Rattle.siri_relay_run.specs.declared.going.Going.TheVariants as going
 
@@ -32,7 +32,7 @@ pub record BeginsRelaying (name listen : List ℕ) (target : List ℕ × List �
   pub moment : ℕ
   pub open_ : Outside
   pub opens : Opens name listen input start wanted moment from open_
-  pub asks : Asks (parties_of name target) (first_sent name listen start moment wanted) (begun name listen start moment wanted) open_ first
+  pub asks : RelayAsks (parties_of name target) (first_sent name listen start moment wanted) (begun name listen start moment wanted) open_ first
 
 -- it opened, and there was no memory to ask
 pub record FailsToAsk (name listen : List ℕ) (target : List ℕ × List ℕ) (input : Bytes) (end : Status) (from to : Outside) : Type 0 where
@@ -42,7 +42,7 @@ pub record FailsToAsk (name listen : List ℕ) (target : List ℕ × List ℕ) (
   pub moment : ℕ
   pub open_ : Outside
   pub opens : Opens name listen input start wanted moment from open_
-  pub asks : AsksSome (parties_of name target) (first_sent name listen start moment wanted) (begun name listen start moment wanted) open_ to
+  pub asks : RelayAsksSome (parties_of name target) (first_sent name listen start moment wanted) (begun name listen start moment wanted) open_ to
 
 -- the views of its consumer, and the summary
 abbrev pub end_text : Passing → List ℕ

@@ -17,7 +17,7 @@ pub record Stands (relay : KnownRelay) (state : Relaying) : Type 0 where
   pub upper : state.upper ≡ upper_of relay
 
 -- a message was taken, where there is one
-pub record Takes (old new : KnownRelay) (message : Option Message) : Type 0 where
+pub record RelayTakes (old new : KnownRelay) (message : Option Message) : Type 0 where
   pub name : name_of new ≡ name_of old
   pub stands : (state : Relaying) → Stands old state → Stands new (after_taking state message)
 

@@ -6,7 +6,7 @@ ghost use Rattle.siri_base.specs.MetFailures.{SourceMeets};
 ghost use Rattle.siri_lines.specs.Ends.{ReadsAll};
 ghost use Rattle.siri_lines.specs.Pieces.{ReadsNoFurther};
 ghost use Rattle.siri_lines.specs.RunResult.{verdict};
-ghost use Rattle.siri_runs.specs.Calls.{outside_told};
+ghost use Rattle.siri_runs.specs.Calls.{outside};
 ghost use Rattle.siri_runs.specs.consumers.Reading.{has_failed_to_read};
 ghost use Rattle.siri_runs.specs.consumers.Wanting.{event, nothing_wanted};
 ghost use Rattle.siri_relay_run.specs.Made.{Begins, EndsAtLines, OpensRelay};
@@ -26,7 +26,7 @@ const NUMBERS_OF_A_START: u64 = 1_000_000;
 
 /// A relay that has asked, and its request.
 #[derive(Drop)]
-pub(crate) struct Opened {
+pub(crate) struct OpenedRelay {
     pub taker: RelayTaker,
     pub request: Message,
 }
@@ -60,7 +60,7 @@ fn relay_of(
     start: u64,
     moment: Moment,
     wanted: &Wanted,
-) -> Result<Opened, OutOfMemory>
+) -> Result<OpenedRelay, OutOfMemory>
     requires short { length address.now ≤ 247 }
     requires from_one { 1 ≤ start }
     requires small { start ≤ 99999999999 }
@@ -70,7 +70,7 @@ fn relay_of(
     let first = NUMBERS_OF_A_START * start;
     let mut relay = Relay::new(alloc, name, Some(own), start, first, moment)?;
     match relay.open(&wanted.subscription, wanted.beat) {
-        Ok(request) => Ok(Opened {
+        Ok(request) => Ok(OpenedRelay {
             taker: RelayTaker { relay },
             request,
         }),
@@ -91,14 +91,14 @@ pub(crate) fn open<S: Source, W: Wire, C: Clock, E: Keeper>(
     wire: &mut W,
     clock: &mut C,
     keeper: &mut E,
-) -> Result<Opened, Status>
+) -> Result<OpenedRelay, Status>
     requires { length address.now ≤ 247 }
     ensures ok { IfOk result (λ opened. OpensRelay name address.now (S.left source.old) opened.taker.relay opened.request
-        (outside_told W.Wire C.Clock E.Keeper wire.old clock.old keeper.old)
-        (outside_told W.Wire C.Clock E.Keeper wire.new clock.new keeper.new)) }
+        (outside W.Wire C.Clock E.Keeper wire.old clock.old keeper.old)
+        (outside W.Wire C.Clock E.Keeper wire.new clock.new keeper.new)) }
     ensures err { IfErr result (λ end. FailsToOpen name address.now (S.left source.old) (S.left source.new) end
-        (outside_told W.Wire C.Clock E.Keeper wire.old clock.old keeper.old)
-        (outside_told W.Wire C.Clock E.Keeper wire.new clock.new keeper.new)) }
+        (outside W.Wire C.Clock E.Keeper wire.old clock.old keeper.old)
+        (outside W.Wire C.Clock E.Keeper wire.new clock.new keeper.new)) }
     ensures all { OnOk result (ReadsAll (S.left source.new) Status.Done) }
     ensures read { IfErr result (λ end. end ≡ Status.ReadFault → Rose (S.faults source.old) (S.faults source.new)) }
     ensures meets { SourceMeets (has_failed_to_read result) (S.left source.old) (S.left source.new) (S.fails source.old) (S.fails source.new) }

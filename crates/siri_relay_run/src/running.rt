@@ -8,7 +8,7 @@ ghost use Rattle.siri_ends.specs.At.{at_of};
 ghost use Rattle.siri_lines.specs.Ends.{AppendsFront, ReadsAll};
 ghost use Rattle.siri_lines.specs.Pieces.{ReadsNoFurther};
 ghost use Rattle.siri_lines.specs.RunResult.{verdict};
-ghost use Rattle.siri_runs.specs.Calls.{outside_told};
+ghost use Rattle.siri_runs.specs.Calls.{outside};
 ghost use Rattle.siri_runs.specs.Enough.{EndsWhole, HasEnough};
 ghost use Rattle.siri_runs.specs.Run.{Completes, EndsBefore};
 ghost use Rattle.siri_runs.specs.Summaries.{summary_text};
@@ -19,7 +19,7 @@ ghost use Rattle.siri_relay_run.specs.Made.{SendsFirst, SendsFirstSome};
 ghost use Rattle.siri_relay_run.specs.Runs.{EndsRelaying, RelayRun, TellsOne, relay_procedure};
 
 use crate::going::Going;
-use crate::opening::{Opened, open};
+use crate::opening::{OpenedRelay, open};
 use crate::taking::RelayTaker;
 use siri_base::{Clock, Keeper, List, Name, OutOfMemory, OutsideError, Sink, Source, Status, Wire};
 use siri_ends::{Tally, send_all};
@@ -58,8 +58,8 @@ pub fn relay<S: Source, K: Sink, W: Wire, C: Clock, E: Keeper>(
 ) -> Status
     requires { length address.now ≤ 247 }
     ensures run { RelayRun name address.now (upstream.now.host, upstream.now.path) count (S.left source.old) (S.left source.new)
-        (outside_told W.Wire C.Clock E.Keeper wire.old clock.old keeper.old)
-        (outside_told W.Wire C.Clock E.Keeper wire.new clock.new keeper.new)
+        (outside W.Wire C.Clock E.Keeper wire.old clock.old keeper.old)
+        (outside W.Wire C.Clock E.Keeper wire.new clock.new keeper.new)
         (K.held sink.old) (K.held sink.new) result }
     ensures pieces { ReadsNoFurther (verdict 1 event) (nothing_wanted name) (S.left source.old) (S.left source.new) }
     ensures all { ReadsAll (S.left source.new) result }
@@ -68,7 +68,7 @@ pub fn relay<S: Source, K: Sink, W: Wire, C: Clock, E: Keeper>(
     ensures sink_meets { SinkMeets (is_write_fault result) (K.held sink.old) (K.held sink.new) (K.fails sink.old) (K.fails sink.new) }
     // Where there is enough for so many connections, the source has one good line that wants something, and no failure is
     // named for the source or the sink.
-    ensures complete { HasEnough count (outside_told W.Wire C.Clock E.Keeper wire.old clock.old keeper.old)
+    ensures complete { HasEnough count (outside W.Wire C.Clock E.Keeper wire.old clock.old keeper.old)
         → TellsOne name (S.left source.old)
         → S.fails source.old ≡ Some [] → K.fails sink.old ≡ Some [] → EndsWhole result }
     // When each fault comes.
@@ -137,17 +137,19 @@ fn relay_all<S: Source, W: Wire, C: Clock, E: Keeper>(
     requires { length address.now ≤ 247 }
     ensures ok { IfOk result (λ passed. Completes (relay_procedure name address.now (upstream.now.host, upstream.now.path) (S.left source.old) (S.left source.new)) count
         (views_text passed.taker.relay.consumer ++ summary_text passed.tally)
-        (outside_told W.Wire C.Clock E.Keeper wire.old clock.old keeper.old)
-        (outside_told W.Wire C.Clock E.Keeper wire.new clock.new keeper.new)) }
+        (outside W.Wire C.Clock E.Keeper wire.old clock.old keeper.old)
+        (outside W.Wire C.Clock E.Keeper wire.new clock.new keeper.new)) }
     ensures err { IfErr result (λ end. EndsBefore (relay_procedure name address.now (upstream.now.host, upstream.now.path) (S.left source.old) (S.left source.new)) count end
-        (outside_told W.Wire C.Clock E.Keeper wire.old clock.old keeper.old)
-        (outside_told W.Wire C.Clock E.Keeper wire.new clock.new keeper.new)) }
+        (outside W.Wire C.Clock E.Keeper wire.old clock.old keeper.old)
+        (outside W.Wire C.Clock E.Keeper wire.new clock.new keeper.new)) }
     ensures all { OnOk result (ReadsAll (S.left source.new) Status.Done) }
     ensures read { IfErr result (λ end. end ≡ Status.ReadFault → Rose (S.faults source.old) (S.faults source.new)) }
     ensures meets { SourceMeets (has_failed_to_read result) (S.left source.old) (S.left source.new) (S.fails source.old) (S.fails source.new) }
     ensures pieces { ReadsNoFurther (verdict 1 event) (nothing_wanted name) (S.left source.old) (S.left source.new) }
 {
-    let Opened { mut taker, request } = open(alloc, name, address, source, wire, clock, keeper)?;
+    let OpenedRelay { mut taker, request } = open(
+        alloc, name, address, source, wire, clock, keeper,
+    )?;
     let mut tally = Tally::new();
     match ask(alloc, upstream, wire, &mut taker, request, &mut tally) {
         Ok(()) => {}

@@ -9,7 +9,7 @@ ghost use Rattle.siri_ends.specs.Responses.{message_asked, replying, responding}
 ghost use Rattle.siri_ends.specs.Turns.{AreWritten};
 ghost use Rattle.siri_relay_run.specs.Passing.{after_moment};
 ghost use Rattle.siri_relay_run.specs.Relays.{PostsGoing, Relaying, all_up, further_up, goings, heard_of, none_posted_going, relay_reply, relaying};
-ghost use Rattle.siri_relay_run.specs.Steps.{Hears, IsAcknowledging, Stands, Takes, name_of};
+ghost use Rattle.siri_relay_run.specs.Steps.{Hears, IsAcknowledging, Stands, RelayTakes, name_of};
 
 use crate::going::Going;
 use siri_base::{List, Moment, OutOfMemory, OutsideError, Wire};
@@ -48,7 +48,7 @@ fn answer_message(
     relay: &mut Relay,
     message: Message,
 ) -> Result<(Option<Response>, List<Message>), OutOfMemory>
-    ensures takes { OnOk result (Takes relay.old relay.new (Some message)) }
+    ensures takes { OnOk result (RelayTakes relay.old relay.new (Some message)) }
     ensures response { IfOk result (λ answered. (state : Relaying) → Stands relay.old state → answered.0 ≡ Some (replying (relay_reply (name_of relay.old) state message))) }
     ensures written { IfOk result (λ answered. AreWritten answered.0) }
     ensures further { IfOk result (λ answered. (state : Relaying) → Stands relay.old state → answered.1 ≡ further_up state (Some message)) }
@@ -66,7 +66,7 @@ fn reply_to(
     relay: &mut Relay,
     asked: &Asked,
 ) -> Result<(Option<Response>, List<Message>), OutOfMemory>
-    ensures takes { OnOk result (Takes relay.old relay.new (message_asked asked.now)) }
+    ensures takes { OnOk result (RelayTakes relay.old relay.new (message_asked asked.now)) }
     ensures response { IfOk result (λ replied. (state : Relaying) → Stands relay.old state → replied.0 ≡ responding (relay_reply (name_of relay.old) state) asked.now) }
     ensures written { IfOk result (λ replied. AreWritten replied.0) }
     ensures further { IfOk result (λ replied. (state : Relaying) → Stands relay.old state → replied.1 ≡ further_up state (message_asked asked.now)) }
@@ -109,7 +109,7 @@ fn take_answered(
     relay: &mut Relay,
     message: Message,
 ) -> Result<List<Message>, OutOfMemory>
-    ensures takes { OnOk result (Takes relay.old relay.new (Some message)) }
+    ensures takes { OnOk result (RelayTakes relay.old relay.new (Some message)) }
     ensures up { IfOk result (λ up. (state : Relaying) → Stands relay.old state → up ≡ all_up state message) }
 {
     match relay.take_owned(message)? {
@@ -183,9 +183,9 @@ impl Taker<()> for RelayTaker {
 
     type Target = Address;
 
-    ghost Kept = { List ℕ };
+    ghost Identity = { List ℕ };
 
-    ghost kept = { λ taker. name_of taker.relay };
+    ghost identity = { λ taker. name_of taker.relay };
 
     ghost State = { Relaying };
 

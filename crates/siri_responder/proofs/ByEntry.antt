@@ -21,11 +21,12 @@ use Rattle.siri_records.proofs.Kept.{sorted_kept}
 use Rattle.siri_topic.specs.declared.windows.Window.{Window}
 use Rattle.siri_topic.specs.Shown.{is_before, is_from}
 use Rattle.siri_model.specs.Direct.{soonest_cmp}
-use Rattle.siri_store.specs.Crossing.{edge_cmp, is_of}
+use Rattle.siri_store.specs.Crossing.{edge_cmp}
 use Rattle.siri_store.specs.First.{enters, visits_by_entry}
 use Rattle.siri_store.proofs.Crossed.{Edged, edge_exact, sorted_fold}
 use Rattle.siri_store.proofs.Firsts.{entry_at}
 use Rattle.siri_store.proofs.LookUps.{by_bool}
+use Rattle.siri_records.specs.Services.{is_of}
 
 -- ---- how many pass a test
 

@@ -26,13 +26,15 @@ use Rattle.siri_topic.specs.declared.topics.Topic.{Topic}
 use Rattle.siri_topic.specs.declared.topics.VehicleTopic.{VehicleTopic}
 use Rattle.siri_topic.specs.declared.topics.Topic.TheVariants as topic
 use Rattle.siri_topic.specs.declared.windows.Window.{Window}
-use Rattle.siri_model.specs.Followed.{is_served, edges_passed, far_edges_passed, items_passed}
+use Rattle.siri_model.specs.Followed.{edges_passed, far_edges_passed, items_passed}
 use Rattle.siri_model.specs.Looks.{crossed_items}
 use Rattle.siri_model.proofs.Current.{lookup_inserted}
 use Rattle.siri_model.proofs.Entries.{IsBelow, below_less, sorted_inserted, sorted_passing}
-use Rattle.siri_store.specs.Crossing.{is_of, edge_cmp, under_edge, crossed_entries}
-use Rattle.siri_responder.specs.Looking.{service_asked, with_items, near_entries, far_between, far_entries}
+use Rattle.siri_store.specs.Crossing.{edge_cmp, under_edge, crossed_entries}
+use Rattle.siri_responder.specs.Looking.{with_items, near_entries, far_between, far_entries}
 use Rattle.siri_records.proofs.ItemsPassing.{kept_if, item_kept}
+use Rattle.siri_records.specs.Services.{is_of}
+use Rattle.siri_topic.specs.Services.{is_served, service_asked}
 
 -- ---- items in order are one list where the same is held of each key
 

@@ -30,15 +30,16 @@ use Rattle.siri_topic.specs.Shown.{is_before, is_from, is_shown, window_of}
 use Rattle.siri_change.specs.Parts.{whole}
 use Rattle.siri_change.proofs.Leads.{Fits, mentions, leads}
 use Rattle.siri_model.specs.Direct.{at_most, direct_to, items_before, most_of, shown, soonest, soonest_cmp}
-use Rattle.siri_model.specs.Followed.{comes_up_to, enters_from, enters_in, is_served, visits_to}
+use Rattle.siri_model.specs.Followed.{comes_up_to, enters_from, enters_in, visits_to}
 use Rattle.siri_model.proofs.Lawful.{shown_in_order}
-use Rattle.siri_store.specs.Crossing.{is_of}
 use Rattle.siri_store.specs.First.{enters, first_entries, looked_until, visits_for}
 use Rattle.siri_store.specs.Walk.{shown_at}
 use Rattle.siri_store.proofs.Firsts.{by_alike, filter_visits, looked_first, looked_over, shown_enters}
 use Rattle.siri_store.proofs.LookUps.{by_bool}
 use Rattle.siri_responder.specs.Firsts.{AreWithin}
 use Rattle.siri_responder.proofs.ByEntry.{passing, passing_cons, visits_all, visits_passing, visits_sorted}
+use Rattle.siri_records.specs.Services.{is_of}
+use Rattle.siri_topic.specs.Services.{is_served}
 
 -- ---- tests of lists
 
@@ -274,9 +275,6 @@ module _ (t : StopTopic) (now : ℕ) (es : Items) (s : InOrder es) (most : ℕ) 
 
   abbrev all : Items
   all = shown now es asked
-
-  is_shown_to : Key × Item → Bool
-  is_shown_to e = is_shown asked e.1 now
 
   lent_walked : filter (λ (e : Key × Item). is_shown asked e.1 now) walked ≡ lent
   lent_walked =

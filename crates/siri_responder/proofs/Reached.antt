@@ -1,6 +1,6 @@
 -- How far a feed came.
 use Rattle.std.proofs.Common.{◌≡◌, ℕ, suc, zero, ◌+◌, ◌<◌, length, get_or, drop, add-one, arith, List, [], ◌∷◌, ◌++◌, flat_map, map, Result}
-use Rattle.std.proofs.Common.{Ok, Err, Bool, true, false, refl, sym, ap, ◌∙◌, append_assoc, append-nil}
+use Rattle.std.proofs.Common.{Ok, Err, Bool, true, false, refl, sym, ap, ◌∙◌, append_assoc}
 use Rattle.std.specs.Prelude.{OnErr}
 use Rattle.std.specs.BTreeSet.{insert_key}
 use Rattle.std.proofs.lemmas.List.Sums.{fold-append}
@@ -10,14 +10,13 @@ use Rattle.siri_records.specs.declared.key.Key.{Key}
 use Rattle.siri_records.specs.Ends.{is_dead}
 use Rattle.siri_records.specs.KeyLists.{with_keys}
 use Rattle.siri_records.specs.Order.{key_cmp}
-use Rattle.siri_store.specs.Marked.{Marked, keys_since, SameFrom}
-use Rattle.siri_store.proofs.Touching.{marks_touch}
+use Rattle.siri_store.specs.Marked.{Marked, keys_since}
 use Rattle.siri_messages.specs.declared.deliveries.FunctionalDelivery.{FunctionalDelivery}
 use Rattle.siri_model.specs.History.{Entry, Observed, Withdrawn, entries_in}
 use Rattle.siri_model.specs.Last.{entry_key}
 use Rattle.siri_store.specs.Calls.{refuses}
 use Rattle.siri_responder.specs.declared.feeding.Feeding.{Feeding}
-use Rattle.siri_responder.specs.Feeding.{Filling, filling, after, after_all, AreMarked, Takes, Reaches, ReachesSome}
+use Rattle.siri_responder.specs.Feeding.{Filling, filling, after, after_all, AreMarked, TakesEntries, Reaches, ReachesSome}
 
 -- ---- marks
 
@@ -38,26 +37,12 @@ marked_more a b c front next first later = record {
       ∙ sym (fold-append (insert_key key_cmp) (keys_since a.log n) front next);
 }
 
--- more room was taken
-pub marked_reserved : (a b : Marked) → b.number ≡ a.number → SameFrom 0 a b → AreMarked a b []
-marked_reserved a b number same = record { number = number; touched = λ n le. same n (omega arith) }
-
--- one key was marked after that
-pub marked_one : (a b c : Marked) (key : Key) → AreMarked a b []
-    → c ≡ record b { log = b.log ++ (b.number, key) ∷ []; room = c.room } → AreMarked a c (key ∷ [])
-marked_one a b c key before is = record {
-  number = ap (λ (m : Marked). m.number) is ∙ before.number;
-  touched = λ n le. ap (λ (m : Marked). keys_since m.log n) is
-      ∙ marks_touch.touched b.log b.number key n (omega (arith, le, before.number))
-      ∙ ap (λ ks. insert_key key_cmp ks key) (before.touched n le);
-}
-
 -- ---- entries that were taken
 
-pub takes_none : (a b : Feeding) → b ≡ a → Takes a b []
+pub takes_none : (a b : Feeding) → b ≡ a → TakesEntries a b []
 takes_none a b is = record { stands = ap filling is; marked = rw is (marked_none a.marks) }
 
-pub takes_more : (a b c : Feeding) (front next : List Entry) → Takes a b front → Takes b c next → Takes a c (front ++ next)
+pub takes_more : (a b c : Feeding) (front next : List Entry) → TakesEntries a b front → TakesEntries b c next → TakesEntries a c (front ++ next)
 takes_more a b c front next first later = record {
   stands = later.stands ∙ ap (λ f. after_all f next) first.stands ∙ sym (fold-append after (filling a) front next);
   marked = rw (keys_more front next)
@@ -68,7 +53,7 @@ pub reached_none : (f : Feeding) (entries : List Entry) → Reaches f f entries 
 reached_none f entries = record { taken = []; apart = refl; takes = takes_none f f refl }
 
 -- some of those that were left were taken as well
-pub reached_more : (a b c : Feeding) (entries front left : List Entry) → Reaches a b entries (front ++ left) → Takes b c front → Reaches a c entries left
+pub reached_more : (a b c : Feeding) (entries front left : List Entry) → Reaches a b entries (front ++ left) → TakesEntries b c front → Reaches a c entries left
 reached_more a b c entries front left r is = record {
   taken = r.taken ++ front;
   apart = r.apart ∙ sym (append_assoc r.taken front left);
@@ -76,7 +61,7 @@ reached_more a b c entries front left r is = record {
 }
 
 -- none of them was
-pub reached_no_more : (a b c : Feeding) (entries left : List Entry) → Reaches a b entries left → Takes b c [] → ReachesSome a c entries
+pub reached_no_more : (a b c : Feeding) (entries left : List Entry) → Reaches a b entries left → TakesEntries b c [] → ReachesSome a c entries
 reached_no_more a b c entries left r is = (left, reached_more a b c entries [] left r is)
 
 -- it came no further within those that were left
@@ -85,16 +70,12 @@ reached_some a b c entries front left r some =
     let part = some.1 in
     (some.0 ++ left, reached_more a b c entries part.taken (some.0 ++ left) (rw (part.apart, append_assoc) at r) part.takes)
 
--- it came to the end
-pub reached_all : (a b : Feeding) (entries : List Entry) → Reaches a b entries [] → Takes a b entries
-reached_all a b entries r = rw (r.apart ∙ append-nil r.taken) r.takes
-
 -- one call came no further within the front of all entries
 pub front_some : (a b : Feeding) (front left : List Entry) → ReachesSome a b front → ReachesSome a b (front ++ left)
 front_some a b front left some = reached_some a a b (front ++ left) front left (reached_none a (front ++ left)) some
 
 -- the call after it did
-pub later_some : (a b c : Feeding) (front next : List Entry) → Takes a b front → ReachesSome b c next → ReachesSome a c (front ++ next)
+pub later_some : (a b c : Feeding) (front next : List Entry) → TakesEntries a b front → ReachesSome b c next → ReachesSome a c (front ++ next)
 later_some a b c front next is some =
     let r = some.1 in (
       some.0,
@@ -111,12 +92,12 @@ pub deliveries_front : (a b : Feeding) (ds es : List FunctionalDelivery) → Rea
     → ReachesSome a b (flat_map entries_in (ds ++ es))
 deliveries_front a b ds es some = rw (flat_map-append entries_in ds es) (front_some a b (flat_map entries_in ds) (flat_map entries_in es) some)
 
-pub deliveries_later : (a b c : Feeding) (ds es : List FunctionalDelivery) → Takes a b (flat_map entries_in ds)
+pub deliveries_later : (a b c : Feeding) (ds es : List FunctionalDelivery) → TakesEntries a b (flat_map entries_in ds)
     → ReachesSome b c (flat_map entries_in es) → ReachesSome a c (flat_map entries_in (ds ++ es))
 deliveries_later a b c ds es is some = rw (flat_map-append entries_in ds es) (later_some a b c (flat_map entries_in ds) (flat_map entries_in es) is some)
 
-pub deliveries_both : (a b c : Feeding) (ds es : List FunctionalDelivery) → Takes a b (flat_map entries_in ds)
-    → Takes b c (flat_map entries_in es) → Takes a c (flat_map entries_in (ds ++ es))
+pub deliveries_both : (a b c : Feeding) (ds es : List FunctionalDelivery) → TakesEntries a b (flat_map entries_in ds)
+    → TakesEntries b c (flat_map entries_in es) → TakesEntries a c (flat_map entries_in (ds ++ es))
 deliveries_both a b c ds es first later =
     rw (flat_map-append entries_in ds es) (takes_more a b c (flat_map entries_in ds) (flat_map entries_in es) first later)
 
@@ -146,7 +127,7 @@ reads_all : (f : Filling) (entries : List Entry) → (after_all f entries).store
 reads_all f [] = refl
 reads_all f (e ∷ entries) = reads_all (after f e) entries ∙ reads_entry f e
 
-pub kept_all : (a b : Feeding) (entries : List Entry) → Takes a b entries → b.store.reads ≡ a.store.reads
+pub kept_all : (a b : Feeding) (entries : List Entry) → TakesEntries a b entries → b.store.reads ≡ a.store.reads
 kept_all a b entries takes = ap (λ (f : Filling). f.store.reads) takes.stands ∙ reads_all (filling a) entries
 
 pub kept_some : (a b : Feeding) (entries : List Entry) → ReachesSome a b entries → b.store.reads ≡ a.store.reads

@@ -11,7 +11,7 @@ use Rattle.siri_model.specs.Last.{entry_key}
 use Rattle.siri_store.specs.Held.{Held}
 use Rattle.siri_responder.specs.declared.feeding.Fed.{Fed}
 use Rattle.siri_responder.specs.declared.feeding.Feeding.{Feeding}
-use Rattle.siri_responder.specs.Feeding.{Filling, filling, after_all, AreMarked, Takes, ReachesSome}
+use Rattle.siri_responder.specs.Feeding.{Filling, filling, after_all, AreMarked, TakesEntries, ReachesSome}
 use Rattle.siri_responder.specs.Known.{Known, StandsFor, GoesOn, Touches, TookSome, CountsFor}
 use Rattle.siri_responder.specs.Standing.{HasHistory}
 use Rattle.siri_responder.specs.FedCounts.{fed_counts}
@@ -109,13 +109,13 @@ pub record IsFed (old new : Known) (before after : Feeding) : Type 0 where
   pub marked_is : new.marks ≡ after.marks
 
 -- the entries that were taken
-pub goes_on : (old new : Known) (before after : Feeding) (entries : List Entry) → IsFed old new before after → Takes before after entries
+pub goes_on : (old new : Known) (before after : Feeding) (entries : List Entry) → IsFed old new before after → TakesEntries before after entries
     → GoesOn old new (Feed entries)
 goes_on old new before after entries is takes = λ h s.
     stands_fed old new entries h s is.start is.started
     (is.store_is ∙ ap (λ (f : Filling). f.store) (takes.stands ∙ ap (λ f. after_all f entries) is.before_is))
 
-pub tells : (old : Known) (before after : Feeding) (entries : List Entry) → filling before ≡ store_of old → Takes before after entries
+pub tells : (old : Known) (before after : Feeding) (entries : List Entry) → filling before ≡ store_of old → TakesEntries before after entries
     → CountsFor old entries after.fed
 tells old before after entries is takes = λ h s.
     told_fed old after.fed entries h s (ap (λ (f : Filling). f.fed) (takes.stands ∙ ap (λ f. after_all f entries) is))
@@ -135,7 +135,7 @@ pub took_some : (old new : Known) (before after : Feeding) (entries : List Entry
 took_some old new before after entries is some =
     let r = some.1 in
     let front : r.taken ≡ take (length r.taken) entries = sym (ap (take (length r.taken)) r.apart ∙ take-append_seam r.taken some.0) in
-    let takes : Takes before after (take (length r.taken) entries) = rw (← front) r.takes in
+    let takes : TakesEntries before after (take (length r.taken) entries) = rw (← front) r.takes in
     record {
       n = length r.taken;
       goes_on = goes_on old new before after (take (length r.taken) entries) is takes;
@@ -167,7 +167,7 @@ history_clock start started moment held now has = (
 pub history_fed : (start started : ℕ) (old before new : Feeding) (entries : List Entry)
     → HasHistory start started old.store.moment old.store.entries
     → before ≡ record old { fed = nothing_told }
-    → Takes before new entries
+    → TakesEntries before new entries
     → HasHistory start started new.store.moment new.store.entries
 history_fed start started old before new entries has is takes =
     let from = record (unnamed start started old.store.moment old.store.entries) { reads = old.store.reads } in

@@ -7,7 +7,8 @@ use Rattle.siri_records.specs.declared.item.Service.{Service}
 use Rattle.siri_records.specs.declared.key.Key.{Key}
 use Rattle.siri_records.specs.Edges.{has_edge, is_within, edges_of}
 use Rattle.siri_records.specs.Keyed.{Items}
-use Rattle.siri_store.specs.Crossing.{is_of, edge_cmp, under_edge, crossed_entries}
+use Rattle.siri_store.specs.Crossing.{edge_cmp, under_edge, crossed_entries}
+use Rattle.siri_records.specs.Services.{is_of}
 
 none_within : (from to : ℤ) (m : ℕ) → to ≤ℤ from → is_within from to m ≡ false
 none_within from to m over = grind arith

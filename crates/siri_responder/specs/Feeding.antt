@@ -41,7 +41,7 @@ pub record AreMarked (old new : Marked) (keys : List Key) : Type 0 where
   pub touched : (n : ℕ) → n ≤ old.number → keys_since new.log n ≡ with_keys (keys_since old.log n) keys
 
 -- entries were taken: of the store and of what is told nothing else changed, and their keys were marked, and no other
-pub record Takes (old new : Feeding) (entries : List Entry) : Type 0 where
+pub record TakesEntries (old new : Feeding) (entries : List Entry) : Type 0 where
   pub stands : filling new ≡ after_all (filling old) entries
   pub marked : AreMarked old.marks new.marks (map entry_key entries)
 
@@ -49,7 +49,7 @@ pub record Takes (old new : Feeding) (entries : List Entry) : Type 0 where
 pub record Reaches (old new : Feeding) (entries left : List Entry) : Type 0 where
   pub taken : List Entry
   pub apart : entries ≡ taken ++ left
-  pub takes : Takes old new taken
+  pub takes : TakesEntries old new taken
 
 -- some first entries were taken, and no other
 abbrev pub ReachesSome : Feeding → Feeding → List Entry → Type 0

@@ -1,20 +1,13 @@
 -- Inner words: cited by private functions alone.
 -- The held items that the ends of a topic's window passed, as the store gives them.
 use Rattle.std.specs.Prelude.{ℤ, [], fold, Option, Some}
-use Rattle.siri_records.specs.declared.item.Service.{Service}
 use Rattle.siri_records.specs.declared.item.Service.TheVariants as service
 use Rattle.siri_records.specs.Keyed.{Items, with_item}
 use Rattle.siri_topic.specs.declared.topics.Topic.{Topic}
 use Rattle.siri_topic.specs.declared.topics.Topic.TheVariants as topic
 use Rattle.siri_topic.specs.declared.windows.Window.{Window}
 use Rattle.siri_store.specs.Crossing.{crossed_entries}
-
--- the service that a topic is of
-abbrev pub service_asked : Topic → Service
-service_asked (topic.Stop t) = service.Stop
-service_asked (topic.Timetable t) = service.Timetable
-service_asked (topic.Vehicle t) = service.Vehicle
-service_asked (topic.Situation t) = service.Situation
+use Rattle.siri_topic.specs.Services.{service_asked}
 
 -- each of some items becomes the one of its key
 abbrev pub with_items : Items → Items → Items

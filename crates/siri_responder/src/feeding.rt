@@ -5,7 +5,7 @@ ghost use Rattle.std.specs.Map.{keys_of};
 ghost use Rattle.siri_records.specs.Keyed.{InOrder, dead_of, living};
 ghost use Rattle.siri_model.specs.History.{Observed, Withdrawn, entries_in, entries_of};
 ghost use Rattle.siri_store.specs.Calls.{NoneDead};
-ghost use Rattle.siri_responder.specs.Feeding.{AreMarked, HasRoom, ReachesSome, Takes};
+ghost use Rattle.siri_responder.specs.Feeding.{AreMarked, HasRoom, ReachesSome, TakesEntries};
 
 use siri_base::{Copies, List, OutOfMemory};
 use siri_messages::{FunctionalDelivery, ServiceDelivery};
@@ -95,7 +95,7 @@ impl Feeding {
     ) -> Result<(), OutOfMemory>
         requires alive { NoneDead self.old.store }
         requires room { HasRoom self.old }
-        ensures ok { OnOk result (Takes self.old self.new (entries_of delivery)) }
+        ensures ok { OnOk result (TakesEntries self.old self.new (entries_of delivery)) }
         ensures err { OnErr result (ReachesSome self.old self.new (entries_of delivery)) }
         ensures alive { NoneDead self.new.store }
         ensures room { HasRoom self.new }
@@ -122,7 +122,7 @@ impl Feeding {
     ) -> Result<(), OutOfMemory>
         requires alive { NoneDead self.old.store }
         requires room { HasRoom self.old }
-        ensures ok { OnOk result (Takes self.old self.new (flat_map entries_in deliveries)) }
+        ensures ok { OnOk result (TakesEntries self.old self.new (flat_map entries_in deliveries)) }
         ensures err { OnErr result (ReachesSome self.old self.new (flat_map entries_in deliveries)) }
         ensures alive { NoneDead self.new.store }
         ensures room { HasRoom self.new }
@@ -137,7 +137,7 @@ impl Feeding {
     fn feed_one(&mut self, alloc: Global, delivery: FunctionalDelivery) -> Result<(), OutOfMemory>
         requires alive { NoneDead self.old.store }
         requires room { HasRoom self.old }
-        ensures ok { OnOk result (Takes self.old self.new (entries_in delivery)) }
+        ensures ok { OnOk result (TakesEntries self.old self.new (entries_in delivery)) }
         ensures err { OnErr result (ReachesSome self.old self.new (entries_in delivery)) }
         ensures alive { NoneDead self.new.store }
         ensures room { HasRoom self.new }
@@ -151,7 +151,7 @@ impl Feeding {
     fn observe_all(&mut self, alloc: Global, items: List<Item>) -> Result<(), OutOfMemory>
         requires alive { NoneDead self.old.store }
         requires room { HasRoom self.old }
-        ensures ok { OnOk result (Takes self.old self.new (map Observed items)) }
+        ensures ok { OnOk result (TakesEntries self.old self.new (map Observed items)) }
         ensures err { OnErr result (ReachesSome self.old self.new (map Observed items)) }
         ensures alive { NoneDead self.new.store }
         ensures room { HasRoom self.new }
@@ -167,8 +167,8 @@ impl Feeding {
     pub(crate) fn observe(&mut self, alloc: Global, item: Item) -> Result<(), OutOfMemory>
         requires alive { NoneDead self.old.store }
         requires room { HasRoom self.old }
-        ensures ok { OnOk result (Takes self.old self.new (Observed item ∷ [])) }
-        ensures err { OnErr result (Takes self.old self.new []) }
+        ensures ok { OnOk result (TakesEntries self.old self.new (Observed item ∷ [])) }
+        ensures err { OnErr result (TakesEntries self.old self.new []) }
         ensures alive { NoneDead self.new.store }
         ensures room { HasRoom self.new }
     {
@@ -199,7 +199,7 @@ impl Feeding {
     ) -> Result<(), OutOfMemory>
         requires alive { NoneDead self.old.store }
         requires room { HasRoom self.old }
-        ensures ok { OnOk result (Takes self.old self.new (map Withdrawn removals.now)) }
+        ensures ok { OnOk result (TakesEntries self.old self.new (map Withdrawn removals.now)) }
         ensures err { OnErr result (ReachesSome self.old self.new (map Withdrawn removals.now)) }
         ensures alive { NoneDead self.new.store }
         ensures room { HasRoom self.new }
@@ -214,8 +214,8 @@ impl Feeding {
     fn withdraw(&mut self, alloc: Global, key: &Key) -> Result<(), OutOfMemory>
         requires alive { NoneDead self.old.store }
         requires room { HasRoom self.old }
-        ensures ok { OnOk result (Takes self.old self.new (Withdrawn key.now ∷ [])) }
-        ensures err { OnErr result (Takes self.old self.new []) }
+        ensures ok { OnOk result (TakesEntries self.old self.new (Withdrawn key.now ∷ [])) }
+        ensures err { OnErr result (TakesEntries self.old self.new []) }
         ensures alive { NoneDead self.new.store }
         ensures room { HasRoom self.new }
     {

@@ -7,7 +7,7 @@
 //!
 //!     a ServiceRequest       -> direct  ---> a ServiceDelivery with what is shown to each topic
 //!     a topic                -> lend    ---> the items that are shown to it, one by one, in order of key
-//!                            -> shown   ---> the same in one call, by key
+//!                            -> direct_to -> its direct response in one call, by key
 //!     a number               -> marked  ---> of each key that was marked under it or a later one the held item, or none
 //!     a topic and a moment   -> crossed ---> the items that an end of its window crossed since then, by key
 //! ```

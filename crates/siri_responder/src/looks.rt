@@ -4,12 +4,13 @@ ghost use Rattle.std.specs.Prelude.{◌≡◌, ◌+◌, ◌≤◌, length, optio
 ghost use Rattle.siri_records.specs.Keyed.{InOrder, entries_view, item_of};
 ghost use Rattle.siri_model.specs.Followed.{items_passed};
 ghost use Rattle.siri_model.specs.Looks.{crossed_items, found_of};
+ghost use Rattle.siri_store.specs.Candidates.{candidates};
 ghost use Rattle.siri_store.specs.Crossing.{crossed_entries};
-ghost use Rattle.siri_responder.specs.Looking.{far_entries, near_entries, service_asked, with_items};
+ghost use Rattle.siri_responder.specs.Looking.{far_entries, near_entries, with_items};
 
 use siri_base::{List, Moment, OutOfMemory};
 use siri_records::{Change, Item, Key, KeyedItems, Service, SharedKey};
-use siri_store::Store;
+use siri_store::{Store, may_be_shown};
 use siri_topic::{Topic, Window, window};
 use std::alloc::Global;
 use std::collections::{BTreeMap, BTreeSet};
@@ -47,9 +48,9 @@ pub(crate) fn found(
     Ok(found)
 }
 
-/// The held items of a topic's service that the ends of its window crossed between a moment and the store's, in order
-/// of key. It takes at most a step for each of which the near end passed an edge, and for each of which the far end
-/// did.
+/// The held items that may be shown to a topic by their keys and that the ends of its window crossed between a moment and
+/// the store's, in order of key. It takes at most a step for each of which the near end passed an edge, and for each of
+/// which the far end did.
 pub(crate) fn crossed(
     alloc: Global,
     store: &mut Store,
@@ -57,7 +58,7 @@ pub(crate) fn crossed(
     before: Moment,
 ) -> Result<KeyedItems, OutOfMemory>
     requires ordered { InOrder store.old.entries }
-    ensures ok { IfOk result (λ items. items ≡ crossed_items topic.now before store.old.moment store.old.entries) }
+    ensures ok { IfOk result (λ items. items ≡ candidates topic.now (crossed_items topic.now before store.old.moment store.old.entries)) }
     ensures rest { store.new ≡ record store.old { reads = store.new.reads } }
     ensures risen { store.old.reads ≤ store.new.reads }
     ensures reads { store.new.reads ≤ store.old.reads + items_passed topic.now store.old.entries before store.old.moment }
@@ -67,7 +68,7 @@ pub(crate) fn crossed(
     let mut found = BTreeMap::new(alloc);
     put_near(alloc, store, topic, &earlier, &later, &mut found)?;
     put_far(alloc, store, topic, &earlier, &later, &mut found)?;
-    in_order(alloc, found)
+    asked_in_order(alloc, found, topic)
 }
 
 /// Puts those under their keys of which the near end passed an edge, for a situation topic: a visit and a journey are
@@ -115,7 +116,7 @@ fn put_far(
     ensures reads { store.new.reads ≤ store.old.reads + length (far_entries topic.now earlier.now later.now store.old.entries) }
 {
     match (earlier.to, later.to) {
-        (Some(from), Some(to)) => put_crossed(alloc, store, service_of(topic), from, to, found),
+        (Some(from), Some(to)) => put_crossed(alloc, store, topic.service(), from, to, found),
         _ => Ok(()),
     }
 }
@@ -169,14 +170,19 @@ pub(crate) fn in_order(
     Ok(items)
 }
 
-/// The service that a topic is of.
-fn service_of(topic: &Topic) -> Service
-    ensures { result ≡ service_asked topic.now }
+/// Those of the items that may be shown to a topic by their keys, in order of these.
+fn asked_in_order(
+    alloc: Global,
+    found: BTreeMap<SharedKey, Rc<Item>>,
+    topic: &Topic,
+) -> Result<KeyedItems, OutOfMemory>
+    ensures { IfOk result (λ items. items ≡ candidates topic.now (entries_view found.entries)) }
 {
-    match topic {
-        Topic::Stop(_) => Service::Stop,
-        Topic::Timetable(_) => Service::Timetable,
-        Topic::Vehicle(_) => Service::Vehicle,
-        Topic::Situation(_) => Service::Situation,
+    let mut items = KeyedItems::new(alloc);
+    for (key, item) in found {
+        if may_be_shown(topic, key.key()) {
+            items.push_last(key, item)?;
+        }
     }
+    Ok(items)
 }

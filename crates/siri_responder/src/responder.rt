@@ -1,9 +1,9 @@
 //! The responder.
 
-ghost use Rattle.std.specs.Prelude.{◌≡◌, ◌+◌, ◌*◌, ◌^◌, ◌<◌, ◌≤◌, [], ◌∷◌, length, map, option_map, IfOk, OnOk, OnErr, ⊤};
+ghost use Rattle.std.specs.Prelude.{◌≡◌, ◌+◌, ◌*◌, ◌^◌, ◌<◌, ◌≤◌, [], ◌∷◌, length, map, filter, option_map, IfOk, OnOk, OnErr, ⊤};
 ghost use Rattle.std.specs.Map.{keys_of};
 ghost use Rattle.siri_records.specs.Keyed.{InOrder, dead_of, item_of, most_live};
-ghost use Rattle.siri_store.specs.Marked.{SameFrom, keys_since, unmarked};
+ghost use Rattle.siri_store.specs.Marked.{SameFrom, is_since, keys_since, unmarked};
 ghost use Rattle.siri_model.specs.Looks.{crossed_items, found_of};
 ghost use Rattle.siri_model.specs.Followed.{items_passed};
 ghost use Rattle.siri_responder.specs.Topics.{topics_in};
@@ -15,6 +15,7 @@ ghost use Rattle.siri_responder.specs.Known.{StandsFor, GoesOn, Touches, TookSom
 ghost use Rattle.siri_base.specs.Numbers.{greatest_number};
 ghost use mathlib.Core.Option.{none};
 ghost use Rattle.std.specs.Borrow.{sem, follows, follows_so};
+ghost use Rattle.siri_store.specs.Candidates.{candidates};
 ghost use Rattle.siri_store.specs.Held.{counted};
 ghost use Rattle.siri_store.specs.Walk.{to_lend};
 ghost use Rattle.siri_store.specs.contracts.counter.Counter.{the_row as counter_row};
@@ -140,17 +141,6 @@ impl Responder {
         self.feeding.store.select(topic)
     }
 
-    /// The items that are shown to a topic, in order of key. Nothing but the counter changes, and that rises by at most
-    /// as many steps as items are held.
-    pub fn shown(&mut self, topic: &Topic) -> Result<KeyedItems, OutOfMemory>
-        ensures ok { IfOk result (λ items. items ≡ shown self.old.moment self.old.held topic.now) }
-        ensures rest { self.new ≡ record self.old { reads = self.new.reads } }
-        ensures risen { self.old.reads ≤ self.new.reads }
-        ensures reads { self.new.reads ≤ self.old.reads + length self.old.held }
-    {
-        self.feeding.store.shown_entries(self.alloc, topic)
-    }
-
     /// The direct response to a topic, in order of key. Nothing but the counter changes, and that rises by at most as many
     /// steps as items are held; where the topic has MaximumStopVisits, by no more than the visits whose entry is in its
     /// window and that come, by entry and then key, up to the last of the response.
@@ -176,12 +166,12 @@ impl Responder {
         found(self.alloc, &mut self.feeding.store, keys)
     }
 
-    /// The held items of a topic's service of which an end of its window passed an edge since a moment, such that they
-    /// may be shown now and weren't then, or were and aren't; in order of key. Nothing but the counter changes, and
-    /// that rises by at most a step for each item of which the near end passed an edge, and for each of which the far
-    /// end did.
+    /// The held items that may be shown to a topic by their keys and of which an end of its window passed an edge since a
+    /// moment, such that they may be shown now and weren't then, or were and aren't; in order of key. Nothing but the
+    /// counter changes, and that rises by at most a step for each item of the topic's service of which the near end passed
+    /// an edge, and for each of which the far end did.
     pub fn crossed(&mut self, topic: &Topic, before: Moment) -> Result<KeyedItems, OutOfMemory>
-        ensures ok { IfOk result (λ items. items ≡ crossed_items topic.now before self.old.moment self.old.held) }
+        ensures ok { IfOk result (λ items. items ≡ candidates topic.now (crossed_items topic.now before self.old.moment self.old.held)) }
         ensures rest { self.new ≡ record self.old { reads = self.new.reads } }
         ensures risen { self.old.reads ≤ self.new.reads }
         ensures reads { self.new.reads ≤ self.old.reads + items_passed topic.now self.old.held before self.old.moment }
@@ -215,11 +205,12 @@ impl Responder {
         self.feeding.marks.number()
     }
 
-    /// From now on keys are marked under the next number. Marks before a number may go, since they are asked for no
-    /// more. It takes no memory.
+    /// From now on keys are marked under the next number. Marks before a number go, since they are asked for no more. It
+    /// takes no memory.
     pub fn turn(&mut self, oldest: u64)
         requires { self.old.marks.number + 1 < 2 ^ 64 }
         ensures number { self.new.marks.number ≡ self.old.marks.number + 1 }
+        ensures log { self.new.marks.log ≡ filter (is_since oldest) self.old.marks.log }
         ensures same { SameFrom oldest self.old.marks self.new.marks }
         ensures fresh { keys_since self.new.marks.log self.new.marks.number ≡ [] }
         ensures rest { self.new ≡ record self.old { marks = self.new.marks } }
@@ -260,6 +251,7 @@ impl Responder {
     /// that the responder stands for.
     pub fn held(&self) -> usize
         ensures number { result ≡ length self.now.held }
+        // What holds of every responder: a call that changes nothing lets its callers know.
         ensures stands { (h : History) × StandsFor self.now h }
         ensures in_order { InOrder self.now.held }
         ensures keyed { IsKeyed self.now.held }

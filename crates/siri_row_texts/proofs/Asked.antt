@@ -8,7 +8,7 @@ use Rattle.siri_records.specs.declared.item.Service.TheVariants as service
 use Rattle.siri_topic.specs.declared.subscription.Subscription.{Subscription}
 use Rattle.siri_topic.specs.declared.topics.Topic.{Topic}
 use Rattle.siri_topic.specs.declared.topics.Topic.TheVariants as topic
-use Rattle.siri_messages.specs.Asked.{Asked, asked_in, asked_with}
+use Rattle.siri_messages.specs.Asked.{AskedFor, asked_in, asked_with}
 use Rattle.siri_messages.specs.Blank.{blank_subscription_request}
 use Rattle.siri_messages.specs.declared.message.Message.TheVariants as message
 use Rattle.siri_messages.specs.declared.subscriptions.SubscriptionRequest.{SubscriptionRequest}
@@ -67,7 +67,7 @@ interval_proper None is = tt
 interval_proper (Some beat) is = unless_never beat (int_eq beat (pos 0)) is
 
 module _ (r : SubscriptionRequest) (all : AreProper r.message_identifier r.consumer_address r.heartbeat_interval) where
-  abbrev IsAlone : Asked → Type 0
+  abbrev IsAlone : AskedFor → Type 0
   IsAlone asked = IsProperMessage (message.SubscriptionRequest (request_of asked r.message_identifier))
 
   of_service : (s : Service) (xs : List Subscription) → All (AllProper (subscription_table s None)) xs → All IsAlone (map (asked_with r) xs)

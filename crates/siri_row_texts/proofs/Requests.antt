@@ -13,7 +13,7 @@ use Rattle.siri_json.specs.Tree.{longest_document}
 use Rattle.siri_topic.specs.declared.subscription.Subscription.{Subscription}
 use Rattle.siri_topic.specs.declared.topics.Topic.{Topic}
 use Rattle.siri_topic.specs.declared.topics.Topic.TheVariants as topic
-use Rattle.siri_messages.specs.Asked.{Asked}
+use Rattle.siri_messages.specs.Asked.{AskedFor}
 use Rattle.siri_messages.specs.Blank.{blank_subscription_request}
 use Rattle.siri_messages.specs.declared.message.Message.{Message}
 use Rattle.siri_messages.specs.declared.message.Message.TheVariants as message
@@ -37,14 +37,14 @@ beat_back : (beat : ℤ) → unwrap_or (interval_of beat) (pos 0) ≡ beat
 beat_back beat = beat_at beat (int_eq beat (pos 0)) refl
 
 -- what is read of it is asked for again
-back : Asked → Asked
+back : AskedFor → AskedFor
 back a = record { subscription = a.subscription; address = a.address; beat = unwrap_or (interval_of a.beat) (pos 0) }
 
-back_is : (a : Asked) → back a ≡ a
+back_is : (a : AskedFor) → back a ≡ a
 unfolding back
 back_is a = λ i. record { subscription = a.subscription; address = a.address; beat = beat_back a.beat i }
 
-asked_by_topic : (t : Topic) (a : Asked) (base : ℕ) (text : List ℕ)
+asked_by_topic : (t : Topic) (a : AskedFor) (base : ℕ) (text : List ℕ)
     → is_request text (message.SubscriptionRequest (asks_for t a.subscription (record (blank_subscription_request base) {
       consumer_address = a.address;
       heartbeat_interval = interval_of a.beat;
@@ -56,7 +56,7 @@ asked_by_topic (topic.Timetable t) a base text = refl
 asked_by_topic (topic.Vehicle t) a base text = refl
 asked_by_topic (topic.Situation t) a base text = refl
 
-own_request : (a : Asked) (base : ℕ) → is_request (request_text a base) (message.SubscriptionRequest (request_of a base)) ≡ true
+own_request : (a : AskedFor) (base : ℕ) → is_request (request_text a base) (message.SubscriptionRequest (request_of a base)) ≡ true
 own_request a base =
     asked_by_topic a.subscription.topic a base (request_text a base)
     ∙ ap (λ b. bytes_eq (request_text b base) (request_text a base)) (back_is a)
@@ -65,7 +65,7 @@ own_request a base =
 holds_some : (holds : Message → Bool) (m : Message) → holds m ≡ true → if_holds holds m ≡ Some m
 holds_some holds m is = rw is refl
 
-pub request_row_read : (a : Asked) (base : ℕ) → IsProperMessage (message.SubscriptionRequest (request_of a base))
+pub request_row_read : (a : AskedFor) (base : ℕ) → IsProperMessage (message.SubscriptionRequest (request_of a base))
     → length (request_text a base) ≤ longest_document
     → request_of_row (request_text a base) ≡ Some (message.SubscriptionRequest (request_of a base))
 unfolding request_of_row

@@ -5,7 +5,7 @@ use Rattle.std.specs.Ordering.{int_eq}
 use Rattle.siri_topic.specs.declared.subscription.Subscription.{Subscription}
 use Rattle.siri_topic.specs.declared.topics.Topic.{Topic}
 use Rattle.siri_topic.specs.declared.topics.Topic.TheVariants as topic
-use Rattle.siri_messages.specs.Asked.{Asked}
+use Rattle.siri_messages.specs.Asked.{AskedFor}
 use Rattle.siri_messages.specs.Blank.{blank_subscription_request}
 use Rattle.siri_messages.specs.declared.message.Message.TheVariants as message
 use Rattle.siri_messages.specs.declared.subscriptions.SubscriptionRequest.{SubscriptionRequest}
@@ -24,7 +24,7 @@ asks_for (topic.Vehicle t) s request = record request { vehicle_monitoring_subsc
 asks_for (topic.Situation t) s request = record request { situation_exchange_subscription_request = s ∷ [] }
 
 -- the request of one subscription under a number, without its moment and its requestor
-abbrev pub request_of : Asked → ℕ → SubscriptionRequest
+abbrev pub request_of : AskedFor → ℕ → SubscriptionRequest
 request_of asked base =
     asks_for asked.subscription.topic asked.subscription
     (record (blank_subscription_request base) {
@@ -33,7 +33,7 @@ request_of asked base =
     })
 
 -- its text: the row that keeps a subscription, under its base
-abbrev pub request_text : Asked → ℕ → List ℕ
+abbrev pub request_text : AskedFor → ℕ → List ℕ
 request_text asked base = canonical (message.SubscriptionRequest (request_of asked base))
 
 -- the request for all of a subscription under a number, that names its base; without its moment

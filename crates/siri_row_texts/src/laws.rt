@@ -13,7 +13,7 @@ ghost use Rattle.siri_records.specs.declared.key.Key.{Key};
 ghost use Rattle.siri_records.specs.Keys.{key_of};
 ghost use Rattle.siri_items.specs.Proper.{IsProper};
 ghost use Rattle.siri_deliveries.specs.Removals.{IsProperRemoval};
-ghost use Rattle.siri_messages.specs.Asked.{Asked, asked_in};
+ghost use Rattle.siri_messages.specs.Asked.{AskedFor, asked_in};
 ghost use Rattle.siri_messages.specs.declared.message.Message.TheVariants as message;
 ghost use Rattle.siri_messages.specs.declared.subscriptions.SubscriptionRequest.{SubscriptionRequest};
 ghost use Rattle.siri_topic.specs.declared.subscription.Subscription.{Subscription};
@@ -47,7 +47,7 @@ pub fn key_texts_determine_their_keys()
 /// The row of a subscription is read as the request that it is written of, where that is proper and its text has at most
 /// 8,388,608 bytes.
 pub fn request_row_is_read()
-    ensures { (asked : Asked) (base : ℕ) → IsProperMessage (message.SubscriptionRequest (request_of asked base))
+    ensures { (asked : AskedFor) (base : ℕ) → IsProperMessage (message.SubscriptionRequest (request_of asked base))
         → length (request_text asked base) ≤ longest_document
         → request_of_row (request_text asked base) ≡ Some (message.SubscriptionRequest (request_of asked base)) }
 {}

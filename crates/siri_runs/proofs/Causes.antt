@@ -1,6 +1,6 @@
 -- Counts of faults never fall, so a run that ends early by a fault has raised one.
 use Rattle.std.proofs.Common.{◌≡◌, ◌≤◌, ◌⊎◌, ℕ, zero, suc, List, Bool, Ok, Err, refl, sym, ap, ◌∙◌, subst, arith, inl, inr}
-use Rattle.std.specs.Prelude.{IsErrOf, IsTrue}
+use Rattle.std.specs.Prelude.{IsTrue}
 use Rattle.siri_base.specs.Causes.{HasOutsideCause, Rose}
 use Rattle.siri_base.specs.OutsideCalls.{GivesMoment, RaisesNumber}
 use Rattle.siri_base.specs.Wires.{Listens, WireState}
@@ -9,7 +9,7 @@ use Rattle.siri_base.specs.declared.errors.OutsideError.TheVariants as outside
 use Rattle.siri_base.specs.declared.status.Status.{Status}
 use Rattle.siri_base.specs.declared.status.Status.TheVariants as status
 use Rattle.siri_runs.specs.Calls.{Fails, HasShelfCause, Outside, Told}
-use Rattle.siri_runs.specs.Errors.{clock_error, keeper_error, shelf_error, status_of, wire_error}
+use Rattle.siri_runs.specs.Errors.{clock_error, keeper_error, status_of, wire_error}
 use Rattle.siri_runs.specs.Run.{EndsAtTurn, EndsInTurns, MakesTurns, Turning}
 use Rattle.siri_runs.specs.Turns.{Running, Turn, Turns}
 use Rattle.siri_runs.specs.declared.network_error.NetworkError.{NetworkError}
@@ -38,16 +38,6 @@ shelf_later a b c e first cause = record {
 -- where all calls went well
 pub shelf_fine : {T : Type 0} (a b : ℕ) (value : T) → a ≤ b → HasShelfCause a b (Ok value)
 shelf_fine a b value later = record { later = later; failed = λ is. absurd (cc is) }
-
--- where a call of the end didn't
-pub shelf_failed : {T U : Type 0} (a b c : ℕ) (why : OutsideError) → a ≤ b → HasOutsideCause {T = T} b c (Err why)
-    → HasShelfCause {T = U} a c (Err (shelf_error why))
-shelf_failed a b c why first cause = record { later = omega (arith, first, cause.later); failed = by why cause.failed }
-  where
-    by : {T U : Type 0} (why : OutsideError) → (IsErrOf {T = T} (Err why) outside.Failed → Rose b c)
-        → IsErrOf {T = U} (Err (shelf_error why)) error.ShelfFault → Rose a c
-    by outside.Failed failed is = rose_since a b c first (failed refl)
-    by outside.OutOfMemory failed is = absurd (cc is)
 
 -- ---- over turns
 

@@ -1,6 +1,6 @@
 -- What a status says of a run: whether a source or a sink ended it, and whether its work was done.
 use Rattle.std.proofs.Common.{◌≡◌, [], None, Some, true, false, refl, subst}
-use Rattle.siri_base.specs.MetFailures.{SinkMeets, SourceMeets, is_read_fault, is_write_fault}
+use Rattle.siri_base.specs.MetFailures.{SourceMeets, is_read_fault, is_write_fault}
 use Rattle.siri_base.specs.declared.status.Status.{Status}
 use Rattle.siri_base.specs.declared.status.Status.TheVariants as status
 use Rattle.siri_lines.specs.Ends.{Bytes, ReadsAll}
@@ -31,12 +31,6 @@ written_unless status.ClockFault not = refl
 written_unless status.KeeperFault not = refl
 written_unless status.ShelfFault not = refl
 written_unless (status.BadShelf shelf) not = refl
-
--- where no failure is named, none was met
-pub no_sink_failure : (held more old new : Bytes) → old ≡ Some [] → SinkMeets true held more old new → ⊥
-no_sink_failure held more None new is met = cc is
-no_sink_failure held more (Some fails) None is met = met
-no_sink_failure held more (Some fails) (Some later) is met = cc (is, met.meets)
 
 pub no_source_failure : (left later old new : Bytes) → old ≡ Some [] → SourceMeets true left later old new → ⊥
 no_source_failure left later None new is met = cc is

@@ -27,26 +27,26 @@ use Rattle.siri_runs.proofs.TurnByTurn.{turns_none, turns_suc}
 
 module _ {Own Beside R M G : Type 0} (of : TakerGhosts Own Beside R M G) (asks : Meaning) (target : G) where
   keeps_turn : (moment : ℕ) (from : InRun Own Beside) (before : Told WireState) (to : InRun Own Beside) (after : Told WireState)
-      → TurnOf of asks target moment from before to after → of.kept to.own ≡ of.kept from.own
+      → TurnOf of asks target moment from before to after → of.identity to.own ≡ of.identity from.own
   keeps_turn moment from before to after turn = turn.over.keeps ∙ turn.takes.keeps ∙ turn.given.keeps
 
   turns_keep : (n : ℕ) (from to : Running (InRun Own Beside)) → Turns (RunsTurn of asks target) n from to
-      → of.kept to.state.own ≡ of.kept from.state.own
+      → of.identity to.state.own ≡ of.identity from.state.own
   unfolding Turns
-  turns_keep zero from to is = ap (λ (r : Running (InRun Own Beside)). of.kept r.state.own) is
+  turns_keep zero from to is = ap (λ (r : Running (InRun Own Beside)). of.identity r.state.own) is
   turns_keep (suc n) from to some =
       keeps_turn some.2.moment some.0.state some.2.wire to.state to.outside.wire some.2.turn ∙ turns_keep n from some.0 some.1
 
 -- ---- whatever is said of an end
 
 module _ {Own Beside R M G : Type 0} (of : TakerGhosts Own Beside R M G) (asks : Meaning) (target : G) {State : Type 0}
-    (turning : of.Kept → Turning State) (stands : InRun Own Beside → State → Type 0)
-    (Left : of.Kept → Beside → Running State → Outside → Type 0) where
+    (turning : of.Identity → Turning State) (stands : InRun Own Beside → State → Type 0)
+    (Left : of.Identity → Beside → Running State → Outside → Type 0) where
   -- what a call within a turn ended it by, and what it left
-  abbrev pub Stopped : of.Kept → Beside → NetworkError → Running State → Outside → Type 0
-  Stopped kept last e from to =
-      (FailsToGive (turning kept).Refuses e from to ⊎ StopsAnswering (turning kept).given (turning kept).Stops e from to)
-      × Left kept last from to
+  abbrev pub Stopped : of.Identity → Beside → NetworkError → Running State → Outside → Type 0
+  Stopped identity last e from to =
+      (FailsToGive (turning identity).Refuses e from to ⊎ StopsAnswering (turning identity).given (turning identity).Stops e from to)
+      × Left identity last from to
 
   -- The law: by what the end stands for before a turn it stands for something after it that a command allows, and where a turn was
   -- stopped, the command allows that.
@@ -54,26 +54,26 @@ module _ {Own Beside R M G : Type 0} (of : TakerGhosts Own Beside R M G) (asks :
     pub turn : (moment : ℕ) (from : InRun Own Beside) (before : Told WireState) (to : InRun Own Beside) (after : Told WireState)
         → TurnOf of asks target moment from before to after → (s : State) → stands from s
         → (next : State) × stands to next
-        × (turning (of.kept from.own)).Answers ((turning (of.kept from.own)).given moment s) before next after
+        × (turning (of.identity from.own)).Answers ((turning (of.identity from.own)).given moment s) before next after
     pub early : (from : Running (InRun Own Beside)) (to : Outside) → AnswersNone from.outside to → (s : State) → stands from.state s
-        → Left (of.kept from.state.own) from.state.beside (running s from.outside) to
+        → Left (of.identity from.state.own) from.state.beside (running s from.outside) to
     pub stop : (last : Beside) (e : NetworkError) (from : Running (InRun Own Beside)) (to : Outside)
         → StopsWithin of asks target last e from to → (s : State) → stands from.state s
-        → Stopped (of.kept from.state.own) last e (running s from.outside) to
+        → Stopped (of.identity from.state.own) last e (running s from.outside) to
 
   -- what so many turns come to
   abbrev pub Seen : ℕ → Running (InRun Own Beside) → Running (InRun Own Beside) → Type 0
   Seen n from to = (s : State) → stands from.state s
       → (next : State) × stands to.state next
-      × MakesTurns (turning (of.kept from.state.own)) n (running s from.outside) (running next to.outside)
+      × MakesTurns (turning (of.identity from.state.own)) n (running s from.outside) (running next to.outside)
 
   module _ (viewed : IsViewed) where
-    seen_next : (n : ℕ) (from mid to : Running (InRun Own Beside)) → of.kept mid.state.own ≡ of.kept from.state.own → Seen n from mid
+    seen_next : (n : ℕ) (from mid to : Running (InRun Own Beside)) → of.identity mid.state.own ≡ of.identity from.state.own → Seen n from mid
         → RunsTurn of asks target mid to → Seen (suc n) from to
     seen_next n from mid to keeps first turn s so =
         let one = first s so in
         let two = viewed.turn turn.moment mid.state turn.wire to.state to.outside.wire turn.turn one.0 one.1 in
-        let made : MakesTurn (turning (of.kept mid.state.own)) (running one.0 mid.outside) (running two.0 to.outside) = record {
+        let made : MakesTurn (turning (of.identity mid.state.own)) (running one.0 mid.outside) (running two.0 to.outside) = record {
           wire = turn.wire;
           moment = turn.moment;
           accepts = turn.accepts;
@@ -83,7 +83,7 @@ module _ {Own Beside R M G : Type 0} (of : TakerGhosts Own Beside R M G) (asks :
         } in (
           two.0,
           two.1,
-          turns_suc (MakesTurn (turning (of.kept from.state.own))) n (running s from.outside) (running one.0 mid.outside)
+          turns_suc (MakesTurn (turning (of.identity from.state.own))) n (running s from.outside) (running one.0 mid.outside)
               (running two.0 to.outside) one.2
               (subst (λ k. MakesTurn (turning k) (running one.0 mid.outside) (running two.0 to.outside)) keeps made),
         )
@@ -91,21 +91,21 @@ module _ {Own Beside R M G : Type 0} (of : TakerGhosts Own Beside R M G) (asks :
     pub turns_seen : (n : ℕ) (from to : Running (InRun Own Beside)) → Turns (RunsTurn of asks target) n from to → Seen n from to
     unfolding Turns
     turns_seen zero from to is = subst (λ r. Seen zero from r) (sym is)
-        (λ s so. (s, so, turns_none (MakesTurn (turning (of.kept from.state.own))) (running s from.outside)))
+        (λ s so. (s, so, turns_none (MakesTurn (turning (of.identity from.state.own))) (running s from.outside)))
     turns_seen (suc n) from to some =
         seen_next n from some.0 to (turns_keep of asks target n from some.0 some.1) (turns_seen n from some.0 some.1) some.2
 
     stop_seen : (last : Beside) (e : NetworkError) (from : Running (InRun Own Beside)) (to : Outside)
         → StopsTurns of asks target last e from to → (s : State) → stands from.state s
-        → EndsAtTurn (turning (of.kept from.state.own)) e (running s from.outside) to
-        × Left (of.kept from.state.own) last (running s from.outside) to
+        → EndsAtTurn (turning (of.identity from.state.own)) e (running s from.outside) to
+        × Left (of.identity from.state.own) last (running s from.outside) to
     stop_seen last e from to (inl (same, none)) s so = (
       early none,
-      subst (λ b. Left (of.kept from.state.own) b (running s from.outside) to) (sym same) (viewed.early from to (e, none) s so),
+      subst (λ b. Left (of.identity from.state.own) b (running s from.outside) to) (sym same) (viewed.early from to (e, none) s so),
     )
       where
         early : FailsToAccept e from.outside to ⊎ FailsToTell e from.outside to
-            → EndsAtTurn (turning (of.kept from.state.own)) e (running s from.outside) to
+            → EndsAtTurn (turning (of.identity from.state.own)) e (running s from.outside) to
         early (inl accept) = inl accept
         early (inr tell) = inr (inl tell)
     stop_seen last e from to (inr within) s so =
@@ -115,8 +115,8 @@ module _ {Own Beside R M G : Type 0} (of : TakerGhosts Own Beside R M G) (asks :
     -- where one ended the run
     pub turns_stopped : (last : Beside) (count : ℕ) (e : NetworkError) (from : Running (InRun Own Beside)) (to : Outside)
         → TurnsFail (RunsTurn of asks target) (StopsTurns of asks target last) count e from to → (s : State) → stands from.state s
-        → (fails : EndsInTurns (turning (of.kept from.state.own)) count e (running s from.outside) to)
-        × Left (of.kept from.state.own) last fails.last to
+        → (fails : EndsInTurns (turning (of.identity from.state.own)) count e (running s from.outside) to)
+        × Left (of.identity from.state.own) last fails.last to
     turns_stopped last count e from to fails s so =
         let one = turns_seen fails.made from fails.last fails.turns s so in
         let at = running one.0 fails.last.outside in
@@ -141,64 +141,64 @@ taken_first asks Posts manner at end turn =
     inr (turn.asked, turn.mid, turn.answers, whole_first Posts manner most_sends _ turn.mid end turn.sends)
 
 module _ {Own Beside R M G : Type 0} (of : TakerGhosts Own Beside R M G) (asks : Meaning) (target : G) {State : Type 0}
-    (turning : of.Kept → Turning State) (state_of : State → of.State) (tally_of : State → Tally) (counting : of.State → Tally → State) where
+    (turning : of.Identity → Turning State) (state_of : State → of.State) (tally_of : State → Tally) (counting : of.State → Tally → State) where
   -- It stands for a state with what was counted, as a command has them.
   pub record IsCounted : Type 0 where
     pub state_is : (s : of.State) (tally : Tally) → state_of (counting s tally) ≡ s
     pub tally_is : (s : of.State) (tally : Tally) → tally_of (counting s tally) ≡ tally
     pub never : (beside : Beside) → of.faults beside ≡ 0
-    pub given : (kept : of.Kept) (moment : ℕ) (s : State) → state_of ((turning kept).given moment s) ≡ of.given moment (state_of s)
-    pub given_tally : (kept : of.Kept) (moment : ℕ) (s : State) → tally_of ((turning kept).given moment s) ≡ tally_of s
-    pub refuses : (kept : of.Kept) (s : State) → of.refuses outside.OutOfMemory (state_of s) → (turning kept).Refuses errors.OutOfMemory s
-    pub answers : (kept : of.Kept) (from : State) (before : Told WireState) (to : State) (after : Told WireState)
-        → TakesTurn asks (of.posts target) (of.manner kept) (at_of (state_of from) (tally_of from) before.tells before.faults)
-        (at_of (state_of to) (tally_of to) after.tells after.faults) → (turning kept).Answers from before to after
-    pub stops : (kept : of.Kept) (from : State) (before after : Told WireState)
-        → StopsTurn asks (of.posts target) (of.manner kept) (at_of (state_of from) (tally_of from) before.tells before.faults) after.tells
-        → (turning kept).Stops errors.OutOfMemory from before after
+    pub given : (identity : of.Identity) (moment : ℕ) (s : State) → state_of ((turning identity).given moment s) ≡ of.given moment (state_of s)
+    pub given_tally : (identity : of.Identity) (moment : ℕ) (s : State) → tally_of ((turning identity).given moment s) ≡ tally_of s
+    pub refuses : (identity : of.Identity) (s : State) → of.refuses outside.OutOfMemory (state_of s) → (turning identity).Refuses errors.OutOfMemory s
+    pub answers : (identity : of.Identity) (from : State) (before : Told WireState) (to : State) (after : Told WireState)
+        → TakesTurn asks (of.posts target) (of.manner identity) (at_of (state_of from) (tally_of from) before.tells before.faults)
+        (at_of (state_of to) (tally_of to) after.tells after.faults) → (turning identity).Answers from before to after
+    pub stops : (identity : of.Identity) (from : State) (before after : Told WireState)
+        → StopsTurn asks (of.posts target) (of.manner identity) (at_of (state_of from) (tally_of from) before.tells before.faults) after.tells
+        → (turning identity).Stops errors.OutOfMemory from before after
 
   abbrev pub counts : InRun Own Beside → State → Type 0
   counts end s = of.stands end.own (state_of s) × (end.tally ≡ tally_of s)
 
-  abbrev pub LeavesNothing : of.Kept → Beside → Running State → Outside → Type 0
-  LeavesNothing kept last from to = ⊤
+  abbrev pub LeavesNothing : of.Identity → Beside → Running State → Outside → Type 0
+  LeavesNothing identity last from to = ⊤
 
   module _ (counted : IsCounted) where
     -- the state and the count that a turn begins with
-    module _ (kept later : of.Kept) (moment : ℕ) (s : State) (tally : Tally) (same : later ≡ kept) (tally_same : tally ≡ tally_of s)
+    module _ (identity later : of.Identity) (moment : ℕ) (s : State) (tally : Tally) (same : later ≡ identity) (tally_same : tally ≡ tally_of s)
         (before : Told WireState) where
       abbrev given_now : At of.State
       given_now = at_of (of.given moment (state_of s)) tally before.tells before.faults
 
       abbrev given_at : At of.State
-      given_at = at_of (state_of ((turning kept).given moment s)) (tally_of ((turning kept).given moment s)) before.tells before.faults
+      given_at = at_of (state_of ((turning identity).given moment s)) (tally_of ((turning identity).given moment s)) before.tells before.faults
 
       now_is : given_now ≡ given_at
-      now_is = λ i. at_of ((sym (counted.given kept moment s)) i) ((tally_same ∙ sym (counted.given_tally kept moment s)) i) before.tells before.faults
+      now_is = λ i. at_of ((sym (counted.given identity moment s)) i) ((tally_same ∙ sym (counted.given_tally identity moment s)) i) before.tells before.faults
 
       taken_at : (next : of.State) (count : Tally) (after : Told WireState)
           → TakesTurn asks (of.posts target) (of.manner later) given_now (at_of next count after.tells after.faults)
-          → (turning kept).Answers ((turning kept).given moment s) before (counting next count) after
+          → (turning identity).Answers ((turning identity).given moment s) before (counting next count) after
       taken_at next count after taken =
           let to = counting next count in
           let end : At of.State = at_of next count after.tells after.faults in
           let end_is : end ≡ at_of (state_of to) (tally_of to) after.tells after.faults =
           λ i. at_of ((sym (counted.state_is next count)) i) ((sym (counted.tally_is next count)) i) after.tells after.faults in
-          counted.answers kept ((turning kept).given moment s) before to after
-          (subst (λ e. TakesTurn asks (of.posts target) (of.manner kept) given_at e) end_is
-          (subst (λ a. TakesTurn asks (of.posts target) (of.manner kept) a end) now_is
+          counted.answers identity ((turning identity).given moment s) before to after
+          (subst (λ e. TakesTurn asks (of.posts target) (of.manner identity) given_at e) end_is
+          (subst (λ a. TakesTurn asks (of.posts target) (of.manner identity) a end) now_is
           (subst (λ k. TakesTurn asks (of.posts target) (of.manner k) given_now end) same taken)))
 
       stopped_at : (after : Told WireState) → StopsTurn asks (of.posts target) (of.manner later) given_now after.tells
-          → (turning kept).Stops errors.OutOfMemory ((turning kept).given moment s) before after
+          → (turning identity).Stops errors.OutOfMemory ((turning identity).given moment s) before after
       stopped_at after stops =
-          counted.stops kept ((turning kept).given moment s) before after
-          (subst (λ a. StopsTurn asks (of.posts target) (of.manner kept) a after.tells) now_is
+          counted.stops identity ((turning identity).given moment s) before after
+          (subst (λ a. StopsTurn asks (of.posts target) (of.manner identity) a after.tells) now_is
           (subst (λ k. StopsTurn asks (of.posts target) (of.manner k) given_now after.tells) same stops))
 
     module _ (from : InRun Own Beside) (s : State) (so : counts from s) where
-      abbrev kept_of : of.Kept
-      kept_of = of.kept from.own
+      abbrev kept_of : of.Identity
+      kept_of = of.identity from.own
 
       seen_turn : (moment : ℕ) (before : Told WireState) (to : InRun Own Beside) (after : Told WireState)
           → TurnOf of asks target moment from before to after
@@ -210,7 +210,7 @@ module _ {Own Beside R M G : Type 0} (of : TakerGhosts Own Beside R M G) (asks :
               subst (of.stands to.own) (sym (counted.state_is one.0 to.tally)) (turn.over.stands one.0 one.1),
               sym (counted.tally_is one.0 to.tally),
             ),
-            taken_at kept_of (of.kept turn.later) moment s from.tally turn.given.keeps so.1 before one.0 to.tally after one.2.0,
+            taken_at kept_of (of.identity turn.later) moment s from.tally turn.given.keeps so.1 before one.0 to.tally after one.2.0,
           )
 
       module _ (last : Beside) (e : NetworkError) (outside_ to : Outside)
@@ -232,8 +232,8 @@ module _ {Own Beside R M G : Type 0} (of : TakerGhosts Own Beside R M G) (asks :
               keeper = within.keeper;
             }
 
-        in_part : (later : Own) (was : Beside) → of.kept later ≡ kept_of → FailsBeside of within.why was last
-            → StopsTurn asks (of.posts target) (of.manner (of.kept later))
+        in_part : (later : Own) (was : Beside) → of.identity later ≡ kept_of → FailsBeside of within.why was last
+            → StopsTurn asks (of.posts target) (of.manner (of.identity later))
             (at_of (of.given within.moment (state_of s)) from.tally within.wire.tells within.wire.faults) to.wire.tells
             → StopsAnswering (turning kept_of).given (turning kept_of).Stops e (running s outside_) to
         in_part later was keeps cause stops = record {
@@ -242,7 +242,7 @@ module _ {Own Beside R M G : Type 0} (of : TakerGhosts Own Beside R M G) (asks :
           accepts = within.accepts;
           tells = within.tells;
           stops = subst (λ e. (turning kept_of).Stops e ((turning kept_of).given within.moment s) within.wire to.wire) (sym (memory was cause))
-              (stopped_at kept_of (of.kept later) within.moment s from.tally keeps so.1 within.wire to.wire stops);
+              (stopped_at kept_of (of.identity later) within.moment s from.tally keeps so.1 within.wire to.wire stops);
           keeper = within.keeper;
         }
 
@@ -260,7 +260,7 @@ module _ {Own Beside R M G : Type 0} (of : TakerGhosts Own Beside R M G) (asks :
             by (inr (inr whole)) =
                 let one = whole.takes.goes (of.given within.moment (state_of s)) (whole.given.stands (state_of s) so.0) in
                 inr (in_part whole.later whole.left whole.given.keeps whole.cause
-                (taken_first asks (of.posts target) (of.manner (of.kept whole.later))
+                (taken_first asks (of.posts target) (of.manner (of.identity whole.later))
                 (at_of (of.given within.moment (state_of s)) from.tally within.wire.tells within.wire.faults)
                 (at_of one.0 whole.tally to.wire.tells to.wire.faults) one.2.0))
 
@@ -276,12 +276,12 @@ module _ {Own Beside R M G : Type 0} (of : TakerGhosts Own Beside R M G) (asks :
 -- so many turns, as a command has them
 pub made_seen : {Own Beside R M G : Type 0} {of : TakerGhosts Own Beside R M G} {asks : Meaning} {target : G} (count : ℕ)
     (from to : Running (InRun Own Beside)) → Turns (RunsTurn of asks target) count from to → {State : Type 0}
-    (turning : of.Kept → Turning State) (stands : InRun Own Beside → State → Type 0)
-    (Left : of.Kept → Beside → Running State → Outside → Type 0) → IsViewed of asks target turning stands Left
-    → (kept : of.Kept) → of.kept from.state.own ≡ kept → (s : State) → stands from.state s
-    → (end : State) × stands to.state end × MakesTurns (turning kept) count (running s from.outside) (running end to.outside)
-    × (of.kept to.state.own ≡ kept)
-made_seen {of = of} {asks = asks} {target = target} count from to turns turning stands Left viewed kept is s so =
+    (turning : of.Identity → Turning State) (stands : InRun Own Beside → State → Type 0)
+    (Left : of.Identity → Beside → Running State → Outside → Type 0) → IsViewed of asks target turning stands Left
+    → (identity : of.Identity) → of.identity from.state.own ≡ identity → (s : State) → stands from.state s
+    → (end : State) × stands to.state end × MakesTurns (turning identity) count (running s from.outside) (running end to.outside)
+    × (of.identity to.state.own ≡ identity)
+made_seen {of = of} {asks = asks} {target = target} count from to turns turning stands Left viewed identity is s so =
     let one = turns_seen of asks target turning stands Left viewed count from to turns s so in (
       one.0,
       one.1,
@@ -293,37 +293,37 @@ made_seen {of = of} {asks = asks} {target = target} count from to turns turning 
 pub stop_is_seen : {Own Beside R M G : Type 0} {of : TakerGhosts Own Beside R M G} {asks : Meaning} {target : G} {count : ℕ} {last : Beside}
     {e : NetworkError} {from : Running (InRun Own Beside)} {to : Outside}
     → TurnsFail (RunsTurn of asks target) (StopsTurns of asks target last) count e from to → {State : Type 0}
-    (turning : of.Kept → Turning State) (stands : InRun Own Beside → State → Type 0)
-    (Left : of.Kept → Beside → Running State → Outside → Type 0) → IsViewed of asks target turning stands Left
-    → (kept : of.Kept) → of.kept from.state.own ≡ kept → (s : State) → stands from.state s
-    → (fails : EndsInTurns (turning kept) count e (running s from.outside) to) × Left kept last fails.last to
+    (turning : of.Identity → Turning State) (stands : InRun Own Beside → State → Type 0)
+    (Left : of.Identity → Beside → Running State → Outside → Type 0) → IsViewed of asks target turning stands Left
+    → (identity : of.Identity) → of.identity from.state.own ≡ identity → (s : State) → stands from.state s
+    → (fails : EndsInTurns (turning identity) count e (running s from.outside) to) × Left identity last fails.last to
 stop_is_seen {of = of} {asks = asks} {target = target} {count = count} {last = last} {e = e} {from = from} {to = to} stops turning stands Left
-    viewed kept is s so =
+    viewed identity is s so =
     subst (λ k. (fails : EndsInTurns (turning k) count e (running s from.outside) to) × Left k last fails.last to) is
     (turns_stopped of asks target turning stands Left viewed last count e from to stops s so)
 
 -- the same of an end with nothing beside it
 pub made_counted : {Own Beside R M G : Type 0} {of : TakerGhosts Own Beside R M G} {asks : Meaning} {target : G} (count : ℕ)
     (from to : Running (InRun Own Beside)) → Turns (RunsTurn of asks target) count from to → {State : Type 0}
-    (turning : of.Kept → Turning State) (state_of : State → of.State) (tally_of : State → Tally) (counting : of.State → Tally → State)
+    (turning : of.Identity → Turning State) (state_of : State → of.State) (tally_of : State → Tally) (counting : of.State → Tally → State)
     → IsCounted of asks target turning state_of tally_of counting
-    → (kept : of.Kept) → of.kept from.state.own ≡ kept → (s : State) → of.stands from.state.own (state_of s) → from.state.tally ≡ tally_of s
+    → (identity : of.Identity) → of.identity from.state.own ≡ identity → (s : State) → of.stands from.state.own (state_of s) → from.state.tally ≡ tally_of s
     → (end : State) × (of.stands to.state.own (state_of end) × (to.state.tally ≡ tally_of end))
-    × MakesTurns (turning kept) count (running s from.outside) (running end to.outside)
-made_counted {of = of} {asks = asks} {target = target} count from to turns turning state_of tally_of counting counted kept is s so same =
+    × MakesTurns (turning identity) count (running s from.outside) (running end to.outside)
+made_counted {of = of} {asks = asks} {target = target} count from to turns turning state_of tally_of counting counted identity is s so same =
     let one = made_seen count from to turns turning (counts of asks target turning state_of tally_of counting)
     (LeavesNothing of asks target turning state_of tally_of counting)
-    (counted_is_viewed of asks target turning state_of tally_of counting counted) kept is s (so, same) in
+    (counted_is_viewed of asks target turning state_of tally_of counting counted) identity is s (so, same) in
     (one.0, one.1, one.2)
 
 pub stop_is_counted : {Own Beside R M G : Type 0} {of : TakerGhosts Own Beside R M G} {asks : Meaning} {target : G} {count : ℕ} {last : Beside}
     {e : NetworkError} {from : Running (InRun Own Beside)} {to : Outside}
     → TurnsFail (RunsTurn of asks target) (StopsTurns of asks target last) count e from to → {State : Type 0}
-    (turning : of.Kept → Turning State) (state_of : State → of.State) (tally_of : State → Tally) (counting : of.State → Tally → State)
+    (turning : of.Identity → Turning State) (state_of : State → of.State) (tally_of : State → Tally) (counting : of.State → Tally → State)
     → IsCounted of asks target turning state_of tally_of counting
-    → (kept : of.Kept) → of.kept from.state.own ≡ kept → (s : State) → of.stands from.state.own (state_of s) → from.state.tally ≡ tally_of s
-    → EndsInTurns (turning kept) count e (running s from.outside) to
-stop_is_counted {of = of} {asks = asks} {target = target} stops turning state_of tally_of counting counted kept is s so same =
+    → (identity : of.Identity) → of.identity from.state.own ≡ identity → (s : State) → of.stands from.state.own (state_of s) → from.state.tally ≡ tally_of s
+    → EndsInTurns (turning identity) count e (running s from.outside) to
+stop_is_counted {of = of} {asks = asks} {target = target} stops turning state_of tally_of counting counted identity is s so same =
     (stop_is_seen stops turning (counts of asks target turning state_of tally_of counting)
     (LeavesNothing of asks target turning state_of tally_of counting)
-    (counted_is_viewed of asks target turning state_of tally_of counting counted) kept is s (so, same)).0
+    (counted_is_viewed of asks target turning state_of tally_of counting counted) identity is s (so, same)).0

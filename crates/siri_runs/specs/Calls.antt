@@ -58,6 +58,6 @@ outside_with of_wire of_clock wire clock keeper =
     (told_by (of_clock.tells clock) (of_clock.faults clock)) keeper
 
 -- what a wire, a clock and a keeper tell, as their types say it
-abbrev pub outside_told : {W C E : Type 0} → WireGhosts W → ClockGhosts C → KeeperGhosts E → W → C → E → Outside
-outside_told of_wire of_clock of_keeper wire clock keeper =
+abbrev pub outside : {W C E : Type 0} → WireGhosts W → ClockGhosts C → KeeperGhosts E → W → C → E → Outside
+outside of_wire of_clock of_keeper wire clock keeper =
     outside_with of_wire of_clock wire clock (told_by (of_keeper.tells keeper) (of_keeper.faults keeper))

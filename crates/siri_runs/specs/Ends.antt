@@ -31,7 +31,7 @@ in_run own beside tally made = record { own = own; beside = beside; tally = tall
 -- it was given a moment
 pub record IsGiven {Own Beside R M G : Type 0} (of : TakerGhosts Own Beside R M G) (now : ℕ) (old : Own) (was : Beside) (new : Own)
     (is : Beside) : Type 0 where
-  pub keeps : of.kept new ≡ of.kept old
+  pub keeps : of.identity new ≡ of.identity old
   pub stands : (s : of.State) → of.stands old s → of.stands new (of.given now s)
   pub holds : (s : of.State) → of.stands old s → of.holds old was s → of.holds new is (of.given now s)
   pub may : of.may_leave old (OfMoment now) was is
@@ -40,19 +40,19 @@ pub record IsGiven {Own Beside R M G : Type 0} (of : TakerGhosts Own Beside R M 
 abbrev pub TakesOf : {Own Beside R M G : Type 0} → (of : TakerGhosts Own Beside R M G) → Meaning → G → (old : At Own) → (was : Beside)
     → (new : At Own) → (is : Beside) → Type 0
 TakesOf of asks target old was new is =
-    Goes of.kept of.stands (λ kept. Holding of.holds (TakesTurn asks (of.posts target) (of.manner kept)) old.state was new.state is) old new
+    Goes of.identity of.stands (λ identity. Holding of.holds (TakesTurn asks (of.posts target) (of.manner identity)) old.state was new.state is) old new
 
 -- what it left beside it, whatever came of that
 abbrev pub LeavesOf : {Own Beside R M G : Type 0} → (of : TakerGhosts Own Beside R M G) → Meaning → G → (old : Own) → (was is : Beside)
     → (before after : Told WireState) → Type 0
 LeavesOf of asks target old was is before after =
-    LeavesBeside asks (of.posts target) (of.manner (of.kept old)) (of.stands old) (is ≡ was)
+    LeavesBeside asks (of.posts target) (of.manner (of.identity old)) (of.stands old) (is ≡ was)
     (λ asked. of.may_leave old (OfConnection asked) was is) (λ asked. of.has_left old asked was is) before.tells after.tells
 
 -- a turn was over, the last of so many
 pub record IsOver {Own Beside R M G : Type 0} (of : TakerGhosts Own Beside R M G) (made : ℕ) (old : Own) (was : Beside) (new : Own)
     (is : Beside) : Type 0 where
-  pub keeps : of.kept new ≡ of.kept old
+  pub keeps : of.identity new ≡ of.identity old
   pub stands : (s : of.State) → of.stands old s → of.stands new s
   pub holds : (s : of.State) → of.stands old s → of.holds old was s → of.holds new is s
   pub may : of.may_leave old AfterTurn was is
@@ -105,7 +105,7 @@ pub record TakesSome {Own Beside R M G : Type 0} (of : TakerGhosts Own Beside R 
   pub between : Beside
   pub given : IsGiven of moment from.own from.beside later between
   pub stops : (s : of.State) → of.stands later s
-      → StopsTurn asks (of.posts target) (of.manner (of.kept later)) (at_of s from.tally before.tells before.faults) after.tells
+      → StopsTurn asks (of.posts target) (of.manner (of.identity later)) (at_of s from.tally before.tells before.faults) after.tells
   pub leaves : LeavesOf of asks target later between last before after
   pub cause : FailsBeside of why between last
 

@@ -7,7 +7,7 @@ ghost use Rattle.siri_base.specs.MetFailures.{SinkMeets, SourceMeets, has_failed
 ghost use Rattle.siri_lines.specs.Ends.{AppendsFront, ReadsAll};
 ghost use Rattle.siri_lines.specs.Pieces.{ReadsNoFurther};
 ghost use Rattle.siri_lines.specs.RunResult.{verdict};
-ghost use Rattle.siri_runs.specs.Calls.{outside_told};
+ghost use Rattle.siri_runs.specs.Calls.{outside};
 ghost use Rattle.siri_runs.specs.consumers.Wanting.{event, nothing_wanted, most_wanted};
 ghost use Rattle.siri_runs.specs.Enough.{EndsWhole, HasEnough};
 ghost use Rattle.siri_runs.specs.consumers.Reading.{TellsWanted, has_failed_to_read};
@@ -24,7 +24,7 @@ use crate::summary::write_summary;
 use crate::turns::run_turns;
 use asking::ask_all;
 pub use opening::own_address;
-use opening::{Opened, open};
+use opening::{OpenedConsumer, open};
 pub use reading::read_wanted;
 use siri_base::{Clock, Keeper, Name, OutOfMemory, OutsideError, Sink, Source, Status, Wire};
 use siri_ends::Tally;
@@ -63,8 +63,8 @@ pub fn consume<S: Source, K: Sink, W: Wire, C: Clock, E: Keeper>(
 ) -> Status
     requires { length address.now ≤ 247 }
     ensures run { ConsumeRun name address.now (producer.now.host, producer.now.path) count (S.left source.old) (S.left source.new)
-        (outside_told W.Wire C.Clock E.Keeper wire.old clock.old keeper.old)
-        (outside_told W.Wire C.Clock E.Keeper wire.new clock.new keeper.new)
+        (outside W.Wire C.Clock E.Keeper wire.old clock.old keeper.old)
+        (outside W.Wire C.Clock E.Keeper wire.new clock.new keeper.new)
         (K.held sink.old) (K.held sink.new) result }
     ensures pieces { ReadsNoFurther (verdict most_wanted event) (nothing_wanted name) (S.left source.old) (S.left source.new) }
     ensures all { ReadsAll (S.left source.new) result }
@@ -73,7 +73,7 @@ pub fn consume<S: Source, K: Sink, W: Wire, C: Clock, E: Keeper>(
     ensures sink_meets { SinkMeets (is_write_fault result) (K.held sink.old) (K.held sink.new) (K.fails sink.old) (K.fails sink.new) }
     // Where there is enough for so many connections, all lines are good, and no failure is named for the source or the
     // sink.
-    ensures complete { HasEnough count (outside_told W.Wire C.Clock E.Keeper wire.old clock.old keeper.old)
+    ensures complete { HasEnough count (outside W.Wire C.Clock E.Keeper wire.old clock.old keeper.old)
         → TellsWanted name (S.left source.old)
         → S.fails source.old ≡ Some [] → K.fails sink.old ≡ Some [] → EndsWhole result }
     // When each fault comes.
@@ -122,17 +122,17 @@ fn consume_all<S: Source, W: Wire, C: Clock, E: Keeper>(
     requires { length address.now ≤ 247 }
     ensures ok { IfOk result (λ consumed. Completes (consume_procedure name address.now (producer.now.host, producer.now.path) (S.left source.old) (S.left source.new)) count
         (end_text (record { consumer = consumed.consumer; tally = consumed.tally }))
-        (outside_told W.Wire C.Clock E.Keeper wire.old clock.old keeper.old)
-        (outside_told W.Wire C.Clock E.Keeper wire.new clock.new keeper.new)) }
+        (outside W.Wire C.Clock E.Keeper wire.old clock.old keeper.old)
+        (outside W.Wire C.Clock E.Keeper wire.new clock.new keeper.new)) }
     ensures err { IfErr result (λ end. EndsBefore (consume_procedure name address.now (producer.now.host, producer.now.path) (S.left source.old) (S.left source.new)) count end
-        (outside_told W.Wire C.Clock E.Keeper wire.old clock.old keeper.old)
-        (outside_told W.Wire C.Clock E.Keeper wire.new clock.new keeper.new)) }
+        (outside W.Wire C.Clock E.Keeper wire.old clock.old keeper.old)
+        (outside W.Wire C.Clock E.Keeper wire.new clock.new keeper.new)) }
     ensures all { OnOk result (ReadsAll (S.left source.new) Status.Done) }
     ensures read { IfErr result (λ end. end ≡ Status.ReadFault → Rose (S.faults source.old) (S.faults source.new)) }
     ensures meets { SourceMeets (has_failed_to_read result) (S.left source.old) (S.left source.new) (S.fails source.old) (S.fails source.new) }
     ensures pieces { ReadsNoFurther (verdict most_wanted event) (nothing_wanted name) (S.left source.old) (S.left source.new) }
 {
-    let Opened {
+    let OpenedConsumer {
         mut consumer,
         wanted,
     } = open(alloc, name, address, source, wire, clock, keeper)?;

@@ -3,7 +3,7 @@
 ghost use Rattle.std.specs.Prelude.{◌≡◌, IfErr, IfOk, Some, []};
 ghost use Rattle.siri_base.specs.Causes.{Rose};
 ghost use Rattle.siri_base.specs.MetFailures.{SinkMeets, is_write_fault};
-ghost use Rattle.siri_runs.specs.Calls.{outside_told};
+ghost use Rattle.siri_runs.specs.Calls.{outside};
 ghost use Rattle.siri_runs.specs.Enough.{EndsWhole, HasEnough};
 ghost use Rattle.siri_runs.specs.Run.{Completes, EndsBefore};
 ghost use Rattle.siri_runs.specs.Summaries.{summary_text};
@@ -38,13 +38,13 @@ pub fn serve<A: Asking, K: Sink, W: Wire, C: Clock, E: Keeper>(
     keeper: &mut E,
 ) -> Status
     ensures run { ServeRun A.asks name address.now count
-        (outside_told W.Wire C.Clock E.Keeper wire.old clock.old keeper.old)
-        (outside_told W.Wire C.Clock E.Keeper wire.new clock.new keeper.new)
+        (outside W.Wire C.Clock E.Keeper wire.old clock.old keeper.old)
+        (outside W.Wire C.Clock E.Keeper wire.new clock.new keeper.new)
         (K.held sink.old) (K.held sink.new) result }
     ensures unwritten { EndsServing result → sink.new ≡ sink.old }
     ensures meets { SinkMeets (is_write_fault result) (K.held sink.old) (K.held sink.new) (K.fails sink.old) (K.fails sink.new) }
     // Where there is enough for so many connections, and no failure is named for the sink.
-    ensures complete { HasEnough count (outside_told W.Wire C.Clock E.Keeper wire.old clock.old keeper.old)
+    ensures complete { HasEnough count (outside W.Wire C.Clock E.Keeper wire.old clock.old keeper.old)
         → K.fails sink.old ≡ Some [] → EndsWhole result }
     // When each fault comes.
     ensures write_fault { result ≡ Status.WriteFault → Rose (K.faults sink.old) (K.faults sink.new) }
@@ -73,11 +73,11 @@ fn serve_all<A: Asking, W: Wire, C: Clock, E: Keeper>(
     keeper: &mut E,
 ) -> Result<Tally, Status>
     ensures ok { IfOk result (λ tally. Completes (serve_procedure A.asks name address.now) count (summary_text tally)
-        (outside_told W.Wire C.Clock E.Keeper wire.old clock.old keeper.old)
-        (outside_told W.Wire C.Clock E.Keeper wire.new clock.new keeper.new)) }
+        (outside W.Wire C.Clock E.Keeper wire.old clock.old keeper.old)
+        (outside W.Wire C.Clock E.Keeper wire.new clock.new keeper.new)) }
     ensures err { IfErr result (λ end. EndsBefore (serve_procedure A.asks name address.now) count end
-        (outside_told W.Wire C.Clock E.Keeper wire.old clock.old keeper.old)
-        (outside_told W.Wire C.Clock E.Keeper wire.new clock.new keeper.new)) }
+        (outside W.Wire C.Clock E.Keeper wire.old clock.old keeper.old)
+        (outside W.Wire C.Clock E.Keeper wire.new clock.new keeper.new)) }
 {
     let mut producer = open(alloc, name, address, wire, clock, keeper)?;
     let mut tally = Tally::new();

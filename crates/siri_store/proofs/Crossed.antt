@@ -26,13 +26,14 @@ use Rattle.siri_records.specs.Keyed.{Items, InOrder, item_of}
 use Rattle.siri_records.specs.Order.{key_cmp, key_cmp_total}
 use Rattle.siri_records.proofs.Order.{key_cmp_exact}
 use Rattle.siri_store.specs.Between.{is_between, between}
-use Rattle.siri_store.specs.Crossing.{is_of, least_edge, edge_cmp, in_order_of_edges, crossed_entries}
+use Rattle.siri_store.specs.Crossing.{least_edge, edge_cmp, in_order_of_edges, crossed_entries}
 use Rattle.siri_store.specs.Held.{counted}
 use Rattle.siri_store.specs.CrossWalk.{led_at, entry_list, led}
 use Rattle.siri_store.specs.Stamped.{Stamp, stamp_cmp, has_stamp, has, by_edge, moments_of, moments_held, Tied}
 use Rattle.siri_store.proofs.LeastEdge.{least_in_range}
 use Rattle.siri_store.proofs.LookUps.{by_bool, lookup-insert_entry, later_apart}
 use Rattle.siri_store.proofs.Inserted.{sorted_inserted, same_entries}
+use Rattle.siri_records.specs.Services.{is_of}
 
 abbrev pub Edged : Type 0
 Edged = List ((ℕ × Key) × Item)

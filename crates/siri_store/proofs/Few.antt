@@ -1,6 +1,6 @@
 -- Of each key the last mark: no more than there are keys.
-use Rattle.std.proofs.Common.{◌≡◌, ℕ, ◌+◌, ◌<◌, ◌≤◌, List, [], ◌∷◌, length, filter, Bool, true, false, ◌||◌, nat_le}
-use Rattle.std.proofs.Common.{drop, length-drop, refl, ap, sym, ◌∙◌, arith}
+use Rattle.std.proofs.Common.{◌≡◌, ℕ, ◌+◌, ◌≤◌, List, [], ◌∷◌, length, filter, Bool, true, false, ◌||◌, nat_le}
+use Rattle.std.proofs.Common.{refl, ap, sym, ◌∙◌, arith}
 use Rattle.std.specs.BTreeSet.{insert_key}
 use Rattle.std.specs.declared.cmp.Ordering.{Ordering}
 use Rattle.std.specs.declared.cmp.Ordering.TheVariants.{Less, Equal, Greater}
@@ -79,9 +79,3 @@ shorter_case m log false h rest = rw h (omega (arith, rest))
 pub no_more_last : (log : List Mark) → length (last_of_each log) ≤ length log
 no_more_last [] = omega arith
 no_more_last (m ∷ log) = shorter_case m log (is_among m.1 (keys_in log)) refl (no_more_last log)
-
--- ---- marks from a place on
-
--- there is one from a place within the marks on
-pub some_left : (log left : List Mark) (place : ℕ) → place < length log → drop place log ≡ left → 0 < length left
-some_left log left place within is = omega (arith, within, length-drop place log, ap length is)

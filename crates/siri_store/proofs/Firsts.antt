@@ -1,6 +1,6 @@
 -- The visits of a window by their stamps; and a walk over them until so many pass a test.
 use Rattle.std.proofs.Common.{◌≡◌, ℕ, suc, zero, ◌+◌, ◌-◌, ◌≤◌, Bool, true, false, cond, ◌&&◌, ◌||◌, List, [], ◌∷◌, ◌++◌, map, filter, fold}
-use Rattle.std.proofs.Common.{append_assoc, append-nil, drop, take, Option, Some, None, refl, ap, ◌∙◌, sym, subst, arith}
+use Rattle.std.proofs.Common.{append_assoc, drop, take, Option, Some, None, refl, ap, ◌∙◌, sym, subst, arith}
 use Rattle.std.specs.Prelude.{ℤ, pos, nat_eq}
 use Rattle.std.specs.BTreeMap.{insert_entry, is_at}
 use Rattle.std.specs.Cmp.{Equal-is}
@@ -29,7 +29,7 @@ use Rattle.siri_topic.specs.declared.topics.Topic.TheVariants as topic
 use Rattle.siri_topic.specs.declared.windows.Window.{Window}
 use Rattle.siri_topic.specs.Shown.{is_from, is_before, is_shown, window_of}
 use Rattle.siri_store.specs.Between.{between, inside, since}
-use Rattle.siri_store.specs.Crossing.{edge_cmp, is_of}
+use Rattle.siri_store.specs.Crossing.{edge_cmp}
 use Rattle.siri_store.specs.CrossWalk.{led}
 use Rattle.siri_store.specs.First.{under_entry, enters, first_entries, looked_until, visits_by_entry, visits_for}
 use Rattle.siri_store.specs.Held.{counted}
@@ -40,6 +40,7 @@ use Rattle.siri_store.proofs.Crossed.{Edged, edge_total, edge_exact, edged, unke
 use Rattle.siri_store.proofs.Crossed.{at, placed, sorted_fold, found_placed, service_moments, none_bits, of_order, stamp_passing}
 use Rattle.siri_store.proofs.Inserted.{same_entries}
 use Rattle.siri_store.proofs.LookUps.{by_bool, later_apart}
+use Rattle.siri_records.specs.Services.{is_of}
 
 -- ---- a test of what was found
 
@@ -395,10 +396,6 @@ module _ (p : Key × Item → Bool) (e : Key × Item) (old new first : Items) (i
   pub over_looked : p e ≡ false → looked_until p 1 old ≡ suc (looked_until p 1 new)
   over_looked h = ap (looked_until p 1) is ∙ looked_over p 0 e new h
 
-  -- one that does
-  pub found_same : p e ≡ true → filter p old ≡ e ∷ filter p new
-  found_same h = ap (filter p) is ∙ rw h refl
-
   pub found_dropped : p e ≡ true → new ≡ drop (looked_until p 1 old) old
   found_dropped h = sym (ap (λ l. drop (looked_until p 1 l) l) is ∙ ap (λ n. drop n (e ∷ new)) (looked_first p 0 e new h))
 
@@ -407,17 +404,9 @@ module _ (p : Key × Item → Bool) (e : Key × Item) (old new first : Items) (i
 
 -- ---- the first so many in one call
 
-pub nothing_left : {X : Type 0} (found rest total : List X) (left : ℕ) → left ≡ 0 → found ++ take left rest ≡ total → found ≡ total
-nothing_left found rest total left none so_far =
-    sym (append-nil found) ∙ (ap (λ n. found ++ take n rest) (sym none) ∙ so_far)
-
 take_none : {X : Type 0} (n : ℕ) → take {A = X} n [] ≡ []
 take_none zero = refl
 take_none (suc n) = refl
-
-pub none_to_come : {X : Type 0} (found rest total : List X) (left : ℕ) → rest ≡ [] → found ++ take left rest ≡ total → found ≡ total
-none_to_come found rest total left none so_far =
-    sym (append-nil found) ∙ (ap (λ l. found ++ l) (sym (take_none left)) ∙ (ap (λ l. found ++ take left l) (sym none) ∙ so_far))
 
 before_it : (left : ℕ) → (left ≡ 0 → ⊥) → left ≡ suc (left - 1)
 before_it zero some = absurd (some refl)
@@ -436,9 +425,6 @@ one_found found more rest next total x left some one is so_far =
 module _ (p : Key × Item → Bool) (most left : ℕ) (all old : Items) (start before : ℕ)
     (counter : before ≡ counted start (looked_until p most all - looked_until p left old))
     (fewer : looked_until p left old ≤ looked_until p most all) where
-  pub all_counted : left ≡ 0 → before ≡ counted start (looked_until p most all)
-  all_counted none = omega (arith, counter, fewer, ap (λ n. looked_until p n old) none)
-
   module _ (some : left ≡ 0 → ⊥) (now : ℕ) (step : now ≡ counted before (looked_until p 1 old)) where
     of_left : looked_until p left old ≡ looked_until p (suc (left - 1)) old
     of_left = ap (λ n. looked_until p n old) (before_it left some)

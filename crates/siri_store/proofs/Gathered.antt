@@ -91,10 +91,6 @@ found_fewer found rest next all x is so_far =
 pub counted_none : (reads n : ℕ) → n ≡ 0 → reads ≡ counted reads n
 counted_none reads n none = omega arith
 
-pub counted_one : (old before reads n m : ℕ) → m ≡ n + 1 → before ≡ counted old n → reads ≡ counted before 1
-    → reads ≡ counted old m
-counted_one old before reads n m one so_far more = omega arith
-
 counted_more : (old before reads n m : ℕ) → before ≡ counted old n → reads ≡ counted before m
     → reads ≡ counted old (n + m)
 counted_more old before reads n m so_far more = omega arith

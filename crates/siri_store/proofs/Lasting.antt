@@ -1,9 +1,8 @@
 -- Of each key the last mark: the same keys are marked from each number on.
-use Rattle.std.proofs.Common.{◌≡◌, ℕ, ◌≤◌, List, [], ◌∷◌, ◌++◌, map, filter, Bool, true, false, ◌&&◌, ◌||◌, nat_le, not}
-use Rattle.std.proofs.Common.{reverse, drop, length, get_or, ◌<◌, ◌-◌, ◌+◌}
+use Rattle.std.proofs.Common.{◌≡◌, ℕ, ◌≤◌, List, [], ◌∷◌, map, filter, Bool, true, false, ◌&&◌, ◌||◌, nat_le, not}
+use Rattle.std.proofs.Common.{drop, length, get_or, ◌<◌, ◌-◌, ◌+◌}
 use Rattle.std.proofs.Common.{refl, ap, sym, ◌∙◌, arith}
 use Rattle.std.specs.BTreeSet.{insert_key}
-use Rattle.std.proofs.lemmas.List.{reverse-append}
 use Rattle.std.specs.List.{AllByRecursion, list_any}
 use Rattle.siri_records.specs.declared.key.Key.{Key}
 use Rattle.siri_records.specs.KeyLists.{is_among}
@@ -140,15 +139,13 @@ module _ (rest last : List Mark) (m : Mark) (seen : List Key)
   seen_more q = among_inserted q m.1 seen ∙ ap (λ b. tied q m.1 || b) (all q)
 
   -- a key that wasn't seen
-  pub one_more_last : not (is_among m.1 seen) ≡ true → reverse last ≡ last_of_each rest
-      → reverse (last ++ m ∷ []) ≡ last_of_each (m ∷ rest)
+  pub one_more_last : not (is_among m.1 seen) ≡ true → last ≡ last_of_each rest → m ∷ last ≡ last_of_each (m ∷ rest)
   one_more_last anew is =
       let out : is_among m.1 (keys_in rest) ≡ false = sym (all m.1) ∙ not_true (is_among m.1 seen) anew in
-      rw out (reverse-append last (m ∷ []) ∙ ap (λ l. m ∷ l) is)
+      rw out (ap (λ l. m ∷ l) is)
 
   -- one that was
-  pub no_more_last : not (is_among m.1 seen) ≡ false → reverse last ≡ last_of_each rest
-      → reverse last ≡ last_of_each (m ∷ rest)
+  pub no_more_last : not (is_among m.1 seen) ≡ false → last ≡ last_of_each rest → last ≡ last_of_each (m ∷ rest)
   no_more_last again is =
       let among : is_among m.1 (keys_in rest) ≡ true = sym (all m.1) ∙ not_false (is_among m.1 seen) again in
       rw among is

@@ -32,7 +32,7 @@ use Rattle.siri_store.proofs.OwnKeys.{Own, showing}
 
 -- ---- the item of a key that may not be shown
 
-own_found : (es : Items) (k : Key) (i : Item) → AllByRecursion Own es → item_of es k ≡ Some i → k ≡ key_of i
+pub own_found : (es : Items) (k : Key) (i : Item) → AllByRecursion Own es → item_of es k ≡ Some i → k ≡ key_of i
 own_found [] k i own is = absurd (cc is)
 own_found (e ∷ es) k i own is = by_bool (is_eq (key_cmp k e.0))
     (λ h.
@@ -40,7 +40,7 @@ own_found (e ∷ es) k i own is = by_bool (is_eq (key_cmp k e.0))
     key_cmp_exact k e.0 ((Equal-is (key_cmp k e.0)).0 h) ∙ (own.0 ∙ ap key_of same))
     (λ h. own_found es k i own.1 (rw h at is))
 
-hidden : (t : Topic) (now : ℕ) (k : Key) (i : Item) → k ≡ key_of i → may_be_shown t k ≡ false → is_shown t i now ≡ false
+pub hidden : (t : Topic) (now : ℕ) (k : Key) (i : Item) → k ≡ key_of i → may_be_shown t k ≡ false → is_shown t i now ≡ false
 hidden t now k i own may = by_bool (is_shown t i now)
     (λ h. absurd (cc (sym may ∙ showing t now (k, i) own h)))
     (λ h. h)

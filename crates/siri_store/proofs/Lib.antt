@@ -12,7 +12,6 @@ pub mod FirstEnd
 pub mod LeastEdge
 pub mod Inserted
 pub mod Crossed
-pub mod Lent
 pub mod Firsts
 pub mod Leads
 pub mod Lasting

@@ -1,14 +1,14 @@
 -- Numbers of marks never fall.
 use Rattle.std.proofs.Common.{◌≡◌, ℕ, suc, zero, add-one, ◌≤◌, ◌<◌, ◌+◌, ◌-◌, List, [], ◌∷◌, ◌++◌, length, Bool, true}
-use Rattle.std.proofs.Common.{false, cond, refl, ap, sym, ◌∙◌, arith, filter, drop, take, nat_le, get_or}
-use native.Mathlib.Numerals.{unary_clauses}
-use Rattle.std.specs.List.{AllByRecursion}
-use Rattle.std.proofs.lemmas.List.{take-append-drop}
-use Rattle.std.proofs.lemmas.List.Elements.{filter-append}
+use Rattle.std.proofs.Common.{false, cond, refl, ap, sym, ◌∙◌, arith, filter, map, drop, ltb, get_or}
+use Rattle.std.specs.List.{AllByRecursion, AllWithin}
+use Rattle.std.specs.List.Sorted.{IsNonDecreasingBy}
 use Rattle.siri_records.specs.declared.key.Key.{Key}
-use Rattle.siri_store.specs.Marked.{Rises, is_since}
+use Rattle.siri_records.specs.KeyLists.{in_order, is_among}
+use Rattle.siri_records.proofs.KeyLists.{first_among, among_in_order}
+use Rattle.siri_store.specs.Marked.{Rises, is_since, keys_since}
 
-abbrev Mark : Type 0
+abbrev pub Mark : Type 0
 Mark = ℕ × Key
 
 pub rises_to : (top more : ℕ) (log : List Mark) → top ≤ more → Rises top log → Rises more log
@@ -28,65 +28,44 @@ rises_push top (mark ∷ log) key rises =
 
 -- ---- the marks from a number on
 
-abbrev pub AllSince : ℕ → List Mark → Type 0
-AllSince number log = AllByRecursion (λ mark. is_since number mark ≡ true) log
+-- ---- the place of the first mark from a number on
 
-pub all_since : (number : ℕ) (log : List Mark) → AllSince number log → filter (is_since number) log ≡ log
-all_since number [] all = refl
-all_since number (mark ∷ log) all = rw (all.0) (ap (λ l. mark ∷ l) (all_since number log all.1))
+at_least : (least : ℕ) (log : List Mark) (place : ℕ) (default : Mark) → AllByRecursion (λ later. least ≤ later.0) log
+    → place < length log → least ≤ (get_or log place default).0
+at_least least [] place default all lt = absurd (omega (arith, lt))
+at_least least (m ∷ log) zero default all lt = all.0
+at_least least (m ∷ log) (suc place) default all lt = at_least least log place default all.1 (omega (arith, lt))
 
--- where a mark is before a number, those before it are
-before_all : (number : ℕ) (log : List Mark) (place : ℕ) (default : Mark) (least : ℕ) → place < length log
-    → AllByRecursion (λ later. least ≤ later.0) log → nat_le number (get_or log place default).0 ≡ false
-    → nat_le number least ≡ false
-before_all number [] place default least lt all before = absurd (omega (arith, lt))
-before_all number (m ∷ log) zero default least lt all before = grind (arith, all.0, before)
-before_all number (m ∷ log) (suc place) default least lt all before =
-    before_all number log place default least (omega (arith, lt)) all.1 before
+pub rising : (top : ℕ) (log : List Mark) → Rises top log → IsNonDecreasingBy (λ (mark : Mark). mark.0) log
+rising top [] rises i j default le lt = absurd (omega (arith, lt))
+rising top (m ∷ log) rises zero zero default le lt = omega arith
+rising top (m ∷ log) rises zero (suc j) default le lt = at_least m.0 log j default rises.1 (omega (arith, lt))
+rising top (m ∷ log) rises (suc i) zero default le lt = absurd (omega (arith, le))
+rising top (m ∷ log) rises (suc i) (suc j) default le lt =
+    rising top log rises.2 i j default (omega (arith, le)) (omega (arith, lt))
 
-pub none_before : (top number : ℕ) (log : List Mark) (place : ℕ) (default : Mark) → place < length log → Rises top log
-    → nat_le number (get_or log place default).0 ≡ false → filter (is_since number) (take (suc place) log) ≡ []
-none_before top number [] place default lt rises before = refl
-none_before top number (mark ∷ log) zero default lt rises before = rw before refl
-none_before top number (mark ∷ log) (suc place) default lt rises before =
-    let first : nat_le number mark.0 ≡ false =
-    before_all number log place default mark.0 (omega (arith, lt)) rises.1 before in
-    rw first (none_before top number log place default (omega (arith, lt)) rises.2 before)
-
--- so the others are those from the number on
-pub rest_since : (number : ℕ) (log : List Mark) (place : ℕ) → filter (is_since number) (take place log) ≡ []
-    → AllSince number (drop place log) → drop place log ≡ filter (is_since number) log
-rest_since number log place none all =
-    sym (ap (filter (is_since number)) (sym (take-append-drop place log))
-    ∙ (filter-append (is_since number) (take place log) (drop place log)
-    ∙ (ap (λ l. l ++ filter (is_since number) (drop place log)) none
-    ∙ all_since number (drop place log) all)))
-
-pub from_end : (number : ℕ) (log : List Mark) (place : ℕ) → length log ≤ place → AllSince number (drop place log)
-from_end number [] zero le = tt
-from_end number [] (suc place) le = tt
-from_end number (m ∷ log) zero le = absurd (omega (arith, le))
-from_end number (m ∷ log) (suc place) le = from_end number log place (omega (arith, le))
-
--- one mark more from the end
-pub one_more : (number : ℕ) (log : List Mark) (place : ℕ) (default : Mark) → place < length log
-    → nat_le number (get_or log place default).0 ≡ true → AllSince number (drop (suc place) log)
-    → AllSince number (drop place log)
-one_more number [] place default lt since all = absurd (omega (arith, lt))
-one_more number (m ∷ log) zero default lt since all = (since, all)
-one_more number (m ∷ log) (suc place) default lt since all =
-    one_more number log place default (omega (arith, lt)) since all
+-- where those before a place are under earlier numbers and the others aren't, the others are those from the number on
+pub rest_since : (number : ℕ) (log : List Mark) (place : ℕ) → place ≤ length log
+    → AllWithin (λ mark. ltb mark.0 number ≡ true) log 0 place
+    → AllWithin (λ mark. ltb mark.0 number ≡ false) log place (length log)
+    → drop place log ≡ filter (is_since number) log
+rest_since number [] zero within before after = refl
+rest_since number [] (suc place) within before after = absurd (omega (arith, within))
+rest_since number (m ∷ log) zero within before after =
+    let there = after 0 m (omega arith) (omega arith) in
+    let since : is_since number m ≡ true = grind (arith, there) in
+    rw since (ap (λ l. m ∷ l) (rest_since number log zero (omega arith) (λ k d low high. absurd (omega (arith, high)))
+    (λ k d low high. after (suc k) d (omega arith) (omega (arith, high)))))
+rest_since number (m ∷ log) (suc place) within before after =
+    let there = before 0 m (omega arith) (omega arith) in
+    let off : is_since number m ≡ false = grind (arith, there) in
+    rw off (rest_since number log place (omega (arith, within))
+    (λ k d low high. before (suc k) d (omega arith) (omega (arith, high)))
+    (λ k d low high. after (suc k) d (omega (arith, low)) (omega (arith, high))))
 
 pub length_push : (log : List Mark) (mark : Mark) → length (log ++ mark ∷ []) ≡ length log + 1
 length_push [] mark = refl
 length_push (m ∷ log) mark = omega (arith, length_push log mark)
-
-pub none_upto : (top number : ℕ) (log : List Mark) (first : ℕ) (default : Mark) → 0 < first → first ≤ length log
-    → Rises top log → nat_le number (get_or log (first - 1) default).0 ≡ false
-    → filter (is_since number) (take first log) ≡ []
-none_upto top number log zero default some within rises before = refl
-none_upto top number log (suc place) default some within rises before =
-    none_before top number log place default (omega (arith, within)) rises (simp unary_clauses at before)
 
 dropped : (log : List Mark) (i : ℕ) (mark : Mark) → i < length log → mark ≡ get_or log i mark
     → drop i log ≡ mark ∷ drop (suc i) log
@@ -98,26 +77,50 @@ pub drop_here : (log : List Mark) (i : ℕ) (mark : Mark) → i < length log →
     → drop i log ≡ mark ∷ drop (i + 1) log
 drop_here log i mark lt is = rw add-one (dropped log i mark lt is)
 
--- where no mark is under a number or a later one, none is under a still later one
-pub none_later : (number n : ℕ) (log : List Mark) → number ≤ n → filter (is_since number) log ≡ []
-    → filter (is_since n) log ≡ []
-none_later number n [] le none = refl
-none_later number n (mark ∷ log) le none =
-    later_case number n mark log (nat_le number mark.0) refl le none (none_later number n log le)
-  where
-    later_case : (number n : ℕ) (mark : Mark) (log : List Mark) (since : Bool) → nat_le number mark.0 ≡ since
-        → number ≤ n → filter (is_since number) (mark ∷ log) ≡ []
-        → (filter (is_since number) log ≡ [] → filter (is_since n) log ≡ []) → filter (is_since n) (mark ∷ log) ≡ []
-    later_case number n mark log true h le none rest =
-        absurd (cc
-        (sym (ap (λ b. cond b (mark ∷ filter (is_since number) log) (filter (is_since number) log)) h) ∙ none))
-    later_case number n mark log false h le none rest =
-        let off : nat_le n mark.0 ≡ false = grind (arith, le, h) in
-        rw off (rest
-        (sym (ap (λ b. cond b (mark ∷ filter (is_since number) log) (filter (is_since number) log)) h) ∙ none))
+-- ---- without the marks before a number
 
-pub dropped_all : (log : List Mark) (place : ℕ) → length log ≤ place → drop place log ≡ []
-dropped_all [] zero le = refl
-dropped_all [] (suc place) le = refl
-dropped_all (m ∷ log) zero le = absurd (omega (arith, le))
-dropped_all (m ∷ log) (suc place) le = dropped_all log place (omega (arith, le))
+later_case : (number n : ℕ) (mark : Mark) (log : List Mark) (since : Bool) → is_since number mark ≡ since → number ≤ n
+    → filter (is_since n) (filter (is_since number) log) ≡ filter (is_since n) log
+    → filter (is_since n) (filter (is_since number) (mark ∷ log)) ≡ filter (is_since n) (mark ∷ log)
+later_case number n mark log true since le rest = rw since (ap (λ l. cond (is_since n mark) (mark ∷ l) l) rest)
+later_case number n mark log false since le rest =
+    let off : is_since n mark ≡ false = grind (arith, le, since) in
+    rw (since, off) rest
+
+-- those from a later number on are the same
+pub later_stay : (number n : ℕ) (log : List Mark) → number ≤ n
+    → filter (is_since n) (filter (is_since number) log) ≡ filter (is_since n) log
+later_stay number n [] le = refl
+later_stay number n (mark ∷ log) le =
+    later_case number n mark log (is_since number mark) refl le (later_stay number n log le)
+
+none_case : (number n : ℕ) (mark : Mark) (log : List Mark) (from there : Bool) → is_since n mark ≡ from
+    → is_since number mark ≡ there → filter (is_since n) (mark ∷ log) ≡ []
+    → (filter (is_since n) log ≡ [] → filter (is_since n) (filter (is_since number) log) ≡ [])
+    → filter (is_since n) (filter (is_since number) (mark ∷ log)) ≡ []
+none_case number n mark log true there since kept none rest = let no = rw since at none in absurd (cc no)
+none_case number n mark log false true since kept none rest =
+    let none_behind = rw since at none in rw (kept, since) (rest none_behind)
+none_case number n mark log false false since kept none rest =
+    let none_behind = rw since at none in rw kept (rest none_behind)
+
+-- where none was from a number on, none is
+pub none_stay : (number n : ℕ) (log : List Mark) → filter (is_since n) log ≡ []
+    → filter (is_since n) (filter (is_since number) log) ≡ []
+none_stay number n [] none = refl
+none_stay number n (mark ∷ log) none =
+    none_case number n mark log (is_since n mark) (is_since number mark) refl refl none (none_stay number n log)
+
+-- where no keys were marked, there are no marks
+no_marks : (marks : List Mark) → in_order (map (λ (mark : Mark). mark.1) marks) ≡ [] → marks ≡ []
+no_marks [] none = refl
+no_marks (mark ∷ marks) none =
+    let keys = map (λ (m : Mark). m.1) (mark ∷ marks) in
+    let among = sym (among_in_order mark.1 keys) ∙ ap (is_among mark.1) none in
+    absurd (cc (sym (first_among mark.1 (map (λ (m : Mark). m.1) marks)) ∙ among))
+
+pub no_keys_stay : (number n : ℕ) (log : List Mark) → keys_since log n ≡ []
+    → keys_since (filter (is_since number) log) n ≡ []
+no_keys_stay number n log none =
+    ap (λ (marks : List Mark). in_order (map (λ mark. mark.1) marks))
+    (none_stay number n log (no_marks (filter (is_since n) log) none))

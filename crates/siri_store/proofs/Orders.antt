@@ -15,9 +15,10 @@ use Rattle.siri_records.specs.declared.item.Service.TheVariants as service
 use Rattle.siri_records.specs.declared.key.Key.{Key}
 use Rattle.siri_records.specs.Edges.{listed, edges_of}
 use Rattle.siri_records.specs.Order.{key_cmp}
-use Rattle.siri_store.specs.Stamped.{Stamp, stamp_cmp, has_stamp, has, moments_of, moments_held, is_one_at, is_one_of}
-use Rattle.siri_store.specs.Stamped.{by_end, by_edge, service_of, own_end_of}
+use Rattle.siri_store.specs.Stamped.{Stamp, stamp_cmp, has_stamp, has, moments_of, is_one_at, is_one_of}
+use Rattle.siri_store.specs.Stamped.{by_end, by_edge, own_end_of}
 use Rattle.siri_store.specs.Between.{is_between, is_since}
+use Rattle.siri_records.specs.Services.{service_of}
 
 -- ---- one stamp
 
@@ -205,16 +206,6 @@ first_bits true c = refl
 first_bits false true = refl
 first_bits false false = refl
 
-swap_or : (a b : Bool) → (a || b) ≡ (b || a)
-swap_or true true = refl
-swap_or true false = refl
-swap_or false true = refl
-swap_or false false = refl
-
-pub left_first : (order : ℕ) (key : Key) (all : List ℕ) (old : List Stamp) (s : Stamp)
-    → (has_stamp old s || is_one_at order key all s) ≡ (is_one_at order key all s || has_stamp old s)
-left_first order key all old s = swap_or (has_stamp old s) (is_one_at order key all s)
-
 pub some_first : (order : ℕ) (key : Key) (all : List ℕ) (old : List Stamp) (s : Stamp)
     → has_stamp old s ≡ (has_stamp old s || (is_one_at order key all s && has_stamp old s))
 some_first order key all old s = first_bits (has_stamp old s) (is_one_at order key all s)
@@ -223,92 +214,11 @@ none_or : (b : Bool) → b ≡ (b || false)
 none_or true = refl
 none_or false = refl
 
-pub left_last : (order : ℕ) (key : Key) (all pending : List ℕ) (old cur : List Stamp) → pending ≡ []
-    → ((s : Stamp)
-    → (has_stamp cur s || is_one_at order key pending s) ≡ (is_one_at order key all s || has_stamp old s))
-    → (s : Stamp) → has_stamp cur s ≡ (is_one_at order key all s || has_stamp old s)
-left_last order key all pending old cur none left s =
-    none_or (has_stamp cur s)
-    ∙ (ap (λ b. has_stamp cur s || b) (sym (ap (λ ms. is_one_at order key ms s) none ∙ none_there order key s))
-    ∙ left s)
-
 -- ---- one less of many
-
--- a stamp of the key at a moment of the order stays where that is a moment of the item that stays
-pub stays_at : (order moment : ℕ) (key : Key) (kept : Option Item) (s : Stamp)
-    → is_one_at order key (moment ∷ []) s ≡ true
-    → is_one_of key kept s ≡ has moment (moments_held order kept)
-stays_at order moment key kept (o, m, None) at = absurd (cc at)
-stays_at order moment key kept (o, m, Some k) at =
-    let parts = three (nat_eq order o) (is_eq (key_cmp key k)) (nat_eq m moment) at in
-    ap (λ b. b && has m (moments_held o kept)) parts.1
-    ∙ (λ i. has (same m moment parts.2 i) (moments_held (same o order (turned_eq o order ∙ parts.0) i) kept))
-  where
-    three : (a b c : Bool) → (a && (b && (c || false))) ≡ true → (a ≡ true) × (b ≡ true) × (c ≡ true)
-    three true true true h = (refl, refl, refl)
-    three true true false h = absurd (cc h)
-    three true false c h = absurd (cc h)
-    three false b c h = absurd (cc h)
-
-    same : (a b : ℕ) → nat_eq a b ≡ true → a ≡ b
-    same a b h = grind (arith, nat_tests)
-
-less_bits : (cur one pend pending kept new : Bool) → pending ≡ (one || pend) → new ≡ (cur && not one)
-    → (one ≡ true → kept ≡ false)
-    → (new && not (pend && not kept)) ≡ (cur && not (pending && not kept))
-less_bits cur true pend pending kept new p n k = rw n (rw p (rw (k refl) (both cur (not (pend && true)))))
-  where
-    both : (a b : Bool) → ((a && false) && b) ≡ (a && false)
-    both true b = refl
-    both false b = refl
-less_bits cur false pend pending kept new p n k = rw n (rw p (right cur (not (pend && not kept))))
-  where
-    right : (a b : Bool) → ((a && true) && b) ≡ (a && b)
-    right true b = refl
-    right false b = refl
-
-kept_bits : (cur one pend pending kept : Bool) → pending ≡ (one || pend) → (one ≡ true → kept ≡ true)
-    → (cur && not (pend && not kept)) ≡ (cur && not (pending && not kept))
-kept_bits cur true pend pending kept p k = rw p (rw (k refl) (ap (λ b. cur && not b) (none_eq pend)))
-kept_bits cur false pend pending kept p k = rw p refl
-
-module _ (order : ℕ) (key : Key) (pending : List ℕ) (m : ℕ) (pend : List ℕ) (is : pending ≡ m ∷ pend)
-    (kept : Option Item) (cur : List Stamp) where
-  pending_are : (s : Stamp)
-      → is_one_at order key pending s ≡ (is_one_at order key (m ∷ []) s || is_one_at order key pend s)
-  pending_are s = ap (λ ms. is_one_at order key ms s) is ∙ one_more order key m pend s
-
-  pub less_next : (new : List Stamp)
-      → ((s : Stamp) → has_stamp new s ≡ (has_stamp cur s && not (is_one_at order key (m ∷ []) s)))
-      → has m (moments_held order kept) ≡ false
-      → (s : Stamp)
-      → (has_stamp new s && not (is_one_at order key pend s && not (is_one_of key kept s)))
-      ≡ (has_stamp cur s && not (is_one_at order key pending s && not (is_one_of key kept s)))
-  less_next new less gone s =
-      less_bits (has_stamp cur s) (is_one_at order key (m ∷ []) s) (is_one_at order key pend s)
-      (is_one_at order key pending s) (is_one_of key kept s) (has_stamp new s)
-      (pending_are s) (less s) (λ at. stays_at order m key kept s at ∙ gone)
-
-  pub kept_next : has m (moments_held order kept) ≡ true
-      → (s : Stamp)
-      → (has_stamp cur s && not (is_one_at order key pend s && not (is_one_of key kept s)))
-      ≡ (has_stamp cur s && not (is_one_at order key pending s && not (is_one_of key kept s)))
-  kept_next stays s =
-      kept_bits (has_stamp cur s) (is_one_at order key (m ∷ []) s) (is_one_at order key pend s)
-      (is_one_at order key pending s) (is_one_of key kept s)
-      (pending_are s) (λ at. stays_at order m key kept s at ∙ stays)
 
 true_and : (b : Bool) → b ≡ (b && true)
 true_and true = refl
 true_and false = refl
-
-pub less_last : (order : ℕ) (key : Key) (pending : List ℕ) (kept : Option Item) (cur : List Stamp) → pending ≡ []
-    → (s : Stamp)
-    → has_stamp cur s ≡ (has_stamp cur s && not (is_one_at order key pending s && not (is_one_of key kept s)))
-less_last order key pending kept cur none s =
-    true_and (has_stamp cur s)
-    ∙ ap (λ b. has_stamp cur s && not (b && not (is_one_of key kept s)))
-    (sym (ap (λ ms. is_one_at order key ms s) none ∙ none_there order key s))
 
 -- ---- the stamps of an item, added and taken out
 
@@ -317,16 +227,6 @@ add_bits true true old mid new m n = rw n refl
 add_bits true false old mid new m n = n ∙ m
 add_bits false true old mid new m n = rw n refl
 add_bits false false old mid new m n = n ∙ m
-
-some_two : (a b old mid new : Bool) → mid ≡ (a || old) → new ≡ (mid || (b && new)) → new ≡ (old || ((a || b) && new))
-some_two true b old mid new m n = rw m at n ∙ sym (ap (λ x. old || x) (rw m at n) ∙ or_true old)
-some_two false b old mid new m n = rw m at n
-
-some_one : (a b old new : Bool) → new ≡ (old || (a && new)) → new ≡ (old || ((a || b) && new))
-some_one true b old new n = n
-some_one false b true new n = n
-some_one false true false new n = rw n refl
-some_one false false false new n = n
 
 module _ (key : Key) (i : Item) (old : List Stamp) where
   pub added : (mid new : List Stamp)
@@ -337,26 +237,6 @@ module _ (key : Key) (i : Item) (old : List Stamp) where
       add_bits (is_one_at by_end key (listed (own_end_of i)) s) (is_one_at (by_edge (service_of i)) key (edges_of i) s)
       (has_stamp old s) (has_stamp mid s) (has_stamp new s) (a s) (b s)
       ∙ ap (λ x. x || has_stamp old s) (sym (of_item key i s))
-
-  pub some_added : (mid new : List Stamp)
-      → ((s : Stamp) → has_stamp mid s ≡ (is_one_at by_end key (listed (own_end_of i)) s || has_stamp old s))
-      → ((s : Stamp)
-      → has_stamp new s
-      ≡ (has_stamp mid s || (is_one_at (by_edge (service_of i)) key (edges_of i) s && has_stamp new s)))
-      → (s : Stamp) → has_stamp new s ≡ (has_stamp old s || (is_one_of key (Some i) s && has_stamp new s))
-  some_added mid new a b s =
-      some_two (is_one_at by_end key (listed (own_end_of i)) s) (is_one_at (by_edge (service_of i)) key (edges_of i) s)
-      (has_stamp old s) (has_stamp mid s) (has_stamp new s) (a s) (b s)
-      ∙ ap (λ x. has_stamp old s || (x && has_stamp new s)) (sym (of_item key i s))
-
-  pub some_ends : (new : List Stamp)
-      → ((s : Stamp)
-      → has_stamp new s ≡ (has_stamp old s || (is_one_at by_end key (listed (own_end_of i)) s && has_stamp new s)))
-      → (s : Stamp) → has_stamp new s ≡ (has_stamp old s || (is_one_of key (Some i) s && has_stamp new s))
-  some_ends new a s =
-      some_one (is_one_at by_end key (listed (own_end_of i)) s) (is_one_at (by_edge (service_of i)) key (edges_of i) s)
-      (has_stamp old s) (has_stamp new s) (a s)
-      ∙ ap (λ x. has_stamp old s || (x && has_stamp new s)) (sym (of_item key i s))
 
 out_bits : (a b kept old mid new : Bool) → mid ≡ (old && not (a && not kept)) → new ≡ (mid && not (b && not kept))
     → new ≡ (old && not ((a || b) && not kept))

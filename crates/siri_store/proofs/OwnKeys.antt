@@ -1,24 +1,26 @@
 -- Items under their own keys, and which of them are shown.
-use Rattle.std.proofs.Common.{◌≡◌, ℕ, ◌≤◌, [], ◌∷◌, length, take, drop, Bool, true, false, ◌&&◌, refl, ap, sym, ◌∙◌}
+use Rattle.std.proofs.Common.{◌≡◌, ℕ, ◌≤◌, List, [], ◌∷◌, filter, length, take, drop, Bool, true, false, ◌&&◌, ◌||◌, refl, ap, sym, ◌∙◌}
 use Rattle.std.proofs.Common.{slice_range}
 use Rattle.std.specs.List.{All, AllByRecursion}
 use Rattle.std.specs.Map.{remove_entry}
 use Rattle.std.specs.BTreeMap.{insert_entry, is_at}
 use Rattle.std.specs.declared.cmp.Ordering.{Ordering}
 use Rattle.std.specs.declared.cmp.Ordering.TheVariants.{Less, Equal, Greater}
-use Rattle.std.proofs.lemmas.List.Elements.{All-from_recursion, recursion_from_All, All-filter, All-weaker}
+use Rattle.std.proofs.lemmas.List.Elements.{All-from_recursion, recursion_from_All, All-weaker}
 use Rattle.siri_records.specs.declared.item.Item.{Item}
 use Rattle.siri_records.specs.declared.item.Item.TheVariants as item
+use Rattle.siri_records.specs.declared.journey.Journey.{Journey}
 use Rattle.siri_records.specs.declared.key.Key.{Key}
-use Rattle.siri_records.specs.Keyed.{Items, living}
+use Rattle.siri_records.specs.Keyed.{Items}
 use Rattle.siri_records.specs.Keys.{key_of}
 use Rattle.siri_records.specs.Order.{key_cmp}
 use Rattle.siri_records.proofs.Order.{key_cmp_exact}
+use Rattle.siri_topic.specs.declared.topics.LineDirection.{LineDirection}
 use Rattle.siri_topic.specs.declared.topics.Topic.{Topic}
 use Rattle.siri_topic.specs.declared.topics.Topic.TheVariants as topic
-use Rattle.siri_topic.specs.Agreement.{agrees, has_visit}
+use Rattle.siri_topic.specs.Agreement.{agrees, has_journey, has_visit, is_on, is_on_a_line}
 use Rattle.siri_topic.specs.Shown.{is_shown}
-use Rattle.siri_store.specs.Candidates.{UnderOwnKeys, may_be_shown, candidates}
+use Rattle.siri_store.specs.Candidates.{UnderOwnKeys, may_be_line, may_be_shown, candidates}
 use Rattle.siri_store.specs.Sides.{is_below}
 use Rattle.siri_store.specs.Walk.{shown_at, shown_entries}
 use Rattle.siri_store.proofs.Ranges.{filter_through, in_turn, range_is_kept, range_after, range_before}
@@ -61,19 +63,29 @@ own_removed es k all =
     All-from_recursion Own (remove_entry (is_at (key_cmp k)) es)
     (remove_own (is_at (key_cmp k)) es (recursion_from_All Own es all))
 
-pub own_living : (now : ℕ) (es : Items) → UnderOwnKeys es → UnderOwnKeys (living now es)
-own_living now es all = All-filter _ Own es all
-
 -- ---- what is shown may be shown by its key
 
 both_left : (a b : Bool) → (a && b) ≡ true → a ≡ true
 both_left true b is = refl
 both_left false b is = absurd (cc is)
 
-agreeing : (t : Topic) (i : Item) → agrees t i ≡ true → may_be_shown t (key_of i) ≡ true
-unfolding has_visit
+both_right : (a b : Bool) → (a && b) ≡ true → b ≡ true
+both_right true b is = is
+both_right false b is = absurd (cc is)
+
+or_none : (b : Bool) → (b || false) ≡ true → b ≡ true
+or_none true is = refl
+or_none false is = absurd (cc is)
+
+on_line : (lines : List LineDirection) (j : Journey) → is_on_a_line lines j ≡ true → may_be_line lines j.line_ref ≡ true
+on_line [] j is = refl
+on_line (only ∷ []) j is = both_left _ _ (or_none (is_on only j) is)
+on_line (one ∷ other ∷ lines) j is = refl
+
+pub agreeing : (t : Topic) (i : Item) → agrees t i ≡ true → may_be_shown t (key_of i) ≡ true
+unfolding has_visit has_journey
 agreeing (topic.Stop t) (item.Visit v) is = both_left _ _ (both_left _ _ (both_left _ _ (both_left _ _ is)))
-agreeing (topic.Timetable t) (item.Journey j) is = refl
+agreeing (topic.Timetable t) (item.Journey j) is = on_line t.lines j (both_right _ _ is)
 agreeing (topic.Vehicle t) (item.Vehicle v) is = refl
 agreeing (topic.Situation t) (item.Situation s) is = refl
 agreeing t i is = absurd (cc is)
@@ -99,24 +111,25 @@ shown_there t now es from to all is = ap (shown_entries t now) is ∙ shown_cand
 
 -- ---- their places
 
-pub places_rise : (t : Topic) (es : Items) (from to : ℕ) → from ≤ length es
-    → All (λ e. is_below t Equal e.0 ≡ true) (take from es) → All (λ e. is_below t Greater e.0 ≡ false) (drop to es)
-    → from ≤ to
-places_rise t es from to within before after =
-    in_turn (λ (e : Key × Item). is_below t Equal e.0 ≡ true)
-    (λ (e : Key × Item). is_below t Greater e.0 ≡ false) es from to (λ e. not_both t e.0) within before after
+module _ {X : Type 0} (t : Topic) (es : List (Key × X)) (from to : ℕ) where
+  pub places_rise : from ≤ length es
+      → All (λ e. is_below t Equal e.0 ≡ true) (take from es) → All (λ e. is_below t Greater e.0 ≡ false) (drop to es)
+      → from ≤ to
+  places_rise within before after =
+      in_turn (λ (e : Key × X). is_below t Equal e.0 ≡ true)
+      (λ (e : Key × X). is_below t Greater e.0 ≡ false) es from to (λ e. not_both t e.0) within before after
 
--- between the first that isn't below the middle side and the first that is above it, they are the candidates
-pub places_are : (t : Topic) (es : Items) (from to : ℕ) → from ≤ to
-    → All (λ e. is_below t Equal e.0 ≡ true) (take from es) → All (λ e. is_below t Equal e.0 ≡ false) (drop from es)
-    → All (λ e. is_below t Greater e.0 ≡ true) (take to es) → All (λ e. is_below t Greater e.0 ≡ false) (drop to es)
-    → slice_range es from to ≡ candidates t es
-places_are t es from to le below not_below not_above above =
-    let after = range_after (λ (e : Key × Item). is_below t Equal e.0 ≡ false) es from to not_below in
-    let before = range_before (λ (e : Key × Item). is_below t Greater e.0 ≡ true) es from to le not_above in
-    range_is_kept (λ (e : Key × Item). may_be_shown t e.0) es from to le
-    (All-weaker (λ (e : Key × Item). is_below t Equal e.0 ≡ true) (λ (e : Key × Item). may_be_shown t e.0 ≡ false)
-    (λ e. below_none t e.0) (take from es) below)
-    (λ k d lt. between_all t _ (after k d lt) (before k d lt))
-    (All-weaker (λ (e : Key × Item). is_below t Greater e.0 ≡ false) (λ (e : Key × Item). may_be_shown t e.0 ≡ false)
-    (λ e. above_none t e.0) (drop to es) above)
+  -- between the first that isn't below the middle side and the first that is above it, they are those that may be shown
+  pub places_are : from ≤ to
+      → All (λ e. is_below t Equal e.0 ≡ true) (take from es) → All (λ e. is_below t Equal e.0 ≡ false) (drop from es)
+      → All (λ e. is_below t Greater e.0 ≡ true) (take to es) → All (λ e. is_below t Greater e.0 ≡ false) (drop to es)
+      → slice_range es from to ≡ filter (λ e. may_be_shown t e.0) es
+  places_are le below not_below not_above above =
+      let after = range_after (λ (e : Key × X). is_below t Equal e.0 ≡ false) es from to not_below in
+      let before = range_before (λ (e : Key × X). is_below t Greater e.0 ≡ true) es from to le not_above in
+      range_is_kept (λ (e : Key × X). may_be_shown t e.0) es from to le
+      (All-weaker (λ (e : Key × X). is_below t Equal e.0 ≡ true) (λ (e : Key × X). may_be_shown t e.0 ≡ false)
+      (λ e. below_none t e.0) (take from es) below)
+      (λ k d lt. between_all t _ (after k d lt) (before k d lt))
+      (All-weaker (λ (e : Key × X). is_below t Greater e.0 ≡ false) (λ (e : Key × X). may_be_shown t e.0 ≡ false)
+      (λ e. above_none t e.0) (drop to es) above)

@@ -7,7 +7,7 @@ use Rattle.std.specs.List.Sorted.{IsStrictlySortedBy}
 use Rattle.std.specs.Map.{keys_of}
 use Rattle.std.specs.declared.cmp.Ordering.{Ordering}
 use Rattle.std.specs.declared.cmp.Ordering.TheVariants.{Less}
-use Rattle.std.proofs.lemmas.List.{append-nil, take-append-drop, drop-take, length-take-le, length-drop}
+use Rattle.std.proofs.lemmas.List.{append-nil, take-append-drop, drop-take}
 use Rattle.std.proofs.lemmas.List.Elements.{All-from_recursion, recursion_from_All, All-take, All-drop, filter-append}
 use Rattle.std.proofs.lemmas.List.Folds.{drop_split}
 
@@ -136,11 +136,6 @@ module _ {X : Type 0} where
       ap (λ n. drop from (take n xs)) (sym sum) ∙ drop-take from (to - from) xs in
       subst (λ (l : List X). All P l) same (All-drop P from (take to xs) all)
 
-  pub range_length : (xs : List X) (from to : ℕ) → to ≤ length xs → length (slice_range xs from to) ≡ to - from
-  range_length xs from to within =
-      let fits : to - from ≤ length (drop from xs) = omega (arith, length-drop from xs) in
-      length-take-le (to - from) (drop from xs) fits
-
   take_none : (n : ℕ) → take {A = X} n [] ≡ []
   take_none zero = refl
   take_none (suc n) = refl
@@ -153,10 +148,3 @@ module _ {X : Type 0} where
       → slice_range xs from to ≡ x ∷ slice_range xs (from + 1) to
   range_next xs from to x lt is = let one : to - from ≡ suc (to - (from + 1)) = omega arith in
       take_next (drop from xs) (drop (from + 1) xs) (to - from) (to - (from + 1)) x one is
-
-  -- and is empty where its end is no higher, and where nothing is at its place
-  pub range_over : (xs : List X) (from to : ℕ) → to ≤ from → slice_range xs from to ≡ []
-  range_over xs from to le = let none : to - from ≡ 0 = omega arith in ap (λ n. take n (drop from xs)) none
-
-  pub range_past : (xs : List X) (from to : ℕ) → drop from xs ≡ [] → slice_range xs from to ≡ []
-  range_past xs from to none = ap (take (to - from)) none ∙ take_none (to - from)

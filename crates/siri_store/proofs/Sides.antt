@@ -1,5 +1,5 @@
 -- Sides rise along keys in order, and the keys of a topic's candidates are those of the middle one.
-use Rattle.std.proofs.Common.{◌≡◌, ℕ, ◌<◌, ◌≤◌, true, false, refl, sym, ◌∙◌, arith, inl, inr}
+use Rattle.std.proofs.Common.{◌≡◌, ℕ, ◌<◌, ◌≤◌, List, [], ◌∷◌, true, false, refl, sym, ◌∙◌, arith, inl, inr}
 use Rattle.std.specs.Cmp.{IsTotalOrder}
 use Rattle.std.specs.Cmp.Lexicographic.{slice_cmp, nat_list_cmp_total}
 use Rattle.std.specs.FinMap.{nat_cmp-IsAntisymmetric}
@@ -12,11 +12,12 @@ use Rattle.std.proofs.lemmas.Cmp.{alike_right, same_from_slice_cmp}
 use Rattle.siri_records.specs.declared.key.Key.{Key}
 use Rattle.siri_records.specs.declared.key.Key.TheVariants as key
 use Rattle.siri_records.specs.Order.{rank, names, name_cmp, key_cmp}
+use Rattle.siri_topic.specs.declared.topics.LineDirection.{LineDirection}
 use Rattle.siri_topic.specs.declared.topics.Topic.{Topic}
 use Rattle.siri_topic.specs.declared.topics.Topic.TheVariants as topic
 use Rattle.siri_topic.specs.Agreement.{same_name}
-use Rattle.siri_store.specs.Candidates.{may_be_shown}
-use Rattle.siri_store.specs.Sides.{rank_asked, point_cmp, side, is_below}
+use Rattle.siri_store.specs.Candidates.{may_be_line, may_be_shown}
+use Rattle.siri_store.specs.Sides.{rank_asked, line_cmp, place_cmp, side, is_below}
 
 highest : (o : Ordering) → ordering_index o ≤ 2
 highest Less = omega arith
@@ -60,14 +61,24 @@ module _ {K : Type 0} {R : K → K → Ordering} (total : IsTotalOrder R) (a b c
 
 -- ---- keys
 
-points_rise : (t : Topic) (a b : Key) → rank a ≡ rank b → slice_cmp name_cmp (names a) (names b) ≡ Less
-    → ordering_index (point_cmp t a) ≤ ordering_index (point_cmp t b)
-points_rise (topic.Stop s) (key.Visit m i) (key.Visit n j) same less =
+lines_rise : (lines : List LineDirection) (l m : List ℕ) (p : Ordering) → ordering_then (slice_cmp nat_cmp l m) p ≡ Less
+    → ordering_index (line_cmp lines l) ≤ ordering_index (line_cmp lines m)
+lines_rise [] l m p less = omega arith
+lines_rise (only ∷ []) l m p less = rises nat_list_cmp_total l m only.line_ref (slice_cmp nat_cmp l m) p refl less
+lines_rise (one ∷ other ∷ lines) l m p less = omega arith
+
+places_rise : (t : Topic) (a b : Key) → rank a ≡ rank b → slice_cmp name_cmp (names a) (names b) ≡ Less
+    → ordering_index (place_cmp t a) ≤ ordering_index (place_cmp t b)
+places_rise (topic.Stop s) (key.Visit m i) (key.Visit n j) same less =
     rises nat_list_cmp_total m n s.monitoring_ref (slice_cmp nat_cmp m n) _ refl less
-points_rise (topic.Stop s) (key.Visit m i) b same less = absurd (omega arith)
-points_rise (topic.Stop s) a (key.Visit n j) same less = absurd (omega arith)
-points_rise (topic.Stop s) a b same less = omega arith
-points_rise t a b same less = omega arith
+places_rise (topic.Stop s) (key.Visit m i) b same less = absurd (omega arith)
+places_rise (topic.Stop s) a (key.Visit n j) same less = absurd (omega arith)
+places_rise (topic.Stop s) a b same less = omega arith
+places_rise (topic.Timetable s) (key.Journey l d f j) (key.Journey m e g i) same less = lines_rise s.lines l m _ less
+places_rise (topic.Timetable s) (key.Journey l d f j) b same less = absurd (omega arith)
+places_rise (topic.Timetable s) a (key.Journey m e g i) same less = absurd (omega arith)
+places_rise (topic.Timetable s) a b same less = omega arith
+places_rise t a b same less = omega arith
 
 then_rises : (o p q : Ordering) → ordering_index p ≤ ordering_index q
     → ordering_index (ordering_then o p) ≤ ordering_index (ordering_then o q)
@@ -79,10 +90,10 @@ side_case : (t : Topic) (a b : Key) (o : Ordering) → nat_cmp (rank a) (rank b)
     → ordering_then o (slice_cmp name_cmp (names a) (names b)) ≡ Less
     → ordering_index (side t a) ≤ ordering_index (side t b)
 side_case t a b Less is less =
-    ranks_rise (rank a) (rank b) (rank_asked t) (point_cmp t a) (point_cmp t b) (less_means (rank a) (rank b) is)
+    ranks_rise (rank a) (rank b) (rank_asked t) (place_cmp t a) (place_cmp t b) (less_means (rank a) (rank b) is)
 side_case t a b Equal is less =
     let same : rank a ≡ rank b = nat_cmp-IsAntisymmetric (rank a) (rank b) is in
-    rw same (then_rises (nat_cmp (rank b) (rank_asked t)) (point_cmp t a) (point_cmp t b) (points_rise t a b same less))
+    rw same (then_rises (nat_cmp (rank b) (rank_asked t)) (place_cmp t a) (place_cmp t b) (places_rise t a b same less))
 side_case t a b Greater is less = absurd (cc less)
 
 -- a key that comes before one that is below a side is below it too
@@ -94,13 +105,21 @@ below_before t least a b less below =
 
 -- ---- the middle side
 
-pub middle_is : (t : Topic) (k : Key) → may_be_shown t k ≡ is_eq (side t k)
-middle_is (topic.Stop s) (key.Visit m i) =
+names_same : (m n : List ℕ) → same_name m n ≡ is_eq (slice_cmp nat_cmp m n)
+names_same m n =
     sym (same_from_slice_cmp nat_cmp is_eq same_name refl (λ y ys. refl) (λ x xs. refl)
-    (λ x y xs ys o is. grind (arith, nat_tests)) m s.monitoring_ref (slice_cmp nat_cmp m s.monitoring_ref) refl)
+    (λ x y xs ys o is. grind (arith, nat_tests)) m n (slice_cmp nat_cmp m n) refl)
+
+lines_same : (lines : List LineDirection) (line : List ℕ) → may_be_line lines line ≡ is_eq (line_cmp lines line)
+lines_same [] line = refl
+lines_same (only ∷ []) line = names_same line only.line_ref
+lines_same (one ∷ other ∷ lines) line = refl
+
+pub middle_is : (t : Topic) (k : Key) → may_be_shown t k ≡ is_eq (side t k)
+middle_is (topic.Stop s) (key.Visit m i) = names_same m s.monitoring_ref
 middle_is (topic.Stop s) k = refl
 middle_is (topic.Timetable s) (key.Visit m i) = refl
-middle_is (topic.Timetable s) (key.Journey l d f j) = refl
+middle_is (topic.Timetable s) (key.Journey l d f j) = lines_same s.lines l
 middle_is (topic.Timetable s) (key.Vehicle v) = refl
 middle_is (topic.Timetable s) (key.Situation p n) = refl
 middle_is (topic.Vehicle s) (key.Visit m i) = refl

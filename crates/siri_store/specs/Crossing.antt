@@ -1,27 +1,18 @@
 -- Which held items have an edge in a range, by the first such edge.
-use Rattle.std.specs.Prelude.{ℕ, ℤ, List, [], map, filter, fold, Option, Some, Bool, true, false, ◌&&◌}
+use Rattle.std.specs.Prelude.{ℕ, ℤ, List, [], map, filter, fold, Option, Some, ◌&&◌}
 use Rattle.std.specs.BTreeMap.{insert_entry}
 use Rattle.std.specs.Map.{values_of}
 use Rattle.std.specs.Option.{option_map_or}
 use Rattle.std.specs.Ordering.{nat_cmp, on, then_cmp}
 use Rattle.std.specs.declared.cmp.Ordering.{Ordering}
 use Rattle.siri_records.specs.declared.item.Item.{Item}
-use Rattle.siri_records.specs.declared.item.Item.TheVariants as item
 use Rattle.siri_records.specs.declared.item.Service.{Service}
-use Rattle.siri_records.specs.declared.item.Service.TheVariants as service
 use Rattle.siri_records.specs.declared.key.Key.{Key}
 use Rattle.siri_records.specs.Edges.{edges_of, is_within, has_edge}
 use Rattle.siri_records.specs.Ends.{least}
 use Rattle.siri_records.specs.Keyed.{Items}
 use Rattle.siri_records.specs.Order.{key_cmp}
-
--- an item is of a functional service (EN 15531-3, CEN/TS 15531-5)
-abbrev pub is_of : Service → Item → Bool
-is_of service.Stop (item.Visit v) = true
-is_of service.Timetable (item.Journey j) = true
-is_of service.Vehicle (item.Vehicle v) = true
-is_of service.Situation (item.Situation s) = true
-is_of s i = false
+use Rattle.siri_records.specs.Services.{is_of}
 
 -- the least edge of an item in a range, where it has one
 abbrev pub least_edge : ℤ → ℤ → Item → Option ℕ

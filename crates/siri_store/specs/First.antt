@@ -12,7 +12,8 @@ use Rattle.siri_topic.specs.declared.topics.Topic.{Topic}
 use Rattle.siri_topic.specs.declared.topics.Topic.TheVariants as topic
 use Rattle.siri_topic.specs.declared.windows.Window.{Window}
 use Rattle.siri_topic.specs.Shown.{is_before, is_from, is_shown, window_of}
-use Rattle.siri_store.specs.Crossing.{edge_cmp, is_of}
+use Rattle.siri_store.specs.Crossing.{edge_cmp}
+use Rattle.siri_records.specs.Services.{is_of}
 
 -- the entry of an item, and the item's key
 abbrev pub under_entry : Key × Item → ℕ × Key

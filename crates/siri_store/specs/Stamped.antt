@@ -15,6 +15,7 @@ use Rattle.siri_records.specs.Edges.{listed, edges_of}
 use Rattle.siri_records.specs.Ends.{end_of}
 use Rattle.siri_records.specs.Keyed.{Items, item_of}
 use Rattle.siri_records.specs.Order.{key_cmp}
+use Rattle.siri_records.specs.Services.{service_of}
 
 -- the number of an order, a moment and a key
 abbrev pub Stamp : Type 0
@@ -44,13 +45,6 @@ by_edge service.Stop = 1
 by_edge service.Timetable = 2
 by_edge service.Vehicle = 3
 by_edge service.Situation = 4
-
--- the functional service (EN 15531-3, CEN/TS 15531-5) that an item is of
-abbrev pub service_of : Item → Service
-service_of (item.Visit v) = service.Stop
-service_of (item.Journey j) = service.Timetable
-service_of (item.Vehicle v) = service.Vehicle
-service_of (item.Situation s) = service.Situation
 
 -- the end of an item that isn't its edge: a visit has none
 abbrev pub own_end_of : Item → Option ℕ

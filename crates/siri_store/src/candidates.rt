@@ -1,15 +1,17 @@
 //! The held items that may be shown to a topic by their keys: they stand together, since keys are in order of their
-//! service, and those of visits in order of their MonitoringRef.
+//! service, those of visits in order of their MonitoringRef, and those of journeys of their LineRef. So do changes of
+//! such keys among others.
 
-ghost use Rattle.std.specs.Prelude.{◌≡◌, ◌≤◌, take, drop, length, slice_range, true, false};
+ghost use Rattle.std.specs.Prelude.{◌≡◌, ◌≤◌, filter, take, drop, length, slice_range, true, false};
 ghost use Rattle.std.specs.List.{All};
 ghost use Rattle.siri_records.specs.Keyed.{InOrder};
 ghost use Rattle.siri_records.specs.Order.{rank};
 ghost use Rattle.siri_store.specs.Candidates.{candidates, may_be_shown};
-ghost use Rattle.siri_store.specs.Sides.{rank_asked, point_cmp, side, is_below};
+ghost use Rattle.siri_store.specs.Sides.{line_cmp, rank_asked, place_cmp, side, is_below};
 
-use siri_records::{Key, KeyedItems};
-use siri_topic::Topic;
+use siri_base::{List, Name};
+use siri_records::{Change, Key, KeyedItems};
+use siri_topic::{LineDirection, Topic};
 use std::cmp::Ordering;
 use std::ops::Range;
 
@@ -45,8 +47,41 @@ fn first_from(items: &KeyedItems, topic: &Topic, least: Ordering) -> usize
     low
 }
 
+/// The places of those changes, of some in order of key, whose keys are of items that may be shown to a topic. Keys alone
+/// are looked at, by halves.
+pub fn asked(changes: &List<Change>, topic: &Topic) -> Range<usize>
+    requires { InOrder changes.now }
+    ensures places { slice_range changes.now result.start result.end ≡ filter (λ change. may_be_shown topic.now change.0) changes.now }
+    ensures rising { result.start ≤ result.end }
+    ensures within { result.end ≤ length changes.now }
+{
+    Range {
+        start: first_change_from(changes, topic, Ordering::Equal),
+        end: first_change_from(changes, topic, Ordering::Greater),
+    }
+}
+
+/// The place of the first change whose key isn't below a side, or their number.
+fn first_change_from(changes: &List<Change>, topic: &Topic, least: Ordering) -> usize
+    requires { InOrder changes.now }
+    ensures below { All (λ change. is_below topic.now least change.0 ≡ true) (take result changes.now) }
+    ensures above { All (λ change. is_below topic.now least change.0 ≡ false) (drop result changes.now) }
+    ensures within { result ≤ length changes.now }
+{
+    let mut low = 0;
+    let mut high = changes.len();
+    while low < high {
+        let middle = low + (high - low) / 2;
+        match changes.get(middle) {
+            Some(change) if side(topic, change.key.key()) < least => low = middle + 1,
+            _ => high = middle,
+        }
+    }
+    low
+}
+
 /// Whether an item may be shown to a topic by its key.
-pub(crate) fn may_be_shown(topic: &Topic, key: &Key) -> bool
+pub fn may_be_shown(topic: &Topic, key: &Key) -> bool
     ensures { result ≡ may_be_shown topic.now key.now }
 {
     side(topic, key).is_eq()
@@ -58,17 +93,28 @@ fn side(topic: &Topic, key: &Key) -> Ordering
 {
     rank(key)
         .cmp(&rank_asked(topic))
-        .then(point_cmp(topic, key))
+        .then(place_cmp(topic, key))
 }
 
-/// Of two visits' monitoring points, the key's against the topic's.
-fn point_cmp(topic: &Topic, key: &Key) -> Ordering
-    ensures { result ≡ point_cmp topic.now key.now }
+/// Of two visits' monitoring points, or of two journeys' lines, the key's against the topic's.
+fn place_cmp(topic: &Topic, key: &Key) -> Ordering
+    ensures { result ≡ place_cmp topic.now key.now }
 {
     match (topic, key) {
         (Topic::Stop(topic), Key::Visit { monitoring, .. }) => {
             monitoring.cmp(&topic.monitoring_ref)
         }
+        (Topic::Timetable(topic), Key::Journey { line, .. }) => line_cmp(&topic.lines, line),
+        _ => Ordering::Equal,
+    }
+}
+
+/// A line against the one that is asked for, where that is a single one.
+fn line_cmp(lines: &List<LineDirection>, line: &Name) -> Ordering
+    ensures { result ≡ line_cmp lines.now line.now }
+{
+    match lines.slice() {
+        [only] => line.cmp(&only.line_ref),
         _ => Ordering::Equal,
     }
 }

@@ -40,6 +40,7 @@ mod stamps;
 mod store;
 mod walk;
 
+pub use candidates::{asked, may_be_shown};
 pub use crossing::Crossing;
 pub use first::First;
 pub use marks::{Marks, marks_touch_their_keys};

@@ -7,21 +7,21 @@
 //! ```
 //!
 //! Stands on `siri_base` and `siri_records`. It knows no store and no subscription.
-ghost use Rattle.std.specs.Prelude.{◌≡◌, ℕ, ◌+◌, ◌<◌, ◌≤◌, ◌^◌, ◌∷◌, ◌++◌, [], drop, map, filter, length, IfOk, OnOk};
-ghost use Rattle.std.specs.Vec.{vec_capacity, vec_len};
+ghost use Rattle.std.specs.Prelude.{◌≡◌, ℕ, ◌+◌, ◌≤◌, ◌<◌, ◌^◌, ◌∷◌, ◌++◌, [], drop, map, filter, length, ltb, IfOk, OnOk};
+ghost use Rattle.std.specs.VecDeque.{deque_capacity};
 ghost use Rattle.siri_records.specs.KeyLists.{in_order};
 ghost use Rattle.siri_store.specs.Marked.{keys_since, is_since, last_of_each, IsFew, Rises, SameFrom, MarksTouch, unmarked};
 
 use siri_base::{Copies, OutOfMemory};
 use siri_records::SharedKey;
-use std::alloc::{AllocFailed, Global};
-use std::collections::BTreeSet;
+use std::alloc::Global;
+use std::collections::{BTreeSet, VecDeque};
 use std::marker::Model;
 
 /// Marks in the order in which they were set, each under a number, and the number under which keys are marked now.
 /// Contracts see the marks, that number, and for how many marks more there is room.
 pub struct Marks {
-    log: Vec<(u64, SharedKey)>,
+    log: VecDeque<(u64, SharedKey)>,
     number: u64,
 }
 
@@ -33,12 +33,12 @@ impl Drop for Marks {
 
 impl Model for Marks {
     ghost use Rattle.std.specs.Prelude.{◌-◌, length};
-    ghost use Rattle.std.specs.Vec.{vec_capacity};
+    ghost use Rattle.std.specs.VecDeque.{deque_capacity};
     ghost use Rattle.siri_store.specs.Marked.{Marked, Rises};
 
     ghost Value = { Marked };
 
-    ghost view = { λ m. record { log = m.log.items; number = m.number; room = vec_capacity m.log - length m.log.items } };
+    ghost view = { λ m. record { log = m.log.items; number = m.number; room = deque_capacity m.log - length m.log.items } };
 
     ghost invariant = { λ m. Rises m.number m.log.items };
 }
@@ -49,7 +49,7 @@ impl Marks {
         ensures { result ≡ unmarked }
     {
         Marks {
-            log: Vec::new(alloc),
+            log: VecDeque::from_vec(Vec::new(alloc)),
             number: 0,
         }
     }
@@ -101,7 +101,7 @@ impl Marks {
         ensures mark { self.new ≡ record self.old { log = self.old.log ++ (self.old.number, key) ∷ []; room = self.new.room } }
         ensures room { self.old.room ≤ self.new.room + 1 }
     {
-        put(&mut self.log, self.number, key);
+        self.log.push_back_reserved((self.number, key));
     }
 
     /// The keys that were marked under a number or a later one, in order, each once.
@@ -112,18 +112,16 @@ impl Marks {
         keys_from(alloc, &self.log, first)
     }
 
-    /// Marks before a number may go, since they are asked for no more: they go where there are no others. It takes no
-    /// memory.
+    /// Marks before a number go, since they are asked for no more. It takes no memory.
     pub fn forget(&mut self, number: u64)
+        ensures log { self.new.log ≡ filter (is_since number) self.old.log }
         ensures same { SameFrom number self.old self.new }
         ensures fresh { (n : ℕ) → keys_since self.old.log n ≡ [] → keys_since self.new.log n ≡ [] }
-        ensures few { filter (is_since number) self.old.log ≡ [] → self.new.log ≡ [] }
-        ensures no_more { length self.new.log ≤ length self.old.log }
         ensures number { self.new.number ≡ self.old.number }
         ensures room { self.old.room ≤ self.new.room }
     {
-        if first_since(&self.log, self.number, number) >= self.log.len() {
-            self.log.clear();
+        for _ in 0..first_since(&self.log, self.number, number) {
+            self.log.pop_front();
         }
     }
 }
@@ -131,36 +129,23 @@ impl Marks {
 /// Of each key the last mark, in their order.
 fn last_marks(
     alloc: Global,
-    log: &Vec<(u64, SharedKey)>,
-) -> Result<Vec<(u64, SharedKey)>, OutOfMemory>
+    log: &VecDeque<(u64, SharedKey)>,
+) -> Result<VecDeque<(u64, SharedKey)>, OutOfMemory>
     ensures { IfOk result (λ last. last.items ≡ last_of_each log.now.items) }
 {
     let mut seen = BTreeSet::new(alloc);
-    let mut last = Vec::new(alloc);
+    let mut last = VecDeque::new(alloc);
     let mut place = log.len();
     while place > 0 {
         place -= 1;
         let mark = &log[place];
         let key = copy_key(mark)?;
         if seen.insert(copy_key(mark)?)? {
-            last.push((mark.0, key))?;
+            last.push_front((mark.0, key))?;
         }
     }
-    last.reverse();
     Ok(last)
 }
-
-/// Puts a mark at the end, for which there is room.
-fn put(log: &mut Vec<(u64, SharedKey)>, number: u64, key: SharedKey)
-    requires { vec_len log.old < vec_capacity log.old }
-    ensures items { log.new.items ≡ log.old.items ++ (number, key) ∷ [] }
-    ensures capacity { vec_capacity log.old ≤ vec_capacity log.new }
-{
-    discard(log.push((number, key)));
-}
-
-/// Lets go of what isn't wanted. (The letting go of a key's fields would otherwise be opened in the caller's proof.)
-fn discard(_pushed: Result<(), AllocFailed<(u64, SharedKey)>>) {}
 
 fn copy_key(mark: &(u64, SharedKey)) -> Result<SharedKey, OutOfMemory>
     ensures { IfOk result (λ key. key ≡ mark.now.1) }
@@ -171,7 +156,7 @@ fn copy_key(mark: &(u64, SharedKey)) -> Result<SharedKey, OutOfMemory>
 /// The keys of the marks from a place on, in order, each once.
 fn keys_from(
     alloc: Global,
-    log: &Vec<(u64, SharedKey)>,
+    log: &VecDeque<(u64, SharedKey)>,
     first: usize,
 ) -> Result<BTreeSet<SharedKey>, OutOfMemory>
     requires { first ≤ length log.now.items }
@@ -188,16 +173,16 @@ fn keys_from(
 }
 
 /// The place of the first mark under a number or a later one.
-fn first_since(log: &Vec<(u64, SharedKey)>, top: u64, number: u64) -> usize
+fn first_since(log: &VecDeque<(u64, SharedKey)>, top: u64, number: u64) -> usize
     requires { Rises top log.now.items }
     ensures marks { drop result log.now.items ≡ filter (is_since number) log.now.items }
     ensures within { result ≤ length log.now.items }
 {
-    let mut first = log.len();
-    while first > 0 && log[first - 1].0 >= number {
-        first -= 1;
-    }
-    first
+    log.partition_point(
+        |mark: &(u64, SharedKey)| -> bool
+            ensures { result ≡ ltb mark.now.0 number }
+        { mark.0 < number },
+    )
 }
 
 /// A law: a mark touches its key from each number on that isn't after the mark's, and no other key; under a new number

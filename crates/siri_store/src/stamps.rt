@@ -3,7 +3,7 @@
 
 ghost use Rattle.std.specs.Prelude.{◌≡◌, ◌+◌, ◌<◌, ◌^◌, ℕ, pos, nat_lt, int_lt, [], ◌∷◌, ◌&&◌, ◌||◌, not, Some, IsSome, option_map, IfSome, IfNone, OnOk, OnErr};
 ghost use Rattle.std.specs.List.Sorted.{IsStrictlySortedBy};
-ghost use Rattle.siri_store.specs.Stamped.{Stamp, stamp_cmp, has_stamp, has, moments_of, moments_held, is_one_at, is_one_of, by_edge, service_of, own_end_of, end_cmp, earlier, IsFirstIn, IsFirstEnd, NoneEnded, AllKeyed};
+ghost use Rattle.siri_store.specs.Stamped.{Stamp, stamp_cmp, has_stamp, has, moments_of, moments_held, is_one_at, is_one_of, by_edge, own_end_of, end_cmp, earlier, IsFirstIn, IsFirstEnd, NoneEnded, AllKeyed};
 ghost use Rattle.std.specs.Ordering.{is_gt};
 ghost use Rattle.siri_records.specs.Edges.{listed};
 ghost use Rattle.siri_store.specs.Between.{between, since};
@@ -58,7 +58,7 @@ impl Stamps {
         ensures some { (stamp : Stamp) → has_stamp self.new stamp ≡ (has_stamp self.old stamp || (is_one_of key.now (Some item.now) stamp && has_stamp self.new stamp)) }
     {
         self.put_all(BY_END, own_ends_of(item), key)?;
-        self.put_all(by_edge(service_of(item)), edges_of(item), key)
+        self.put_all(by_edge(item.service()), edges_of(item), key)
     }
 
     /// Without the stamps of an item, but for those of one that stays under its key. It takes no memory.
@@ -75,7 +75,7 @@ impl Stamps {
             None => key,
             Some(item) => {
                 let key = self.remove_all(BY_END, own_ends_of(item), kept, key);
-                self.remove_all(by_edge(service_of(item)), edges_of(item), kept, key)
+                self.remove_all(by_edge(item.service()), edges_of(item), kept, key)
             }
         }
     }
@@ -260,7 +260,7 @@ fn moments(item: &Item, order: u8) -> Moments<'_>
 {
     if order == BY_END {
         own_ends_of(item)
-    } else if order == by_edge(service_of(item)) {
+    } else if order == by_edge(item.service()) {
         edges_of(item)
     } else {
         Moments::none()
@@ -286,17 +286,5 @@ pub(crate) fn by_edge(service: Service) -> u8
         Service::Timetable => 2,
         Service::Vehicle => 3,
         Service::Situation => 4,
-    }
-}
-
-/// The service that an item is of.
-pub(crate) fn service_of(item: &Item) -> Service
-    ensures { result ≡ service_of item.now }
-{
-    match item {
-        Item::Visit(_) => Service::Stop,
-        Item::Journey(_) => Service::Timetable,
-        Item::Vehicle(_) => Service::Vehicle,
-        Item::Situation(_) => Service::Situation,
     }
 }

@@ -124,14 +124,15 @@ impl Store {
         self.observe_under(key, item)
     }
 
-    /// As `observe`, with the item's own key, which its caller has made.
+    /// As `observe`, with the item's own key, which its caller has made: so `StoreFull` is told exactly where the item is
+    /// refused, before memory is asked for.
     pub fn observe_under(&mut self, key: SharedKey, item: Rc<Item>) -> Result<(), ObserveError>
         requires alive { NoneDead self.old }
         requires own { key ≡ key_of item.value }
         ensures ok { OnOk result (self.new ≡ observed self.old item.value) }
         ensures err { OnErr result (self.new ≡ self.old) }
         ensures taken { OnOk result (refuses self.old item.value ≡ false) }
-        ensures full { IsErrOf result ObserveError.StoreFull → refuses self.old item.value ≡ true }
+        ensures full { IsErrOf result ObserveError.StoreFull ↔ (refuses self.old item.value ≡ true) }
         ensures alive { NoneDead self.new }
     {
         if dead(&item, self.moment) {

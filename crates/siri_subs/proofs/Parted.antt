@@ -3,7 +3,7 @@ use Rattle.std.proofs.Common.{◌≡◌, ℕ, suc, ◌<◌, nat_lt, nat_eq, Bool
 use Rattle.std.specs.Bool.{then_some}
 use Rattle.siri_records.specs.Keyed.{Items, KeyChange}
 use Rattle.siri_change.specs.Parts.{part_after, parts_count}
-use Rattle.siri_subs.specs.declared.rounds.kept.Opened.{Opened}
+use Rattle.siri_subs.specs.declared.rounds.kept.OpenRound.{OpenRound}
 use Rattle.siri_subs.specs.rounds.Kept.{outstanding_on}
 use Rattle.siri_subs.specs.rounds.Wanted.{RoundsOfChanges, PartOf, round_on, wanted_part_of}
 use Rattle.siri_life.specs.Slot.{with_acknowledgement}
@@ -32,7 +32,7 @@ wanted_lent lent opened place moment base target list changes last_sent is all l
 -- ---- the wanted part is acknowledged
 
 -- what is kept, by its fields
-abbrev pub kept_by : Bool → Items → ℕ → Option Opened → RoundsOfChanges
+abbrev pub kept_by : Bool → Items → ℕ → Option OpenRound → RoundsOfChanges
 kept_by fetched acknowledged opened round =
     record { fetched = fetched; acknowledged = acknowledged; rounds_opened = opened; outstanding = option_map (outstanding_on acknowledged) round }
 
@@ -47,20 +47,20 @@ is_missed false n e t = refl
 is_missed true n e t = sym t ∙ e
 
 -- it was the last one
-pub last_taken : (fetched : Bool) (acknowledged : Items) (opened : ℕ) (o : Opened) (round part now : ℕ)
+pub last_taken : (fetched : Bool) (acknowledged : Items) (opened : ℕ) (o : OpenRound) (round part now : ℕ)
     → (nat_eq round opened && nat_eq part (suc o.acknowledged_parts)) ≡ true → nat_lt (suc o.acknowledged_parts) (parts_count o.changes) ≡ false
     → with_acknowledgement (kept_by fetched acknowledged opened (Some o)) round part now ≡ kept_by fetched o.target opened None
 last_taken fetched acknowledged opened o round part now hit last = rw (hit, parts_number o.changes, last) refl
 
 -- another follows
-abbrev next_wanted : Bool → Items → ℕ → Opened → ℕ → Option ℕ → RoundsOfChanges
+abbrev next_wanted : Bool → Items → ℕ → OpenRound → ℕ → Option ℕ → RoundsOfChanges
 next_wanted fetched acknowledged opened o next sent = kept_by fetched acknowledged opened (Some (record o { acknowledged_parts = next; last_sent = sent }))
 
 sent_then : (fetched : Bool) (now : ℕ) → then_some fetched now ≡ cond fetched (Some now) None
 sent_then true now = refl
 sent_then false now = refl
 
-pub next_taken : (fetched : Bool) (acknowledged : Items) (opened : ℕ) (o : Opened) (round part now next : ℕ) (sent : Option ℕ)
+pub next_taken : (fetched : Bool) (acknowledged : Items) (opened : ℕ) (o : OpenRound) (round part now next : ℕ) (sent : Option ℕ)
     → (nat_eq round opened && nat_eq part (suc o.acknowledged_parts)) ≡ true → nat_lt (suc o.acknowledged_parts) (parts_count o.changes) ≡ true
     → next ≡ suc o.acknowledged_parts → sent ≡ then_some fetched now
     → with_acknowledgement (kept_by fetched acknowledged opened (Some o)) round part now

@@ -6,7 +6,7 @@ use Rattle.std.specs.Cmp.Lexicographic.{bytes_decides}
 use Rattle.std.proofs.lemmas.Bool.{and_parts, eq-eqb, lt-ltb, le-ltb}
 use Rattle.siri_topic.specs.Agreement.{same_name}
 use Rattle.siri_topic.specs.declared.subscription.Subscription.{Subscription}
-use Rattle.siri_messages.specs.Asked.{Asked}
+use Rattle.siri_messages.specs.Asked.{AskedFor}
 use Rattle.siri_subs.specs.declared.entry.Row.{Row}
 use Rattle.siri_subs.specs.declared.errors.Accepted.{Accepted}
 use Rattle.siri_subs.specs.declared.errors.Accepted.TheVariants as accepted_as
@@ -87,7 +87,7 @@ follows_after old rows h (Ok accepted_as.Again) follows = follows
 follows_after old rows h (Err why) follows = follows
 
 module _ (now number : ℕ) (old : List (Row KeptLife)) where
-  follows_with : (rows : List (Row KeptLife)) (asked : Asked) → Follows number old rows → Follows number old (rows_with now number rows asked)
+  follows_with : (rows : List (Row KeptLife)) (asked : AskedFor) → Follows number old rows → Follows number old (rows_with now number rows asked)
   follows_with rows asked follows = follows_after old rows (new_row now number asked) (answer now (new_row now number asked) rows) follows
 
 -- ---- the one refusal that a subscription can get
@@ -123,7 +123,7 @@ refusal_known terminated full number was held why (inr own) is = absurd (never t
 
 -- ---- what was ready is what is said and kept
 
-status_same : (asked : Asked) (termination : Option ℕ) (r : Result Accepted AcceptError) (now number : ℕ) (old : List (Row KeptLife))
+status_same : (asked : AskedFor) (termination : Option ℕ) (r : Result Accepted AcceptError) (now number : ℕ) (old : List (Row KeptLife))
     → ((why : AcceptError) → r ≡ Err why → refusal_of now number old asked.subscription ≡ not_accepted_as why)
     → candidate_status r (candidate_of now number old asked).accepted
     (candidate_of now number old asked).refused termination ≡ status_by r asked.subscription termination
@@ -136,7 +136,7 @@ status_same asked termination (Err refusal) now number old why =
     ap (refused_status asked.subscription.subscriber asked.subscription.identifier) (why refusal refl)
 
 module _ (now number : ℕ) (old : List (Row KeptLife)) where
-  ready_status : (rows : List (Row KeptLife)) (asked : Asked) → Follows number old rows
+  ready_status : (rows : List (Row KeptLife)) (asked : AskedFor) → Follows number old rows
       → accept_status now number rows (candidate_of now number old asked) ≡ status_of now number rows asked
   ready_status rows asked follows =
       let wanted = asked.subscription in
@@ -145,7 +145,7 @@ module _ (now number : ℕ) (old : List (Row KeptLife)) where
       (number_of wanted.subscriber wanted.identifier old) (number_of wanted.subscriber wanted.identifier rows) why
       (follows wanted.subscriber wanted.identifier))
 
-  statuses_ready : (asked : List Asked) (rows : List (Row KeptLife)) → Follows number old rows
+  statuses_ready : (asked : List AskedFor) (rows : List (Row KeptLife)) → Follows number old rows
       → all_statuses now number (map (candidate_of now number old) asked) rows ≡ statuses_of now number asked rows
   statuses_ready [] rows follows = refl
   statuses_ready (x ∷ asked) rows follows =
@@ -153,26 +153,26 @@ module _ (now number : ℕ) (old : List (Row KeptLife)) where
       let here = ready_status rows x follows in
       λ j. here j ∷ rest j
 
-  rows_ready : (asked : List Asked) (rows : List (Row KeptLife))
+  rows_ready : (asked : List AskedFor) (rows : List (Row KeptLife))
       → all_rows now number (map (candidate_of now number old) asked) rows ≡ rows_asked now number asked rows
   rows_ready [] rows = refl
   rows_ready (x ∷ asked) rows = rows_ready asked (accepted now (new_row now number x) rows)
 
-  noted_ready : (asked : List Asked) (rows : List (Row Noted))
+  noted_ready : (asked : List AskedFor) (rows : List (Row Noted))
       → all_noted now number (map (candidate_of now number old) asked) rows ≡ noted_asked now number asked rows
   noted_ready [] rows = refl
   noted_ready (x ∷ asked) rows = noted_ready asked (accepted now (new_noted now number x) rows)
 
 -- what a request is answered, and the rows after it
-pub answered : (now number : ℕ) (asked : List Asked) (rows : List (Row KeptLife))
+pub answered : (now number : ℕ) (asked : List AskedFor) (rows : List (Row KeptLife))
     → all_statuses now number (map (candidate_of now number rows) asked) rows ≡ statuses_of now number asked rows
 answered now number asked rows = statuses_ready now number rows asked rows (λ s i. inl refl)
 
-pub rows_answered : (now number : ℕ) (asked : List Asked) (rows : List (Row KeptLife))
+pub rows_answered : (now number : ℕ) (asked : List AskedFor) (rows : List (Row KeptLife))
     → all_rows now number (map (candidate_of now number rows) asked) rows ≡ rows_asked now number asked rows
 rows_answered now number asked rows = rows_ready now number rows asked rows
 
-pub noted_answered : (now number : ℕ) (asked : List Asked) (rows : List (Row KeptLife)) (noted : List (Row Noted))
+pub noted_answered : (now number : ℕ) (asked : List AskedFor) (rows : List (Row KeptLife)) (noted : List (Row Noted))
     → all_noted now number (map (candidate_of now number rows) asked) noted ≡ noted_asked now number asked noted
 noted_answered now number asked rows noted = noted_ready now number rows asked noted
 

@@ -2,10 +2,10 @@
 use Rattle.std.proofs.Common.{◌≡◌, [], ◌++◌, map, append_assoc}
 use Rattle.std.proofs.lemmas.List.{append-nil}
 use Rattle.std.proofs.lemmas.Simd.{map-map}
-use Rattle.siri_messages.specs.Asked.{Asked, asked_in, asked_with}
+use Rattle.siri_messages.specs.Asked.{AskedFor, asked_in, asked_with}
 use Rattle.siri_messages.specs.declared.subscriptions.SubscriptionRequest.{SubscriptionRequest}
 
-module _ {X : Type 0} (make : Asked → X) (r : SubscriptionRequest) where
+module _ {X : Type 0} (make : AskedFor → X) (r : SubscriptionRequest) where
   -- what is made of the four lists, one after the other, is made of all that is asked for
   pub of_lists : map (λ wanted. make (asked_with r wanted))
       (r.stop_monitoring_subscription_request

@@ -1,7 +1,7 @@
 -- What of a settled row belongs to its life is what a settle makes of it.
 use Rattle.std.proofs.Common.{◌≡◌, ℕ, Bool, true, false, cond, refl, ap, sym, ◌∙◌}
 use Rattle.siri_records.specs.Keyed.{Items}
-use Rattle.siri_messages.specs.Asked.{Asked}
+use Rattle.siri_messages.specs.Asked.{AskedFor}
 use Rattle.siri_life.specs.Slot.{begun, sent, is_message_due, opens_round}
 use Rattle.siri_subs.specs.declared.entry.Row.{Row}
 use Rattle.siri_model.specs.Direct.{direct_to}
@@ -17,7 +17,7 @@ use Rattle.siri_subscriptions.specs.Openings.{with_opening}
 use Rattle.siri_subscriptions.specs.Rounds.{looked, next_round, sent_if_due}
 use Rattle.siri_subscriptions.specs.Settled.{settled_row}
 
-pub looked_carried : (asked : Asked) (direct : Items) (now : ℕ) (rounds : RoundsOfChanges)
+pub looked_carried : (asked : AskedFor) (direct : Items) (now : ℕ) (rounds : RoundsOfChanges)
     → rounds_carried (looked asked direct now rounds) ≡ model.looked asked direct now (rounds_carried rounds)
 looked_carried asked direct now rounds = by (opens_round meaning (rounds_carried rounds).outstanding (rounds_carried rounds) asked direct)
   where

@@ -3,12 +3,12 @@ use Rattle.std.proofs.Common.{◌≡◌, ℕ, List, [], ◌∷◌, map, Bool, co
 use Rattle.siri_subs.specs.declared.entry.Row.{Row}
 use Rattle.siri_subs.specs.Table.{ended, is_ended_by}
 use Rattle.siri_subs.proofs.Mapped.{is_ended_mapped, ended_mapped}
-use Rattle.siri_model.specs.Rows.{KeptLife, rows_ended}
+use Rattle.siri_model.specs.Rows.{KeptLife}
 use Rattle.siri_subscriptions.specs.declared.course.Course.{Course}
 use Rattle.siri_subscriptions.specs.Courses.{kept, kept_rows}
-use Rattle.siri_subscriptions.specs.Noted.{Noted, noted, noted_rows, noted_ended}
+use Rattle.siri_subscriptions.specs.Noted.{noted, noted_rows}
 use Rattle.siri_subscriptions.specs.Terminations.{end_status, end_statuses}
-use Rattle.siri_subscriptions.specs.Endings.{Sayings, sayings, said, rows_left, noted_left, all_said, all_left, all_noted_left}
+use Rattle.siri_subscriptions.specs.Endings.{Sayings, sayings, said, rows_left, noted_left, all_said}
 
 module _ (number : ℕ) (subscriber : List ℕ) where
   pub ended_statuses : (identifiers : List (List ℕ)) (rows : List (Row KeptLife))
@@ -17,17 +17,6 @@ module _ (number : ℕ) (subscriber : List ℕ) where
   ended_statuses [] rows = refl
   ended_statuses (identifier ∷ identifiers) rows =
       ap (λ l. end_status number subscriber rows identifier ∷ l) (ended_statuses identifiers (ended number subscriber identifier rows))
-
-  pub ended_rows : (identifiers : List (List ℕ)) (rows : List (Row KeptLife))
-      → all_left number subscriber (map (sayings subscriber) identifiers) rows ≡ rows_ended number subscriber
-      identifiers rows
-  ended_rows [] rows = refl
-  ended_rows (identifier ∷ identifiers) rows = ended_rows identifiers (ended number subscriber identifier rows)
-
-  pub ended_noted : (identifiers : List (List ℕ)) (rows : List (Row Noted))
-      → all_noted_left number subscriber (map (sayings subscriber) identifiers) rows ≡ noted_ended number subscriber identifiers rows
-  ended_noted [] rows = refl
-  ended_noted (identifier ∷ identifiers) rows = ended_noted identifiers (ended number subscriber identifier rows)
 
 -- ---- one of them
 

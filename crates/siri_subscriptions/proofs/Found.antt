@@ -3,7 +3,7 @@ use Rattle.std.proofs.Common.{◌≡◌, ℕ, Bool, true, false, not, ◌&&◌, 
 use Rattle.std.specs.Prelude.{◌==◌, option_map}
 use Rattle.siri_messages.specs.declared.message.Message.{Message}
 use Rattle.siri_topic.specs.declared.subscription.Subscription.{Subscription}
-use Rattle.siri_messages.specs.Asked.{Asked}
+use Rattle.siri_messages.specs.Asked.{AskedFor}
 use Rattle.siri_records.specs.Keyed.{Items}
 use Rattle.siri_change.specs.Changes as change
 use Rattle.siri_change.specs.Parts as part
@@ -24,11 +24,11 @@ pub opens : (wanted : Subscription) (direct : Items) (rounds : RoundsOfChanges) 
     → rounds.outstanding ≡ None → due wanted direct rounds ≡ true
     → opening.target ≡ change.target wanted.slack wanted.incremental rounds.acknowledged direct
     → opening.changes ≡ part.load rounds.acknowledged opening.target wanted.incremental
-    → (asked : Asked) → asked.subscription ≡ wanted → (now : ℕ) → with_opening now (Some opening) rounds ≡ looked asked direct now rounds
+    → (asked : AskedFor) → asked.subscription ≡ wanted → (now : ℕ) → with_opening now (Some opening) rounds ≡ looked asked direct now rounds
 opens wanted direct rounds opening level is_due target changes asked wants now = rw (wants, level, is_due, changes, target) refl
 
 pub stays : (wanted : Subscription) (direct : Items) (rounds : RoundsOfChanges) → rounds.outstanding ≡ None → due wanted direct rounds ≡ false
-    → (asked : Asked) → asked.subscription ≡ wanted → (now : ℕ) → with_opening now None rounds ≡ looked asked direct now rounds
+    → (asked : AskedFor) → asked.subscription ≡ wanted → (now : ℕ) → with_opening now None rounds ≡ looked asked direct now rounds
 stays wanted direct rounds level is_due asked wants now = rw (wants, level, is_due) refl
 
 not_not : (b : Bool) → not (not b) ≡ b

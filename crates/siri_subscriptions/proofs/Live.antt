@@ -27,4 +27,4 @@ alive_in moment (e ∷ items) k i is =
     alive_case moment k i e items (is_dead e.1 moment) (tied k e.0) refl refl is (alive_in moment items k i)
 
 pub live_still : (start known : Known) → known ≡ record start { reads = known.reads } → AreLive start → AreLive known
-live_still start known same live = subst AreLive (sym same) (record { ordered = live.ordered; alive = live.alive })
+live_still start known same live = subst AreLive (sym same) (record { ordered = live.ordered; keyed = live.keyed; alive = live.alive })

@@ -1,6 +1,6 @@
 -- A later look at a subscription whose topic has MaximumStopVisits, where something may have changed.
 use Rattle.std.proofs.Common.{◌≡◌, ℕ, ℤ, ◌+◌, ◌≤◌, zero, suc, List, [], ◌∷◌, filter, length, Bool, true, false, cond, not, ◌&&◌}
-use Rattle.std.proofs.Common.{Option, Some, None, is_some, refl, ap, sym, ◌∙◌, subst, arith}
+use Rattle.std.proofs.Common.{Option, Some, None, is_some, refl, ap, sym, ◌∙◌, arith}
 use Rattle.std.specs.Prelude.{◌==◌, count_by, nat_eq, if◌then◌else◌}
 use Rattle.std.proofs.lemmas.Bool.Decides.{nat_tests}
 use Rattle.std.specs.Map.{keys_of}
@@ -19,11 +19,12 @@ use Rattle.siri_change.specs.Changes.{agree_on, changes, keys_of_both, target}
 use Rattle.siri_change.specs.Parts.{load}
 use Rattle.siri_change.proofs.Leads.{none_of_both, agree_none}
 use Rattle.siri_change.proofs.Levels.{looks_by_keys, order_both}
+use Rattle.siri_store.specs.Candidates.{candidates, may_be_shown}
 use Rattle.siri_store.specs.Marked.{keys_since}
 use Rattle.siri_subs.specs.rounds.Wanted.{RoundsOfChanges}
 use Rattle.siri_subs.specs.declared.entry.Row.{Row}
 use Rattle.siri_model.specs.Direct.{direct_to, most_of}
-use Rattle.siri_model.specs.Followed.{changed_since, far_edges_passed, first_visits, is_served, items_passed, keys_apart}
+use Rattle.siri_model.specs.Followed.{asked_since, far_edges_passed, first_visits, items_passed, keys_apart}
 use Rattle.siri_model.specs.Looks.{crossed_items, found_of}
 use Rattle.siri_model.specs.Rows.{asked_of}
 use Rattle.siri_responder.specs.Firsts.{AreWithin}
@@ -32,6 +33,7 @@ use Rattle.siri_subscriptions.specs.declared.course.Course.{Course}
 use Rattle.siri_subscriptions.specs.declared.course.Looked.{Looked}
 use Rattle.siri_subscriptions.specs.declared.looks.Finding.{Finding}
 use Rattle.siri_subscriptions.specs.declared.looks.Opening.{Opening}
+use Rattle.siri_subscriptions.specs.Again.{crossed_since, touched_keys}
 use Rattle.siri_subscriptions.specs.Courses.{kept_row}
 use Rattle.siri_subscriptions.specs.Due.{IsFound, apart_at}
 use Rattle.siri_subscriptions.specs.Looked.{look_of}
@@ -40,6 +42,7 @@ use Rattle.siri_subscriptions.specs.Rounds.{looked as looked_at}
 use Rattle.siri_subscriptions.proofs.Apart.{apart_kept, apart_opened}
 use Rattle.siri_subscriptions.proofs.ByKeys.{keys_found}
 use Rattle.siri_subscriptions.proofs.Found.{due, opens, stays}
+use Rattle.siri_topic.specs.Services.{is_served}
 
 -- ---- the whole direct response
 
@@ -90,6 +93,18 @@ module _ (now : ℕ) (items : Items) (row : Row Course) (level : row.slot.rounds
       by false h same = ap Some same ∙ apart_kept now items row level h
 
 -- ---- how many visits are looked at
+
+-- two filters, in either order
+filters_case : {X : Type 0} (p q : X → Bool) (x : X) (xs : List X) (b c : Bool) → p x ≡ b → q x ≡ c
+    → filter p (filter q xs) ≡ filter q (filter p xs) → filter p (filter q (x ∷ xs)) ≡ filter q (filter p (x ∷ xs))
+filters_case p q x xs true true h k rest = rw (h, k, h) (ap (λ l. x ∷ l) rest)
+filters_case p q x xs true false h k rest = rw (h, k) rest
+filters_case p q x xs false true h k rest = rw (h, k, h) rest
+filters_case p q x xs false false h k rest = rw (h, k) rest
+
+filters_turn : {X : Type 0} (p q : X → Bool) (xs : List X) → filter p (filter q xs) ≡ filter q (filter p xs)
+filters_turn p q [] = refl
+filters_turn p q (x ∷ xs) = filters_case p q x xs (p x) (q x) refl refl (filters_turn p q xs)
 
 none_counted : (p : Key × Item → Bool) (items : Items) → ((e : Key × Item) → p e ≡ false) → count_by p items ≡ 0
 none_counted p [] none = refl
@@ -168,21 +183,27 @@ found_length : (items : Items) (keys : List Key) → length (found_of items keys
 found_length items [] = refl
 found_length items (k ∷ keys) = ap suc (found_length items keys)
 
+-- those that are crossed of the candidates are the candidates of those that are crossed
+asked_crossed : (topic : Topic) (before now : ℕ) (items : Items)
+    → candidates topic (crossed_items topic before now items) ≡ crossed_items topic before now (candidates topic items)
+asked_crossed topic before now items = filters_turn (λ (e : Key × Item). may_be_shown topic e.0)
+    (λ (e : Key × Item). is_crossed topic before now e.1) items
+
 module _ (known : Known) (topic : Topic) (looked : Looked) (limit : is_some (most_of topic) ≡ true)
-    (found : List KeyChange) (is : found ≡ found_of known.held (keys_since known.marks.log looked.number))
-    (crossed : Items) (are : crossed ≡ crossed_items topic looked.moment known.moment known.held) where
+    (found : List KeyChange) (is : found ≡ found_of known.held (touched_keys known topic looked))
+    (crossed : Items) (are : crossed ≡ crossed_since known topic looked) where
   abbrev since : ℕ
-  since = changed_since known.moment known.held topic (look_of known.marks looked)
+  since = asked_since known.moment known.held topic (look_of known.marks looked)
 
   -- none was touched or crossed where none was found
-  pub none_touched : length found ≡ 0 → keys_since known.marks.log looked.number ≡ []
-  none_touched none = empty (keys_since known.marks.log looked.number) (sym (found_length known.held _) ∙ (sym (ap length is) ∙ none))
+  pub none_touched : length found ≡ 0 → touched_keys known topic looked ≡ []
+  none_touched none = empty (touched_keys known topic looked) (sym (found_length known.held _) ∙ (sym (ap length is) ∙ none))
     where
       empty : (keys : List Key) → length keys ≡ 0 → keys ≡ []
       empty [] h = refl
       empty (k ∷ keys) h = absurd (omega (arith, h))
 
-  pub none_crossed : length crossed ≡ 0 → crossed_items topic looked.moment known.moment known.held ≡ []
+  pub none_crossed : length crossed ≡ 0 → crossed_since known topic looked ≡ []
   none_crossed none = sym are ∙ empty crossed none
     where
       empty : (items : Items) → length items ≡ 0 → items ≡ []
@@ -193,9 +214,10 @@ module _ (known : Known) (topic : Topic) (looked : Looked) (limit : is_some (mos
       → AreWithin known.moment known.held topic known.reads after
       → after ≤ known.reads + (if since == 0 then 0 else first_visits known.moment known.held topic (most_of topic))
   whole_bound some after within =
-      let touched = ap length is ∙ found_length known.held (keys_since known.marks.log looked.number) in
-      let passed = subst (λ (items : Items). length items ≤ items_passed topic known.held looked.moment known.moment) (sym are)
-      (few_crossed topic looked.moment known.moment known.held limit) in
+      let touched = ap length is ∙ (found_length known.held (touched_keys known topic looked)
+      ∙ length-filter (may_be_shown topic) (keys_since known.marks.log looked.number)) in
+      let passed = few_crossed topic looked.moment known.moment (candidates topic known.held) limit in
+      let crosses = ap length (are ∙ asked_crossed topic looked.moment known.moment known.held) in
       counts_where_changed since (first_visits known.moment known.held topic (most_of topic)) known.reads after
-      (omega (arith, some, touched, passed))
+      (omega (arith, some, touched, passed, crosses))
       (within_first known.moment known.held topic (most_of topic) refl limit known.reads after within)

@@ -151,3 +151,13 @@ pub passing_held : (p : Key × Item → Bool) (items : Items) → InOrder items 
 unfolding IsStrictlySortedBy
 passing_held p [] s = tt
 passing_held p (e ∷ items) s = held_case p e items (p e) refl s.0 (passing_held p items s.1)
+
+some_case : (items : Items) (p : Key × Item → Bool) (e : Key × Item) (es : Items) (b : Bool) → p e ≡ b
+    → item_of items e.0 ≡ Some e.1 → AreHeld items (filter p es) → AreHeld items (filter p (e ∷ es))
+some_case items p e es true h here rest = rw h (here, rest)
+some_case items p e es false h here rest = rw h rest
+
+-- and so are some of items that are held
+pub some_held : (items : Items) (p : Key × Item → Bool) (es : Items) → AreHeld items es → AreHeld items (filter p es)
+some_held items p [] are = tt
+some_held items p (e ∷ es) are = some_case items p e es (p e) refl are.0 (some_held items p es are.1)

@@ -1,22 +1,19 @@
 -- A later look at a subscription whose topic has MaximumStopVisits, where nothing changed.
-use Rattle.std.proofs.Common.{◌≡◌, ℕ, ◌≤◌, List, [], ◌∷◌, ◌++◌, filter, length, nat_eq, nat_lt, Bool, true, false, not, ◌&&◌, ◌||◌}
+use Rattle.std.proofs.Common.{◌≡◌, ℕ, ◌≤◌, List, [], ◌∷◌, filter, length, nat_eq, nat_lt, Bool, true, false, not, ◌&&◌, ◌||◌}
 use Rattle.std.proofs.Common.{Some, None, inl, inr, refl, ap, sym, ◌∙◌, arith}
 use Rattle.std.specs.Prelude.{◌==◌, ◌⊎◌}
+use Rattle.std.specs.Map.{keys_of}
 use Rattle.std.specs.Option.{option_eq}
 use Rattle.std.proofs.lemmas.Bool.{le-ltb}
 use Rattle.siri_records.specs.declared.key.Key.{Key}
 use Rattle.siri_records.specs.Near.{is_near}
 use Rattle.siri_records.specs.Keyed.{Items, InOrder, item_of}
 use Rattle.siri_records.specs.KeyLists.{is_among, in_order}
-use Rattle.siri_records.proofs.ItemsPassing.{item_kept}
-use Rattle.siri_topic.specs.Crossed.{is_crossed}
 use Rattle.siri_change.specs.Changes.{agree_on, meets}
 use Rattle.siri_life.specs.Life.{greatest_round}
-use Rattle.siri_store.specs.Marked.{keys_since}
 use Rattle.siri_subs.specs.declared.entry.Row.{Row}
 use Rattle.siri_model.specs.Direct.{direct_to}
 use Rattle.siri_model.specs.Followed.{goal_of, keys_apart}
-use Rattle.siri_model.specs.Looks.{IsUncrossed, crossed_items}
 use Rattle.siri_model.specs.Rows.{asked_of}
 use Rattle.siri_model.proofs.Apart.{looks_tell_apart}
 use Rattle.siri_model.proofs.Facts.{direct_stays}
@@ -24,12 +21,12 @@ use Rattle.siri_model.specs.laws.Apart.{AgreeElsewhere, TellApart}
 use Rattle.siri_responder.specs.Known.{Known}
 use Rattle.siri_subscriptions.specs.declared.course.Course.{Course}
 use Rattle.siri_subscriptions.specs.declared.course.Looked.{Looked}
-use Rattle.siri_subscriptions.specs.Again.{AreLive}
+use Rattle.siri_subscriptions.specs.Again.{AreLive, crossed_since, touched_keys}
 use Rattle.siri_subscriptions.specs.Courses.{kept, kept_row}
 use Rattle.siri_subscriptions.specs.Due.{IsFound, apart_at}
 use Rattle.siri_subscriptions.specs.Looked.{FollowsLook, look_of}
 use Rattle.siri_subscriptions.proofs.Apart.{apart_kept}
-use Rattle.siri_subscriptions.proofs.ByKeys.{uncrossed_by}
+use Rattle.siri_subscriptions.proofs.ByKeys.{as_then}
 use Rattle.siri_subscriptions.proofs.Found.{due, stays}
 
 all_stay : (keys : List Key) → filter (λ key. not (is_among key [])) keys ≡ keys
@@ -44,25 +41,19 @@ none_due n met some (inr over) = ap (λ b. b && (n == 0 || not met)) (le-ltb n g
 module _ (known : Known) (row : Row Course) (looked : Looked) (live : AreLive known)
     (follows : FollowsLook known row looked) (level : row.slot.rounds.outstanding ≡ None)
     (s : InOrder row.slot.rounds.acknowledged)
-    (untouched : keys_since known.marks.log looked.number ≡ [])
-    (uncrossed : crossed_items row.wanted.topic looked.moment known.moment known.held ≡ []) where
+    (untouched : touched_keys known row.wanted.topic looked ≡ [])
+    (uncrossed : crossed_since known row.wanted.topic looked ≡ []) where
   abbrev view : Items
   view = row.slot.rounds.acknowledged
 
   abbrev direct : Items
   direct = direct_to known.moment known.held row.wanted.topic
 
-  none_crossed : (key : Key) → IsUncrossed row.wanted.topic looked.moment known.moment (item_of known.held key)
-  none_crossed key = λ i is. (
-    live.alive key i is,
-    uncrossed_by row.wanted.topic looked.moment known.moment (item_of known.held key)
-        (sym (item_kept (λ i. is_crossed row.wanted.topic looked.moment known.moment i) key known.held live.ordered)
-        ∙ ap (λ items. item_of items key) uncrossed) i is,
-  )
-
   same : direct ≡ direct_to looked.moment follows.facts.then row.wanted.topic
   same = direct_stays row.wanted.slack row.wanted.topic known.moment known.held (goal_of (kept row.slot).rounds)
-      (look_of known.marks looked) live.ordered follows.facts untouched none_crossed
+      (look_of known.marks looked) live.ordered live.keyed follows.facts
+      (λ key may. as_then known row.wanted.topic looked live key (ap (is_among key) untouched)
+      (ap (λ (items : Items). is_among key (keys_of items)) uncrossed) may)
 
   -- nothing is outstanding: the view that the consumer is led to is the acknowledged one
   goal_is : goal_of (kept row.slot).rounds ≡ view

@@ -10,7 +10,9 @@ use Rattle.siri_records.specs.KeyLists.{is_among, with_keys}
 use Rattle.siri_records.specs.Keyed.{Items, InOrder, KeyChange, apply, item_of}
 use Rattle.siri_records.specs.Order.{key_cmp}
 use Rattle.siri_topic.specs.declared.topics.Topic.{Topic}
+use Rattle.siri_store.specs.Candidates.{candidates, may_be_shown}
 use Rattle.siri_store.specs.Marked.{keys_since}
+use Rattle.siri_model.specs.History.{IsKeyed}
 use Rattle.siri_model.specs.Looks.{crossed_items, found_of, is_unlike, shown_if}
 use Rattle.siri_responder.specs.Known.{Known}
 use Rattle.siri_subscriptions.specs.declared.course.Looked.{Looked}
@@ -30,12 +32,17 @@ AreTouched known touched = AreMarked known touched.number touched.found
 abbrev pub with_held : List KeyChange → Key × Item → List KeyChange
 with_held found entry = insert_entry key_cmp found entry.0 (Some entry.1)
 
--- the keys that may have changed since a look: those that were touched, and those of the items that an end of the
--- topic's window passed
+-- the keys that were touched since a look and whose items may be shown to the topic, and the items that may be shown to it of
+-- which an end of its window passed an edge since then
+abbrev pub touched_keys : Known → Topic → Looked → List Key
+touched_keys known topic looked = filter (may_be_shown topic) (keys_since known.marks.log looked.number)
+
+abbrev pub crossed_since : Known → Topic → Looked → Items
+crossed_since known topic looked = candidates topic (crossed_items topic looked.moment known.moment known.held)
+
+-- of what may be shown to the topic, the keys that may have changed since a look
 abbrev pub keys_looked_at : Known → Topic → Looked → List Key
-keys_looked_at known topic looked =
-    with_keys (keys_since known.marks.log looked.number)
-    (keys_of (crossed_items topic looked.moment known.moment known.held))
+keys_looked_at known topic looked = with_keys (touched_keys known topic looked) (keys_of (crossed_since known topic looked))
 
 -- ---- what it changes
 
@@ -62,7 +69,8 @@ shown_again known topic view found =
     apply (apply [] (map (shown_of known topic) (filter (is_other found) (keys_of view))))
     (map (shown_found topic known.moment) found)
 
--- ---- what is known of the items that a responder holds: they are in order of key, and none is dead
+-- ---- what is known of the items that a responder holds: they are in order of key, each under its own, and none is dead
 pub record AreLive (known : Known) : Type 0 where
   pub ordered : InOrder known.held
+  pub keyed : IsKeyed known.held
   pub alive : (key : Key) (i : Item) → item_of known.held key ≡ Some i → is_dead i known.moment ≡ false

@@ -1,6 +1,6 @@
 -- What is noted of a subscription: what belongs to its life, and its last look.
 use Rattle.std.specs.Prelude.{ℕ, List, map, fold, Option, None, if◌then◌else◌}
-use Rattle.siri_messages.specs.Asked.{Asked}
+use Rattle.siri_messages.specs.Asked.{AskedFor}
 use Rattle.siri_life.specs.Named.{Name}
 use Rattle.siri_subs.specs.declared.entry.Row.{Row}
 use Rattle.siri_subs.specs.Mapped.{mapped_row, with_mapped_slots}
@@ -27,7 +27,7 @@ looked_in rows = map (λ row. row.slot.looked) rows
 -- ---- what requests do to it
 
 -- a subscription that is accepted at a moment wasn't looked at yet
-abbrev pub new_noted : ℕ → ℕ → Asked → Row Noted
+abbrev pub new_noted : ℕ → ℕ → AskedFor → Row Noted
 new_noted now number asked = record {
   wanted = asked.subscription;
   number = number;
@@ -38,7 +38,7 @@ new_noted now number asked = record {
 }
 
 -- after requests for subscriptions under a number, one after the other
-abbrev pub noted_asked : ℕ → ℕ → List Asked → List (Row Noted) → List (Row Noted)
+abbrev pub noted_asked : ℕ → ℕ → List AskedFor → List (Row Noted) → List (Row Noted)
 noted_asked now number asked rows = fold (λ rows wanted. accepted now (new_noted now number wanted) rows) rows asked
 
 -- after terminations under a number, one after the other

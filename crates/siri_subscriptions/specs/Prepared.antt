@@ -3,7 +3,7 @@
 use Rattle.std.specs.Prelude.{ℕ, nat_lt, nat_le, List, fold, Bool, true, false, Option, Some, None, Result, Ok, Err, if◌then◌else◌}
 use Rattle.std.specs.List.{scan}
 use Rattle.siri_topic.specs.declared.subscription.Subscription.{Subscription}
-use Rattle.siri_messages.specs.Asked.{Asked}
+use Rattle.siri_messages.specs.Asked.{AskedFor}
 use Rattle.siri_messages.specs.declared.subscriptions.ResponseStatus.{ResponseStatus}
 use Rattle.siri_subs.specs.declared.entry.Row.{Row}
 use Rattle.siri_subs.specs.declared.errors.Accepted.{Accepted}
@@ -30,7 +30,7 @@ abbrev pub refusal_of : (now number : ℕ) → List (Row KeptLife) → Subscript
 refusal_of now number rows wanted = refusal_by (nat_le wanted.termination now) number (number_of wanted.subscriber wanted.identifier rows)
 
 -- what is ready for one
-abbrev pub candidate_of : (now number : ℕ) → List (Row KeptLife) → Asked → Candidate
+abbrev pub candidate_of : (now number : ℕ) → List (Row KeptLife) → AskedFor → Candidate
 candidate_of now number rows asked =
     let wanted = asked.subscription in
     record {
@@ -55,7 +55,7 @@ candidate_status (Ok how) accepted refused held = accepted
 candidate_status (Err why) accepted refused held = refused
 
 -- what a candidate asks for
-abbrev pub asked_by : Candidate → Asked
+abbrev pub asked_by : Candidate → AskedFor
 asked_by candidate = record { subscription = candidate.wanted; address = candidate.address; beat = candidate.beat }
 
 -- the status of one, and the rows after it

@@ -2,7 +2,7 @@
 use Rattle.std.specs.Prelude.{ℕ, List, find, option_map, Option, Some, Result, Ok, Err}
 use Rattle.std.specs.List.{scan}
 use Rattle.siri_topic.specs.declared.subscription.Subscription.{Subscription}
-use Rattle.siri_messages.specs.Asked.{Asked, asked_in}
+use Rattle.siri_messages.specs.Asked.{AskedFor, asked_in}
 use Rattle.siri_messages.specs.declared.subscriptions.ResponseStatus.{ResponseStatus}
 use Rattle.siri_messages.specs.declared.subscriptions.SubscriptionRequest.{SubscriptionRequest}
 use Rattle.siri_messages.specs.declared.subscriptions.SubscriptionResponse.{SubscriptionResponse}
@@ -31,17 +31,17 @@ status_by (Ok accepted) wanted held = accepted_status wanted.subscriber wanted.i
 status_by (Err why) wanted held = refused_status wanted.subscriber wanted.identifier (not_accepted_as why)
 
 -- the status of a subscription that is asked for under a number at a moment
-abbrev pub status_of : (now number : ℕ) → List (Row KeptLife) → Asked → ResponseStatus
+abbrev pub status_of : (now number : ℕ) → List (Row KeptLife) → AskedFor → ResponseStatus
 status_of now number rows asked =
     let wanted = asked.subscription in
     status_by (answer now (new_row now number asked) rows) wanted (termination_in wanted.subscriber wanted.identifier rows)
 
 -- the rows after it
-abbrev pub rows_with : (now number : ℕ) → List (Row KeptLife) → Asked → List (Row KeptLife)
+abbrev pub rows_with : (now number : ℕ) → List (Row KeptLife) → AskedFor → List (Row KeptLife)
 rows_with now number rows asked = accepted now (new_row now number asked) rows
 
 -- the statuses of these, one after the other
-abbrev pub statuses_of : (now number : ℕ) → List Asked → List (Row KeptLife) → List ResponseStatus
+abbrev pub statuses_of : (now number : ℕ) → List AskedFor → List (Row KeptLife) → List ResponseStatus
 statuses_of now number asked rows = scan (rows_with now number) (status_of now number) rows asked
 
 -- the answer to a request at a moment, by the rows that are held

@@ -36,8 +36,8 @@ use std::rc::Rc;
 
 /// Looks at a subscription of which no round is outstanding, after an earlier look: of the stored items it reads those
 /// whose keys were touched since then and those of which an end of the topic's window passed an edge; and where a round
-/// opens that has all items, those of its target; and where the topic has MaximumStopVisits and there are any such keys or
-/// items, the visits up to the last that is shown. Of the responder nothing but the counter of steps changes.
+/// opens that has all items, those of its target; and where the topic has MaximumStopVisits and some of these may be shown
+/// to it by their keys, the visits up to the last that is shown. Of the responder nothing but the counter of steps changes.
 pub(crate) fn look_again(
     alloc: Global,
     responder: &mut Responder,
@@ -58,14 +58,15 @@ pub(crate) fn look_again(
     held_are_live(responder);
     touched.find(responder, looked.number)?;
     let crossed = responder.crossed(&entry.wanted.topic, looked.moment)?;
+    let found = touched.asked(&entry.wanted.topic);
     if has_limit(&entry.wanted.topic) {
-        return look_limited(alloc, responder, entry, looked, &touched.found, &crossed);
+        return look_limited(alloc, responder, entry, looked, found, &crossed);
     }
     if crossed.len() == 0 {
-        return look_by(alloc, responder, entry, looked, &touched.found);
+        return look_by(alloc, responder, entry, looked, found);
     }
-    let found = merged(alloc, &touched.found, &crossed)?;
-    look_by(alloc, responder, entry, looked, &found)
+    let found = merged(alloc, found, &crossed)?;
+    look_by(alloc, responder, entry, looked, found.slice())
 }
 
 /// A law, which does nothing when it is called: the items that are held are in order of key, and none is dead.
@@ -82,13 +83,13 @@ pub(crate) fn view_is_in_order(view: &View)
     let _ = view.len();
 }
 
-/// Looks by the keys that may have changed, with the item that is held of each, or none.
+/// Looks by the keys that may have changed, of what may be shown, with the item that is held of each, or none.
 fn look_by(
     alloc: Global,
     responder: &mut Responder,
     entry: &Entry<'_, Course>,
     looked: &Looked,
-    found: &List<Change>,
+    found: &[Change],
 ) -> Result<Seen, OutOfMemory>
     requires level { (entry_of entry.now).slot.rounds.outstanding ≡ None }
     requires follows { FollowsLook responder.old (entry_of entry.now) looked.now }
@@ -152,12 +153,12 @@ fn changes_found(
     wanted: &Subscription,
     now: Moment,
     view: &View,
-    found: &List<Change>,
+    found: &[Change],
 ) -> Result<List<Change>, OutOfMemory>
     ensures { IfOk result (λ list. list ≡ changes_found wanted.now.slack view.now wanted.now.topic now found.now) }
 {
     let mut list = List::new(alloc);
-    for one in found.slice() {
+    for one in found {
         match change_found(wanted, now, view, one)? {
             Some(change) => list.push(change)?,
             None => {}
@@ -253,7 +254,7 @@ fn opening(
     responder: &mut Responder,
     wanted: &Subscription,
     view: &View,
-    found: &List<Change>,
+    found: &[Change],
     changes: List<Change>,
 ) -> Result<Opening, OutOfMemory>
     requires live { AreLive responder.old }
@@ -284,7 +285,7 @@ fn all_shown(
     responder: &mut Responder,
     wanted: &Subscription,
     view: &View,
-    found: &List<Change>,
+    found: &[Change],
 ) -> Result<View, OutOfMemory>
     requires keys { KeysInOrder (keys_of found.now) }
     ensures shown { IfOk result (λ items. items ≡ shown_again responder.old wanted.now.topic view.now found.now) }
@@ -293,7 +294,7 @@ fn all_shown(
     ensures reads { responder.new.reads ≤ responder.old.reads + length (filter (is_other found.now) (keys_of view.now)) }
 {
     let mut items = shown_others(alloc, responder, wanted, view, found)?;
-    for one in found.slice() {
+    for one in found {
         let item = shown_if(&wanted.topic, responder.now(), one.item.as_ref());
         items.put_change(change_to(&one.key, item)?)?;
     }
@@ -306,7 +307,7 @@ fn shown_others(
     responder: &mut Responder,
     wanted: &Subscription,
     view: &View,
-    found: &List<Change>,
+    found: &[Change],
 ) -> Result<View, OutOfMemory>
     requires keys { KeysInOrder (keys_of found.now) }
     ensures shown { IfOk result (λ items. items ≡ apply [] (map (shown_of responder.old wanted.now.topic) (filter (is_other found.now) (keys_of view.now)))) }
@@ -330,7 +331,7 @@ fn put_other(
     items: &mut View,
     responder: &mut Responder,
     wanted: &Subscription,
-    found: &List<Change>,
+    found: &[Change],
     key: &SharedKey,
 ) -> Result<(), OutOfMemory>
     requires keys { KeysInOrder (keys_of found.now) }

@@ -1,7 +1,7 @@
 //! What is kept of a subscription.
 
 ghost use Rattle.std.specs.Prelude.{◌≡◌, false, None};
-ghost use Rattle.siri_messages.specs.Asked.{Asked};
+ghost use Rattle.siri_messages.specs.Asked.{AskedFor};
 ghost use Rattle.siri_model.specs.Rows.{nothing_kept};
 ghost use Rattle.siri_subscriptions.specs.Courses.{kept};
 
@@ -49,7 +49,7 @@ impl Drop for Course {
 impl Course {
     /// The course of a subscription that is accepted at a moment. It takes no memory.
     pub fn new(alloc: Global, wanted: &Subscription, now: Moment) -> Course
-        ensures kept { (asked : Asked) → asked.subscription ≡ wanted.now → kept result ≡ nothing_kept now asked }
+        ensures kept { (asked : AskedFor) → asked.subscription ≡ wanted.now → kept result ≡ nothing_kept now asked }
         ensures level { result.is_level ≡ false }
         ensures looked { result.looked ≡ None }
     {

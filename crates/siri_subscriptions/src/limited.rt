@@ -3,12 +3,11 @@
 ghost use Rattle.std.specs.Prelude.{◌≡◌, ◌≤◌, ◌+◌, ◌==◌, ◌&&◌, nat_eq, length, if◌then◌else◌, true, [], None, Some, is_some, IfOk};
 ghost use Rattle.std.specs.Map.{keys_of};
 ghost use Rattle.siri_model.specs.Direct.{most_of};
-ghost use Rattle.siri_model.specs.Followed.{changed_since, first_visits, keys_apart};
-ghost use Rattle.siri_model.specs.Looks.{crossed_items, found_of};
-ghost use Rattle.siri_store.specs.Marked.{keys_since};
+ghost use Rattle.siri_model.specs.Followed.{asked_since, first_visits, keys_apart};
+ghost use Rattle.siri_model.specs.Looks.{found_of};
 ghost use Rattle.siri_responder.specs.Firsts.{AreWithin};
 ghost use Rattle.siri_subs.specs.Lent.{entry_of};
-ghost use Rattle.siri_subscriptions.specs.Again.{AreLive};
+ghost use Rattle.siri_subscriptions.specs.Again.{AreLive, crossed_since, touched_keys};
 ghost use Rattle.siri_subscriptions.specs.Due.{apart_at, IsFound};
 ghost use Rattle.siri_subscriptions.specs.Looked.{FollowsLook, look_of};
 
@@ -35,27 +34,28 @@ pub(crate) fn has_limit(topic: &Topic) -> bool
 }
 
 /// Looks at such a subscription again, by the keys that were touched since the last look, with the item that is held of
-/// each or none, and by the items of which an end of the topic's window passed an edge. Where there are neither, nothing
-/// is read. Else the direct response is looked at whole: where one visit leaves it, another may come that wasn't touched.
+/// each or none, and by the items of which an end of the topic's window passed an edge; of both those alone that may be
+/// shown to the topic by their keys. Where there are neither, nothing is read. Else the direct response is looked at whole:
+/// where one visit leaves it, another may come that wasn't touched.
 pub(crate) fn look_limited(
     alloc: Global,
     responder: &mut Responder,
     entry: &Entry<'_, Course>,
     looked: &Looked,
-    found: &List<Change>,
+    found: &[Change],
     crossed: &KeyedItems,
 ) -> Result<Seen, OutOfMemory>
     requires level { (entry_of entry.now).slot.rounds.outstanding ≡ None }
     requires limit { is_some (most_of entry.now.wanted.now.topic) ≡ true }
     requires follows { FollowsLook responder.old (entry_of entry.now) looked.now }
     requires live { AreLive responder.old }
-    requires found { found.now ≡ found_of responder.old.held (keys_since responder.old.marks.log looked.now.number) }
-    requires crossed { crossed.now ≡ crossed_items entry.now.wanted.now.topic looked.now.moment responder.old.moment responder.old.held }
+    requires found { found.now ≡ found_of responder.old.held (touched_keys responder.old entry.now.wanted.now.topic looked.now) }
+    requires crossed { crossed.now ≡ crossed_since responder.old entry.now.wanted.now.topic looked.now }
     ensures found { IfOk result (λ seen. IsFound responder.old.moment responder.old.held (entry_of entry.now) seen.finding) }
     ensures apart { IfOk result (λ seen. seen.apart ≡ apart_at responder.old.moment responder.old.held (entry_of entry.now)) }
     ensures rest { responder.new ≡ record responder.old { reads = responder.new.reads } }
     ensures risen { responder.old.reads ≤ responder.new.reads }
-    ensures bound { responder.new.reads ≤ responder.old.reads + (if changed_since responder.old.moment responder.old.held entry.now.wanted.now.topic (look_of responder.old.marks looked.now) == 0 then 0 else first_visits responder.old.moment responder.old.held entry.now.wanted.now.topic (most_of entry.now.wanted.now.topic)) }
+    ensures bound { responder.new.reads ≤ responder.old.reads + (if asked_since responder.old.moment responder.old.held entry.now.wanted.now.topic (look_of responder.old.marks looked.now) == 0 then 0 else first_visits responder.old.moment responder.old.held entry.now.wanted.now.topic (most_of entry.now.wanted.now.topic)) }
 {
     if are_none(found, crossed) {
         return look_still(alloc, responder, entry, looked);
@@ -64,13 +64,14 @@ pub(crate) fn look_limited(
 }
 
 /// Whether no key was found, and no item crossed.
-fn are_none(found: &List<Change>, crossed: &KeyedItems) -> bool
+fn are_none(found: &[Change], crossed: &KeyedItems) -> bool
     ensures { result ≡ (nat_eq (length found.now) 0 && nat_eq (length crossed.now) 0) }
 {
     found.len() == 0 && crossed.len() == 0
 }
 
-/// Looks where nothing that is held of a key may have changed, and no item was crossed: the direct response is as it was.
+/// Looks where nothing may have changed that is held of a key whose item may be shown, and no such item was crossed: the
+/// direct response is as it was.
 fn look_still(
     alloc: Global,
     responder: &Responder,
@@ -80,8 +81,8 @@ fn look_still(
     requires level { (entry_of entry.now).slot.rounds.outstanding ≡ None }
     requires follows { FollowsLook responder.now (entry_of entry.now) looked.now }
     requires live { AreLive responder.now }
-    requires untouched { keys_since responder.now.marks.log looked.now.number ≡ [] }
-    requires uncrossed { crossed_items entry.now.wanted.now.topic looked.now.moment responder.now.moment responder.now.held ≡ [] }
+    requires untouched { touched_keys responder.now entry.now.wanted.now.topic looked.now ≡ [] }
+    requires uncrossed { crossed_since responder.now entry.now.wanted.now.topic looked.now ≡ [] }
     ensures found { IfOk result (λ seen. IsFound responder.now.moment responder.now.held (entry_of entry.now) seen.finding) }
     ensures apart { IfOk result (λ seen. seen.apart ≡ apart_at responder.now.moment responder.now.held (entry_of entry.now)) }
 {

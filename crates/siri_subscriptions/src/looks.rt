@@ -1,20 +1,18 @@
 //! Whether a round is due, and what it leads to.
 
-ghost use Rattle.std.specs.Prelude.{◌≡◌, ◌<◌, ◌==◌, ◌&&◌, ◌||◌, ℕ, not, nat_lt, true, IfOk, Some, None};
+ghost use Rattle.std.specs.Prelude.{◌≡◌, ◌<◌, ◌==◌, ◌&&◌, ◌||◌, ℕ, not, nat_lt, true, IfOk, None};
 ghost use Rattle.siri_life.specs.Life.{greatest_round};
-ghost use Rattle.siri_messages.specs.Asked.{Asked};
+ghost use Rattle.siri_messages.specs.Asked.{AskedFor};
 ghost use Rattle.siri_change.specs.Changes as change;
 ghost use Rattle.siri_change.specs.Parts as part;
 ghost use Rattle.siri_subscriptions.specs.Openings.{with_opening, CanOpen};
 ghost use Rattle.siri_subscriptions.specs.Rounds.{looked, sent_if_due};
 
-use siri_base::{Copies, List, Moment, OutOfMemory};
-use siri_change::{Change, View, changes, differ, target};
-use siri_records::{Item, SharedKey};
+use siri_base::{List, Moment, OutOfMemory};
+use siri_change::{Change, View, addition, changes, differ, target};
 use siri_subs::{GREATEST_ROUND, Rounds};
 use siri_topic::Subscription;
 use std::alloc::Global;
-use std::rc::Rc;
 
 /// A round that is to open: the view that it leads to, and by which changes.
 #[derive(Drop)]
@@ -42,7 +40,8 @@ pub fn look(
     direct: View,
 ) -> Result<Finding, OutOfMemory>
     requires { rounds.now.outstanding ≡ None }
-    ensures opening { IfOk result (λ finding. (asked : Asked) → asked.subscription ≡ wanted.now → (now : ℕ)
+    // Where its messages go, how often a heartbeat is, and the moment of the look don't matter.
+    ensures opening { IfOk result (λ finding. (asked : AskedFor) → asked.subscription ≡ wanted.now → (now : ℕ)
         → with_opening now finding.opening rounds.now ≡ looked asked direct now rounds.now) }
     ensures can_open { IfOk result (λ finding. CanOpen finding.opening rounds.now) }
     ensures level { IfOk result (λ finding. finding.is_level ≡ change.meets wanted.now.slack rounds.now.acknowledged direct) }
@@ -96,17 +95,6 @@ pub(crate) fn whole(alloc: Global, view: &View) -> Result<List<Change>, OutOfMem
         }
         place += 1;
     }
-}
-
-/// The change that makes an entry's item the one of its key.
-pub(crate) fn addition(entry: &(SharedKey, Rc<Item>)) -> Result<Change, OutOfMemory>
-    ensures { IfOk result (λ change. change ≡ (entry.now.0, Some entry.now.1.value)) }
-{
-    let item = entry.1.clone()?;
-    Ok(Change {
-        key: entry.0.copy()?,
-        item: Some(item),
-    })
 }
 
 /// Opens the round that a look found, where it found one, at a moment; then the message that is due, if one is, counts

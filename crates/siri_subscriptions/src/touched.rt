@@ -1,17 +1,21 @@
 //! What a look finds of the keys that may have changed since the last one.
 
-ghost use Rattle.std.specs.Prelude.{◌≡◌, ◌≤◌, ◌+◌, Some, None, fold, filter, length, IfOk, OnOk};
+ghost use Rattle.std.specs.Prelude.{◌≡◌, ◌<◌, ◌≤◌, ◌+◌, ◌^◌, Some, None, fold, filter, length, option_map, slice_get, IfOk, OnOk};
 ghost use Rattle.std.specs.Map.{keys_of};
 ghost use Rattle.siri_records.specs.KeyLists.{KeysInOrder, is_among};
+ghost use Rattle.siri_records.specs.Keyed.{InOrder};
 ghost use Rattle.siri_records.specs.Order.{key_cmp};
+ghost use Rattle.siri_store.specs.Candidates.{may_be_shown};
 ghost use Rattle.siri_store.specs.Marked.{keys_since};
 ghost use Rattle.siri_model.specs.Looks.{found_of};
 ghost use Rattle.siri_subscriptions.specs.Again.{AreTouched, is_other, with_held};
 
-use crate::looks::addition;
 use siri_base::{Copies, List, OutOfMemory};
+use siri_change::addition;
 use siri_records::{Change, KeyedItems, SharedKey};
 use siri_responder::Responder;
+use siri_store::asked;
+use siri_topic::Topic;
 use std::alloc::Global;
 use std::cmp::Ordering;
 
@@ -51,22 +55,30 @@ impl Touched {
         self.number = Some(number);
         Ok(())
     }
+
+    /// Those of them whose items may be shown to a topic.
+    pub(crate) fn asked(&self, topic: &Topic) -> &[Change]
+        requires { InOrder self.now.found }
+        ensures { result.now ≡ filter (λ change. may_be_shown topic.now change.0) self.now.found }
+    {
+        let places = asked(&self.found, topic);
+        &self.found.slice()[places.start..places.end]
+    }
 }
 
 /// What was found, in order of key, with items that are held, in order of key too.
 pub(crate) fn merged(
     alloc: Global,
-    found: &List<Change>,
+    found: &[Change],
     items: &KeyedItems,
 ) -> Result<List<Change>, OutOfMemory>
     ensures { IfOk result (λ list. list ≡ fold with_held found.now items.now) }
 {
     let mut list = List::new(alloc);
-    let count = found.len();
     let mut place = 0;
     let mut next = 0;
     loop {
-        match (found.get(place), items.entry(next)) {
+        match (at(found, place), items.entry(next)) {
             (None, None) => return Ok(list),
             (Some(one), None) => {
                 list.push(one.copy()?)?;
@@ -95,13 +107,20 @@ pub(crate) fn merged(
     }
 }
 
+/// What was found at a place, counted from 0.
+fn at(found: &[Change], place: usize) -> Option<&Change>
+    ensures one { option_map (λ one. one.now) result ≡ slice_get found.now place }
+    ensures small { length found.now < 2 ^ 64 }
+{
+    found.get(place)
+}
+
 /// Whether a key is one of those that were found, which are in order.
-pub(crate) fn is_found(found: &List<Change>, key: &SharedKey) -> bool
+pub(crate) fn is_found(found: &[Change], key: &SharedKey) -> bool
     requires { KeysInOrder (keys_of found.now) }
     ensures { result ≡ is_among key.now (keys_of found.now) }
 {
     found
-        .slice()
         .binary_search_by(
             |one: &Change| -> Ordering
                 ensures { result ≡ key_cmp one.now.0 key.entry.now }
@@ -114,7 +133,7 @@ pub(crate) fn is_found(found: &List<Change>, key: &SharedKey) -> bool
 pub(crate) fn others(
     alloc: Global,
     keys: &List<SharedKey>,
-    found: &List<Change>,
+    found: &[Change],
 ) -> Result<List<SharedKey>, OutOfMemory>
     requires { KeysInOrder (keys_of found.now) }
     ensures { IfOk result (λ others. others ≡ filter (is_other found.now) keys.now) }

@@ -80,10 +80,6 @@ number_of-digits n lt =
 pub number_back : (n : ℕ) → IsNumber n → GivesBack number (written_number n) (Some n)
 number_back n lt = text_again (λ t. or_refused _ (number_of t)) (digits n) n (decimal_nonempty n (omega arith)) (ap (or_refused _) (number_of-digits n lt))
 
-pub some_number_back : (o : Option ℕ) → IfSome o IsNumber → GivesBack number (option_and_then written_number o) o
-some_number_back None is = refl
-some_number_back (Some n) is = number_back n is
-
 -- ---- moments, spans and decimals
 
 pub moment_back : (m : ℕ) → IsMoment m → GivesBack moment (written_moment m) (Some m)

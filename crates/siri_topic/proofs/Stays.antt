@@ -20,10 +20,6 @@ near_rises : (start : Option ℕ) (before now : ℕ) → before ≤ now → near
 near_rises None before now le = le
 near_rises (Some s) before now le = omega (arith, le)
 
-now_to_near : (start : Option ℕ) (now : ℕ) → now ≤ near_edge start now
-now_to_near None now = omega arith
-now_to_near (Some s) now = omega arith
-
 -- ---- the edges of a part of a list
 
 any_left : (test : ℕ → Bool) (xs ys : List ℕ) → list_any test (xs ++ ys) ≡ false → list_any test xs ≡ false

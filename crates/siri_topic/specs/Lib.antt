@@ -1,3 +1,4 @@
 pub mod Agreement
 pub mod Crossed
 pub mod Shown
+pub mod Services

@@ -1,8 +1,10 @@
 //! What is asked of each of the four services.
 
 ghost use Rattle.std.specs.Prelude.{◌≡◌};
+ghost use Rattle.siri_topic.specs.Services.{service_asked};
 
 use siri_base::{Copies, List, Moment, Name, OutOfMemory, Span};
+use siri_records::Service;
 
 /// What is asked of one of the services.
 pub enum Topic {
@@ -23,6 +25,20 @@ impl Drop for Topic {
             Topic::Timetable(_) => {}
             Topic::Vehicle(_) => {}
             Topic::Situation(_) => {}
+        }
+    }
+}
+
+impl Topic {
+    /// The functional service that is asked for it.
+    pub fn service(&self) -> Service
+        ensures { result ≡ service_asked self.now }
+    {
+        match self {
+            Topic::Stop(_) => Service::Stop,
+            Topic::Timetable(_) => Service::Timetable,
+            Topic::Vehicle(_) => Service::Vehicle,
+            Topic::Situation(_) => Service::Situation,
         }
     }
 }

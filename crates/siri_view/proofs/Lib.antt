@@ -1,3 +1,4 @@
+pub mod Firsts
 pub mod Keyed
 pub mod Only
 pub mod Outcomes

@@ -4,14 +4,14 @@ use Rattle.siri_life.specs.Link.{restarted}
 use Rattle.siri_life.specs.Named.{Name}
 use Rattle.siri_life.specs.Network.{restarted_from}
 use Rattle.siri_view.specs.Consuming.{all_data_from}
-use Rattle.siri_view.specs.Kept.{meaning, KeptSubscription, Holdings}
+use Rattle.siri_view.specs.Kept.{meaning, HeldSubscription, Holdings}
 use Rattle.siri_view.specs.Places.{restarted_at, restarted_to}
 use Rattle.siri_view.specs.Sending.{all_data_request}
 
-pub restarted_at_is : (number : ℕ) (es : Holdings) (i : ℕ) (e : Name × KeptSubscription) → i < length es → e ≡ get_or es i e
+pub restarted_at_is : (number : ℕ) (es : Holdings) (i : ℕ) (e : Name × HeldSubscription) → i < length es → e ≡ get_or es i e
     → set es i (e.0, restarted meaning number e.1) ≡ restarted_at number es i
 restarted_at_is number [] i e lt is = absurd (omega (arith, lt))
-restarted_at_is number (f ∷ es) zero e lt is = ap (λ (g : Name × KeptSubscription). (g.0, restarted meaning number g.1) ∷ es) is
+restarted_at_is number (f ∷ es) zero e lt is = ap (λ (g : Name × HeldSubscription). (g.0, restarted meaning number g.1) ∷ es) is
 restarted_at_is number (f ∷ es) (suc i) e lt is = ap (λ l. f ∷ l) (restarted_at_is number es i e (omega (arith, lt)) is)
 
 pub one_more_restarted : (es : Holdings) (count first number : ℕ) → number ≡ first + count
@@ -29,7 +29,7 @@ all_restarted (e ∷ es) zero first is = absurd (omega (arith, is))
 all_restarted (e ∷ es) (suc count) first is =
     ap (λ l. (e.0, restarted meaning first e.1) ∷ l) (all_restarted es count (suc first) (omega (arith, is)))
 
-pub more_requests : (name : Name) (now first : ℕ) (es : Holdings) (i : ℕ) (e : Name × KeptSubscription) (number : ℕ) → i < length es
+pub more_requests : (name : Name) (now first : ℕ) (es : Holdings) (i : ℕ) (e : Name × HeldSubscription) (number : ℕ) → i < length es
     → e ≡ get_or es i e → number ≡ first + i
     → all_data_from name now first (take (suc i) es) ≡ all_data_from name now first (take i es) ++ all_data_request name now e.0 number e.1.base ∷ []
 more_requests name now first [] i e number lt is at = absurd (omega (arith, lt))

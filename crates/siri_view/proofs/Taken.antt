@@ -13,7 +13,7 @@ use Rattle.siri_life.specs.Link as life
 use Rattle.siri_life.specs.Link.{taken, taken_as, with_part, with_start_if, base_of}
 use Rattle.siri_view.specs.Table.{IsAt, IsTooGreat, IsFirst}
 use Rattle.siri_view.proofs.Outcomes.{comes_only}
-use Rattle.siri_view.specs.Kept.{meaning, KeptSubscription}
+use Rattle.siri_view.specs.Kept.{meaning, HeldSubscription}
 
 -- parts one after the other are all their changes at once
 pub parts_at_once : (view : Items) (parts : List Carried) → apply_parts meaning view parts ≡ apply view (flat_map changes_in parts)
@@ -27,16 +27,9 @@ suc_is_one r = at (r == 0) refl
     at true t = let e = eqb-true r 0 t in eq-eqb (suc r) 1 (omega arith)
     at false t = ne_eqb (suc r) 1 (λ e. eqb-false r 0 t (omega arith))
 
-module _ (h : KeptSubscription) (m : Mark) (x : Carried) (wanted : life.outcome meaning h m ≡ life.Wanted) where
+module _ (h : HeldSubscription) (m : Mark) (x : Carried) (wanted : life.outcome meaning h m ≡ life.Wanted) where
   taken_is : (more : Bool) (b : Bool) → nat_lt h.start m.start ≡ b → taken meaning h m more x ≡ with_part meaning more (with_start_if meaning b h m.start) x
   taken_is more b t = ap (λ o. taken_as meaning o h m more x) wanted ∙ ap (λ c. with_part meaning more (with_start_if meaning c h m.start) x) t
-
-  -- it is buffered, as the first of a greater start, or after the others
-  pub buffered_anew : h.start < m.start → taken meaning h m true x ≡ record h { start = m.start; round = 0; parts = x ∷ [] }
-  buffered_anew less = taken_is true true (lt-ltb _ _ less)
-
-  pub buffered_on : m.start ≤ h.start → taken meaning h m true x ≡ record h { parts = h.parts ++ x ∷ [] }
-  buffered_on le = taken_is true false (le-ltb _ _ le)
 
   -- its round is applied, as the first of a greater start, or with the others
   pub applied_anew : h.start < m.start → taken meaning h m false x ≡ record h {
@@ -69,7 +62,7 @@ module _ (h : KeptSubscription) (m : Mark) (x : Carried) (wanted : life.outcome 
       last_alone : flat_map changes_in (x ∷ []) ≡ changes_in x
       last_alone = append-nil (changes_in x)
 
-  abbrev at : ℕ → Bool → Bool → KeptSubscription
+  abbrev at : ℕ → Bool → Bool → HeldSubscription
   at round is_anew is_greater = record h {
     start = m.start;
     round = round;
@@ -78,7 +71,7 @@ module _ (h : KeptSubscription) (m : Mark) (x : Carried) (wanted : life.outcome 
     origin = record { number = h.number; start = m.start; round = round };
   }
 
-  abbrev with_view : (start round : ℕ) → Items → KeptSubscription
+  abbrev with_view : (start round : ℕ) → Items → HeldSubscription
   with_view start round view = record h {
     start = start;
     round = round;
@@ -87,7 +80,7 @@ module _ (h : KeptSubscription) (m : Mark) (x : Carried) (wanted : life.outcome 
     origin = record { number = h.number; start = start; round = round };
   }
 
-  abbrev at_kept : (start round : ℕ) → Bool → KeptSubscription
+  abbrev at_kept : (start round : ℕ) → Bool → HeldSubscription
   at_kept start round is_anew = with_view start round (apply (cond is_anew [] h.view) (flat_map changes_in h.parts ++ changes_in x))
 
   base_as : (z i : Bool) → cond z [] (cond i h.view []) ≡ cond (z || not i) [] h.view
@@ -138,7 +131,7 @@ module _ (h : KeptSubscription) (m : Mark) (x : Carried) (wanted : life.outcome 
           (subst (λ z. taken meaning h m false x ≡ at_kept h.start (suc h.round) z) one known)))
 
   -- the same of what is kept by another name, with its changes and its view
-  pub applied_to : (g : KeptSubscription) → g ≡ h → (view : Items) (changes : List KeyChange) (is_anew : Bool)
+  pub applied_to : (g : HeldSubscription) → g ≡ h → (view : Items) (changes : List KeyChange) (is_anew : Bool)
       → changes ≡ flat_map changes_in (cond (nat_lt h.start m.start) [] h.parts) ++ changes_in x
       → is_anew ≡ (m.round == 1 || not h.wanted.subscription.incremental)
       → view ≡ apply (cond is_anew [] g.view) changes
@@ -168,5 +161,5 @@ module _ (h : KeptSubscription) (m : Mark) (x : Carried) (wanted : life.outcome 
       is_view : view ≡ apply (cond (m.round == 1 || not h.wanted.subscription.incremental) [] h.view)
           (flat_map changes_in (cond (nat_lt h.start m.start) [] h.parts) ++ changes_in x)
       is_view =
-          r ∙ (ap (λ (k : KeptSubscription). apply (cond is_anew [] k.view) changes) e
+          r ∙ (ap (λ (k : HeldSubscription). apply (cond is_anew [] k.view) changes) e
           ∙ (ap (λ b. apply (cond b [] h.view) changes) q ∙ ap (apply (cond (m.round == 1 || not h.wanted.subscription.incremental) [] h.view)) p))

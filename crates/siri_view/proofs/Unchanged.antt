@@ -20,7 +20,7 @@ use Rattle.siri_view.specs.Changing.{IsOrdered, TakesNothing}
 use Rattle.siri_view.specs.Consuming.{Consuming, after_delivery, after_heard, after_message, kept_for, seen_by, seen_in_delivery, seen_of}
 use Rattle.siri_view.specs.Consuming.{told_of, told_of_part}
 use Rattle.siri_view.specs.Hearing.{Heard, Delivered, Notified, Noted, Foreign, heard}
-use Rattle.siri_view.specs.Kept.{meaning, KeptSubscription, kept_of, with_kept}
+use Rattle.siri_view.specs.Kept.{meaning, HeldSubscription, kept_of, with_kept}
 use Rattle.siri_view.proofs.Keyed.{none_here}
 
 -- to put under a key what is found there changes nothing
@@ -38,7 +38,7 @@ put_found {K} {X} {cmp} total k (e ∷ es) x ordered found = by (cmp k e.0) refl
     by Greater is there rest = ap (λ more. e ∷ more) (rest there)
 
 -- what is kept stays where its part isn't taken
-kept_same : (o : life.Outcome) (h : KeptSubscription) (m : Mark) (more : Bool) (part : Carried)
+kept_same : (o : life.Outcome) (h : HeldSubscription) (m : Mark) (more : Bool) (part : Carried)
     → TakesNothing (told_of o h (told_of_part more m)) → taken_as meaning o h m more part ≡ h
 kept_same life.Wanted h m true part nothing = absurd nothing
 kept_same life.Wanted h m false part nothing = absurd nothing
@@ -48,8 +48,8 @@ kept_same life.OldStart h m more part nothing = refl
 kept_same life.Gap h m more part nothing = refl
 kept_same life.Overlong h m more part nothing = refl
 
-delivery_same : (c : Consuming) (identifier : Name) (found : Option KeptSubscription) (m : Mark) (more : Bool) (part : Carried) → IsOrdered c
-    → ((h : KeptSubscription) → found ≡ Some h → kept_of identifier c.held ≡ Some h)
+delivery_same : (c : Consuming) (identifier : Name) (found : Option HeldSubscription) (m : Mark) (more : Bool) (part : Carried) → IsOrdered c
+    → ((h : HeldSubscription) → found ≡ Some h → kept_of identifier c.held ≡ Some h)
     → TakesNothing (seen_in_delivery c identifier found m more).outcome → after_delivery c identifier found m more part ≡ c
 delivery_same c identifier None m more part ordered there nothing = refl
 delivery_same c identifier (Some h) m more part ordered there nothing =
@@ -57,7 +57,7 @@ delivery_same c identifier (Some h) m more part ordered there nothing =
     (ap (λ kept. with_kept identifier kept c.held) (kept_same (life.outcome meaning h m) h m more part nothing)
     ∙ put_found nat_list_cmp_total identifier c.held h ordered (there h refl))
 
-own_kept : (own : Bool) (found : Option KeptSubscription) (h : KeptSubscription) → cond own found None ≡ Some h → found ≡ Some h
+own_kept : (own : Bool) (found : Option HeldSubscription) (h : HeldSubscription) → cond own found None ≡ Some h → found ≡ Some h
 own_kept true found h is = is
 own_kept false found h is = absurd (cc)
 

@@ -6,7 +6,7 @@ use Rattle.siri_base.specs.declared.place.Place.{Place}
 use Rattle.siri_topic.specs.Agreement.{same_name}
 use Rattle.siri_topic.specs.declared.subscription.Subscription.{Subscription}
 use Rattle.siri_change.specs.Parts.{Carried}
-use Rattle.siri_messages.specs.Asked.{Asked}
+use Rattle.siri_messages.specs.Asked.{AskedFor}
 use Rattle.siri_messages.specs.declared.message.Message.{Message}
 use Rattle.siri_life.specs.Life.{Mark, Packet, Subscribe, Terminate, AllData, Supply, Acknowledge, Notify, Delivery}
 use Rattle.siri_life.specs.Link as life
@@ -17,7 +17,7 @@ use Rattle.siri_view.specs.declared.outcome.Outcome.{Outcome}
 use Rattle.siri_view.specs.declared.outcome.Outcome.TheVariants as outcome
 use Rattle.siri_view.specs.declared.outcome.Seen.{Seen}
 use Rattle.siri_view.specs.declared.outcome.Held.{Held}
-use Rattle.siri_view.specs.Kept.{meaning, KeptSubscription, Holdings, kept_of, with_kept, without_kept}
+use Rattle.siri_view.specs.Kept.{meaning, HeldSubscription, Holdings, kept_of, with_kept, without_kept}
 use Rattle.siri_view.specs.Hearing.{Heard, Delivered, Notified, Noted, Foreign, heard}
 use Rattle.siri_view.specs.Sending.{acknowledgement, supply_request, ready_acknowledgement, termination_request, subscription_request}
 use Rattle.siri_view.specs.Sending.{all_data_request, first_of_each, own}
@@ -40,13 +40,13 @@ abbrev pub clocked : Consuming → ℕ → Consuming
 clocked c moment = record c { moment = max c.moment moment }
 
 -- the round whose target a view is
-abbrev pub held_by : KeptSubscription → Held
+abbrev pub held_by : HeldSubscription → Held
 held_by h = record { number = h.origin.number; start = h.origin.start; round = h.origin.round }
 
 -- ---- what is told of a part
 
 -- the part that is wanted next
-abbrev pub wanted_place : KeptSubscription → Place
+abbrev pub wanted_place : HeldSubscription → Place
 wanted_place h = record { round = suc h.round; part = suc (length h.parts) }
 
 -- of a wanted part that is delivered, and whether further ones follow
@@ -55,7 +55,7 @@ told_of_part true m = outcome.Buffered (record { round = m.round; part = m.part 
 told_of_part false m = outcome.Applied m.round
 
 -- by what a mark says, where this is told of a wanted part
-abbrev pub told_of : life.Outcome → KeptSubscription → (wanted : Outcome) → Outcome
+abbrev pub told_of : life.Outcome → HeldSubscription → (wanted : Outcome) → Outcome
 told_of life.UnknownSubscription h wanted = outcome.UnknownSubscription
 told_of life.OldStart h wanted = outcome.OldStart
 told_of life.Gap h wanted = outcome.Gap (wanted_place h)
@@ -66,7 +66,7 @@ told_of life.Wanted h wanted = wanted
 -- ---- what is replied
 
 -- a packet that answers a delivery or a notification, as a message
-abbrev pub reply : Consuming → Name → Packet Carried Asked → List Message
+abbrev pub reply : Consuming → Name → Packet Carried AskedFor → List Message
 reply c identifier (Acknowledge m) = acknowledgement c.name c.moment identifier m ∷ []
 reply c identifier (Supply m) = supply_request c.name c.moment identifier m ∷ []
 reply c identifier (Subscribe number wanted) = []
@@ -76,7 +76,7 @@ reply c identifier (Notify m moment) = []
 reply c identifier (Delivery m moment more part) = []
 
 -- packets, as messages
-abbrev pub replies_by : Consuming → Name → List (Packet Carried Asked) → List Message
+abbrev pub replies_by : Consuming → Name → List (Packet Carried AskedFor) → List Message
 replies_by c identifier packets = flat_map (reply c identifier) packets
 
 -- a notification of the wanted part is acknowledged first
@@ -91,10 +91,10 @@ readied c life.Overlong = []
 -- ---- what a consumer sees in a message
 
 -- what is kept of a subscription of this subscriber, if the subscriber is this consumer and it is held
-abbrev pub kept_for : Consuming → (subscriber identifier : Name) → Option KeptSubscription
+abbrev pub kept_for : Consuming → (subscriber identifier : Name) → Option HeldSubscription
 kept_for c subscriber identifier = cond (same_name subscriber c.name) (kept_of identifier c.held) None
 
-abbrev pub seen_in_delivery : Consuming → Name → Option KeptSubscription → Mark → Bool → Seen
+abbrev pub seen_in_delivery : Consuming → Name → Option HeldSubscription → Mark → Bool → Seen
 seen_in_delivery c identifier None m more = record { outcome = outcome.UnknownSubscription; replies = [] }
 seen_in_delivery c identifier (Some h) m more =
     record {
@@ -102,7 +102,7 @@ seen_in_delivery c identifier (Some h) m more =
       replies = replies_by c identifier (replies meaning h m more);
     }
 
-abbrev pub seen_in_notification : Consuming → Name → Option KeptSubscription → Mark → Seen
+abbrev pub seen_in_notification : Consuming → Name → Option HeldSubscription → Mark → Seen
 seen_in_notification c identifier None m = record { outcome = outcome.UnknownSubscription; replies = [] }
 seen_in_notification c identifier (Some h) m =
     record {
@@ -122,7 +122,7 @@ seen_of c message = seen_by c (heard message)
 
 -- ---- what a message makes of a consumer
 
-abbrev pub after_delivery : Consuming → Name → Option KeptSubscription → Mark → Bool → Carried → Consuming
+abbrev pub after_delivery : Consuming → Name → Option HeldSubscription → Mark → Bool → Carried → Consuming
 after_delivery c identifier None m more part = c
 after_delivery c identifier (Some h) m more part =
     record c { held = with_kept identifier (taken meaning h m more part) c.held }
@@ -145,12 +145,12 @@ abbrev pub asked_for : Consuming → List Subscription → List Subscription
 asked_for c wanted = first_of_each (map (own c.name) wanted)
 
 -- all that is asked for with each of them, by its identifier
-abbrev pub requests_for : Option Name → (beat : ℤ) → List Subscription → List (Name × Asked)
+abbrev pub requests_for : Option Name → (beat : ℤ) → List Subscription → List (Name × AskedFor)
 requests_for address beat list =
     map (λ s. (s.identifier, record { subscription = s; address = address; beat = beat })) list
 
 -- what is asked for is held under a number, with no start and no round; a view that is held stays
-abbrev pub with_request : (number : ℕ) → Holdings → Name × Asked → Holdings
+abbrev pub with_request : (number : ℕ) → Holdings → Name × AskedFor → Holdings
 with_request number held request =
     with_kept request.0 (asked meaning number request.1 (kept_of request.0 held)) held
 

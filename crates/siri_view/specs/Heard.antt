@@ -5,7 +5,7 @@ use Rattle.siri_life.specs.Link as life
 use Rattle.siri_view.specs.declared.outcome.Seen.{Seen}
 use Rattle.siri_view.specs.declared.hearing.Delivered.{Delivered as Part}
 use Rattle.siri_view.specs.Hearing.{Heard, Delivered, Noted}
-use Rattle.siri_view.specs.Kept.{KeptSubscription, meaning, kept_of}
+use Rattle.siri_view.specs.Kept.{HeldSubscription, meaning, kept_of}
 use Rattle.siri_view.specs.Consuming.{Consuming, after_delivery, seen_in_delivery}
 use Rattle.siri_view.specs.Marks.{mark_by}
 
@@ -22,7 +22,7 @@ heard_if None = Noted
 heard_if (Some p) = delivered_by p
 
 -- a part that is delivered is wanted of what is kept, and the next one is asked for after it or isn't
-abbrev pub IsWanted : Part → Bool → Option KeptSubscription → Type 0
+abbrev pub IsWanted : Part → Bool → Option HeldSubscription → Type 0
 IsWanted p asks None = ⊥
 IsWanted p asks (Some h) =
     (life.outcome meaning h (mark_by p.mark) ≡ life.Wanted) × (asks ≡ (p.more && h.wanted.subscription.fetched))

@@ -6,7 +6,7 @@ use Rattle.std.specs.declared.cmp.Ordering.{Ordering}
 use Rattle.std.specs.Map.{lookup, remove_entry}
 use Rattle.std.specs.BTreeMap.{insert_entry, is_at}
 use Rattle.siri_records.specs.Keyed.{Items, apply}
-use Rattle.siri_messages.specs.Asked.{Asked}
+use Rattle.siri_messages.specs.Asked.{AskedFor}
 use Rattle.siri_change.specs.Changes as change
 use Rattle.siri_change.specs.Parts as part
 use Rattle.siri_change.specs.Parts.{Carried, carried, changes_in, parts_of}
@@ -17,7 +17,7 @@ use Rattle.siri_life.specs.Link.{Holding}
 
 -- what subscriptions are about, to a consumer: views of items, and parts as deliveries carry them. It knows nothing of
 -- what its producer knows, and sends no heartbeat
-abbrev pub meaning : Meaning Items Carried Asked (Unit {0}) (Unit {0})
+abbrev pub meaning : Meaning Items Carried AskedFor (Unit {0}) (Unit {0})
 meaning = record {
   empty = [];
   is_view = is_view;
@@ -36,8 +36,8 @@ meaning = record {
 }
 
 -- what is kept of one subscription
-abbrev pub KeptSubscription : Type 0
-KeptSubscription = Holding Items Carried Asked
+abbrev pub HeldSubscription : Type 0
+HeldSubscription = Holding Items Carried AskedFor
 
 -- ---- what is kept of each, by its identifier, in order of the bytes
 
@@ -46,14 +46,14 @@ abbrev pub name_cmp : Name → Name → Ordering
 name_cmp = slice_cmp nat_cmp
 
 abbrev pub Holdings : Type 0
-Holdings = List (Name × KeptSubscription)
+Holdings = List (Name × HeldSubscription)
 
 -- what is kept under an identifier
-abbrev pub kept_of : Name → Holdings → Option KeptSubscription
+abbrev pub kept_of : Name → Holdings → Option HeldSubscription
 kept_of identifier held = lookup (is_at (name_cmp identifier)) held
 
 -- with this under an identifier
-abbrev pub with_kept : Name → KeptSubscription → Holdings → Holdings
+abbrev pub with_kept : Name → HeldSubscription → Holdings → Holdings
 with_kept identifier kept held = insert_entry name_cmp held identifier kept
 
 -- without what is under an identifier

@@ -1,20 +1,20 @@
 -- Inner words: cited by private functions alone. A part taken of a subscription among others.
 use Rattle.std.specs.Prelude.{◌≡◌, ℕ, zero, suc, Bool, [], ◌∷◌, Option, Some, None}
 use Rattle.siri_change.specs.Parts.{Carried}
-use Rattle.siri_messages.specs.Asked.{Asked}
+use Rattle.siri_messages.specs.Asked.{AskedFor}
 use Rattle.siri_life.specs.Life.{Mark}
 use Rattle.siri_life.specs.Link as life
 use Rattle.siri_life.specs.Link.{asked, restarted, taken}
 use Rattle.siri_life.specs.Named.{Name}
-use Rattle.siri_view.specs.Kept.{meaning, KeptSubscription, Holdings, with_kept}
+use Rattle.siri_view.specs.Kept.{meaning, HeldSubscription, Holdings, with_kept}
 
 -- what is kept, if anything is, wants a part
-abbrev pub Wants : Mark → Option KeptSubscription → Type 0
+abbrev pub Wants : Mark → Option HeldSubscription → Type 0
 Wants m None = Unit {0}
 Wants m (Some h) = life.outcome meaning h m ≡ life.Wanted
 
 -- with the part taken of what is kept under an identifier
-abbrev pub with_taken : Name → Mark → Bool → Carried → Option KeptSubscription → Holdings → Holdings
+abbrev pub with_taken : Name → Mark → Bool → Carried → Option HeldSubscription → Holdings → Holdings
 with_taken identifier m more part None held = held
 with_taken identifier m more part (Some h) held = with_kept identifier (taken meaning h m more part) held
 
@@ -25,7 +25,7 @@ taken_at m more part (e ∷ held) zero = (e.0, taken meaning e.1 m more part) �
 taken_at m more part (e ∷ held) (suc at) = e ∷ taken_at m more part held at
 
 -- with what is kept at a place asked for again
-abbrev pub asked_at : ℕ → Asked → Holdings → ℕ → Holdings
+abbrev pub asked_at : ℕ → AskedFor → Holdings → ℕ → Holdings
 asked_at number wanted [] at = []
 asked_at number wanted (e ∷ held) zero = (e.0, asked meaning number wanted (Some e.1)) ∷ held
 asked_at number wanted (e ∷ held) (suc at) = e ∷ asked_at number wanted held at

@@ -27,9 +27,9 @@ impl Drop for AskedFor {
 }
 
 impl Model for AskedFor {
-    ghost use Rattle.siri_messages.specs.Asked.{Asked};
+    ghost use Rattle.siri_messages.specs.Asked.{AskedFor};
 
-    ghost Value = { Asked };
+    ghost Value = { AskedFor };
 
     ghost view = { λ a. record { subscription = a.subscription; address = a.address; beat = a.beat } };
 }

@@ -28,7 +28,7 @@ pub(crate) fn first_of_each(
 }
 
 /// Whether one of the subscriptions has this identifier.
-fn has(subscriptions: &[Subscription], identifier: &Name) -> bool
+pub(crate) fn has(subscriptions: &[Subscription], identifier: &Name) -> bool
     ensures { result ≡ list_any (is_identified identifier.now) subscriptions.now }
 {
     subscriptions

@@ -91,8 +91,9 @@ impl Consumer {
     /// identifier is left out. Each is then held under that number, with no start and no round; a view that is held
     /// stays.
     ///
-    /// `Spent` exactly where the number would pass 999,999,999,999,999,999, and otherwise `TooMany` where more than 200
-    /// would be held. After a refusal or want of memory the consumer is as before.
+    /// `Spent` exactly where the number would pass 999,999,999,999,999,999, and otherwise `TooMany` exactly where more than
+    /// 200 would be held: both are told before memory is asked for. After a refusal or want of memory the consumer is as
+    /// before.
     pub fn subscribe(
         &mut self,
         wanted: &List<Subscription>,
@@ -101,9 +102,9 @@ impl Consumer {
         requires { wanted.now ≢ [] }
         ensures request { IfOk result (λ message. message ≡ request_for self.old wanted.now beat) }
         ensures ok { OnOk result (self.new ≡ after_subscribe self.old wanted.now beat) }
-        // When each of these comes. Want of memory may come before `TooMany` is found.
+        // When each of these comes: want of memory stands for neither.
         ensures spent { IsErrOf result AskError.Spent ↔ (greatest_number < self.old.next_number) }
-        ensures too_many { IsErrOf result AskError.TooMany → (self.old.next_number ≤ greatest_number) × (most_held < count_after self.old wanted.now) }
+        ensures too_many { IsErrOf result AskError.TooMany ↔ ((self.old.next_number ≤ greatest_number) × (most_held < count_after self.old wanted.now)) }
         ensures at_most { OnOk result (count_after self.old wanted.now ≤ most_held) }
         ensures not_not_held { IsErrOf result AskError.NotHeld → ⊥ }
         ensures refused { OnErr result (self.new ≡ self.old) }
@@ -111,12 +112,12 @@ impl Consumer {
         if self.next_number > GREATEST_NUMBER {
             return Err(AskError::Spent);
         }
-        let alloc = self.held.allocator();
-        let asked = first_of_each(alloc, &self.name, wanted.slice())?;
         let held = self.held.len();
-        if held > MOST_HELD || self.held.count_new(asked.slice()) > MOST_HELD - held {
+        if held > MOST_HELD || self.held.count_new(wanted.slice()) > MOST_HELD - held {
             return Err(AskError::TooMany);
         }
+        let alloc = self.held.allocator();
+        let asked = first_of_each(alloc, &self.name, wanted.slice())?;
         let request = subscription_request(
             alloc,
             &self.name,

@@ -1,6 +1,6 @@
 //! What is kept of each subscription that is held, in order of identifier.
 
-ghost use Rattle.std.specs.Prelude.{◌≡◌, ◌<◌, ◌≤◌, ◌+◌, ◌^◌, [], length, fold, Some, None, option_map, slice_get, IfSome, IfOk, OnOk, OnErr, IsOk, Ok, vec_len};
+ghost use Rattle.std.specs.Prelude.{◌≡◌, ◌<◌, ◌≤◌, ◌+◌, ◌^◌, [], length, map, fold, Some, None, option_map, slice_get, IfSome, IfOk, OnOk, OnErr, IsOk, Ok, vec_len};
 ghost use Rattle.std.specs.Vec.{vec_capacity};
 ghost use Rattle.std.specs.List.{filter};
 ghost use Rattle.std.specs.List.Sorted.{IsStrictlySortedBy};
@@ -10,9 +10,12 @@ ghost use Rattle.siri_records.specs.Places.{Finds};
 ghost use Rattle.siri_view.specs.Consuming.{all_data_from, with_request, is_new};
 ghost use Rattle.siri_view.specs.Kept.{meaning, name_cmp, kept_of, with_kept, without_kept};
 ghost use Rattle.siri_view.specs.Marks.{mark_by};
+ghost use Rattle.siri_life.specs.Named.{Name};
+ghost use Rattle.siri_view.specs.Sending.{first_of_each, own};
 ghost use Rattle.siri_view.specs.Places.{Wants, with_taken, taken_at, asked_at, restarted_at};
 
 use crate::asked::AskedFor;
+use crate::asking::has;
 use crate::marks::Numbers;
 use crate::messages::all_data_request;
 use crate::part::Part;
@@ -134,14 +137,19 @@ impl Holdings {
         Ok(())
     }
 
-    /// How many of these subscriptions aren't held.
+    /// How many of these subscriptions aren't held, of each identifier the first, whoever is their subscriber. It takes no
+    /// memory.
     pub(crate) fn count_new(&self, wanted: &[Subscription]) -> usize
-        ensures { result ≡ length (filter (is_new self.now) wanted.now) }
+        ensures { (name : Name) → result ≡ length (filter (is_new self.now) (first_of_each (map (own name) wanted.now))) }
     {
-        wanted
-            .iter()
-            .filter(|subscription| self.get(&subscription.identifier).is_none())
-            .count()
+        let mut count = 0;
+        for (place, subscription) in wanted.iter().enumerate() {
+            let identifier = &subscription.identifier;
+            if !has(&wanted[..place], identifier) && self.get(identifier).is_none() {
+                count += 1;
+            }
+        }
+        count
     }
 
     /// A request for all of each subscription that is held, in order, the first under this number and each next under the

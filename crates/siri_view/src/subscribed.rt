@@ -52,9 +52,9 @@ impl Model for Subscribed {
     ghost use Rattle.std.specs.Prelude.{◌≤◌, length};
     ghost use Rattle.siri_life.specs.Life.{greatest_round};
     ghost use Rattle.siri_life.specs.Meaning.{most_parts};
-    ghost use Rattle.siri_view.specs.Kept.{KeptSubscription};
+    ghost use Rattle.siri_view.specs.Kept.{HeldSubscription};
 
-    ghost Value = { KeptSubscription };
+    ghost Value = { HeldSubscription };
 
     ghost view = { λ s. record {
       number = s.number;

@@ -11,12 +11,12 @@ use Rattle.siri_base.specs.Numbers.{greatest_number}
 use Rattle.siri_view.specs.Consuming.{Consuming, most_held, count_after, after_restart, after_subscribe}
 use Rattle.siri_view.specs.Consuming.{after_terminate, request_for}
 use Rattle.siri_view.specs.Consuming.{restart_requests, termination_of}
-use Rattle.siri_view.specs.Kept.{KeptSubscription, kept_of}
+use Rattle.siri_view.specs.Kept.{HeldSubscription, kept_of}
 use Rattle.siri_view.specs.declared.outcome.AskError.{AskError}
 use Rattle.siri_view.specs.declared.outcome.AskError.TheVariants as ask_error
 use Rattle.siri_world_model.specs.Consumers.{with_consumer}
 use Rattle.siri_world_model.specs.Effects.{ask_refusal, lacks_numbers}
-use Rattle.siri_world.specs.Asking.{Asks, Restarts, ending_refusal, termination_refusal}
+use Rattle.siri_world.specs.Asking.{MakesRequest, Restarts, ending_refusal, termination_refusal}
 
 -- ---- why it isn't made
 
@@ -36,11 +36,11 @@ ask_full c wanted few full =
     let count : nat_lt most_held (count_after c (wanted ∷ [])) ≡ true = lt-ltb most_held (count_after c (wanted ∷ [])) full in
     rw number (rw count refl)
 
-end_none : (c : Consuming) (kept : Option KeptSubscription) → kept ≢ None → c.next_number ≤ greatest_number → ending_refusal c kept ≡ None
+end_none : (c : Consuming) (kept : Option HeldSubscription) → kept ≢ None → c.next_number ≤ greatest_number → ending_refusal c kept ≡ None
 end_none c None held few = absurd (held refl)
 end_none c (Some kept) held few = let number : nat_lt greatest_number c.next_number ≡ false = le-ltb greatest_number c.next_number few in rw number refl
 
-end_spent : (c : Consuming) (kept : Option KeptSubscription) → kept ≢ None → greatest_number < c.next_number → ending_refusal c kept ≡ Some ask_error.Spent
+end_spent : (c : Consuming) (kept : Option HeldSubscription) → kept ≢ None → greatest_number < c.next_number → ending_refusal c kept ≡ Some ask_error.Spent
 end_spent c None held many = absurd (held refl)
 end_spent c (Some kept) held many = let number : nat_lt greatest_number c.next_number ≡ true = lt-ltb greatest_number c.next_number many in rw number refl
 
@@ -60,7 +60,7 @@ module _ (c : Consuming) (wanted : Subscription) (beat : ℤ) (old : List Consum
       → (IsErrOf r ask_error.TooMany → (c.next_number ≤ greatest_number) × (most_held < count_after c (wanted ∷ [])))
       → OnOk r (count_after c (wanted ∷ []) ≤ most_held) → (IsErrOf r ask_error.NotHeld → ⊥) → OnErr r (x ≡ c)
       → (x ≡ after_subscribe c (wanted ∷ []) beat → new ≡ with_consumer (after_subscribe c (wanted ∷ []) beat) old) → (x ≡ c → new ≡ old)
-      → Asks (ask_refusal c wanted) (request_for c (wanted ∷ []) beat) (after_subscribe c (wanted ∷ []) beat) old r new
+      → MakesRequest (ask_refusal c wanted) (request_for c (wanted ∷ []) beat) (after_subscribe c (wanted ∷ []) beat) old r new
   subscription_asks (Ok m) new x request ok spent too_many room held refused put same =
       (ask_none c wanted (few_numbers c.next_number (λ many. let e = spent.1 many in absurd (cc))) room, request, put ok)
   subscription_asks (Err ask_error.Spent) new x request ok spent too_many room held refused put same = (ask_spent c wanted (spent.0 refl), same refused)
@@ -76,7 +76,7 @@ module _ (c : Consuming) (wanted : Subscription) (beat : ℤ) (old : List Consum
       → (IsErrOf r ask_error.TooMany → (d.next_number ≤ greatest_number) × (most_held < count_after d list))
       → OnOk r (count_after d list ≤ most_held) → (IsErrOf r ask_error.NotHeld → ⊥) → OnErr r (x ≡ d)
       → (x ≡ after_subscribe c (wanted ∷ []) beat → new ≡ with_consumer (after_subscribe c (wanted ∷ []) beat) old) → (x ≡ d → new ≡ old)
-      → Asks (ask_refusal c wanted) (request_for c (wanted ∷ []) beat) (after_subscribe c (wanted ∷ []) beat) old r new
+      → MakesRequest (ask_refusal c wanted) (request_for c (wanted ∷ []) beat) (after_subscribe c (wanted ∷ []) beat) old r new
   asks_subscribed d list r new x there listed request ok spent too_many room held refused put same =
       subscription_asks r new x
       (subst (λ (e : Consuming). IfOk r (λ m. m ≡ request_for e (wanted ∷ []) beat)) there (subst (λ l. IfOk r (λ m. m ≡ request_for d l beat)) listed request))
@@ -101,7 +101,7 @@ module _ (c : Consuming) (identifier : Name) (old : List Consuming) where
       → (IsErrOf r ask_error.Spent ↔ ((kept_of identifier c.held ≢ None) × (greatest_number < c.next_number)))
       → (IsErrOf r ask_error.TooMany → ⊥) → OnErr r (x ≡ c)
       → (x ≡ after_terminate c identifier → new ≡ with_consumer (after_terminate c identifier) old) → (x ≡ c → new ≡ old)
-      → Asks (termination_refusal c identifier) (termination_of c identifier) (after_terminate c identifier) old r new
+      → MakesRequest (termination_refusal c identifier) (termination_of c identifier) (after_terminate c identifier) old r new
   termination_asks (Ok m) new x request ok not_held spent too_many refused put same =
       let held : kept_of identifier c.held ≢ None = λ none. let e = not_held.1 none in absurd (cc) in
       (end_none c (kept_of identifier c.held) held (few_numbers c.next_number (λ many. let e = spent.1 (held, many) in absurd (cc))), request, put ok)
@@ -117,7 +117,7 @@ module _ (c : Consuming) (identifier : Name) (old : List Consuming) where
       → (IsErrOf r ask_error.Spent ↔ ((kept_of identifier d.held ≢ None) × (greatest_number < d.next_number)))
       → (IsErrOf r ask_error.TooMany → ⊥) → OnErr r (x ≡ d)
       → (x ≡ after_terminate c identifier → new ≡ with_consumer (after_terminate c identifier) old) → (x ≡ d → new ≡ old)
-      → Asks (termination_refusal c identifier) (termination_of c identifier) (after_terminate c identifier) old r new
+      → MakesRequest (termination_refusal c identifier) (termination_of c identifier) (after_terminate c identifier) old r new
   asks_terminated d r new x there request ok not_held spent too_many refused put same =
       termination_asks r new x
       (subst (λ (e : Consuming). IfOk r (λ m. m ≡ termination_of e identifier)) there request)

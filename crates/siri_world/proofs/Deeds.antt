@@ -1,5 +1,5 @@
 -- An event as a whole: what is told of it, and the world after it.
-use Rattle.std.proofs.Common.{◌≡◌, ℕ, suc, ◌+◌, ◌<◌, ◌≤◌, List, [], ◌∷◌, ◌++◌, length, Bool, true, false, cond, Option, None, Some, Result}
+use Rattle.std.proofs.Common.{◌≡◌, suc, ◌+◌, ◌<◌, ◌≤◌, List, [], ◌∷◌, ◌++◌, length, Bool, true, false, cond, Option, None, Some, Result}
 use Rattle.std.proofs.Common.{Ok, Err, refl, ap, ◌∙◌, sym, subst, arith}
 use Rattle.std.specs.Prelude.{IfOk, IfErr, OnOk}
 use Rattle.siri_base.specs.declared.errors.OutOfMemory.{OutOfMemory}
@@ -8,64 +8,37 @@ use Rattle.std.proofs.lemmas.List.{length-map}
 use Rattle.std.proofs.lemmas.List.Sums.{fold_push}
 use Rattle.siri_life.specs.Named.{Name}
 use Rattle.siri_view.specs.Consuming.{Consuming}
-use Rattle.siri_view.specs.Kept.{KeptSubscription, kept_of}
+use Rattle.siri_view.specs.Kept.{HeldSubscription}
 use Rattle.siri_world_model.specs.declared.event.Event.{Event}
 use Rattle.siri_world_model.specs.declared.line.Line.{Line}
 use Rattle.siri_world_model.specs.declared.step_error.StepError.{StepError}
 use Rattle.siri_world_model.specs.declared.step_error.StepError.TheVariants as error
-use Rattle.siri_world_model.specs.Consumers.{consumer_of}
 use Rattle.siri_world_model.specs.Goals.{ShowsGoals, goal}
-use Rattle.siri_world_model.specs.Lines as line
 use Rattle.siri_world_model.specs.Lines.{told_lines}
 use Rattle.siri_world_model.specs.Packets.{packet_lines}
 use Rattle.siri_world_model.specs.World.{World, latest, nothing}
-use Rattle.siri_world_model.specs.Effects.{Effect, effect, with_packets, view_lines, viewed_if, viewed}
+use Rattle.siri_world_model.specs.Effects.{Effect, effect, with_packets, view_lines, viewed_if}
 use Rattle.siri_world_model.specs.Told.{is_early, passes_starts, passes_consumers, passes_packets, refusal, told, told_if, after, after_if}
 use Rattle.siri_world_model.specs.Told.{world_after, most_packets}
 pub use Rattle.siri_world_model.proofs.Growing.{packets_stay}
 use Rattle.siri_world.specs.declared.happened.Happened.{Happened}
-use Rattle.siri_world.specs.Doing.{Does, Happens, IsFull, first_refusal}
+use Rattle.siri_world.specs.Doing.{Does, Happens, IsFull}
 use Rattle.siri_world.specs.Kept.{sent_packets}
 use Rattle.siri_world.specs.Known.{Known, Knows, StandsFor}
-use Rattle.siri_world.specs.Refused.{Refuses, Stays}
+use Rattle.siri_world.specs.Refused.{Refuses, first_refusal}
 use Rattle.siri_world.specs.Serving.{shown_lines}
 
 -- ---- a view is told
 
-shown : (w : World) (c : Consuming) (identifier : Name) (kept : Option KeptSubscription)
-    → ((h : KeptSubscription) → kept ≡ Some h → h.view ≡ goal w c.name identifier h.origin)
+shown : (w : World) (c : Consuming) (identifier : Name) (kept : Option HeldSubscription)
+    → ((h : HeldSubscription) → kept ≡ Some h → h.view ≡ goal w c.name identifier h.origin)
     → shown_lines (latest w) c identifier kept ≡ (viewed_if w c identifier kept).lines
 shown w c identifier None goals = refl
 shown w c identifier (Some h) goals = ap (view_lines w c identifier h) (goals h refl)
 
-nothing_sent : (w : World) (c : Consuming) (identifier : Name) (kept : Option KeptSubscription) → (viewed_if w c identifier kept).packets ≡ []
+nothing_sent : (w : World) (c : Consuming) (identifier : Name) (kept : Option HeldSubscription) → (viewed_if w c identifier kept).packets ≡ []
 nothing_sent w c identifier None = refl
 nothing_sent w c identifier (Some h) = refl
-
-nothing_changes : (w : World) (c : Consuming) (identifier : Name) (kept : Option KeptSubscription) → (viewed_if w c identifier kept).world ≡ w
-nothing_changes w c identifier None = refl
-nothing_changes w c identifier (Some h) = refl
-
-pub viewed_does : (known : Known) (w : World) (name identifier : Name) (c : Consuming) (happened : Happened)
-    → Knows known w → ShowsGoals w → consumer_of name known.consumers ≡ Some c
-    → told_lines happened.lines ≡ shown_lines (latest w) c identifier (kept_of identifier c.held)
-    → happened.packets ≡ []
-    → Does (viewed w name identifier (consumer_of name w.consumers)) happened known
-viewed_does known w name identifier c happened k goals found lines none =
-    let there : consumer_of name w.consumers ≡ Some c = ap (consumer_of name) (sym k.consumers) ∙ found in
-    subst (λ (it : Option Consuming). Does (viewed w name identifier it) happened known) (sym there)
-    (record {
-      lines = lines ∙ shown w c identifier (kept_of identifier c.held) (λ h is. goals name identifier c h there is);
-      packets = ap sent_packets none ∙ sym (nothing_sent w c identifier (kept_of identifier c.held));
-      world = subst (Knows known) (sym (nothing_changes w c identifier (kept_of identifier c.held))) k;
-    })
-
-pub unviewed_does : (known : Known) (w : World) (name identifier : Name) (happened : Happened) → Knows known w
-    → consumer_of name known.consumers ≡ None → told_lines happened.lines ≡ line.Unknown name (Some identifier) ∷ []
-    → happened.packets ≡ [] → Does (viewed w name identifier (consumer_of name w.consumers)) happened known
-unviewed_does known w name identifier happened k none lines packets =
-    subst (λ (it : Option Consuming). Does (viewed w name identifier it) happened known) (sym none ∙ ap (consumer_of name) k.consumers)
-    (record { lines = lines; packets = ap sent_packets packets; world = k })
 
 -- ---- refusals
 
@@ -99,12 +72,23 @@ refused_last w e is = by (is_early w e) (passes_starts w e) (passes_consumers w 
 pub told_refused : (w : World) (e : Event) (why : StepError) → refusal w e ≡ Some why → told w e ≡ Err why
 told_refused w e why is = ap (λ r. told_if r w e) is
 
-pub refuses : (w : World) (e : Event) (why : StepError) → told w e ≡ Err why → Refuses w e why
-refuses w e error.NotStarted is = is
-refuses w e error.PacketLimit is = is
-refuses w e error.ConsumerLimit is = is
-refuses w e error.StartLimit is = is
-refuses w e error.OutOfMemory is = tt
+-- want of memory is no such refusal
+never_memory : (w : World) (e : Event) → first_refusal w e ≡ Some error.OutOfMemory → first_refusal w e ≡ None
+never_memory w e is = by (is_early w e) (passes_starts w e) (passes_consumers w e) is
+  where
+    by : (a b c : Bool) → cond a (Some error.NotStarted) (cond b (Some error.StartLimit) (cond c (Some error.ConsumerLimit) None)) ≡ Some error.OutOfMemory
+        → cond a (Some error.NotStarted) (cond b (Some error.StartLimit) (cond c (Some error.ConsumerLimit) None)) ≡ None
+    by true b c is = absurd (cc)
+    by false true c is = absurd (cc)
+    by false false true is = absurd (cc)
+    by false false false is = refl
+
+pub refuses : (w : World) (e : Event) (why : StepError) → first_refusal w e ≡ Some why → told w e ≡ Err why → Refuses w e why
+refuses w e error.NotStarted first is = is
+refuses w e error.PacketLimit first is = is
+refuses w e error.ConsumerLimit first is = is
+refuses w e error.StartLimit first is = is
+refuses w e error.OutOfMemory first is = never_memory w e first
 
 -- ---- what was done is told, and the world goes on
 
@@ -158,21 +142,7 @@ full_refuses old mid w e happened error.NotStarted does first full = absurd full
 full_refuses old mid w e happened error.StartLimit does first full = absurd full
 full_refuses old mid w e happened error.ConsumerLimit does first full = absurd full
 full_refuses old mid w e happened error.PacketLimit does first full = full_refused old mid w e happened does first full
-full_refuses old mid w e happened error.OutOfMemory does first full = tt
-
-pub full_stays : (old new : Known) (packets : ℕ) (why : StepError) → IsFull why packets → Stays why old new
-full_stays old new packets error.NotStarted full = absurd full
-full_stays old new packets error.StartLimit full = absurd full
-full_stays old new packets error.ConsumerLimit full = absurd full
-full_stays old new packets error.PacketLimit full = tt
-full_stays old new packets error.OutOfMemory full = tt
-
-pub stays_same : (known : Known) (why : StepError) → Stays why known known
-stays_same known error.NotStarted = refl
-stays_same known error.StartLimit = refl
-stays_same known error.ConsumerLimit = refl
-stays_same known error.PacketLimit = tt
-stays_same known error.OutOfMemory = tt
+full_refuses old mid w e happened error.OutOfMemory does first full = first
 
 -- ---- an event of the machine
 
@@ -213,7 +183,3 @@ module _ (old mid : Known) (e : Event) (happened : Happened)
       → IfErr r (λ why. (es : List Event) → StandsFor old es → Refuses (world_after es) e why)
   step_refused (Ok lines) full = tt
   step_refused (Err why) full = λ es s. full_refuses old mid (world_after es) e happened why (does_after es s) (sym (first (world_after es) s)) full
-
-pub step_rests : (r : Result (List Line) StepError) (old new : Known) (packets : ℕ) → IfErr r (λ why. IsFull why packets) → IfErr r (λ why. Stays why old new)
-step_rests (Ok lines) old new packets full = tt
-step_rests (Err why) old new packets full = full_stays old new packets why full

@@ -1,16 +1,14 @@
 -- What the producer did, as the effect of an event.
-use Rattle.std.proofs.Common.{◌≡◌, ℕ, suc, max, ◌+◌, List, [], ◌∷◌, ◌++◌, length, Option, Some, ap, ◌∙◌, sym, subst, arith, append_assoc, length-append}
+use Rattle.std.proofs.Common.{◌≡◌, ℕ, suc, max, ◌+◌, List, [], ◌∷◌, ◌++◌, length, Option, Some, ap, ◌∙◌, sym, subst, arith, length-append}
 use Rattle.siri_life.specs.Named.{Name}
 use Rattle.siri_messages.specs.declared.message.Message.{Message}
 use Rattle.siri_model.specs.History.{History, Step, Start, Take, Settle}
 use Rattle.siri_producer.specs.Known as producing
-use Rattle.siri_producer.specs.Known.{GoesOn, SameButReads}
 use Rattle.siri_producer.specs.Answers.{answer_to}
-use Rattle.siri_producer.specs.Sends.{sends}
 use Rattle.siri_world_model.specs.Consumers.{all_clocked}
 use Rattle.siri_world_model.specs.Lines as line
 use Rattle.siri_world_model.specs.Lines.{ToldLine, told_lines}
-use Rattle.siri_world_model.specs.Packets.{SentPacket, ToProducer, packet_at, producer, packets_out, reply_to}
+use Rattle.siri_world_model.specs.Packets.{SentPacket, ToProducer, packet_at, producer, reply_to}
 use Rattle.siri_world_model.specs.World.{World, latest, goes_on}
 use Rattle.siri_world_model.specs.Effects as effects
 use Rattle.siri_world_model.specs.Effects.{started, settles}
@@ -18,52 +16,10 @@ use Rattle.siri_world.specs.declared.happened.Happened.{Happened}
 use Rattle.siri_world.specs.Doing.{Does}
 use Rattle.siri_world.specs.Kept.{sent_packets}
 use Rattle.siri_world.specs.Known.{Known, Knows, IsLatest, Serves}
-use Rattle.siri_world.specs.Serving.{SendsFor, Settles, took_line}
+use Rattle.siri_world.specs.Serving.{Settles, took_line}
 use Rattle.siri_world.proofs.Starts.{goes_length, goes_latest, last_start}
 
 -- ---- a producer and its histories
-
--- one more step
-pub serves_on : (old new : producing.Known) (h : History) (step : Step) → GoesOn old new step
-    → new.responder.name ≡ old.responder.name → Serves old h → Serves new (h ++ step ∷ [])
-serves_on old new h step goes name serves = record { name = name ∙ serves.name; stands = goes.stands h serves.stands }
-
--- the counter doesn't matter
-pub serves_counted : (old new : producing.Known) (h : History) → SameButReads old new → Serves old h → Serves new h
-serves_counted old new h is serves =
-    subst (λ k. Serves k h) (sym is)
-    (record {
-      name = serves.name;
-      stands = record {
-        responder = record {
-          start = serves.stands.responder.start;
-          started = serves.stands.responder.started;
-          moment = serves.stands.responder.moment;
-          held = serves.stands.responder.held;
-        };
-        table = serves.stands.table;
-        settled = serves.stands.settled;
-      };
-    })
-
--- what a settle sends, under the producer's name
-pub sends_under : (known : producing.Known) (before after : List SentPacket)
-    → ((h : History) → producing.StandsFor known h → after ≡ before ++ packets_out (sends known.responder.name h))
-    → SendsFor known before after
-sends_under known before after is = λ h serves. is h serves.stands ∙ ap (λ n. before ++ packets_out (sends n h)) serves.name
-
--- a step, and a settle after it
-pub settles_after : (old mid new : producing.Known) (h : History) (step : Step) (told : List ToldLine)
-    (before : List SentPacket) (happened : Happened) → GoesOn old mid step → mid.responder.name ≡ old.responder.name
-    → GoesOn mid new Settle → new.responder.name ≡ mid.responder.name
-    → told_lines happened.lines ≡ told → SendsFor mid before (sent_packets happened.packets) → Serves old h → Settles new h step told before happened
-settles_after old mid new h step told before happened goes name settled same lines sent serves =
-    let there = serves_on old mid h step goes name serves in
-    record {
-      serves = subst (Serves new) (append_assoc h (step ∷ []) (Settle ∷ [])) (serves_on mid new (h ++ step ∷ []) Settle settled same there);
-      lines = lines;
-      packets = sent (h ++ step ∷ []) there;
-    }
 
 -- ---- as an effect
 
@@ -140,32 +96,6 @@ settled_does old new w step told before known known' happened k is did new_is =
         packets = k.packets;
       });
     }
-
--- only the producer changed, and it serves as before
-pub told_does : (old new : Known) (w : World) (told : History → List ToldLine) (known known' : producing.Known)
-    (happened : Happened) → Knows old w → old.producer ≡ Some known
-    → ((h : History) → Serves known h → told_lines happened.lines ≡ told h)
-    → ((h : History) → Serves known h → Serves known' h) → happened.packets ≡ []
-    → new ≡ record old { producer = Some known' } → Does (effects.tells w (told (latest w))) happened new
-told_does old new w told known known' happened k is lines still none new_is =
-    let served = latest_served old w known k is in
-    record {
-      lines = lines (latest w) served.1;
-      packets = ap sent_packets none;
-      world = subst (λ (known_new : Known). Knows known_new w) (sym new_is) (record {
-        moment = k.moment;
-        starts = k.starts;
-        producer = (served.0, still (latest w) served.1);
-        consumers = k.consumers;
-        packets = k.packets;
-      });
-    }
-
--- what is told of the latest start
-pub told_latest : (old : Known) (w : World) (told : History → List ToldLine) (known : producing.Known)
-    (lines : List ToldLine) → Knows old w → old.producer ≡ Some known
-    → ((h : History) → Serves known h → lines ≡ told h) → lines ≡ told (latest w)
-told_latest old w told known lines k is by = by (latest w) (latest_served old w known k is).1
 
 -- a message of a consumer is taken
 pub answered_does : (old new : Known) (w : World) (number : ℕ) (sender : Name) (m : Message)

@@ -11,7 +11,7 @@ use Rattle.siri_view.specs.Consuming.{Consuming, kept_for, after_delivery, after
 use Rattle.siri_view.specs.Consuming.{after_subscribe, after_terminate}
 use Rattle.siri_view.specs.Consuming.{request_for, restart_requests, seen_of, termination_of}
 use Rattle.siri_view.specs.Hearing.{Heard, Delivered, Notified, Noted, Foreign, heard}
-use Rattle.siri_view.specs.Kept.{KeptSubscription, kept_of}
+use Rattle.siri_view.specs.Kept.{HeldSubscription, kept_of}
 use Rattle.siri_view.specs.Sending.{check_request}
 use Rattle.siri_view.specs.declared.outcome.Seen.{Seen}
 use Rattle.siri_view.specs.declared.outcome.AskError.{AskError}
@@ -25,7 +25,7 @@ use Rattle.siri_world_model.specs.World.{World}
 use Rattle.siri_world_model.specs.Effects.{lacks_numbers, restarted, restarted_if}
 use Rattle.siri_world_model.specs.Effects.{tells, sent_by, ask_refusal, subscribed_if, subscribed, terminated_if, terminated, checked, delivered, taken_if}
 use Rattle.siri_world.specs.declared.happened.Happened.{Happened}
-use Rattle.siri_world.specs.Asking.{AreTold, Asks, IsEnded, IsTold, Restarts, Takes, ending_refusal}
+use Rattle.siri_world.specs.Asking.{AreTold, MakesRequest, IsEnded, IsTold, Restarts, ConsumerTakes, ending_refusal}
 use Rattle.siri_world.specs.Asking.{termination_refusal}
 use Rattle.siri_world.specs.Doing.{Does}
 use Rattle.siri_world.specs.Kept.{sent_packets}
@@ -34,10 +34,6 @@ use Rattle.siri_world.specs.Places.{IsAt}
 use Rattle.siri_world.proofs.Found.{at_consumer, at_name, found_name, with_found, with_twice}
 
 -- ---- nothing or one consumer changed
-
-pub tells_does : (known : Known) (w : World) (lines : List ToldLine) (happened : Happened) → Knows known w
-    → told_lines happened.lines ≡ lines → happened.packets ≡ [] → Does (tells w lines) happened known
-tells_does known w lines happened k told none = record { lines = told; packets = ap sent_packets none; world = k }
 
 -- the consumers are these now
 knows_with : (old new : Known) (w : World) (cs : List Consuming) → Knows old w → new ≡ record old { consumers = cs }
@@ -73,7 +69,7 @@ refused_does old new w c why wanted beat cs happened k is same refusal told =
 -- where the consumer of the name, or a new one, was put before
 asked_does : (old new : Known) (w : World) (c : Consuming) (wanted : Subscription) (beat : ℤ) (cs : List Consuming)
     (result : Result Message AskError) (happened : Happened) → Knows old w → new ≡ record old { consumers = cs }
-    → Asks (ask_refusal c wanted) (request_for c (wanted ∷ []) beat) (after_subscribe c (wanted ∷ []) beat)
+    → MakesRequest (ask_refusal c wanted) (request_for c (wanted ∷ []) beat) (after_subscribe c (wanted ∷ []) beat)
     (with_consumer c w.consumers) result cs → IsTold c.name result happened
     → Does (subscribed w c wanted beat) happened new
 asked_does old new w c wanted beat cs (Ok made) happened k is asks told =
@@ -95,15 +91,15 @@ pub subscribed_does : (old new : Known) (w : World) (name : Name) (place : ℕ) 
     → new ≡ record old { consumers = cs }
     → mid ≡ with_consumer (consumer_or_new old.moment name (consumer_of name old.consumers)) old.consumers
     → IsAt name mid place (consumer_or_new old.moment name (consumer_of name old.consumers))
-    → ((n : Name) (c : Consuming) → IsAt n mid place c → Asks (ask_refusal c wanted) (request_for c (wanted ∷ []) beat)
+    → ((n : Name) (c : Consuming) → IsAt n mid place c → MakesRequest (ask_refusal c wanted) (request_for c (wanted ∷ []) beat)
     (after_subscribe c (wanted ∷ []) beat) mid result cs) → IsTold name result happened
     → Does (subscribed w (consumer_or_new w.moment name (consumer_of name w.consumers)) wanted beat) happened new
 subscribed_does old new w name place wanted beat mid cs result happened k is made here asks told =
     let c : Consuming = consumer_or_new old.moment name (consumer_of name old.consumers) in
     let its : c.name ≡ name = at_name name mid place c here in
     let there : mid ≡ with_consumer c w.consumers = made ∙ ap (with_consumer c) k.consumers in
-    let asked : Asks (ask_refusal c wanted) (request_for c (wanted ∷ []) beat) (after_subscribe c (wanted ∷ []) beat) (with_consumer c w.consumers) result cs =
-    subst (λ m. Asks (ask_refusal c wanted) (request_for c (wanted ∷ []) beat) (after_subscribe c (wanted ∷ []) beat) m result cs) there (asks name c here) in
+    let asked : MakesRequest (ask_refusal c wanted) (request_for c (wanted ∷ []) beat) (after_subscribe c (wanted ∷ []) beat) (with_consumer c w.consumers) result cs =
+    subst (λ m. MakesRequest (ask_refusal c wanted) (request_for c (wanted ∷ []) beat) (after_subscribe c (wanted ∷ []) beat) m result cs) there (asks name c here) in
     let same : c ≡ consumer_or_new w.moment name (consumer_of name w.consumers) = λ i. consumer_or_new (k.moment i) name (consumer_of name (k.consumers i)) in
     subst (λ (d : Consuming). Does (subscribed w d wanted beat) happened new) same
     (asked_does old new w c wanted beat cs result happened k is asked (subst (λ n. IsTold n result happened) (sym its) told))
@@ -111,10 +107,10 @@ subscribed_does old new w name place wanted beat mid cs result happened k is mad
 -- ---- a subscription is ended
 
 -- by what is kept of it
-ended_does : (old new : Known) (w : World) (c : Consuming) (identifier : Name) (kept : Option KeptSubscription)
+ended_does : (old new : Known) (w : World) (c : Consuming) (identifier : Name) (kept : Option HeldSubscription)
     (spent : Bool) (cs : List Consuming) (result : Result Message AskError) (happened : Happened) → Knows old w
     → new ≡ record old { consumers = cs }
-    → nat_lt greatest_number c.next_number ≡ spent → Asks (ending_refusal c kept) (termination_of c identifier)
+    → nat_lt greatest_number c.next_number ≡ spent → MakesRequest (ending_refusal c kept) (termination_of c identifier)
     (after_terminate c identifier) w.consumers result cs → IsTold c.name result happened
     → (result ≡ Err ask_error.NotHeld → ⊥) → Does (terminated_if w c identifier kept) happened new
 ended_does old new w c identifier None spent cs (Ok made) happened k is few asks told held = absurd (cc)
@@ -124,7 +120,7 @@ ended_does old new w c identifier None spent cs (Err ask_error.NotHeld) happened
 ended_does old new w c identifier None spent cs (Err ask_error.OutOfMemory) happened k is few asks told held = absurd told
 ended_does old new w c identifier (Some kept) true cs result happened k is few asks told held = rw few (by result (rw few at asks) told held)
   where
-    by : (r : Result Message AskError) → Asks (Some ask_error.Spent) (termination_of c identifier)
+    by : (r : Result Message AskError) → MakesRequest (Some ask_error.Spent) (termination_of c identifier)
         (after_terminate c identifier) w.consumers r cs → IsTold c.name r happened → (r ≡ Err ask_error.NotHeld → ⊥)
         → Does (tells w (line.Refused c.name ask_error.Spent ∷ [])) happened new
     by (Ok made) asks told held = absurd (cc)
@@ -139,7 +135,7 @@ ended_does old new w c identifier (Some kept) true cs result happened k is few a
     by (Err ask_error.OutOfMemory) asks told held = absurd told
 ended_does old new w c identifier (Some kept) false cs result happened k is few asks told held = rw few (by result (rw few at asks) told)
   where
-    by : (r : Result Message AskError) → Asks None (termination_of c identifier)
+    by : (r : Result Message AskError) → MakesRequest None (termination_of c identifier)
         (after_terminate c identifier) w.consumers r cs → IsTold c.name r happened
         → Does (sent_by w (after_terminate c identifier) [] (termination_of c identifier ∷ [])) happened new
     by (Ok made) asks told =
@@ -151,7 +147,7 @@ ended_does old new w c identifier (Some kept) false cs result happened k is few 
     by (Err ask_error.OutOfMemory) asks told = absurd told
 
 -- it isn't held
-not_held : (c : Consuming) (kept : Option KeptSubscription) (spent : Bool)
+not_held : (c : Consuming) (kept : Option HeldSubscription) (spent : Bool)
     → nat_lt greatest_number c.next_number ≡ spent → ending_refusal c kept ≡ Some ask_error.NotHeld → kept ≡ None
 not_held c None spent few is = refl
 not_held c (Some kept) true few is = let here : ending_refusal c (Some kept) ≡ Some ask_error.Spent = rw few refl in absurd (cc)
@@ -161,13 +157,13 @@ module _ (old new : Known) (w : World) (name identifier : Name) (place : ℕ) (c
     (result : Result Message AskError) (k : Knows old w) (is : new ≡ record old { consumers = cs })
     (here : IsAt name old.consumers place c)
     (asks : (n : Name) (d : Consuming) → IsAt n old.consumers place d
-    → Asks (termination_refusal d identifier) (termination_of d identifier)
+    → MakesRequest (termination_refusal d identifier) (termination_of d identifier)
     (after_terminate d identifier) old.consumers result cs) where
   in_world : Some c ≡ consumer_of name w.consumers
   in_world = sym (at_consumer name old.consumers place c here) ∙ ap (consumer_of name) k.consumers
 
-  asked_here : Asks (termination_refusal c identifier) (termination_of c identifier) (after_terminate c identifier) w.consumers result cs
-  asked_here = subst (λ m. Asks (termination_refusal c identifier) (termination_of c identifier)
+  asked_here : MakesRequest (termination_refusal c identifier) (termination_of c identifier) (after_terminate c identifier) w.consumers result cs
+  asked_here = subst (λ m. MakesRequest (termination_refusal c identifier) (termination_of c identifier)
       (after_terminate c identifier) m result cs) k.consumers (asks name c here)
 
   its : c.name ≡ name
@@ -185,9 +181,9 @@ module _ (old new : Known) (w : World) (name identifier : Name) (place : ℕ) (c
       → told_lines happened.lines ≡ line.Unknown name (Some identifier) ∷ [] → happened.packets ≡ []
       → Does (terminated w name identifier (consumer_of name w.consumers)) happened new
   unheld_does happened why lines none =
-      let refused : Asks (termination_refusal c identifier) (termination_of c identifier)
+      let refused : MakesRequest (termination_refusal c identifier) (termination_of c identifier)
       (after_terminate c identifier) w.consumers (Err ask_error.NotHeld) cs =
-      subst (λ r. Asks (termination_refusal c identifier) (termination_of c identifier)
+      subst (λ r. MakesRequest (termination_refusal c identifier) (termination_of c identifier)
       (after_terminate c identifier) w.consumers r cs) why asked_here in
       let gone : kept_of identifier c.held ≡ None = not_held c (kept_of identifier c.held) (nat_lt greatest_number c.next_number) refl refused.0 in
       subst (λ (it : Option Consuming). Does (terminated w name identifier it) happened new) in_world
@@ -214,14 +210,6 @@ module _ (old new : Known) (w : World) (name identifier : Name) (place : ℕ) (c
           (λ why. let apart : Err ask_error.TooMany ≡ Err ask_error.NotHeld = sym is ∙ why in absurd (cc))
       by (Err ask_error.NotHeld) is ended = unheld_does happened is ended.0 ended.1
       by (Err ask_error.OutOfMemory) is ended = absurd ended
-
--- there is no such consumer
-pub unknown_does : (old : Known) (w : World) (name identifier : Name) (happened : Happened) → Knows old w
-    → consumer_of name old.consumers ≡ None → told_lines happened.lines ≡ line.Unknown name (Some identifier) ∷ []
-    → happened.packets ≡ [] → Does (terminated w name identifier (consumer_of name w.consumers)) happened old
-unknown_does old w name identifier happened k none lines packets =
-    subst (λ (found : Option Consuming). Does (terminated w name identifier found) happened old) (sym none ∙ ap (consumer_of name) k.consumers)
-    (tells_does old w (line.Unknown name (Some identifier) ∷ []) happened k lines packets)
 
 -- ---- a restart
 
@@ -255,15 +243,6 @@ module _ (old new : Known) (w : World) (name : Name) (place : ℕ) (c : Consumin
       (restarts_as result happened (subst (λ m. Restarts c m result cs) k.consumers (asks name c here))
       (subst (λ n. AreTold n result happened) (sym (at_name name old.consumers place c here)) told))
 
--- there is no such consumer
-pub unknown_restarts : (old : Known) (w : World) (name : Name) (happened : Happened) → Knows old w
-    → consumer_of name old.consumers ≡ None → told_lines happened.lines ≡ line.Unknown name None ∷ []
-    → happened.packets ≡ [] → Does (restarted w name (consumer_of name w.consumers)) happened old
-unknown_restarts old w name happened k none lines packets =
-    subst (λ (found : Option Consuming). Does (restarted w name found) happened old)
-    (sym none ∙ ap (consumer_of name) k.consumers)
-    (tells_does old w (line.Unknown name None ∷ []) happened k lines packets)
-
 -- ---- whether the producer is there
 
 pub checked_does : (old : Known) (w : World) (name : Name) (c : Consuming) (happened : Happened) → Knows old w
@@ -278,19 +257,12 @@ checked_does old w name c happened k found lines sent =
     (sym (with_found c old.consumers own) ∙ ap (with_consumer c) k.consumers) (ap told_lines lines)
     (sent ∙ ap (λ n. packets_from n (check_request c.name c.moment ∷ [])) (sym its)))
 
-pub unchecked_does : (old : Known) (w : World) (name : Name) (happened : Happened) → Knows old w
-    → consumer_of name old.consumers ≡ None → told_lines happened.lines ≡ line.Unknown name None ∷ []
-    → happened.packets ≡ [] → Does (checked w name (consumer_of name w.consumers)) happened old
-unchecked_does old w name happened k none lines packets =
-    subst (λ (it : Option Consuming). Does (checked w name it) happened old) (sym none ∙ ap (consumer_of name) k.consumers)
-    (tells_does old w (line.Unknown name None ∷ []) happened k lines packets)
-
 -- ---- a message is taken
 
 pub name_stays : (c : Consuming) (m : Message) → (after_message c m).name ≡ c.name
 name_stays c m = by (heard m)
   where
-    delivered : (identifier : Name) (kept : Option KeptSubscription) (mark : Mark) (more : Bool) (part : Carried)
+    delivered : (identifier : Name) (kept : Option HeldSubscription) (mark : Mark) (more : Bool) (part : Carried)
         → (after_delivery c identifier kept mark more part).name ≡ c.name
     delivered identifier None mark more part = refl
     delivered identifier (Some kept) mark more part = refl
@@ -303,13 +275,13 @@ name_stays c m = by (heard m)
 
 pub taken_does : (old new : Known) (w : World) (receiver : Name) (m : Message) (cs : List Consuming)
     (happened : Happened) → Knows old w → new ≡ record old { consumers = cs }
-    → Takes receiver (consumer_of receiver old.consumers) m old.consumers cs happened
+    → ConsumerTakes receiver (consumer_of receiver old.consumers) m old.consumers cs happened
     → Does (taken_if w (consumer_of receiver w.consumers) m) happened new
 taken_does old new w receiver m cs happened k is takes =
     subst (λ (it : Option Consuming). Does (taken_if w it m) happened new) (ap (consumer_of receiver) k.consumers)
     (by (consumer_of receiver old.consumers) refl takes)
   where
-    by : (it : Option Consuming) → consumer_of receiver old.consumers ≡ it → Takes receiver it m old.consumers cs happened → Does (taken_if w it m) happened new
+    by : (it : Option Consuming) → consumer_of receiver old.consumers ≡ it → ConsumerTakes receiver it m old.consumers cs happened → Does (taken_if w it m) happened new
     by None is_none takes = record {
       lines = ap told_lines takes.0;
       packets = ap sent_packets takes.1;
@@ -329,9 +301,9 @@ pub takes_at : (receiver : Name) (m : Message) (cs after : List Consuming) (plac
     (happened : Happened) → IsAt receiver cs place c → seen ≡ seen_of c m → after ≡ with_consumer (after_message c m) cs
     → told_lines happened.lines ≡ line.Took receiver (word.Consumer seen.outcome) ∷ []
     → sent_packets happened.packets ≡ packets_from receiver seen.replies
-    → Takes receiver (consumer_of receiver cs) m cs after happened
+    → ConsumerTakes receiver (consumer_of receiver cs) m cs after happened
 takes_at receiver m cs after place c seen happened here is put told sent =
-    subst (λ (it : Option Consuming). Takes receiver it m cs after happened) (sym (at_consumer receiver cs place c here))
+    subst (λ (it : Option Consuming). ConsumerTakes receiver it m cs after happened) (sym (at_consumer receiver cs place c here))
     (told ∙ ap (λ (s : Seen). line.Took receiver (word.Consumer s.outcome) ∷ []) is, sent ∙ ap (λ (s : Seen). packets_from receiver s.replies) is, put)
 
 -- ---- a packet is delivered
@@ -343,7 +315,7 @@ packet_found old w number packet k is = ap (packet_at number) (sym k.packets) �
 pub received_does : (old new : Known) (w : World) (number : ℕ) (receiver : Name) (m : Message) (cs : List Consuming)
     (happened : Happened) → Knows old w → packet_at number old.packets ≡ Some (ToConsumer receiver m)
     → new ≡ record old { consumers = cs }
-    → Takes receiver (consumer_of receiver old.consumers) m old.consumers cs happened → Does (delivered w number (packet_at number w.packets)) happened new
+    → ConsumerTakes receiver (consumer_of receiver old.consumers) m old.consumers cs happened → Does (delivered w number (packet_at number w.packets)) happened new
 received_does old new w number receiver m cs happened k packet is takes =
     subst (λ (p : Option SentPacket). Does (delivered w number p) happened new)
     (sym (packet_found old w number (ToConsumer receiver m) k packet))

@@ -6,7 +6,7 @@ use Rattle.siri_life.specs.Named.{Name}
 use Rattle.siri_messages.specs.declared.message.Message.{Message}
 use Rattle.siri_base.specs.Numbers.{greatest_number}
 use Rattle.siri_view.specs.Consuming.{Consuming, seen_of, after_message, after_restart, restart_requests}
-use Rattle.siri_view.specs.Kept.{KeptSubscription, kept_of}
+use Rattle.siri_view.specs.Kept.{HeldSubscription, kept_of}
 use Rattle.siri_view.specs.declared.outcome.AskError.{AskError}
 use Rattle.siri_view.specs.declared.outcome.AskError.TheVariants as ask_error
 use Rattle.siri_world_model.specs.declared.word.Word.TheVariants as word
@@ -19,7 +19,7 @@ use Rattle.siri_world.specs.declared.happened.Happened.{Happened}
 use Rattle.siri_world.specs.Kept.{sent_packets}
 
 -- why a consumer doesn't end a subscription, by what it keeps of it
-abbrev pub ending_refusal : Consuming → Option KeptSubscription → Option AskError
+abbrev pub ending_refusal : Consuming → Option HeldSubscription → Option AskError
 ending_refusal consumer None = Some ask_error.NotHeld
 ending_refusal consumer (Some kept) = if nat_lt greatest_number consumer.next_number then Some ask_error.Spent else None
 
@@ -34,9 +34,9 @@ IsRefusal ask_error.NotHeld refusal = refusal ≡ Some ask_error.NotHeld
 IsRefusal ask_error.OutOfMemory refusal = Unit {0}
 
 -- the request is made, and the consumer is this one then; or it isn't, and all is as before
-abbrev pub Asks : Option AskError → (request : Message) → (after : Consuming) → List Consuming → Result Message AskError → List Consuming → Type 0
-Asks refusal request after old (Ok made) new = (refusal ≡ None) × (made ≡ request) × (new ≡ with_consumer after old)
-Asks refusal request after old (Err why) new = IsRefusal why refusal × (new ≡ old)
+abbrev pub MakesRequest : Option AskError → (request : Message) → (after : Consuming) → List Consuming → Result Message AskError → List Consuming → Type 0
+MakesRequest refusal request after old (Ok made) new = (refusal ≡ None) × (made ≡ request) × (new ≡ with_consumer after old)
+MakesRequest refusal request after old (Err why) new = IsRefusal why refusal × (new ≡ old)
 
 -- a request that was made is sent, and a refusal is told of
 abbrev pub IsTold : Name → Result Message AskError → Happened → Type 0
@@ -77,9 +77,9 @@ AreTold name (Err ask_error.NotHeld) happened = (told_lines happened.lines ≡ l
 AreTold name (Err ask_error.OutOfMemory) happened = ⊥
 
 -- a message reaches the consumer of a name, if there is one
-abbrev pub Takes : Name → Option Consuming → Message → (old new : List Consuming) → Happened → Type 0
-Takes name None message old new happened = (happened.lines ≡ []) × (happened.packets ≡ []) × (new ≡ old)
-Takes name (Some consumer) message old new happened =
+abbrev pub ConsumerTakes : Name → Option Consuming → Message → (old new : List Consuming) → Happened → Type 0
+ConsumerTakes name None message old new happened = (happened.lines ≡ []) × (happened.packets ≡ []) × (new ≡ old)
+ConsumerTakes name (Some consumer) message old new happened =
     (told_lines happened.lines ≡ line.Took name (word.Consumer (seen_of consumer message).outcome) ∷ [])
     × (sent_packets happened.packets ≡ packets_from name (seen_of consumer message).replies)
     × (new ≡ with_consumer (after_message consumer message) old)

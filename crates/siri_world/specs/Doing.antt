@@ -1,5 +1,5 @@
 -- Inner words: cited by private functions alone. What the machine does in an event, as the effect of the event.
-use Rattle.std.specs.Prelude.{◌≡◌, ℕ, ◌<◌, if◌then◌else◌, Option, Some, None, IsSome}
+use Rattle.std.specs.Prelude.{◌≡◌, ℕ, ◌<◌, ◌≤◌, IsSome}
 use Rattle.siri_world_model.specs.declared.event.Event.{Event}
 use Rattle.siri_world_model.specs.declared.event.Event.TheVariants as event
 use Rattle.siri_world_model.specs.declared.step_error.StepError.{StepError}
@@ -7,27 +7,20 @@ use Rattle.siri_world_model.specs.declared.step_error.StepError.TheVariants as e
 use Rattle.siri_world_model.specs.Lines.{told_lines}
 use Rattle.siri_world_model.specs.World.{World}
 use Rattle.siri_world_model.specs.Effects.{Effect}
-use Rattle.siri_world_model.specs.Told.{is_early, passes_starts, passes_consumers, most_starts, most_packets}
+use Rattle.siri_world_model.specs.Told.{most_starts, most_packets}
 use Rattle.siri_world.specs.declared.happened.Happened.{Happened}
 use Rattle.siri_world.specs.Kept.{sent_packets}
 use Rattle.siri_world.specs.Known.{Known, Knows}
-
--- the first refusal but for the packets
-abbrev pub first_refusal : World → Event → Option StepError
-first_refusal world event =
-    if is_early world event then Some error.NotStarted
-    else (if passes_starts world event then Some error.StartLimit
-    else (if passes_consumers world event then Some error.ConsumerLimit else None))
 
 -- a start is within its limit, and any other event comes after one
 abbrev pub CanHappen : Known → Event → Type 0
 CanHappen known (event.Start moment) = known.starts < most_starts
 CanHappen known other = IsSome known.producer
 
--- with so many packets there are too many, or memory is wanting
+-- with so many packets there are too many; or there aren't, and memory is wanting
 abbrev pub IsFull : StepError → ℕ → Type 0
 IsFull error.PacketLimit packets = most_packets < packets
-IsFull error.OutOfMemory packets = Unit {0}
+IsFull error.OutOfMemory packets = packets ≤ most_packets
 IsFull error.NotStarted packets = ⊥
 IsFull error.StartLimit packets = ⊥
 IsFull error.ConsumerLimit packets = ⊥

@@ -14,7 +14,7 @@ use Rattle.siri_producer.specs.Known.{Known}
 use Rattle.siri_producer.specs.Sends.{sends}
 use Rattle.siri_producer.specs.declared.answers.Answer.{Answer}
 use Rattle.siri_view.specs.Consuming.{Consuming, held_by}
-use Rattle.siri_view.specs.Kept.{KeptSubscription}
+use Rattle.siri_view.specs.Kept.{HeldSubscription}
 use Rattle.siri_world_model.specs.declared.word.Word.TheVariants as word
 use Rattle.siri_world_model.specs.Goals.{is_number}
 use Rattle.siri_world_model.specs.Lines as line
@@ -50,7 +50,7 @@ abbrev pub item_lines : Items → List ToldLine
 item_lines items = map (λ entry. line.Item entry.1) items
 
 -- what is told of a view, by what its consumer keeps of the subscription
-abbrev pub shown_lines : History → Consuming → Name → Option KeptSubscription → List ToldLine
+abbrev pub shown_lines : History → Consuming → Name → Option HeldSubscription → List ToldLine
 shown_lines history consumer identifier None = line.Unknown consumer.name (Some identifier) ∷ []
 shown_lines history consumer identifier (Some kept) =
     line.View consumer.name identifier (held_by kept) (length kept.view) (is_number (quiet_number history consumer.name identifier) kept.number)

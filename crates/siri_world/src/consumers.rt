@@ -5,7 +5,7 @@ ghost use Rattle.siri_life.specs.Named as named;
 ghost use Rattle.siri_view.specs.Consuming.{Consuming, after_message, after_subscribe, after_terminate, request_for, seen_of, termination_of};
 ghost use Rattle.siri_world_model.specs.Consumers.{all_clocked, consumer_of, consumer_or_new, is_named, new_consumer, with_consumer};
 ghost use Rattle.siri_world_model.specs.Effects.{ask_refusal};
-ghost use Rattle.siri_world.specs.Asking.{Asks, Restarts, termination_refusal};
+ghost use Rattle.siri_world.specs.Asking.{MakesRequest, Restarts, termination_refusal};
 ghost use Rattle.siri_world.specs.Places.{IsAt, IsPlaceOf};
 
 use indexmap::IndexMap;
@@ -119,7 +119,7 @@ impl Consumers {
     ) -> Result<Message, AskError>
         requires { place < length self.old }
         ensures { (name : named.Name) (c : Consuming) → IsAt name self.old place c
-            → Asks (ask_refusal c wanted.now) (request_for c (wanted.now ∷ []) beat) (after_subscribe c (wanted.now ∷ []) beat) self.old result self.new }
+            → MakesRequest (ask_refusal c wanted.now) (request_for c (wanted.now ∷ []) beat) (after_subscribe c (wanted.now ∷ []) beat) self.old result self.new }
     {
         let wanted = list_of(*self.map.allocator(), wanted)?;
         let consumer = &mut self.map[place];
@@ -130,7 +130,7 @@ impl Consumers {
     pub(crate) fn terminate(&mut self, place: usize, identifier: &Name) -> Result<Message, AskError>
         requires { place < length self.old }
         ensures { (name : named.Name) (c : Consuming) → IsAt name self.old place c
-            → Asks (termination_refusal c identifier.now) (termination_of c identifier.now) (after_terminate c identifier.now) self.old result self.new }
+            → MakesRequest (termination_refusal c identifier.now) (termination_of c identifier.now) (after_terminate c identifier.now) self.old result self.new }
     {
         let consumer = &mut self.map[place];
         consumer.terminate(identifier)

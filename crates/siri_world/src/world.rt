@@ -12,11 +12,11 @@ ghost use Rattle.siri_world_model.specs.Lines.{told_lines};
 ghost use Rattle.siri_world_model.specs.Packets.{packet_at, packet_lines, packets_from};
 ghost use Rattle.siri_world_model.specs.Told.{told, world_after, most_consumers, most_packets, most_starts};
 ghost use Rattle.siri_world_model.specs.World.{World as ToldWorld};
-ghost use Rattle.siri_world.specs.Asking.{AreTold, IsEnded, IsTold, Takes};
-ghost use Rattle.siri_world.specs.Doing.{CanHappen, Does, Happens, IsFull, first_refusal};
+ghost use Rattle.siri_world.specs.Asking.{AreTold, IsEnded, IsTold, ConsumerTakes};
+ghost use Rattle.siri_world.specs.Doing.{CanHappen, Does, Happens, IsFull};
 ghost use Rattle.siri_world.specs.Kept.{sent_packets};
 ghost use Rattle.siri_world.specs.Known.{Knows, StandsFor};
-ghost use Rattle.siri_world.specs.Refused.{Refuses, Stays};
+ghost use Rattle.siri_world.specs.Refused.{Refuses, Stays, first_refusal};
 
 use crate::consumers::{Consumers, MOST_CONSUMERS};
 use crate::happened::{Happened, all_sent, one, packets_from, sent, told, unknown};
@@ -92,7 +92,8 @@ impl World {
     ///
     /// The first that holds of `NotStarted` (it isn't a start, and no start came before), `StartLimit` (it is the
     /// 1,000,001st start), `ConsumerLimit` (it would make a 17th consumer) and `PacketLimit` (packet 1,000,001 would be
-    /// sent). After each of the first three nothing changed. After `PacketLimit` and want of memory the world is given
+    /// sent). The first three are told before memory is asked for, and `PacketLimit` where there was memory to make the
+    /// packets. After each of the first three nothing changed. After `PacketLimit` and want of memory the world is given
     /// up.
     pub fn step(&mut self, event: Event) -> Result<List<Line>, StepError>
         ensures lines { IfOk result (λ lines. (es : Items AnEvent) → StandsFor self.old es → told (world_after es) event ≡ Ok (told_lines lines)) }
@@ -395,7 +396,7 @@ fn take(
     receiver: &Name,
     message: &Message,
 ) -> Result<Happened, OutOfMemory>
-    ensures { IfOk result (Takes receiver.now (consumer_of receiver.now consumers.old) message.now consumers.old consumers.new) }
+    ensures { IfOk result (ConsumerTakes receiver.now (consumer_of receiver.now consumers.old) message.now consumers.old consumers.new) }
 {
     match consumers.place_of(receiver) {
         Some(place) => replied(alloc, receiver, consumers.take(place, message)?),

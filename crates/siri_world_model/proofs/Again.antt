@@ -6,7 +6,7 @@ use Rattle.siri_messages.specs.declared.message.Message.{Message}
 use Rattle.siri_life.specs.Named.{Name}
 use Rattle.siri_view.specs.Changing.{TakesNothing}
 use Rattle.siri_view.specs.Consuming.{Consuming, after_message, seen_of}
-use Rattle.siri_view.specs.Kept.{KeptSubscription, kept_of}
+use Rattle.siri_view.specs.Kept.{HeldSubscription, kept_of}
 use Rattle.siri_view.specs.declared.outcome.Outcome.{Outcome}
 use Rattle.siri_view.specs.declared.outcome.Outcome.TheVariants as outcome
 use Rattle.siri_view.proofs.Unchanged.{message_same}
@@ -117,7 +117,7 @@ module _ (new old : World) (starts : new.starts ≡ old.starts) where
   start_same zero = refl
   start_same (suc before) = ap (λ histories. unwrap_or (slice_get histories before) []) starts
 
-  kept_told : (c : Consuming) (identifier : Name) (k : Option KeptSubscription)
+  kept_told : (c : Consuming) (identifier : Name) (k : Option HeldSubscription)
       → (effects.viewed_if new c identifier k).lines ≡ (effects.viewed_if old c identifier k).lines
   kept_told c identifier None = refl
   kept_told c identifier (Some k) =

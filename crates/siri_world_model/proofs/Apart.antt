@@ -5,7 +5,7 @@ use Rattle.std.specs.List.{list_any}
 use Rattle.std.proofs.lemmas.Bool.{or_parts}
 use Rattle.std.proofs.lemmas.Grind.{flat_map-append}
 use Rattle.siri_records.specs.Keyed.{Items}
-use Rattle.siri_messages.specs.Asked.{Asked, asked_in}
+use Rattle.siri_messages.specs.Asked.{AskedFor, asked_in}
 use Rattle.siri_messages.specs.Rounds.{has_round}
 use Rattle.siri_messages.specs.declared.message.Message.{Message}
 use Rattle.siri_messages.specs.declared.message.Message.TheVariants as message
@@ -30,7 +30,7 @@ use Rattle.siri_world_model.proofs.Room.{own_room}
 
 -- ---- a history's side is that of its acts
 
-serving_both : (xs ys : List (Act Carried Asked Entry)) (v : Served)
+serving_both : (xs ys : List (Act Carried AskedFor Entry)) (v : Served)
     → serving_after meaning (xs ++ ys) v ≡ serving_after meaning ys (serving_after meaning xs v)
 serving_both [] ys v = refl
 serving_both (x ∷ xs) ys v = serving_both xs ys (served meaning v x)
@@ -51,12 +51,12 @@ serving_along : (k t : ℕ) (steps : History) → HasNoStart steps → serving_o
 unfolding served_after
 serving_along k t steps none = served_along (opening_serving meaning k t) steps none ∙ sym (acts_serve meaning (acts_along steps) (opening meaning k t))
 
-direct_same : (h : History) (wanted : Asked) → direct_of h wanted ≡ direct_of (serving_of h).known wanted
+direct_same : (h : History) (wanted : AskedFor) → direct_of h wanted ≡ direct_of (serving_of h).known wanted
 direct_same h wanted = sym (ap (λ (s : State). direct_to s.now s.current wanted.subscription.topic) (goes_with h).known)
 
 -- ---- more steps
 
-pub acts_both : (xs ys : List (Act Carried Asked Entry)) (n : WorldNetwork) → acts meaning (xs ++ ys) n ≡ acts meaning ys (acts meaning xs n)
+pub acts_both : (xs ys : List (Act Carried AskedFor Entry)) (n : WorldNetwork) → acts meaning (xs ++ ys) n ≡ acts meaning ys (acts meaning xs n)
 acts_both [] ys n = refl
 acts_both (x ∷ xs) ys n = acts_both xs ys _
 
@@ -76,14 +76,14 @@ none_started_more (Settle ∷ steps) more none also = none_started_more steps mo
 
 -- ---- a message that is taken is no settle
 
-NoneSettles : List (Act Carried Asked Entry) → Type 0
+NoneSettles : List (Act Carried AskedFor Entry) → Type 0
 NoneSettles [] = Unit {0}
 NoneSettles (Settled ∷ more) = ⊥
 NoneSettles (Clocked moment ∷ more) = NoneSettles more
 NoneSettles (Fed entries ∷ more) = NoneSettles more
 NoneSettles (Heard c s packet ∷ more) = NoneSettles more
 
-heard_settles_none : {A : Type 0} (c s : A → Name) (packet : A → Packet Carried Asked) (xs : List A) → NoneSettles (map (λ x. Heard (c x) (s x) (packet x)) xs)
+heard_settles_none : {A : Type 0} (c s : A → Name) (packet : A → Packet Carried AskedFor) (xs : List A) → NoneSettles (map (λ x. Heard (c x) (s x) (packet x)) xs)
 unfolding NoneSettles
 heard_settles_none c s packet [] = tt
 heard_settles_none c s packet (x ∷ xs) = heard_settles_none c s packet xs
@@ -103,7 +103,7 @@ fed_settles_none false entries = tt
 taken_settles_none : (m : Message) → NoneSettles (acts_in m)
 unfolding acts_in NoneSettles
 taken_settles_none (message.SubscriptionRequest r) =
-    heard_settles_none (λ (a : Asked). a.subscription.subscriber) (λ (a : Asked). a.subscription.identifier)
+    heard_settles_none (λ (a : AskedFor). a.subscription.subscriber) (λ (a : AskedFor). a.subscription.identifier)
     (λ a. Subscribe r.message_identifier a) (asked_in r)
 taken_settles_none (message.TerminateSubscriptionRequest r) =
     heard_settles_none (λ (i : Name). r.subscriber_ref) (λ i. i) (λ i. Terminate r.message_identifier) r.subscription_ref
@@ -115,7 +115,7 @@ taken_settles_none other = tt
 -- ---- what is sent at the settles
 
 -- of what a subscription sees
-abbrev pub sends_seen : (name : Name) → Link Items Carried Asked History → List Out
+abbrev pub sends_seen : (name : Name) → Link Items Carried AskedFor History → List Out
 sends_seen name w =
     let known = state_of w.known in
     life_sends (record { producer = name; start = known.start; started = known.started; now = known.now }) known.current w.life
@@ -131,10 +131,10 @@ sends_by name c s k t steps none =
     ∙ ap (λ (v : Served). with_state (state_of v.known) (find c s v.table)) (serving_along k t steps none)
 
 module _ (name c s : Name) where
-  abbrev pub sends_in : List (Act Carried Asked Entry) → WorldNetwork → List Out
+  abbrev pub sends_in : List (Act Carried AskedFor Entry) → WorldNetwork → List Out
   sends_in xs n = at_settles meaning c s (sends_seen name) xs n
 
-  quiet_front : (xs ys : List (Act Carried Asked Entry)) (n : WorldNetwork) → NoneSettles xs → sends_in (xs ++ ys) n ≡ sends_in ys (acts meaning xs n)
+  quiet_front : (xs ys : List (Act Carried AskedFor Entry)) (n : WorldNetwork) → NoneSettles xs → sends_in (xs ++ ys) n ≡ sends_in ys (acts meaning xs n)
   unfolding NoneSettles
   quiet_front [] ys n none = refl
   quiet_front (Settled ∷ xs) ys n none = absurd none
@@ -168,15 +168,15 @@ pub alike_seen : (c s : Name) (k t : ℕ) (one other : History) → HasNoStart o
     → ((name : Name) → sends_along name c s (Start k t ∷ []) one ≡ sends_along name c s (Start k t ∷ []) other) → IsAlike c s k t one other
 alike_seen c s k t one other first second same met = record {
   life = ap (λ (v : Served). find c s v.table) (serving_along k t one first)
-      ∙ ap (λ (w : Link Items Carried Asked History). w.life) same
+      ∙ ap (λ (w : Link Items Carried AskedFor History). w.life) same
       ∙ sym (ap (λ (v : Served). find c s v.table) (serving_along k t other second));
   sent = sym (ap (λ letters. packets_of meaning (those c s letters)) (acts_send meaning (acts_along one) (opening meaning k t)))
-      ∙ ap (λ (w : Link Items Carried Asked History). w.packets) same
+      ∙ ap (λ (w : Link Items Carried AskedFor History). w.packets) same
       ∙ ap (λ letters. packets_of meaning (those c s letters)) (acts_send meaning (acts_along other) (opening meaning k t));
   sends = met;
   direct = λ wanted. direct_same (Start k t ∷ one) wanted
       ∙ ap (λ (v : Served). direct_of v.known wanted) (serving_along k t one first)
-      ∙ ap (λ (w : Link Items Carried Asked History). direct_of w.known wanted) same
+      ∙ ap (λ (w : Link Items Carried AskedFor History). direct_of w.known wanted) same
       ∙ sym (ap (λ (v : Served). direct_of v.known wanted) (serving_along k t other second))
       ∙ sym (direct_same (Start k t ∷ other) wanted);
 }
@@ -211,7 +211,7 @@ none_started c s (Take message ∷ steps) none = by (is_about c s (Take message)
     by false rest = rest
 none_started c s (Settle ∷ steps) none = none_started c s steps none
 
-own_both : (c s : Name) (xs ys : List (Act Carried Asked Entry)) → own meaning c s (xs ++ ys) ≡ own meaning c s xs ++ own meaning c s ys
+own_both : (c s : Name) (xs ys : List (Act Carried AskedFor Entry)) → own meaning c s (xs ++ ys) ≡ own meaning c s xs ++ own meaning c s ys
 own_both c s [] ys = refl
 own_both c s (x ∷ xs) ys = by (is_own meaning c s x) (own_both c s xs ys)
   where
@@ -221,7 +221,7 @@ own_both c s (x ∷ xs) ys = by (is_own meaning c s x) (own_both c s xs ys)
     by true rest = ap (λ zs. x ∷ zs) rest
     by false rest = rest
 
-own_none : (c s : Name) (xs : List (Act Carried Asked Entry)) → list_any (is_own meaning c s) xs ≡ false → own meaning c s xs ≡ []
+own_none : (c s : Name) (xs : List (Act Carried AskedFor Entry)) → list_any (is_own meaning c s) xs ≡ false → own meaning c s xs ≡ []
 own_none c s [] none = refl
 own_none c s (x ∷ xs) none =
     let parts = or_parts (is_own meaning c s x) (list_any (is_own meaning c s) xs) none in

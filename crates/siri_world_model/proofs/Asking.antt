@@ -8,7 +8,7 @@ use Rattle.siri_records.specs.declared.item.Service.TheVariants as service
 use Rattle.siri_topic.specs.declared.subscription.Subscription.{Subscription}
 use Rattle.siri_topic.specs.declared.topics.Topic.{Topic}
 use Rattle.siri_topic.specs.declared.topics.Topic.TheVariants as topic
-use Rattle.siri_messages.specs.Asked.{Asked}
+use Rattle.siri_messages.specs.Asked.{AskedFor}
 use Rattle.siri_life.specs.Life.{Subscribe, Terminate}
 use Rattle.siri_life.specs.Named.{Name}
 use Rattle.siri_life.specs.Serving.{Carries, ToProducer}
@@ -45,7 +45,7 @@ beat_kept beat = by (int_eq beat (pos 0)) refl
     by false some = refl
 
 module _ (c : Consuming) (wanted : Subscription) (beat : ℤ) where
-  abbrev requested : List Subscription → ℤ → List Asked
+  abbrev requested : List Subscription → ℤ → List AskedFor
   requested list beat = map (λ s. record { subscription = s; address = c.address; beat = beat }) list
 
   -- what the request asks for
@@ -83,10 +83,6 @@ check_is c = refl
 pub check_made : (c : Consuming) → IsOfConsumer c.name (check_request c.name c.moment)
 unfolding IsOfConsumer
 check_made c = tt
-
-pub ready_is : (c : Consuming) → letter_to_producer c.name (ready_acknowledgement c.name c.moment) ≡ of_none c.name (ToProducer false)
-unfolding letter_to_producer
-ready_is c = refl
 
 pub ready_made : (c : Consuming) → IsOfConsumer c.name (ready_acknowledgement c.name c.moment)
 unfolding IsOfConsumer

@@ -12,7 +12,7 @@ use Rattle.std.proofs.lemmas.List.{map-append}
 use Rattle.std.proofs.lemmas.List.Elements.{All-nil, All-cons, All-append, All-map, All-get_or}
 use Rattle.std.proofs.lemmas.Option.{slice_get-map, slice_get_within, get_or_from_slice_get}
 use Rattle.siri_topic.specs.declared.subscription.Subscription.{Subscription}
-use Rattle.siri_messages.specs.Asked.{Asked}
+use Rattle.siri_messages.specs.Asked.{AskedFor}
 use Rattle.siri_messages.specs.declared.message.Message.{Message}
 use Rattle.siri_change.specs.Parts.{Carried}
 use Rattle.siri_life.specs.Life.{Mark, Subscribe, Terminate, Notify, Delivery}
@@ -34,7 +34,7 @@ use Rattle.siri_view.specs.Consuming.{after_terminate, request_for}
 use Rattle.siri_view.specs.Consuming.{restart_requests, termination_of}
 use Rattle.siri_view.specs.Hearing.{Heard, Delivered, Notified, Noted, Foreign, heard}
 use Rattle.siri_view.specs.Kept as view
-use Rattle.siri_view.specs.Kept.{KeptSubscription, Holdings, kept_of, with_kept}
+use Rattle.siri_view.specs.Kept.{HeldSubscription, Holdings, kept_of, with_kept}
 use Rattle.siri_view.specs.Sending.{check_request}
 use Rattle.siri_view.specs.declared.outcome.AskError.{AskError}
 use Rattle.siri_view.specs.declared.outcome.AskError.TheVariants as ask_error
@@ -172,7 +172,7 @@ module _ (world : World) (n : WorldNetwork) (stands : Stands world n) (c : Consu
       by false same = refl
 
   -- with this under one identifier
-  holdings_under : (identifier : Name) (kept : Option KeptSubscription) (held : Holdings)
+  holdings_under : (identifier : Name) (kept : Option HeldSubscription) (held : Holdings)
       → ((q : Name) → kept_of q held ≡ cond (same_name q identifier) kept (kept_of q c.held)) → (name q : Name)
       → with_under c.name identifier kept n.holdings name q ≡ cond (same_name name c.name) (kept_of q held)
       (n.holdings name q)
@@ -215,7 +215,7 @@ module _ (world : World) (n : WorldNetwork) (stands : Stands world n) (c : Consu
     abbrev after : Consuming
     after = after_subscribe c (wanted ∷ []) beat
 
-    abbrev held_new : Option KeptSubscription → ℕ → KeptSubscription
+    abbrev held_new : Option HeldSubscription → ℕ → HeldSubscription
     held_new held number = asked meaning number (asked_by c wanted beat) held
 
     asked_kept : (q : Name) → kept_of q after.held ≡ cond (same_name q wanted.identifier)
@@ -270,7 +270,7 @@ module _ (world : World) (n : WorldNetwork) (stands : Stands world n) (c : Consu
     abbrev ended : Consuming
     ended = after_terminate c identifier
 
-    ended_sent : (h : KeptSubscription) → Sent ended (termination_of c identifier ∷ []) (network.stopped meaning n c.name identifier (Some h)) n
+    ended_sent : (h : HeldSubscription) → Sent ended (termination_of c identifier ∷ []) (network.stopped meaning n c.name identifier (Some h)) n
     ended_sent h = record {
       serving = refl;
       numbers = numbers_used;
@@ -280,7 +280,7 @@ module _ (world : World) (n : WorldNetwork) (stands : Stands world n) (c : Consu
           ∙ ap (λ (letter : Letter). letter ∷ []) (sym (termination_is c identifier)));
     }
 
-    ended_stands_if : (b : Bool) (h : KeptSubscription) → n.holdings c.name identifier ≡ Some h
+    ended_stands_if : (b : Bool) (h : HeldSubscription) → n.holdings c.name identifier ≡ Some h
         → Stands (with_packets (if b then tells world (told.Refused c.name ask_error.Spent ∷ [])
         else sent_by world ended [] (termination_of c identifier ∷ [])))
         (network_after meaning (if b then [] else Stops c.name identifier ∷ []) n)
@@ -301,7 +301,7 @@ module _ (world : World) (n : WorldNetwork) (stands : Stands world n) (c : Consu
         (network.stopped meaning n c.name identifier held)) (sym e)
         (told_stands world n (told.Unknown c.name (Some identifier) ∷ []) stands)
 
-    ended_stands : (kept : Option KeptSubscription) → n.holdings c.name identifier ≡ kept
+    ended_stands : (kept : Option HeldSubscription) → n.holdings c.name identifier ≡ kept
         → Stands (with_packets (terminated_if world c identifier kept))
         (network_after meaning (stops (Some c) identifier) n)
     ended_stands None e = none_stands_if (nat_lt greatest_number c.next_number) e
@@ -367,12 +367,12 @@ module _ (world : World) (n : WorldNetwork) (stands : Stands world n) (c : Consu
 
   -- ---- a part, and a notification
 
-  abbrev StandsTaken : Name → Seen → Consuming → About Carried Asked → Type 0
+  abbrev StandsTaken : Name → Seen → Consuming → About Carried AskedFor → Type 0
   StandsTaken identifier seen after about = (lines : List ToldLine)
       → Stands (with_packets (sent_by world after lines seen.replies)) (network.takes meaning n c.name identifier about)
 
   delivered_stands : (identifier : Name) (m : Mark) (moment : ℕ) (more : Bool) (part : Carried)
-      (kept : Option KeptSubscription) → kept_of identifier c.held ≡ kept
+      (kept : Option HeldSubscription) → kept_of identifier c.held ≡ kept
       → StandsTaken identifier (seen_in_delivery c identifier kept m more)
       (after_delivery c identifier kept m more part) (Carries (Delivery m moment more part))
   delivered_stands identifier m moment more part None e lines =
@@ -397,7 +397,7 @@ module _ (world : World) (n : WorldNetwork) (stands : Stands world n) (c : Consu
       }))
 
   -- what is kept stays under its identifier
-  kept_stays : (identifier : Name) (h : KeptSubscription) → kept_of identifier c.held ≡ Some h → (q : Name)
+  kept_stays : (identifier : Name) (h : HeldSubscription) → kept_of identifier c.held ≡ Some h → (q : Name)
       → kept_of q c.held ≡ cond (same_name q identifier) (Some h) (kept_of q c.held)
   kept_stays identifier h e q = by (same_name q identifier) refl
     where
@@ -405,7 +405,7 @@ module _ (world : World) (n : WorldNetwork) (stands : Stands world n) (c : Consu
       by true same = ap (λ d. kept_of d c.held) (name_is q identifier same) ∙ e
       by false same = refl
 
-  module _ (identifier : Name) (h : KeptSubscription) (m : Mark) where
+  module _ (identifier : Name) (h : HeldSubscription) (m : Mark) where
     abbrev readied_as : life.Outcome → WorldNetwork
     readied_as o = network.readied meaning n c.name o
 
@@ -451,7 +451,7 @@ module _ (world : World) (n : WorldNetwork) (stands : Stands world n) (c : Consu
         (notified_made c identifier h m) (record {
           serving = readied_serving o;
           numbers = λ name. ap (λ (numbers : Name → Option ℕ). next_of (numbers name)) (readied_numbers o) ∙ same_sent.numbers name;
-          holdings = λ name q. ap (λ (holdings : Name → Name → Option KeptSubscription).
+          holdings = λ name q. ap (λ (holdings : Name → Name → Option HeldSubscription).
               with_under c.name identifier (Some h) holdings name q) (readied_holdings o)
               ∙ holdings_under identifier (Some h) c.held (kept_stays identifier h e) name q;
           letters = ap (λ letters. letters ++ letters_for meaning c.name identifier (asks_for meaning h m)) (readied_letters o)
@@ -459,7 +459,7 @@ module _ (world : World) (n : WorldNetwork) (stands : Stands world n) (c : Consu
               ∙ ap (λ letters. n.letters ++ letters) (sym (notified_sent c identifier h m));
         })
 
-  notified_stands : (identifier : Name) (m : Mark) (moment : ℕ) (kept : Option KeptSubscription)
+  notified_stands : (identifier : Name) (m : Mark) (moment : ℕ) (kept : Option HeldSubscription)
       → kept_of identifier c.held ≡ kept → StandsTaken identifier (seen_in_notification c identifier kept m) c
       (Carries (Notify m moment))
   notified_stands identifier m moment None e lines =

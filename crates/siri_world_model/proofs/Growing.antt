@@ -8,7 +8,7 @@ use Rattle.siri_life.proofs.Lists.{get_front}
 use Rattle.siri_base.specs.Numbers.{greatest_number}
 use Rattle.siri_view.specs.Consuming.{Consuming, after_message, after_restart, after_subscribe, after_terminate}
 use Rattle.siri_view.specs.Consuming.{clocked, termination_of}
-use Rattle.siri_view.specs.Kept.{KeptSubscription, kept_of}
+use Rattle.siri_view.specs.Kept.{HeldSubscription, kept_of}
 use Rattle.siri_view.specs.declared.outcome.AskError.{AskError}
 use Rattle.siri_view.specs.declared.outcome.AskError.TheVariants as ask_error
 use Rattle.siri_world_model.specs.declared.event.Event.{Event}
@@ -108,7 +108,7 @@ module _ (world : World) where
       spent true = same_keeps _ refl
       spent false = sent_keeps (after_terminate c identifier) _ refl
 
-      kept : (k : Option KeptSubscription) → KeepsProducer (effects.terminated_if world c identifier k) world
+      kept : (k : Option HeldSubscription) → KeepsProducer (effects.terminated_if world c identifier k) world
       kept None = same_keeps _ refl
       kept (Some k) = spent (nat_lt greatest_number c.next_number)
 
@@ -129,7 +129,7 @@ module _ (world : World) where
   view_keeps name identifier None = same_keeps _ refl
   view_keeps name identifier (Some c) = kept (kept_of identifier c.held)
     where
-      kept : (k : Option KeptSubscription) → KeepsProducer (effects.viewed_if world c identifier k) world
+      kept : (k : Option HeldSubscription) → KeepsProducer (effects.viewed_if world c identifier k) world
       kept None = same_keeps _ refl
       kept (Some k) = same_keeps _ refl
 

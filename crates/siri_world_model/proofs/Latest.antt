@@ -4,7 +4,7 @@ use Rattle.std.specs.Prelude.{nat_le}
 use Rattle.std.specs.List.{last_or}
 use Rattle.std.proofs.lemmas.List.{append_assoc}
 use Rattle.std.proofs.lemmas.List.Sums.{fold-append}
-use Rattle.siri_messages.specs.Asked.{Asked}
+use Rattle.siri_messages.specs.Asked.{AskedFor}
 use Rattle.siri_change.specs.Parts.{Carried}
 use Rattle.siri_life.specs.Life.{Packet, Subscribe, Terminate, AllData, Supply, Acknowledge, Notify, Delivery}
 use Rattle.siri_life.specs.Life.{can_renew, is_before}
@@ -32,7 +32,7 @@ rows_first b v table ended = λ i. record {
   ended = append_assoc b v.ended ended i;
 }
 
-heard_first : (b : List (Of Living)) (v : Served) (c s : Name) (p : Packet Carried Asked)
+heard_first : (b : List (Of Living)) (v : Served) (c s : Name) (p : Packet Carried AskedFor)
     → heard meaning (with_ended b v) c s p ≡ with_ended b (heard meaning v c s p)
 heard_first b v c s (Subscribe n x) = by (accepts meaning v c s n x)
   where
@@ -46,7 +46,7 @@ heard_first b v c s (Terminate n) = by (is_before meaning (find c s v.table) n)
     by false = refl
 heard_first b v c s (AllData n base) = by (find c s v.table)
   where
-    test : (y : Bool) (x : Asked)
+    test : (y : Bool) (x : AskedFor)
         → renewed_if meaning y (with_ended b v) c s n base x ≡ with_ended b (renewed_if meaning y v c s n base x)
     test true x = rows_first b v _ _
     test false x = refl
@@ -68,13 +68,13 @@ heard_first b v c s (Acknowledge m) = by (find c s v.table)
 heard_first b v c s (Notify m t) = refl
 heard_first b v c s (Delivery m t more x) = refl
 
-pub about_first : (b : List (Of Living)) (v : Served) (c s : Name) (it : About Carried Asked)
+pub about_first : (b : List (Of Living)) (v : Served) (c s : Name) (it : About Carried AskedFor)
     → heard_about (with_ended b v) c s it ≡ with_ended b (heard_about v c s it)
 about_first b v c s (Carries p) = heard_first b v c s p
 about_first b v c s (ToProducer answered) = refl
 about_first b v c s ToConsumer = refl
 
-replies_first : (b : List (Of Living)) (v : Served) (c s : Name) (p : Packet Carried Asked)
+replies_first : (b : List (Of Living)) (v : Served) (c s : Name) (p : Packet Carried AskedFor)
     → replies_to meaning (with_ended b v) c s p ≡ replies_to meaning v c s p
 replies_first b v c s (Subscribe n x) = refl
 replies_first b v c s (Terminate n) = refl
@@ -85,14 +85,14 @@ replies_first b v c s (Notify m t) = refl
 replies_first b v c s (Delivery m t more x) = refl
 
 -- nor in the replies
-pub about_replies : (b : List (Of Living)) (v : Served) (c s : Name) (it : About Carried Asked) → replies_about (with_ended b v) c s it ≡ replies_about v c s it
+pub about_replies : (b : List (Of Living)) (v : Served) (c s : Name) (it : About Carried AskedFor) → replies_about (with_ended b v) c s it ≡ replies_about v c s it
 about_replies b v c s (Carries p) = replies_first b v c s p
 about_replies b v c s (ToProducer true) = refl
 about_replies b v c s (ToProducer false) = refl
 about_replies b v c s ToConsumer = refl
 
 -- what is heard is heard in the same start
-pub about_start : (v : Served) (c s : Name) (it : About Carried Asked) → (heard_about v c s it).start ≡ v.start
+pub about_start : (v : Served) (c s : Name) (it : About Carried AskedFor) → (heard_about v c s it).start ≡ v.start
 about_start v c s (Carries p) = (heard_keeps v c s p).start
 about_start v c s (ToProducer answered) = refl
 about_start v c s ToConsumer = refl

@@ -1,6 +1,6 @@
 -- A settle right after a settle changes nothing, wherever it stands in a history.
 use Rattle.std.proofs.Common.{◌≡◌, ℕ, Bool, true, false, cond, ◌&&◌, List, [], ◌∷◌, ◌++◌, Some, refl, sym, ap, ◌∙◌, subst}
-use Rattle.siri_messages.specs.Asked.{Asked}
+use Rattle.siri_messages.specs.Asked.{AskedFor}
 use Rattle.siri_change.specs.Parts.{Carried}
 use Rattle.siri_life.specs.Named.{Name, first}
 use Rattle.siri_life.specs.Network.{acts, opening, seen_by, HaveRoom}
@@ -76,12 +76,12 @@ once_acts =
 -- ---- and the room in the table
 
 module _ (c s : Name) where
-  room_parts : (xs ys : List (Act Carried Asked Entry)) (n : WorldNetwork) → HaveRoom meaning c s (xs ++ ys) n
+  room_parts : (xs ys : List (Act Carried AskedFor Entry)) (n : WorldNetwork) → HaveRoom meaning c s (xs ++ ys) n
       → HaveRoom meaning c s xs n × HaveRoom meaning c s ys (acts meaning xs n)
   room_parts [] ys n room = (tt, room)
   room_parts (x ∷ xs) ys n room = let parts = room_parts xs ys _ room.1 in ((room.0, parts.0), parts.1)
 
-  room_both : (xs ys : List (Act Carried Asked Entry)) (n : WorldNetwork) → HaveRoom meaning c s xs n
+  room_both : (xs ys : List (Act Carried AskedFor Entry)) (n : WorldNetwork) → HaveRoom meaning c s xs n
       → HaveRoom meaning c s ys (acts meaning xs n) → HaveRoom meaning c s (xs ++ ys) n
   room_both [] ys n front back = back
   room_both (x ∷ xs) ys n front back = (front.0, room_both xs ys _ front.1 back)

@@ -1,7 +1,7 @@
 -- What consumers say of packets: a part that is taken is taken once, and none shows a gap; and what packets carry.
 use Rattle.std.proofs.Common.{◌≡◌, ◌≢◌, ℕ, zero, suc, Bool, List, ◌∷◌, ◌++◌, Option, Some, None, refl, sym, ap, ◌∙◌, subst}
 use Rattle.std.specs.Prelude.{slice_get}
-use Rattle.siri_messages.specs.Asked.{Asked}
+use Rattle.siri_messages.specs.Asked.{AskedFor}
 use Rattle.siri_messages.specs.declared.message.Message.{Message}
 use Rattle.siri_change.specs.Parts.{Carried}
 use Rattle.siri_life.specs.Life.{Mark, Packet, Notify, Delivery}
@@ -40,12 +40,12 @@ use Rattle.siri_world_model.proofs.Worlds.{after_all, after_more, network_more, 
 
 -- ---- no gap
 
-gap_in : (es : List Event) (k : ℕ) (x : Letter) (p : Packet Carried Asked) (m : Mark)
+gap_in : (es : List Event) (k : ℕ) (x : Letter) (p : Packet Carried AskedFor) (m : Mark)
     → slice_get (network_of es).letters k ≡ Some x → x.it ≡ Carries p → HasMark p m
     → (outcome_of meaning ((network_of es).holdings x.subscriber x.identifier) m ≢ life.Gap)
     × (outcome_of meaning ((network_of es).holdings x.subscriber x.identifier) m ≢ life.Overlong)
 gap_in es =
-    reach (λ n. (k : ℕ) (x : Letter) (p : Packet Carried Asked) (m : Mark) → slice_get n.letters k ≡ Some x → x.it ≡ Carries p → HasMark p m
+    reach (λ n. (k : ℕ) (x : Letter) (p : Packet Carried AskedFor) (m : Mark) → slice_get n.letters k ≡ Some x → x.it ≡ Carries p → HasMark p m
     → (outcome_of meaning (n.holdings x.subscriber x.identifier) m ≢ life.Gap) × (outcome_of meaning (n.holdings x.subscriber x.identifier) m ≢ life.Overlong))
     (λ k x p m there it is. absurd (cc)) (λ moment happens. every.no_gap meaning meaning_lawful moment happens) es
 
@@ -93,11 +93,11 @@ module _ (es : List Event) where
 
   -- ---- what packets carry
 
-  carries_in : (k : ℕ) (x : Letter) (p : Packet Carried Asked) → slice_get network.letters k ≡ Some x → x.it ≡ Carries p
+  carries_in : (k : ℕ) (x : Letter) (p : Packet Carried AskedFor) → slice_get network.letters k ≡ Some x → x.it ≡ Carries p
       → link.CarriesItsRound meaning (seen_in meaning x.subscriber x.identifier network)
       (network.holdings x.subscriber x.identifier) p
   carries_in =
-      reach (λ n. (k : ℕ) (x : Letter) (p : Packet Carried Asked) → slice_get n.letters k ≡ Some x → x.it ≡ Carries p
+      reach (λ n. (k : ℕ) (x : Letter) (p : Packet Carried AskedFor) → slice_get n.letters k ≡ Some x → x.it ≡ Carries p
       → link.CarriesItsRound meaning (seen_in meaning x.subscriber x.identifier n)
       (n.holdings x.subscriber x.identifier) p)
       (λ k x p there it. absurd (cc)) (λ moment happens. every.carries_its_round meaning meaning_lawful moment happens) es

@@ -2,7 +2,7 @@
 use Rattle.std.proofs.Common.{◌≡◌, ℕ, ◌<◌, List, [], ◌∷◌, ◌++◌, max, Bool, true, false, Option, refl, sym, ap, ◌∙◌, subst}
 use Rattle.std.specs.List.{All, AllByRecursion}
 use Rattle.std.proofs.lemmas.List.Elements.{All-cons, All-from_recursion, All-nil, recursion_from_All}
-use Rattle.siri_messages.specs.Asked.{Asked}
+use Rattle.siri_messages.specs.Asked.{AskedFor}
 use Rattle.siri_messages.specs.declared.message.Message.{Message}
 use Rattle.siri_messages.specs.declared.message.Message.TheVariants as message
 use Rattle.siri_messages.specs.declared.supplies.DataSupplyRequest.{DataSupplyRequest}
@@ -60,7 +60,7 @@ unfolding served_after
 taken_is_heard h c m made = more_served h (Take m) ∙ message_heard (serving_of h) c m made
 
 -- what it replies before the next settle to a message that is about this, of these names
-abbrev pub replies_about : Served → (subscriber identifier : Name) → About Carried Asked → List Letter
+abbrev pub replies_about : Served → (subscriber identifier : Name) → About Carried AskedFor → List Letter
 replies_about v c s (Carries p) = replies_to meaning v c s p
 replies_about v c s (ToProducer true) = told meaning c
 replies_about v c s (ToProducer false) = []

@@ -13,7 +13,7 @@ use Rattle.siri_life.proofs.Fits.{network_fit, opening_fit}
 use Rattle.siri_model.specs.Lives.{Living}
 use Rattle.siri_model.specs.Meaning.{meaning}
 use Rattle.siri_model.proofs.Lawful.{meaning_lawful}
-use Rattle.siri_view.specs.Kept.{KeptSubscription}
+use Rattle.siri_view.specs.Kept.{HeldSubscription}
 use Rattle.siri_world_model.specs.declared.event.Event.{Event}
 use Rattle.siri_world_model.specs.laws.QuietViews.{by_key}
 use Rattle.siri_world_model.proofs.Views.{IsQuietView}
@@ -42,7 +42,7 @@ keyed_again (entry ∷ items) keyed =
     λ i. (one_key (key_of entry.1) entry.0 parts.0 i, entry.1) ∷ keyed_again items parts.1 i
 
 -- nor is its order another than that of its keys
-pub quiet_viewed : (es : List Event) (c i : Name) (kept : KeptSubscription) → IsQuietView es c i kept → InOrder kept.view × (is_keyed kept.view ≡ true)
+pub quiet_viewed : (es : List Event) (c i : Name) (kept : HeldSubscription) → IsQuietView es c i kept → InOrder kept.view × (is_keyed kept.view ≡ true)
 unfolding HasView
 quiet_viewed es c i kept quiet =
     let viewed = (view_stated quiet.living.acknowledged).0 (subst HasView quiet.there (views_held es c i)) in

@@ -7,7 +7,7 @@ use Rattle.std.specs.Cmp.Lexicographic.{bytes_decides}
 use Rattle.std.proofs.lemmas.Bool.{and_parts}
 use Rattle.siri_records.specs.Keyed.{Items}
 use Rattle.siri_topic.specs.declared.subscription.Subscription.{Subscription}
-use Rattle.siri_messages.specs.Asked.{Asked}
+use Rattle.siri_messages.specs.Asked.{AskedFor}
 use Rattle.siri_messages.specs.declared.message.Message.{Message}
 use Rattle.siri_messages.specs.declared.message.Message.TheVariants as message
 use Rattle.siri_messages.specs.declared.supplies.Mark.{Mark}
@@ -48,7 +48,7 @@ use Rattle.siri_world_model.proofs.Messages.{delivery_letter, delivery_made, mar
 -- ---- what a message does
 
 -- what a producer serves after a message that is about this, of these names
-abbrev pub heard_about : Served → (subscriber identifier : Name) → About Carried Asked → Served
+abbrev pub heard_about : Served → (subscriber identifier : Name) → About Carried AskedFor → Served
 heard_about v c s (Carries p) = heard meaning v c s p
 heard_about v c s (ToProducer answered) = v
 heard_about v c s ToConsumer = v
@@ -60,7 +60,7 @@ pub message_heard : (v : Served) (c : Name) (m : Message) → IsOfConsumer c m �
 unfolding acts_in letter_to_producer IsOfConsumer
 message_heard v c (message.SubscriptionRequest r) made =
     let asked = made.0 in
-    ap (λ (all : List Asked). serving_after meaning
+    ap (λ (all : List AskedFor). serving_after meaning
     (map (λ asked. Heard asked.subscription.subscriber asked.subscription.identifier
     (Subscribe r.message_identifier asked)) all) v) made.1
     ∙ ap (λ name. heard meaning v name asked.subscription.identifier (Subscribe r.message_identifier asked)) made.2

@@ -18,7 +18,7 @@ use Rattle.siri_life.proofs.Names.{name_is, name_same}
 use Rattle.siri_model.specs.Meaning.{meaning}
 use Rattle.siri_view.specs.Consuming.{Consuming, all_data_from}
 use Rattle.siri_view.specs.Kept as view
-use Rattle.siri_view.specs.Kept.{KeptSubscription, Holdings, kept_of, name_cmp}
+use Rattle.siri_view.specs.Kept.{HeldSubscription, Holdings, kept_of, name_cmp}
 use Rattle.siri_view.specs.Sending.{all_data_request}
 use Rattle.siri_world_model.specs.Packets.{packets_from}
 use Rattle.siri_world_model.specs.laws.Letters.{letter_to_producer, letters_of, of_one}
@@ -50,7 +50,7 @@ abbrev FindsEach : (all some : Holdings) → Type 0
 FindsEach all [] = Unit {0}
 FindsEach all (kept ∷ some) = (kept_of kept.0 all ≡ Some kept.1) × FindsEach all some
 
-found_later : (first : Name × KeptSubscription) (all some : Holdings) → IsApart meaning first.0 some → FindsEach all some
+found_later : (first : Name × HeldSubscription) (all some : Holdings) → IsApart meaning first.0 some → FindsEach all some
     → FindsEach (first ∷ all) some
 found_later first all [] apart finds = tt
 found_later first all (kept ∷ some) apart finds = (

@@ -11,7 +11,7 @@ use Rattle.siri_life.proofs.Names.{name_same}
 use Rattle.siri_model.specs.Meaning.{meaning}
 use Rattle.siri_view.specs.Consuming.{Consuming, kept_for, seen_in_delivery, seen_in_notification, told_of, told_of_part}
 use Rattle.siri_view.specs.Hearing.{heard}
-use Rattle.siri_view.specs.Kept.{KeptSubscription, kept_of}
+use Rattle.siri_view.specs.Kept.{HeldSubscription, kept_of}
 use Rattle.siri_view.specs.declared.outcome.Outcome.{Outcome}
 use Rattle.siri_view.specs.declared.outcome.Outcome.TheVariants as outcome
 use Rattle.siri_world_model.specs.Consumers.{consumer_of}
@@ -26,7 +26,7 @@ use Rattle.siri_world_model.proofs.Known.{found_named}
 
 -- ---- outcomes
 
-wanted_where_taken : (o : life.Outcome) (h : KeptSubscription) (told : Outcome) → TakesPart (Some (told_of o h told)) → o ≡ life.Wanted
+wanted_where_taken : (o : life.Outcome) (h : HeldSubscription) (told : Outcome) → TakesPart (Some (told_of o h told)) → o ≡ life.Wanted
 wanted_where_taken life.UnknownSubscription h told is = absurd is
 wanted_where_taken life.OldStart h told is = absurd is
 wanted_where_taken life.Gap h told is = absurd is
@@ -34,7 +34,7 @@ wanted_where_taken life.Repeat h told is = absurd is
 wanted_where_taken life.Overlong h told is = absurd is
 wanted_where_taken life.Wanted h told is = refl
 
-none_where_ready : (o : life.Outcome) (h : KeptSubscription) → TakesPart (Some (told_of o h outcome.Ready)) → ⊥
+none_where_ready : (o : life.Outcome) (h : HeldSubscription) → TakesPart (Some (told_of o h outcome.Ready)) → ⊥
 none_where_ready life.UnknownSubscription h is = is
 none_where_ready life.OldStart h is = is
 none_where_ready life.Gap h is = is
@@ -42,7 +42,7 @@ none_where_ready life.Repeat h is = is
 none_where_ready life.Overlong h is = is
 none_where_ready life.Wanted h is = is
 
-no_view : (o : life.Outcome) (h : KeptSubscription) (told : Outcome) → link.ChangesNoView o → ChangesNoView (Some (told_of o h told))
+no_view : (o : life.Outcome) (h : HeldSubscription) (told : Outcome) → link.ChangesNoView o → ChangesNoView (Some (told_of o h told))
 no_view life.UnknownSubscription h told is = tt
 no_view life.OldStart h told is = tt
 no_view life.Repeat h told is = tt
@@ -50,7 +50,7 @@ no_view life.Gap h told is = is
 no_view life.Overlong h told is = is
 no_view life.Wanted h told is = absurd is
 
-no_gap_told : (o : life.Outcome) (h : KeptSubscription) (told : Outcome) → ShowsNoGap (Some told)
+no_gap_told : (o : life.Outcome) (h : HeldSubscription) (told : Outcome) → ShowsNoGap (Some told)
     → (o ≢ life.Gap) × (o ≢ life.Overlong) → ShowsNoGap (Some (told_of o h told))
 no_gap_told life.UnknownSubscription h told fine is = tt
 no_gap_told life.OldStart h told fine is = tt
@@ -65,28 +65,28 @@ part_told false m = tt
 
 -- ---- by what is kept
 
-pub taken_wanted : (c : Consuming) (i : Name) (held : Option KeptSubscription) (m : Mark) (more : Bool)
+pub taken_wanted : (c : Consuming) (i : Name) (held : Option HeldSubscription) (m : Mark) (more : Bool)
     → TakesPart (Some (seen_in_delivery c i held m more).outcome) → outcome_of meaning held m ≡ life.Wanted
 taken_wanted c i None m more is = absurd is
 taken_wanted c i (Some h) m more is = wanted_where_taken (life.outcome meaning h m) h (told_of_part more m) is
 
-pub notified_takes_none : (c : Consuming) (i : Name) (held : Option KeptSubscription) (m : Mark)
+pub notified_takes_none : (c : Consuming) (i : Name) (held : Option HeldSubscription) (m : Mark)
     → TakesPart (Some (seen_in_notification c i held m).outcome) → ⊥
 notified_takes_none c i None m is = is
 notified_takes_none c i (Some h) m is = none_where_ready (life.outcome meaning h m) h is
 
-pub changes_none : (c : Consuming) (i : Name) (held : Option KeptSubscription) (m : Mark) (more : Bool)
+pub changes_none : (c : Consuming) (i : Name) (held : Option HeldSubscription) (m : Mark) (more : Bool)
     → link.ChangesNoView (outcome_of meaning held m) → ChangesNoView (Some (seen_in_delivery c i held m more).outcome)
 changes_none c i None m more is = tt
 changes_none c i (Some h) m more is = no_view (life.outcome meaning h m) h (told_of_part more m) is
 
-pub delivery_gap : (c : Consuming) (i : Name) (held : Option KeptSubscription) (m : Mark) (more : Bool)
+pub delivery_gap : (c : Consuming) (i : Name) (held : Option HeldSubscription) (m : Mark) (more : Bool)
     → (outcome_of meaning held m ≢ life.Gap) × (outcome_of meaning held m ≢ life.Overlong)
     → ShowsNoGap (Some (seen_in_delivery c i held m more).outcome)
 delivery_gap c i None m more is = tt
 delivery_gap c i (Some h) m more is = no_gap_told (life.outcome meaning h m) h (told_of_part more m) (part_told more m) is
 
-pub notification_gap : (c : Consuming) (i : Name) (held : Option KeptSubscription) (m : Mark)
+pub notification_gap : (c : Consuming) (i : Name) (held : Option HeldSubscription) (m : Mark)
     → (outcome_of meaning held m ≢ life.Gap) × (outcome_of meaning held m ≢ life.Overlong)
     → ShowsNoGap (Some (seen_in_notification c i held m).outcome)
 notification_gap c i None m is = tt

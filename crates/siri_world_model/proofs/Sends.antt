@@ -8,7 +8,7 @@ use Rattle.std.proofs.lemmas.List.Elements.{All-append, All-cons, All-nil}
 use Rattle.std.proofs.lemmas.Option.{slice_get_cases}
 use Rattle.siri_records.specs.Keyed.{Items}
 use Rattle.siri_topic.specs.declared.subscription.Subscription.{Subscription}
-use Rattle.siri_messages.specs.Asked.{Asked}
+use Rattle.siri_messages.specs.Asked.{AskedFor}
 use Rattle.siri_messages.specs.declared.message.Message.{Message}
 use Rattle.siri_messages.specs.declared.message.Message.TheVariants as message
 use Rattle.siri_change.specs.Parts.{Carried}
@@ -68,7 +68,7 @@ module _ (producer : List ℕ) (l : Living) (now : ℕ) (small : l.number < 1000
   abbrev wanted : Subscription
   wanted = l.wanted.subscription
 
-  abbrev parts_for : List (Packet Carried Asked) → List Letter
+  abbrev parts_for : List (Packet Carried AskedFor) → List Letter
   parts_for packets = letters_for meaning wanted.subscriber wanted.identifier packets
 
   -- of this part, fetched or not
@@ -178,7 +178,7 @@ module _ (at : At) (items : Items) where
       ++ heartbeat_letters meaning (sym named.0 i) (sends_heartbeat meaning x.it at.now))
 
   -- all of them, by a history whose direct responses are what is shown
-  pub rows_are_letters : (known : History) → ((wanted : Asked)
+  pub rows_are_letters : (known : History) → ((wanted : AskedFor)
       → direct_of known wanted ≡ direct_to at.now items wanted.subscription.topic) → (t : List (Of Living)) → AreNamed t
       → AllByRecursion IsShort t → AllLive (IsOf at.start) t
       → letters_of (packets_out (table_sends at items (rows_of t))) ≡ row_letters meaning known at.now t

@@ -14,7 +14,7 @@ use Rattle.siri_records.specs.declared.key.Key.{Key}
 use Rattle.siri_records.specs.Keyed.{Items, KeyChange, after_change, apply, with_item, without_key}
 use Rattle.siri_records.specs.Keys.{key_of}
 use Rattle.siri_records.specs.Order.{key_cmp}
-use Rattle.siri_messages.specs.Asked.{Asked, asked_in}
+use Rattle.siri_messages.specs.Asked.{AskedFor, asked_in}
 use Rattle.siri_messages.specs.declared.message.Message.{Message}
 use Rattle.siri_messages.specs.declared.message.Message.TheVariants as message
 use Rattle.siri_messages.specs.declared.supplies.Mark.{Mark as SentMark}
@@ -34,7 +34,7 @@ use Rattle.siri_life.proofs.Takes.{Here, Means, means}
 use Rattle.siri_model.specs.Meaning.{meaning}
 use Rattle.siri_view.specs.Consuming.{held_by}
 use Rattle.siri_view.specs.Hearing.{Heard, Delivered, Notified, Noted, Foreign, heard}
-use Rattle.siri_view.specs.Kept.{KeptSubscription}
+use Rattle.siri_view.specs.Kept.{HeldSubscription}
 use Rattle.siri_world_model.specs.declared.event.Event.{Event}
 use Rattle.siri_world_model.specs.Packets as packet
 use Rattle.siri_world_model.specs.Packets.{SentPacket}
@@ -94,19 +94,19 @@ module _ (c i : Name) where
     pub has : Contains part.items item
 
   -- the place of the part that is wanted next, as a view would belong to its round
-  abbrev next : KeptSubscription → Origin
+  abbrev next : HeldSubscription → Origin
   next h = record { number = h.number; start = h.start; round = suc h.round }
 
   abbrev PartIsCarried : List Letter → Origin → Carried → Type 0
   PartIsCarried letters origin part = All (IsCarried letters origin) part.items
 
   -- the items of the view, and those of the buffered parts; after a round the view belongs to it
-  pub record IsKept (letters : List Letter) (h : KeptSubscription) : Type 0 where
+  pub record IsKept (letters : List Letter) (h : HeldSubscription) : Type 0 where
     pub view : All (IsCarried letters h.origin) (values_of h.view)
     pub parts : AllByRecursion (PartIsCarried letters (next h)) h.parts
     pub belongs : 1 ≤ h.round → h.origin ≡ record { number = h.number; start = h.start; round = h.round }
 
-  abbrev KeptIf : List Letter → Option KeptSubscription → Type 0
+  abbrev KeptIf : List Letter → Option HeldSubscription → Type 0
   KeptIf letters None = Unit {0}
   KeptIf letters (Some h) = IsKept letters h
 
@@ -137,7 +137,7 @@ module _ (c i : Name) where
   parts_more old new origin longer [] all = tt
   parts_more old new origin longer (part ∷ parts) all = (all_more old new origin longer part.items all.0, parts_more old new origin longer parts all.1)
 
-  kept_more : (old new : List Letter) (held : Option KeptSubscription) → Holds old new → KeptIf old held → KeptIf new held
+  kept_more : (old new : List Letter) (held : Option HeldSubscription) → Holds old new → KeptIf old held → KeptIf new held
   kept_more old new None longer is = tt
   kept_more old new (Some h) longer is = record {
     view = all_more old new h.origin longer (values_of h.view) is.view;
@@ -165,12 +165,12 @@ module _ (c i : Name) where
     }
 
     -- the place of a mark is the next
-    record IsNext (h : KeptSubscription) (m : Mark) : Type 0 where
+    record IsNext (h : HeldSubscription) (m : Mark) : Type 0 where
       number : m.number ≡ h.number
       start : m.start ≡ h.start
       round : m.round ≡ suc h.round
 
-    all_of_part : (k : ℕ) (m : Mark) (moment : ℕ) (more : Bool) (x : Carried) (h : KeptSubscription)
+    all_of_part : (k : ℕ) (m : Mark) (moment : ℕ) (more : Bool) (x : Carried) (h : HeldSubscription)
         → slice_get letters k ≡ Some (of_one c i (Carries (Delivery m moment more x))) → IsNext h m
         → PartIsCarried letters (next h) x
     all_of_part k m moment more x h there is =
@@ -187,7 +187,7 @@ module _ (c i : Name) where
           has = has;
         }) x.items (All-contains_itself x.items)
 
-    base_kept : (h : KeptSubscription) → IsKept letters h → All (IsCarried letters (next h)) (values_of (base_of meaning h))
+    base_kept : (h : HeldSubscription) → IsKept letters h → All (IsCarried letters (next h)) (values_of (base_of meaning h))
     base_kept h is = by (h.round == 0) refl
       where
         held : (b : Bool) → 1 ≤ h.round → All (IsCarried letters (next h)) (values_of (cond b h.view []))
@@ -201,13 +201,13 @@ module _ (c i : Name) where
         by true none = All-nil (IsCarried letters (next h))
         by false some = let n = eqb-false h.round 0 some in held h.wanted.subscription.incremental (omega (arith, n))
 
-    parts_push : (h : KeptSubscription) (x : Carried) → (parts : List Carried)
+    parts_push : (h : HeldSubscription) (x : Carried) → (parts : List Carried)
         → AllByRecursion (PartIsCarried letters (next h)) parts → PartIsCarried letters (next h) x
         → AllByRecursion (PartIsCarried letters (next h)) (parts ++ x ∷ [])
     parts_push h x [] old new = (new, tt)
     parts_push h x (part ∷ parts) old new = (old.0, parts_push h x parts old.1 new)
 
-    part_kept : (more : Bool) (h : KeptSubscription) (x : Carried) → IsKept letters h → PartIsCarried letters (next h) x
+    part_kept : (more : Bool) (h : HeldSubscription) (x : Carried) → IsKept letters h → PartIsCarried letters (next h) x
         → IsKept letters (with_part meaning more h x)
     part_kept true h x is new = record { view = is.view; parts = parts_push h x h.parts is.parts new; belongs = is.belongs }
     part_kept false h x is new = record {
@@ -216,11 +216,11 @@ module _ (c i : Name) where
       belongs = λ some. refl;
     }
 
-    start_kept : (b : Bool) (h : KeptSubscription) (start : ℕ) → IsKept letters h → IsKept letters (with_start_if meaning b h start)
+    start_kept : (b : Bool) (h : HeldSubscription) (start : ℕ) → IsKept letters h → IsKept letters (with_start_if meaning b h start)
     start_kept true h start is = record { view = is.view; parts = tt; belongs = λ some. absurd (omega arith) }
     start_kept false h start is = is
 
-    next_place : (h : KeptSubscription) (m : Mark) (b : Bool) → nat_lt h.start m.start ≡ b → Here meaning h m → IsNext (with_start_if meaning b h m.start) m
+    next_place : (h : HeldSubscription) (m : Mark) (b : Bool) → nat_lt h.start m.start ≡ b → Here meaning h m → IsNext (with_start_if meaning b h m.start) m
     next_place h m true less here =
         let newer = ltb-true h.start m.start less in
         record {
@@ -236,7 +236,7 @@ module _ (c i : Name) where
           round = ⊎_elim (λ w. absurd (omega (arith, w.0, older))) (λ w. w.1) here.which;
         }
 
-    taken_kept : (k : ℕ) (m : Mark) (moment : ℕ) (more : Bool) (x : Carried) (h : KeptSubscription)
+    taken_kept : (k : ℕ) (m : Mark) (moment : ℕ) (more : Bool) (x : Carried) (h : HeldSubscription)
         → slice_get letters k ≡ Some (of_one c i (Carries (Delivery m moment more x))) → IsKept letters h
         → IsKept letters (taken meaning h m more x)
     taken_kept k m moment more x h there is = by (outcome meaning h m) (means meaning h m)
@@ -252,14 +252,14 @@ module _ (c i : Name) where
             part_kept more turned x (start_kept (nat_lt h.start m.start) h m.start is)
             (all_of_part k m moment more x turned there (next_place h m (nat_lt h.start m.start) refl says))
 
-    asked_kept : (number : ℕ) (wanted : Asked) (held : Option KeptSubscription) → KeptIf letters held → IsKept letters (asked meaning number wanted held)
+    asked_kept : (number : ℕ) (wanted : AskedFor) (held : Option HeldSubscription) → KeptIf letters held → IsKept letters (asked meaning number wanted held)
     asked_kept number wanted None is = record { view = All-nil (IsCarried letters _); parts = tt; belongs = λ some. absurd (omega arith) }
     asked_kept number wanted (Some h) is = record { view = is.view; parts = tt; belongs = λ some. absurd (omega arith) }
 
   -- ---- what happens
   module _ (n : WorldNetwork) (letters : List Letter) (longer : Holds n.letters letters) (old : KeptIf letters (n.holdings c i)) where
     -- what is kept of one subscription is another thing
-    under : (d j : Name) (held : Option KeptSubscription) → ((c ≡ d) × (i ≡ j) → KeptIf letters held) → (b : Bool)
+    under : (d j : Name) (held : Option HeldSubscription) → ((c ≡ d) × (i ≡ j) → KeptIf letters held) → (b : Bool)
         → same_subscription c i d j ≡ b → KeptIf letters (cond b held (n.holdings c i))
     under d j held new true same = new (same_parts c i d j same)
     under d j held new false apart = old
@@ -268,7 +268,7 @@ module _ (c i : Name) where
     own d j same = subst (λ (z : Name × Name). KeptIf letters (n.holdings z.0 z.1)) (λ k. (same.0 k, same.1 k)) old
 
     delivery_kept : (k : ℕ) (d j : Name) (m : Mark) (moment : ℕ) (more : Bool) (x : Carried)
-        (held : Option KeptSubscription) → n.holdings d j ≡ held
+        (held : Option HeldSubscription) → n.holdings d j ≡ held
         → slice_get n.letters k ≡ Some (of_one d j (Carries (Delivery m moment more x)))
         → KeptIf letters ((Network.delivered meaning n d j m more x held).holdings c i)
     delivery_kept k d j m moment more x None is there = old
@@ -289,16 +289,16 @@ module _ (c i : Name) where
     readied_same d Repeat = refl
     readied_same d Overlong = refl
 
-    notified_kept : (d j : Name) (m : Mark) (held : Option KeptSubscription) → n.holdings d j ≡ held
+    notified_kept : (d j : Name) (m : Mark) (held : Option HeldSubscription) → n.holdings d j ≡ held
         → KeptIf letters ((Network.notified meaning n d j m held).holdings c i)
     notified_kept d j m None is = old
     notified_kept d j m (Some h) is =
-        subst (λ (holdings : Name → Name → Option KeptSubscription).
+        subst (λ (holdings : Name → Name → Option HeldSubscription).
         KeptIf letters (cond (same_subscription c i d j) (Some h) (holdings c i)))
         (sym (readied_same d (outcome meaning h m)))
         (under d j (Some h) (λ same. subst (KeptIf letters) is (own d j same)) (same_subscription c i d j) refl)
 
-    letter_kept : (k : ℕ) (d j : Name) (it : About Carried Asked) → slice_get n.letters k ≡ Some (of_one d j it)
+    letter_kept : (k : ℕ) (d j : Name) (it : About Carried AskedFor) → slice_get n.letters k ≡ Some (of_one d j it)
         → KeptIf letters ((takes meaning n d j it).holdings c i)
     letter_kept k d j (ToProducer true) there = old
     letter_kept k d j (ToProducer false) there = old
@@ -311,11 +311,11 @@ module _ (c i : Name) where
     letter_kept k d j (Carries (Notify m moment)) there = notified_kept d j m (n.holdings d j) refl
     letter_kept k d j (Carries (Delivery m moment more x)) there = delivery_kept k d j m moment more x (n.holdings d j) refl there
 
-    stopped_kept : (d j : Name) (held : Option KeptSubscription) → KeptIf letters ((Network.stopped meaning n d j held).holdings c i)
+    stopped_kept : (d j : Name) (held : Option HeldSubscription) → KeptIf letters ((Network.stopped meaning n d j held).holdings c i)
     stopped_kept d j None = old
     stopped_kept d j (Some h) = under d j None (λ same. tt) (same_subscription c i d j) refl
 
-    restarted_kept : (d j : Name) (held : Option KeptSubscription)
+    restarted_kept : (d j : Name) (held : Option HeldSubscription)
         → KeptIf letters ((Network.restarted_one meaning n d j held).holdings c i)
     restarted_kept d j None = old
     restarted_kept d j (Some h) =
@@ -346,12 +346,12 @@ module _ (c i : Name) where
 -- ---- the letter of a part is a message to its consumer
 
 -- a letter carries a part of a round
-abbrev IsPart : About Carried Asked → Type 0
+abbrev IsPart : About Carried AskedFor → Type 0
 IsPart (Carries (Delivery m moment more x)) = Unit {0}
 IsPart other = ⊥
 
 -- no message to the producer does
-no_request : (sender : Name) (number : ℕ) (list : List Asked) → IsPart (asking sender number list).it → ⊥
+no_request : (sender : Name) (number : ℕ) (list : List AskedFor) → IsPart (asking sender number list).it → ⊥
 no_request sender number [] is = is
 no_request sender number (one ∷ []) is = is
 no_request sender number (one ∷ two ∷ list) is = is
@@ -378,7 +378,7 @@ no_part sender (message.DataReceivedAcknowledgement a) is = no_acknowledgement s
 no_part sender (message.DataSupplyRequest r) is = no_supply r.all_data r.extensions is
 no_part sender other is = is
 
-a_part : (letter : Letter) (about : About Carried Asked) (c i : Name) → letter ≡ of_one c i about → IsPart about → IsPart letter.it
+a_part : (letter : Letter) (about : About Carried AskedFor) (c i : Name) → letter ≡ of_one c i about → IsPart about → IsPart letter.it
 a_part letter about c i same is = subst (λ (l : Letter). IsPart l.it) (sym same) is
 
 module _ (events : List Event) (c i : Name) where
@@ -442,7 +442,7 @@ module _ (events : List Event) (c i : Name) where
           sym (letter ∙ ap (option_map letter_of) there) ∙ is.there in some p there (cc)
 
   -- each item of a view that is kept was sent
-  pub view_sent : (kept : KeptSubscription) → kept_by c i (world_after events).consumers ≡ Some kept
+  pub view_sent : (kept : HeldSubscription) → kept_by c i (world_after events).consumers ≡ Some kept
       → All (WasSent events c i (held_by kept)) (values_of kept.view)
   view_sent kept is =
       let n = network_of events in

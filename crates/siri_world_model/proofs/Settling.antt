@@ -4,7 +4,7 @@ use Rattle.std.proofs.Common.{refl, sym, ap, ◌∙◌, subst, arith}
 use Rattle.std.specs.Prelude.{int_lt, option_map, if◌then◌else◌}
 use Rattle.std.proofs.lemmas.Bool.{lt-ltb}
 use Rattle.siri_records.specs.Keyed.{Items}
-use Rattle.siri_messages.specs.Asked.{Asked}
+use Rattle.siri_messages.specs.Asked.{AskedFor}
 use Rattle.siri_messages.specs.declared.message.Message.TheVariants as message
 use Rattle.siri_subs.specs.Beats as status
 use Rattle.siri_life.specs.Life.{settled}
@@ -45,7 +45,7 @@ rests wanted now = beat_rests wanted.beat now
 -- ---- a life
 
 module _ (at : At) (items : Items) where
-  abbrev direct : Asked → Items
+  abbrev direct : AskedFor → Items
   direct wanted = direct_to at.now items wanted.subscription.topic
 
   -- of a life that a settle leaves as it is nothing is due
@@ -69,7 +69,7 @@ module _ (at : At) (items : Items) where
   settled_quiet : (l : Living) → row_sends at items (row_of (after_settle l)) ≡ []
   settled_quiet l =
       let a = settled_still meaning rests l (direct l.wanted) at.now in
-      quiet_life (after_settle l) (subst (λ (wanted : Asked). Still meaning (direct wanted) at.now (after_settle l)) (sym a.1) a.0)
+      quiet_life (after_settle l) (subst (λ (wanted : AskedFor). Still meaning (direct wanted) at.now (after_settle l)) (sym a.1) a.0)
 
   held_quiet : (held : Option Living) → life_sends at items (option_map after_settle held) ≡ []
   held_quiet None = refl

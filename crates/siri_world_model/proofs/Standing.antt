@@ -1,6 +1,6 @@
 -- After any history each life of the table is of its start, and where a round is outstanding some part of it is wanted.
 use Rattle.std.proofs.Common.{◌≡◌, List, [], ◌∷◌, ℕ, fold, refl, sym, subst, ◌∙◌}
-use Rattle.siri_messages.specs.Asked.{Asked}
+use Rattle.siri_messages.specs.Asked.{AskedFor}
 use Rattle.siri_change.specs.Parts.{Carried}
 use Rattle.siri_life.specs.Life.{Packet, Subscribe, Terminate, AllData, Supply, Acknowledge, Notify, Delivery}
 use Rattle.siri_life.specs.Serving.{Act, Clocked, Fed, Heard, Settled, heard, lives_on, served, serving_after, clocked_serving}
@@ -19,7 +19,7 @@ pub record IsOf (k : ℕ) (l : Living) : Type 0 where
 stays : (k : ℕ) (new old : Living) → GoesOn new old → IsOf k old → IsOf k new
 stays k new old goes is = record { start = goes.start ∙ is.start; part = goes.part is.part }
 
-begins : (v : Served) (p : Packet Carried Asked) → Begins (IsOf v.start) (stays v.start) v p
+begins : (v : Served) (p : Packet Carried AskedFor) → Begins (IsOf v.start) (stays v.start) v p
 begins v (Subscribe number wanted) = record { start = refl; part = tt }
 begins v (Terminate number) = tt
 begins v (AllData number base) = λ wanted. record { start = refl; part = tt }
@@ -32,7 +32,7 @@ begins v (Delivery m moment more part) = tt
 abbrev pub Stands : Served → Type 0
 Stands v = AllLive (IsOf v.start) v.table
 
-stands_act : (v : Served) (a : Act Carried Asked Entry) → Stands v → Stands (served meaning v a)
+stands_act : (v : Served) (a : Act Carried AskedFor Entry) → Stands v → Stands (served meaning v a)
 stands_act v (Clocked moment) stand = kept_all (IsOf v.start) (lives_on meaning (clocked_serving meaning v moment).now) v.table stand
 stands_act v (Fed entries) stand = stand
 stands_act v (Heard c s p) stand =
@@ -40,7 +40,7 @@ stands_act v (Heard c s p) stand =
     (heard_all (IsOf v.start) (stays v.start) v c s p (begins v p) stand)
 stands_act v Settled stand = settled_all (IsOf v.start) (stays v.start) v.known v.now v.table stand
 
-stands_acts : (v : Served) (acts : List (Act Carried Asked Entry)) → Stands v → Stands (serving_after meaning acts v)
+stands_acts : (v : Served) (acts : List (Act Carried AskedFor Entry)) → Stands v → Stands (serving_after meaning acts v)
 stands_acts v [] stand = stand
 stands_acts v (a ∷ acts) stand = stands_acts (served meaning v a) acts (stands_act v a stand)
 

@@ -7,7 +7,7 @@ use Rattle.std.specs.List.{All, last_or}
 use Rattle.std.proofs.lemmas.List.{append_assoc, map-append}
 use Rattle.std.proofs.lemmas.List.Elements.{All-append, All-nil, All-get_or}
 use Rattle.std.proofs.lemmas.Option.{slice_get-map, slice_get_within, get_or_from_slice_get}
-use Rattle.siri_messages.specs.Asked.{Asked, asked_in}
+use Rattle.siri_messages.specs.Asked.{AskedFor, asked_in}
 use Rattle.siri_messages.specs.declared.deliveries.ServiceDelivery.{ServiceDelivery}
 use Rattle.siri_messages.specs.declared.requests.ServiceRequest.{ServiceRequest}
 use Rattle.siri_messages.specs.declared.message.Message.{Message}
@@ -27,7 +27,7 @@ use Rattle.siri_model.proofs.Serves.{more_served}
 use Rattle.siri_producer.specs.Answers.{answer_to}
 use Rattle.siri_producer.specs.Sends.{sends}
 use Rattle.siri_view.specs.Consuming.{Consuming}
-use Rattle.siri_view.specs.Kept.{KeptSubscription, kept_of}
+use Rattle.siri_view.specs.Kept.{HeldSubscription, kept_of}
 use Rattle.siri_world_model.specs.declared.event.Event.{Event}
 use Rattle.siri_world_model.specs.declared.event.Event.TheVariants as event
 use Rattle.siri_world_model.specs.declared.step_error.StepError.{StepError}
@@ -70,14 +70,14 @@ pub record Serves (h : History) (next : Step) (serves : Served → Served) : Typ
   pub short : All IsShort (serving_of (h ++ next ∷ [])).table
 
 -- the consumers after something that changes neither numbers nor what is kept
-pub record Keep (new old : List Consuming) : Type 0 where
+pub record LeavesConsumers (new old : List Consuming) : Type 0 where
   pub numbers : (name : Name) → next_number_of name new ≡ next_number_of name old
   pub kept : (name identifier : Name) → kept_by name identifier new ≡ kept_by name identifier old
   pub ordered : All IsOrdered new
 
 -- ---- a letter that comes to the producer
 
-abbrev IsToProducer : About Carried Asked → Type 0
+abbrev IsToProducer : About Carried AskedFor → Type 0
 IsToProducer (Carries (Subscribe number x)) = Unit {0}
 IsToProducer (Carries (Terminate number)) = Unit {0}
 IsToProducer (Carries (AllData number base)) = Unit {0}
@@ -89,7 +89,7 @@ IsToProducer (ToProducer answered) = Unit {0}
 IsToProducer ToConsumer = ⊥
 
 -- the producer takes it, replies, and settles
-about_settles : (n : WorldNetwork) (c s : Name) (it : About Carried Asked) → IsToProducer it
+about_settles : (n : WorldNetwork) (c s : Name) (it : About Carried AskedFor) → IsToProducer it
     → Settles (λ v. heard_about v c s it) (replies_about n.serving c s it) (takes meaning n c s it) n
 about_settles n c s (Carries (Subscribe number x)) to = record {
   serving = refl;
@@ -129,7 +129,7 @@ about_settles n c s (ToProducer false) to = record {
 }
 about_settles n c s ToConsumer to = absurd to
 
-asking_to : (sender : Name) (number : ℕ) (asked : List Asked) → IsToProducer (asking sender number asked).it
+asking_to : (sender : Name) (number : ℕ) (asked : List AskedFor) → IsToProducer (asking sender number asked).it
 asking_to sender number [] = tt
 asking_to sender number (x ∷ []) = tt
 asking_to sender number (x ∷ y ∷ more) = tt
@@ -178,7 +178,7 @@ module _ (world : World) (old : WorldNetwork) (stands : Stands world old) (e : E
   short_is : All IsShort (serving_of h).table
   short_is = subst (λ (x : History). All IsShort (serving_of x).table) latest_is well.short
 
-  module _ (moment : ℕ) (consumers : List Consuming) (keep : Keep consumers world.consumers) (next : Step)
+  module _ (moment : ℕ) (consumers : List Consuming) (keep : LeavesConsumers consumers world.consumers) (next : Step)
       (serves : Served → Served) (next_is : Serves h next serves) (lines : List ToldLine) (replies : List SentPacket)
       (letters : List Letter) (said : letters_of replies ≡ letters) (made : All IsMade replies) (new : WorldNetwork)
       (settled : Settles serves letters new old) where
@@ -240,7 +240,7 @@ module _ (world : World) (old : WorldNetwork) (stands : Stands world old) (e : E
 
   -- ---- a moment
 
-  clocked_keep : (moment : ℕ) → Keep (all_clocked moment world.consumers) world.consumers
+  clocked_keep : (moment : ℕ) → LeavesConsumers (all_clocked moment world.consumers) world.consumers
   clocked_keep moment = record {
     numbers = λ name. next_clocked moment name world.consumers;
     kept = λ name identifier. kept_clocked moment name identifier world.consumers;
@@ -270,7 +270,7 @@ module _ (world : World) (old : WorldNetwork) (stands : Stands world old) (e : E
 
   -- ---- a feed
 
-  same_keep : Keep world.consumers world.consumers
+  same_keep : LeavesConsumers world.consumers world.consumers
   same_keep = record { numbers = λ name. refl; kept = λ name identifier. refl; ordered = well.ordered }
 
   feed_serves : (entries : List Entry) → Serves h (Feed entries) (λ v. fed_serving meaning v entries)
@@ -407,7 +407,7 @@ view_stands : (world : World) (name identifier : Name) (n : WorldNetwork) → St
 unfolding effect happening
 view_stands world name identifier n stands = by (consumer_of name world.consumers)
   where
-    one : (c : Consuming) (kept : Option KeptSubscription) → Stands (with_packets (effects.viewed_if world c identifier kept)) n
+    one : (c : Consuming) (kept : Option HeldSubscription) → Stands (with_packets (effects.viewed_if world c identifier kept)) n
     one c None = told_stands world n [] stands
     one c (Some kept) = told_stands world n [] stands
 

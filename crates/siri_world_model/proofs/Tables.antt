@@ -1,7 +1,7 @@
 -- What holds of each life of a producer's table, and stays of a life that goes on, holds of each life after each step.
 use Rattle.std.proofs.Common.{◌≡◌, ℕ, List, [], ◌∷◌, Bool, true, false, cond, Option, None, Some, refl, subst}
 use Rattle.std.specs.List.{AllByRecursion}
-use Rattle.siri_messages.specs.Asked.{Asked}
+use Rattle.siri_messages.specs.Asked.{AskedFor}
 use Rattle.siri_change.specs.Parts.{Carried}
 use Rattle.siri_life.specs.Life.{Packet, Subscribe, Terminate, AllData, Supply, Acknowledge, Notify, Delivery}
 use Rattle.siri_life.specs.Life.{after_acknowledgement, after_supply}
@@ -57,16 +57,16 @@ module _ (P : Living → Type 0) where
     settled_all known now (x ∷ xs) all = (stays _ x.it (settle_goes x.it (meaning.direct known x.it.wanted) now) all.0, settled_all known now xs all.1)
 
     -- it holds of the life that a message begins, if it begins one
-    abbrev pub Begins : Served → Packet Carried Asked → Type 0
+    abbrev pub Begins : Served → Packet Carried AskedFor → Type 0
     Begins v (Subscribe number wanted) = P (new_life meaning v.start v.now number number wanted)
     Begins v (Terminate number) = Unit {0}
-    Begins v (AllData number base) = (wanted : Asked) → P (new_life meaning v.start v.now number base wanted)
+    Begins v (AllData number base) = (wanted : AskedFor) → P (new_life meaning v.start v.now number base wanted)
     Begins v (Supply m) = Unit {0}
     Begins v (Acknowledge m) = Unit {0}
     Begins v (Notify m moment) = Unit {0}
     Begins v (Delivery m moment more part) = Unit {0}
 
-    pub heard_all : (v : Served) (c s : Name) (p : Packet Carried Asked) → Begins v p → AllLive v.table → AllLive (heard meaning v c s p).table
+    pub heard_all : (v : Served) (c s : Name) (p : Packet Carried AskedFor) → Begins v p → AllLive v.table → AllLive (heard meaning v c s p).table
     heard_all v c s (Subscribe number wanted) begins all = by (accepts meaning v c s number wanted)
       where
         by : (b : Bool) → AllLive (accepted_if meaning b v c s number wanted).table
@@ -79,7 +79,7 @@ module _ (P : Living → Type 0) where
         by false = all
     heard_all v c s (AllData number base) begins all = by (find c s v.table)
       where
-        test : (b : Bool) (wanted : Asked) → AllLive (renewed_if meaning b v c s number base wanted).table
+        test : (b : Bool) (wanted : AskedFor) → AllLive (renewed_if meaning b v c s number base wanted).table
         test true wanted = put_all c s (new_life meaning v.start v.now number base wanted) v.table (begins wanted) all
         test false wanted = all
 

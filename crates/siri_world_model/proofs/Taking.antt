@@ -3,7 +3,7 @@ use Rattle.std.proofs.Common.{◌≡◌, ℕ, List, [], ◌∷◌, ◌++◌, Boo
 use Rattle.std.specs.List.{All}
 use Rattle.std.proofs.lemmas.List.Elements.{All-nil, All-cons, All-append}
 use Rattle.std.proofs.lemmas.List.{map-append}
-use Rattle.siri_messages.specs.Asked.{Asked}
+use Rattle.siri_messages.specs.Asked.{AskedFor}
 use Rattle.siri_messages.specs.declared.message.Message.{Message}
 use Rattle.siri_change.specs.Parts.{Carried}
 use Rattle.siri_life.specs.Life.{Mark, Packet, Acknowledge}
@@ -14,7 +14,7 @@ use Rattle.siri_life.specs.Serving.{ToProducer, letters_for}
 use Rattle.siri_model.specs.Meaning.{meaning}
 use Rattle.siri_view.specs.Consuming.{Consuming, readied, replies_by}
 use Rattle.siri_view.specs.Kept as view
-use Rattle.siri_view.specs.Kept.{KeptSubscription}
+use Rattle.siri_view.specs.Kept.{HeldSubscription}
 use Rattle.siri_view.specs.Sending.{acknowledgement, supply_request, ready_acknowledgement, mark_of}
 use Rattle.siri_world_model.specs.Packets as packet
 use Rattle.siri_world_model.specs.Packets.{packets_from}
@@ -24,26 +24,17 @@ use Rattle.siri_world_model.proofs.Asking.{ready_made}
 
 -- ---- a consumer's words are those of the network, whatever is known of a producer
 
-pub asked_same : (number : ℕ) (wanted : Asked) (held : Option KeptSubscription) → asked view.meaning number wanted held ≡ asked meaning number wanted held
+pub asked_same : (number : ℕ) (wanted : AskedFor) (held : Option HeldSubscription) → asked view.meaning number wanted held ≡ asked meaning number wanted held
 asked_same number wanted None = refl
 asked_same number wanted (Some h) = refl
 
-pub outcome_same : (h : KeptSubscription) (m : Mark) → life.outcome view.meaning h m ≡ life.outcome meaning h m
-outcome_same h m = refl
-
-pub taken_same : (h : KeptSubscription) (m : Mark) (more : Bool) (part : Carried) → taken view.meaning h m more part ≡ taken meaning h m more part
+pub taken_same : (h : HeldSubscription) (m : Mark) (more : Bool) (part : Carried) → taken view.meaning h m more part ≡ taken meaning h m more part
 taken_same h m more part = refl
-
-pub replies_same : (h : KeptSubscription) (m : Mark) (more : Bool) → replies view.meaning h m more ≡ replies meaning h m more
-replies_same h m more = refl
-
-pub asks_same : (h : KeptSubscription) (m : Mark) → asks_for view.meaning h m ≡ asks_for meaning h m
-asks_same h m = refl
 
 -- ---- replies
 
 module _ (c : Consuming) (identifier : Name) where
-  abbrev sent : List (Packet Carried Asked) → List Letter
+  abbrev sent : List (Packet Carried AskedFor) → List Letter
   sent packets = letters_of (packets_from c.name (replies_by c identifier packets))
 
   -- as the packets that they are
@@ -53,7 +44,7 @@ module _ (c : Consuming) (identifier : Name) where
   supply_letters true m = refl
   supply_letters false m = refl
 
-  replied_as : (o : life.Outcome) (h : KeptSubscription) (m : Mark) (more : Bool)
+  replied_as : (o : life.Outcome) (h : HeldSubscription) (m : Mark) (more : Bool)
       → sent (replies_as view.meaning o h m more) ≡ letters_for meaning c.name identifier
       (replies_as meaning o h m more)
   unfolding letter_to_producer
@@ -64,7 +55,7 @@ module _ (c : Consuming) (identifier : Name) where
   replied_as life.Gap h m more = refl
   replied_as life.Overlong h m more = refl
 
-  pub replied : (h : KeptSubscription) (m : Mark) (more : Bool)
+  pub replied : (h : HeldSubscription) (m : Mark) (more : Bool)
       → sent (replies view.meaning h m more) ≡ letters_for meaning c.name identifier (replies meaning h m more)
   replied h m more = replied_as (life.outcome view.meaning h m) h m more
 
@@ -96,7 +87,7 @@ module _ (c : Consuming) (identifier : Name) where
       (supply_made (life.next_mark view.meaning m)))
   then_made false m = one_made (acknowledgement c.name c.moment identifier m) (acknowledgement_made m)
 
-  made_as : (o : life.Outcome) (h : KeptSubscription) (m : Mark) (more : Bool)
+  made_as : (o : life.Outcome) (h : HeldSubscription) (m : Mark) (more : Bool)
       → All (IsOfConsumer c.name) (replies_by c identifier (replies_as view.meaning o h m more))
   made_as life.Wanted h m more = then_made (more && h.wanted.subscription.fetched) m
   made_as life.Repeat h m more = one_made (acknowledgement c.name c.moment identifier m) (acknowledgement_made m)
@@ -105,7 +96,7 @@ module _ (c : Consuming) (identifier : Name) where
   made_as life.Gap h m more = All-nil (IsOfConsumer c.name)
   made_as life.Overlong h m more = All-nil (IsOfConsumer c.name)
 
-  pub replies_made : (h : KeptSubscription) (m : Mark) (more : Bool) → All (IsOfConsumer c.name) (replies_by c identifier (replies view.meaning h m more))
+  pub replies_made : (h : HeldSubscription) (m : Mark) (more : Bool) → All (IsOfConsumer c.name) (replies_by c identifier (replies view.meaning h m more))
   replies_made h m more = made_as (life.outcome view.meaning h m) h m more
 
   asks_made_as : (o : life.Outcome) (m : Mark) → All (IsOfConsumer c.name) (replies_by c identifier (asks_for_as view.meaning o m))
@@ -140,10 +131,10 @@ module _ (c : Consuming) (identifier : Name) where
   ready_made_as life.Gap = All-nil (IsOfConsumer c.name)
   ready_made_as life.Overlong = All-nil (IsOfConsumer c.name)
 
-  abbrev answers : KeptSubscription → Mark → List Message
+  abbrev answers : HeldSubscription → Mark → List Message
   answers h m = readied c (life.outcome view.meaning h m) ++ replies_by c identifier (asks_for view.meaning h m)
 
-  pub notified_sent : (h : KeptSubscription) (m : Mark)
+  pub notified_sent : (h : HeldSubscription) (m : Mark)
       → letters_of (packets_from c.name (answers h m)) ≡ ready_letters (life.outcome meaning h m)
       ++ letters_for meaning c.name identifier (asks_for meaning h m)
   notified_sent h m =
@@ -152,7 +143,7 @@ module _ (c : Consuming) (identifier : Name) where
       ∙ map-append letter_of (packets_from c.name (readied c o)) (packets_from c.name (replies_by c identifier (asks_for view.meaning h m)))
       ∙ (λ i. ready_as o i ++ asked_as o m i)
 
-  pub notified_made : (h : KeptSubscription) (m : Mark) → All (IsOfConsumer c.name) (answers h m)
+  pub notified_made : (h : HeldSubscription) (m : Mark) → All (IsOfConsumer c.name) (answers h m)
   notified_made h m =
       let o = life.outcome view.meaning h m in
       All-append (IsOfConsumer c.name) (readied c o) (replies_by c identifier (asks_for view.meaning h m)) (ready_made_as o) (asks_made_as o m)

@@ -14,7 +14,7 @@ use Rattle.siri_model.specs.History.{current, now_of}
 use Rattle.siri_model.specs.Meaning.{direct_of}
 use Rattle.siri_topic.specs.declared.topics.Topic.{Topic}
 use Rattle.siri_view.specs.Consuming.{Consuming, held_by}
-use Rattle.siri_view.specs.Kept.{KeptSubscription, kept_of}
+use Rattle.siri_view.specs.Kept.{HeldSubscription, kept_of}
 use Rattle.siri_world_model.specs.declared.event.Event.{Event}
 use Rattle.siri_world_model.specs.declared.event.Event.TheVariants as event
 use Rattle.siri_world_model.specs.declared.step_error.StepError.{StepError}
@@ -68,7 +68,7 @@ module _ (events : List Event) (happen : AllHappen events) (consumer identifier 
   world = world_after events
 
   -- the items of a quiet view are direct
-  quiet_direct : (kept : KeptSubscription) → kept_by consumer identifier world.consumers ≡ Some kept → is_quiet world consumer identifier kept.number ≡ true
+  quiet_direct : (kept : HeldSubscription) → kept_by consumer identifier world.consumers ≡ Some kept → is_quiet world consumer identifier kept.number ≡ true
       → AreDirect kept.wanted.subscription.slack (map (λ entry. entry.1) (goal world consumer identifier kept.origin))
       (direct_response events kept.wanted.subscription.topic)
   quiet_direct kept is quiet =
@@ -86,7 +86,7 @@ module _ (events : List Event) (happen : AllHappen events) (consumer identifier 
       }
 
   -- what is told of what a consumer keeps
-  kept_tells : (found : Consuming) (kept : KeptSubscription) → consumer_of consumer world.consumers ≡ Some found → kept_of identifier found.held ≡ Some kept
+  kept_tells : (found : Consuming) (kept : HeldSubscription) → consumer_of consumer world.consumers ≡ Some found → kept_of identifier found.held ≡ Some kept
       → ShowsDirect events consumer identifier (effects.view_lines world found identifier kept (goal world found.name identifier kept.origin))
   kept_tells found kept there holds =
       let named : found.name ≡ consumer = found_named consumer world.consumers found there in
@@ -119,7 +119,7 @@ module _ (events : List Event) (happen : AllHappen events) (consumer identifier 
   unfolding effect
   view_tells = by (consumer_of consumer world.consumers) refl
     where
-      one : (found : Consuming) (kept : Option KeptSubscription) → consumer_of consumer world.consumers ≡ Some found → kept_of identifier found.held ≡ kept
+      one : (found : Consuming) (kept : Option HeldSubscription) → consumer_of consumer world.consumers ≡ Some found → kept_of identifier found.held ≡ kept
           → TellsView events consumer identifier (all_lines world (effects.viewed_if world found identifier kept))
       one found None there holds = inl (record {
         is_asked = none_asked (ap (option_and_then (λ (c : Consuming). kept_of identifier c.held)) there ∙ holds);

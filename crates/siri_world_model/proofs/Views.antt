@@ -3,7 +3,7 @@
 use Rattle.std.proofs.Common.{◌≡◌, ℕ, List, Bool, true, false, Option, Some, None, refl, ap, ◌∙◌, subst}
 use Rattle.std.specs.Prelude.{if◌then◌else◌}
 use Rattle.std.proofs.lemmas.Bool.{eqb-true}
-use Rattle.siri_messages.specs.Asked.{Asked}
+use Rattle.siri_messages.specs.Asked.{AskedFor}
 use Rattle.siri_change.specs.Changes.{meets}
 use Rattle.siri_life.specs.Life.{is_quiet as is_life_quiet}
 use Rattle.siri_life.specs.Link.{GoalAt}
@@ -17,7 +17,7 @@ use Rattle.siri_model.specs.Lives.{Living, Served, is_settled, life_of, number_i
 use Rattle.siri_model.specs.Meaning.{direct_of, meaning}
 use Rattle.siri_model.proofs.Lawful.{meaning_lawful}
 use Rattle.siri_model.proofs.Serves.{goes_with}
-use Rattle.siri_view.specs.Kept.{KeptSubscription}
+use Rattle.siri_view.specs.Kept.{HeldSubscription}
 use Rattle.siri_world_model.specs.declared.event.Event.{Event}
 use Rattle.siri_world_model.specs.Goals.{goal, is_number, is_quiet, ShowsGoals}
 use Rattle.siri_world_model.specs.Told.{world_after}
@@ -31,7 +31,7 @@ use Rattle.siri_world_model.proofs.Worlds.{known_is, network_of, reach, table_is
 -- ---- what is kept
 
 -- what a consumer keeps is what the network has of it
-pub held_is : (es : List Event) (name identifier : Name) (kept : KeptSubscription)
+pub held_is : (es : List Event) (name identifier : Name) (kept : HeldSubscription)
     → kept_by name identifier (world_after es).consumers ≡ Some kept
     → (network_of es).holdings name identifier ≡ Some kept
 held_is es name identifier kept is = (world_stands es).1.holdings name identifier ∙ is
@@ -42,7 +42,7 @@ views_in : (es : List Event) (c i : Name) → ViewIsGoal meaning (seen_by meanin
 views_in es c i = reach (λ n. ViewIsGoal meaning (seen_by meaning c i n) (n.holdings c i)) tt
     (λ moment happens. views meaning meaning_lawful moment happens c i) es
 
-pub view_shown : (es : List Event) (c i : Name) (kept : KeptSubscription)
+pub view_shown : (es : List Event) (c i : Name) (kept : HeldSubscription)
     → kept_by c i (world_after es).consumers ≡ Some kept → kept.view ≡ goal (world_after es) c i kept.origin
 view_shown es c i kept is =
     let world = world_after es in
@@ -60,7 +60,7 @@ view_is_goal es name identifier consumer kept found held =
 -- ---- quiet views meet the direct response
 
 -- by what the side knows, and by the history
-direct_same : (h : History) (wanted : Asked) → direct_of (serving_of h).known wanted ≡ direct_of h wanted
+direct_same : (h : History) (wanted : AskedFor) → direct_of (serving_of h).known wanted ≡ direct_of h wanted
 direct_same h wanted = ap (λ (s : State). direct_to s.now s.current wanted.subscription.topic) (goes_with h).known
 
 -- a subscription that is told as quiet has a life that is
@@ -92,14 +92,14 @@ meets_in es c i = reach (λ n. MeetsWhereQuiet meaning (seen_by meaning c i n) (
     (find c i n.serving.table)) tt (λ moment happens. meets_where_quiet meaning meaning_lawful moment happens c i) es
 
 -- what is kept of a subscription that is told as quiet, and its life
-pub record IsQuietView (es : List Event) (c i : Name) (kept : KeptSubscription) : Type 0 where
+pub record IsQuietView (es : List Event) (c i : Name) (kept : HeldSubscription) : Type 0 where
   pub living : Living
   pub there : find c i (network_of es).serving.table ≡ Some living
   pub view : kept.view ≡ living.acknowledged
   pub wanted : living.wanted ≡ kept.wanted
   pub meet : meets kept.wanted.subscription.slack kept.view (direct_of (latest (world_after es)) kept.wanted) ≡ true
 
-pub quiet_view : (es : List Event) (c i : Name) (kept : KeptSubscription)
+pub quiet_view : (es : List Event) (c i : Name) (kept : HeldSubscription)
     → kept_by c i (world_after es).consumers ≡ Some kept → is_quiet (world_after es) c i kept.number ≡ true
     → IsQuietView es c i kept
 quiet_view es c i kept is quiet =
@@ -111,10 +111,10 @@ quiet_view es c i kept is quiet =
     let l = one.living in
     let life : find c i n.serving.table ≡ Some l = ap (λ (v : Served). find c i v.table) stands.1.serving
     ∙ ap (λ table. find c i table) (table_is world) ∙ one.there in
-    let direct : (wanted : Asked) → direct_of n.serving.known wanted ≡ direct_of h wanted =
+    let direct : (wanted : AskedFor) → direct_of n.serving.known wanted ≡ direct_of h wanted =
     λ wanted. ap (λ (v : Served). direct_of v.known wanted) stands.1.serving
     ∙ ap (λ known. direct_of known wanted) (known_is world) ∙ direct_same h wanted in
-    let claim = subst (λ (z : Option KeptSubscription × Option Living).
+    let claim = subst (λ (z : Option HeldSubscription × Option Living).
     MeetsWhereQuiet meaning (seen_by meaning c i n) z.0 z.1) (λ j. (held_is es c i kept is j, life j))
     (meets_in es c i) in
     let met = claim one.numbered (ap (is_life_quiet meaning l) (direct l.wanted) ∙ one.quiet) in
@@ -126,7 +126,7 @@ quiet_view es c i kept is quiet =
       meet = subst (λ items. meets kept.wanted.subscription.slack kept.view items ≡ true) (direct kept.wanted) met.2;
     }
 
-pub quiet_meets : (es : List Event) (c i : Name) (kept : KeptSubscription)
+pub quiet_meets : (es : List Event) (c i : Name) (kept : HeldSubscription)
     → kept_by c i (world_after es).consumers ≡ Some kept → is_quiet (world_after es) c i kept.number ≡ true
     → meets kept.wanted.subscription.slack (goal (world_after es) c i kept.origin) (direct_of (latest (world_after es)) kept.wanted) ≡ true
 quiet_meets es c i kept is quiet =

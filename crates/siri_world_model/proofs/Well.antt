@@ -1,7 +1,7 @@
 -- What holds of every world beside its network: what its ends make, and what they keep.
 use Rattle.std.specs.Prelude.{◌≡◌, ℕ, suc, ◌<◌, List, [], ◌∷◌, true, Some}
 use Rattle.std.specs.List.{All}
-use Rattle.siri_messages.specs.Asked.{Asked, asked_in}
+use Rattle.siri_messages.specs.Asked.{AskedFor, asked_in}
 use Rattle.siri_messages.specs.declared.message.Message.{Message}
 use Rattle.siri_messages.specs.declared.message.Message.TheVariants as message
 use Rattle.siri_messages.specs.declared.supplies.Mark.{Mark}
@@ -20,7 +20,7 @@ use Rattle.siri_world_model.specs.World.{World, latest}
 -- part or for all of one, an acknowledgement, a question; all under its name, and with numbers of at most 18 digits
 unfoldable pub IsOfConsumer : (sender : Name) → Message → Type 0
 IsOfConsumer sender (message.SubscriptionRequest r) =
-    (asked : Asked) × (asked_in r ≡ asked ∷ []) × (asked.subscription.subscriber ≡ sender) × (r.message_identifier < 1000000000000000000)
+    (asked : AskedFor) × (asked_in r ≡ asked ∷ []) × (asked.subscription.subscriber ≡ sender) × (r.message_identifier < 1000000000000000000)
 IsOfConsumer sender (message.TerminateSubscriptionRequest r) = (r.subscriber_ref ≡ sender) × ((identifier : Name) × (r.subscription_ref ≡ identifier ∷ []))
 IsOfConsumer sender (message.DataSupplyRequest r) =
     (r.consumer_ref ≡ sender) × (r.all_data ≡ true → r.extensions.number < 1000000000000000000)

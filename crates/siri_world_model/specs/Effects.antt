@@ -18,7 +18,7 @@ use Rattle.siri_producer.specs.declared.answers.Answer.{Answer}
 use Rattle.siri_base.specs.Numbers.{greatest_number}
 use Rattle.siri_view.specs.Consuming.{Consuming, most_held, held_by, seen_of, after_message, count_after, request_for, after_subscribe}
 use Rattle.siri_view.specs.Consuming.{termination_of, after_terminate, after_restart, restart_requests}
-use Rattle.siri_view.specs.Kept.{KeptSubscription, kept_of}
+use Rattle.siri_view.specs.Kept.{HeldSubscription, kept_of}
 use Rattle.siri_view.specs.Sending.{check_request}
 use Rattle.siri_view.specs.declared.outcome.AskError.{AskError}
 use Rattle.siri_view.specs.declared.outcome.AskError.TheVariants as ask_error
@@ -107,7 +107,7 @@ abbrev pub subscribed : World → Consuming → Subscription → ℤ → Effect
 subscribed world consumer wanted beat = subscribed_if (ask_refusal consumer wanted) world consumer wanted beat
 
 -- a consumer ends what it holds (EN 15531-2, TerminateSubscriptionRequest)
-abbrev pub terminated_if : World → Consuming → Name → Option KeptSubscription → Effect
+abbrev pub terminated_if : World → Consuming → Name → Option HeldSubscription → Effect
 terminated_if world consumer identifier None = tells world (line.Unknown consumer.name (Some identifier) ∷ [])
 terminated_if world consumer identifier (Some kept) =
     if nat_lt greatest_number consumer.next_number then tells world (line.Refused consumer.name ask_error.Spent ∷ [])
@@ -161,12 +161,12 @@ delivered world number (Some (ToConsumer receiver message)) = taken_if world (co
 -- ---- views
 
 -- a view is told with its items, in order of key
-abbrev pub view_lines : World → Consuming → Name → KeptSubscription → Items → List ToldLine
+abbrev pub view_lines : World → Consuming → Name → HeldSubscription → Items → List ToldLine
 view_lines world consumer identifier kept items =
     line.View consumer.name identifier (held_by kept) (length items) (is_quiet world consumer.name identifier kept.number)
     ∷ map (λ entry. line.Item entry.1) items
 
-abbrev pub viewed_if : World → Consuming → Name → Option KeptSubscription → Effect
+abbrev pub viewed_if : World → Consuming → Name → Option HeldSubscription → Effect
 viewed_if world consumer identifier None = tells world (line.Unknown consumer.name (Some identifier) ∷ [])
 viewed_if world consumer identifier (Some kept) =
     tells world (view_lines world consumer identifier kept (goal world consumer.name identifier kept.origin))

@@ -9,7 +9,7 @@ use Rattle.siri_life.specs.Named.{Name, find, those}
 use Rattle.siri_model.specs.History.{History}
 use Rattle.siri_model.specs.Lives.{serving_of, quiet_number}
 use Rattle.siri_view.specs.Consuming.{Consuming}
-use Rattle.siri_view.specs.Kept.{KeptSubscription, kept_of}
+use Rattle.siri_view.specs.Kept.{HeldSubscription, kept_of}
 use Rattle.siri_world_model.specs.Consumers.{consumer_of}
 use Rattle.siri_world_model.specs.World.{World, latest, start_at}
 
@@ -37,7 +37,7 @@ goal world subscriber identifier origin =
 -- what each consumer shows of each subscription that it holds is the goal of the round that its view belongs to
 abbrev pub ShowsGoals : World → Type 0
 ShowsGoals world =
-    (name identifier : Name) (consumer : Consuming) (kept : KeptSubscription) → consumer_of name world.consumers ≡ Some consumer
+    (name identifier : Name) (consumer : Consuming) (kept : HeldSubscription) → consumer_of name world.consumers ≡ Some consumer
     → kept_of identifier consumer.held ≡ Some kept → kept.view ≡ goal world consumer.name identifier kept.origin
 
 -- this number is the one

@@ -44,10 +44,10 @@ pub struct FailingCalls<'a> {
     pub dial: &'a [usize],
 }
 
-/// The connection that came last.
+/// A connection that was accepted or dialled.
 #[derive(Drop)]
-struct Last<'a> {
-    /// What comes by it; `None` where it is over.
+struct Taken<'a> {
+    /// What comes by it; `None` where it was hung up.
     source: Option<FailingSource<'a>>,
     /// What went by it.
     sink: FailingSink<'a>,
@@ -55,9 +55,9 @@ struct Last<'a> {
 
 /// A wire without connections of its own: each is handed to the call that takes it.
 pub(crate) struct Line<'a> {
-    last: Option<Last<'a>>,
-    /// What went by the connections before the last.
-    before: Vec<FailingSink<'a>>,
+    last: Option<Taken<'a>>,
+    /// The connections before the last, which are over: one that wasn't hung up was replaced.
+    before: Vec<Taken<'a>>,
     /// The addresses that were listened at and dialled, in order.
     addresses: Vec<Name>,
     listen_fails: Failures<'a>,
@@ -83,12 +83,11 @@ impl Drop for Line<'_> {
 }
 
 impl<'a> Model for Line<'a> {
-    ghost use Rattle.std.specs.Prelude.{map};
     ghost use Rattle.siri_base.specs.InMemoryLines.{LineState, line_wire};
 
     ghost Value = { LineState };
 
-    ghost view = { λ line. record { wire = line_wire line.last (map (λ sink. sink.bytes.items) line.before.items) line.addresses.items line.listen_fails line.accept_fails line.dial_fails; faults = line.faults } };
+    ghost view = { λ line. record { wire = line_wire line.last line.before.items line.addresses.items line.listen_fails line.accept_fails line.dial_fails; faults = line.faults } };
 }
 
 impl<'a> Line<'a> {
@@ -119,8 +118,8 @@ impl<'a> Line<'a> {
     pub(crate) fn written(&self, place: usize) -> Option<&[u8]>
         ensures { option_map (λ text. text.now) result ≡ slice_get (texts self.now.wire) place }
     {
-        if let Some(sink) = self.before.get(place) {
-            return Some(sink.bytes());
+        if let Some(taken) = self.before.get(place) {
+            return Some(taken.sink.bytes());
         }
         match &self.last {
             Some(last) if place == self.before.len() => Some(last.sink.bytes()),
@@ -196,14 +195,14 @@ impl<'a> Line<'a> {
         ensures cause { HasCause self.old.faults self.new.faults result }
         ensures counted { OnOk result (self.new.faults ≡ self.old.faults) }
     {
-        let Some(Last { source, sink }) = self.last.take() else {
+        let Some(Taken { source, sink }) = self.last.take() else {
             return Err(Failed);
         };
         let Some(mut source) = source else {
             return Err(Failed);
         };
         let read = source.read(into);
-        self.last = Some(Last {
+        self.last = Some(Taken {
             source: Some(source),
             sink,
         });
@@ -223,11 +222,11 @@ impl<'a> Line<'a> {
         ensures cause { HasOutsideCause self.old.faults self.new.faults result }
         ensures counted { CountsFailures self.old.faults self.new.faults result }
     {
-        let Some(Last { source, mut sink }) = self.last.take() else {
+        let Some(Taken { source, mut sink }) = self.last.take() else {
             return Err(OutsideError::Failed);
         };
         let written = sink.write(piece);
-        self.last = Some(Last { source, sink });
+        self.last = Some(Taken { source, sink });
         if written == Err(OutsideError::Failed) {
             self.faults = self.faults.saturating_add(1);
         }
@@ -252,21 +251,18 @@ impl<'a> Line<'a> {
         Ok(self.addresses.push(address)?)
     }
 
-    /// The connection is there, and the one before it is over. After want of memory the line is as before.
+    /// The connection is there, in the place of the one before it. After want of memory the line is as before.
     fn open(&mut self, connection: FailingConnection<'a>) -> Result<(), OutOfMemory>
         ensures ok { OnOk result (self.new ≡ record self.old { wire = with_connection (connection_of connection.entry) self.old.wire }) }
         ensures err { OnErr result (self.new ≡ self.old) }
     {
-        if let Some(Last { source, sink }) = self.last.take() {
-            if let Err(refused) = self.before.push(sink) {
-                self.last = Some(Last {
-                    source,
-                    sink: refused.value,
-                });
+        if let Some(last) = self.last.take() {
+            if let Err(refused) = self.before.push(last) {
+                self.last = Some(refused.value);
                 return Err(OutOfMemory);
             }
         }
-        self.last = Some(Last {
+        self.last = Some(Taken {
             source: Some(FailingSource::new(connection.input, connection.read_fails)),
             sink: FailingSink::new(self.alloc, connection.write_fails),
         });

@@ -10,8 +10,8 @@ unfoldable pub IsOf : App → Command → Type 0
 IsOf app command = app_of command ≡ app
 
 -- the command takes the words
-unfoldable pub Takes : App → List Text → Type 0
-Takes app words = takes app words ≡ true
+unfoldable pub TakesWords : App → List Text → Type 0
+TakesWords app words = takes app words ≡ true
 
 -- the value of an argument, of words
 unfoldable pub value_of : App → List Text → Text → Option Text

@@ -13,7 +13,7 @@ use Rattle.siri_http.specs.Messages.{Head, UnlessMemory, is_memory, is_cut, is_r
 use Rattle.siri_http.specs.inner.Scanning.{head_from, fresh}
 
 -- these bytes were taken from a connection
-pub record Takes (bytes : List ℕ) (before after : Present) : Type 0 where
+pub record TakesInput (bytes : List ℕ) (before after : Present) : Type 0 where
   pub input : before.left.input ≡ bytes ++ after.left.input
   pub fails : Passes before.left.read_fails after.left.read_fails (length bytes)
   pub unwritten : after.left.write_fails ≡ before.left.write_fails
@@ -56,11 +56,11 @@ pub record SaysSo {T : Type 0} (Says : List ℕ → Option (Head T) → Type 0) 
 -- the body didn't come whole: fewer bytes than these came, or there was no memory for it
 abbrev pub LacksBody : ℕ → HttpError → Present → Present → Type 0
 LacksBody room e before after =
-    MatchBool (is_memory e) (Takes [] before after) ((bytes : List ℕ) × Stops bytes e before after × (length bytes < room))
+    MatchBool (is_memory e) (TakesInput [] before after) ((bytes : List ℕ) × Stops bytes e before after × (length bytes < room))
 
 -- the body: what came of it with the head, and just as many bytes as it has beyond that
 pub record HasBody (came : List ℕ) (count : ℕ) (body : List ℕ) (before after : Present) : Type 0 where
   pub more : List ℕ
-  pub takes : Takes more before after
+  pub takes : TakesInput more before after
   pub exact : length more ≡ count - length came
   pub body_is : body ≡ take count (came ++ more)

@@ -43,9 +43,6 @@ host_value b is = first (or_cases _ _ is)
 pub digit_value : (b : ℕ) → is_ascii_digit b ≡ true → is_value_byte b ≡ true
 digit_value b is = range_value 48 57 b (omega arith) (omega arith) is
 
-pub graphic_value : (b : ℕ) → is_ascii_graphic b ≡ true → is_value_byte b ≡ true
-graphic_value b is = range_value 33 126 b (omega arith) (omega arith) is
-
 -- ---- a host with its port
 
 number_digits : (digits : List ℕ) (number : Option ℕ) → number_of digits ≡ number → is_below number ≡ true

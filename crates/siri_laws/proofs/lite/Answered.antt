@@ -1,6 +1,6 @@
 -- A connection is accepted and answered as the one in its place is.
 use Rattle.std.proofs.Common.{◌≡◌, ◌++◌, ℕ, suc, Bool, List, [], ◌∷◌, Option, None, Some, option_map, option_to_list, sym, ap, ap₂, ◌∙◌, subst}
-use Rattle.siri_base.specs.Wires.{Connection, Present, TakesComing, WireState, accept_called, hung_up}
+use Rattle.siri_base.specs.Wires.{Connection, Present, TakesComing, WireState, accept_called, hung_up, hung_up_after}
 use Rattle.siri_http.specs.Connections.{OnPresent, passing}
 use Rattle.siri_http.specs.Requests.{Asks, Meaning}
 use Rattle.siri_http.specs.Responses.{Responded, Responds, is_whole}
@@ -39,8 +39,8 @@ module _ (wire : WireState) (present other : Present) (later : List Connection) 
     (same : InPlaceOf present other) where
   hung : with_coming later (hung_up wire) ≡ hung_up (placed other later wire)
   hung = ap (λ more. record (with_coming later wire) { present = None; over = wire.over ++ more })
-      (ap (λ (o : Option Present). option_to_list (option_map (λ (p : Present). p.written) o)) there
-      ∙ ap (λ written. written ∷ []) (sym same.written))
+      (ap (λ (o : Option Present). option_to_list (option_map (λ (p : Present). hung_up_after p.written) o)) there
+      ∙ ap (λ written. hung_up_after written ∷ []) (sym same.written))
 
   responded : (text : List ℕ) (whole : Bool) (next : WireState) → Responded text whole wire.present wire next
       → (next.to_accept ≡ wire.to_accept) × Responded text whole (Some other) (placed other later wire) (with_coming later next)
@@ -50,7 +50,7 @@ module _ (wire : WireState) (present other : Present) (later : List Connection) 
         (
           was.0 ∙ ap (λ fails. is_whole fails text) (sym same.write_fails),
           ap (with_coming later) was.1
-              ∙ ap₂ (λ written fails. record (with_coming later wire) { present = None; over = wire.over ++ (written ++ passing fails text) ∷ [] })
+              ∙ ap₂ (λ written fails. record (with_coming later wire) { present = None; over = wire.over ++ hung_up_after (written ++ passing fails text) ∷ [] })
               (sym same.written) (sym same.write_fails),
         ),
       )

@@ -2,7 +2,7 @@
 use Rattle.std.proofs.Common.{◌≡◌, ◌-◌, ◌⊎◌, ◌++◌, inl, inr, ℕ, List, [], ◌∷◌, Option, None, Some, Err, option_map, option_to_list, refl, sym, ap, ◌∙◌, arith}
 use Rattle.siri_base.specs.Failures.{Passes}
 use Rattle.siri_base.specs.OutsideCalls.{WhereTold}
-use Rattle.siri_base.specs.Wires.{Connection, Present, WireState}
+use Rattle.siri_base.specs.Wires.{Connection, Present, WireState, over_texts}
 use Rattle.siri_http.specs.declared.errors.HttpError.TheVariants as http
 use Rattle.siri_http.specs.Connections.{OnConnection, OnPresent}
 use Rattle.siri_http.specs.Requests.{Asks, Meaning}
@@ -97,9 +97,9 @@ module _ (asks other_asks : Meaning) (InPlace : Connection → Connection → Ty
           stops = inl (inl (record { present = unread other_asks (fresh second); rest = refl }));
           alike = told_alike after on.0 end on.1 (record {
             rest = sym (ap (placed (fresh second) later) on.2.rest);
-            written = ap (λ over. over ++ [] ∷ []) (sym (ap (λ (w : WireState). w.over) on.2.rest))
-                ∙ ap (λ written. on.0.over ++ written ∷ []) (sym one.2.reads.written)
-                ∙ ap (λ (o : Option Present). on.0.over ++ option_to_list (option_map (λ (p : Present). p.written) o)) (sym one.1);
+            written = ap (λ over. over ++ [] ∷ []) (sym (ap over_texts on.2.rest))
+                ∙ ap (λ written. over_texts on.0 ++ written ∷ []) (sym one.2.reads.written)
+                ∙ ap (λ (o : Option Present). over_texts on.0 ++ option_to_list (option_map (λ (p : Present). p.written) o)) (sym one.1);
           });
         }
 

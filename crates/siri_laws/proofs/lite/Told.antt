@@ -1,7 +1,7 @@
 -- What is told, and goes on to be told.
 use Rattle.std.proofs.Common.{◌≡◌, ◌++◌, ◌∷◌, [], List, Option, None, Some, option_map, option_to_list, refl, sym, ap, ◌∙◌, subst, subst₂}
 use Rattle.siri_base.specs.OutsideCalls.{WhereTold}
-use Rattle.siri_base.specs.Wires.{Connection, Present, WireState}
+use Rattle.siri_base.specs.Wires.{Connection, Present, WireState, over_texts}
 use Rattle.siri_laws.specs.lite.Served.{AreAlike, swapped, with_coming}
 
 told_some : {S : Type 0} (Does : S → S → Type 0) (old : S) (now : Option S) → WhereTold (Some old) now Does
@@ -36,8 +36,8 @@ pub placed_alike : (wire : WireState) (present other : Present) (later : List Co
     → other.written ≡ present.written → AreAlike wire (with_present other (with_coming later wire))
 placed_alike wire present other later there same = record {
   rest = refl;
-  written = ap (λ written. wire.over ++ written ∷ []) same
-      ∙ ap (λ (o : Option Present). wire.over ++ option_to_list (option_map (λ (p : Present). p.written) o)) (sym there);
+  written = ap (λ written. over_texts wire ++ written ∷ []) same
+      ∙ ap (λ (o : Option Present). over_texts wire ++ option_to_list (option_map (λ (p : Present). p.written) o)) (sym there);
 }
 
 pub told_alike : (now : Option WireState) (wire other : WireState) → now ≡ Some wire → AreAlike wire other

@@ -28,8 +28,9 @@ use Rattle.siri_deliveries.specs.Topics.{written_stop_topic, written_line_direct
 use Rattle.siri_deliveries.specs.Topics.{written_situation_topic, written_topic, IsProperTopic}
 use Rattle.siri_wire.proofs.RequestTables.{stop_topic_laws, timetable_topic_laws, vehicle_topic_laws, situation_topic_laws}
 use Rattle.siri_queries.specs.Documents.{asked_of, names_of, one_line}
-use Rattle.siri_queries.specs.Targets.{rows_of, form_of, service_of, value_text}
+use Rattle.siri_queries.specs.Targets.{rows_of, form_of, value_text}
 use Rattle.siri_laws.proofs.queries.RowTexts.{either, row_text, again, row_given, given_again}
+use Rattle.siri_topic.specs.Services.{service_asked}
 
 -- ---- rows with texts for their numbers
 
@@ -179,7 +180,7 @@ timetable_within t p =
     )
 
 -- what the query of a topic asks is the topic, with texts for its numbers
-pub asked_is : (t : Topic) → IsProperTopic (service_of t) t → HasOneLine t → asked_of (service_of t) (form_of t) ≡ as_texts (written_topic t)
+pub asked_is : (t : Topic) → IsProperTopic (service_asked t) t → HasOneLine t → asked_of (service_asked t) (form_of t) ≡ as_texts (written_topic t)
 unfolding written_topic written_stop_topic written_timetable_topic written_vehicle_topic written_situation_topic
 asked_is (topics.Stop t) p one =
     let rows = all_written stop_topic_table t in

@@ -17,9 +17,10 @@ use Rattle.siri_deliveries.specs.declared.names.TheConstants.{SITUATION_EXCHANGE
 use Rattle.siri_deliveries.specs.Topics.{written_topic, topic_writing, IsProperTopic}
 use Rattle.siri_wire.specs.Requests.{written_service_request}
 use Rattle.siri_queries.specs.Documents.{list_of_one, request_name}
-use Rattle.siri_queries.specs.Targets.{topics_of, only, unless_several_lines, query_topic, service_of}
+use Rattle.siri_queries.specs.Targets.{topics_of, only, unless_several_lines, query_topic}
 use Rattle.siri_laws.specs.queries.Queried.{queried}
 use Rattle.siri_laws.proofs.queries.AskedTopics.{HasOneLine}
+use Rattle.siri_topic.specs.Services.{service_asked}
 
 -- the lists of a request
 abbrev lists_written : (stops timetables vehicles situations : List Topic) → Data
@@ -34,8 +35,8 @@ lists_written stops timetables vehicles situations = row_object (
 
 -- a topic that stands alone in the list of its service
 record StandsAlone (written : Data) (t : Topic) : Type 0 where
-  proper : IsProperTopic (service_of t) t
-  is : as_texts written ≡ list_of_one (request_name (service_of t)) (as_texts (written_topic t))
+  proper : IsProperTopic (service_asked t) t
+  is : as_texts written ≡ list_of_one (request_name (service_asked t)) (as_texts (written_topic t))
 
 alone : (written : Data) (x t : Topic) → Some x ≡ Some t → StandsAlone written x → StandsAlone written t
 alone written x t e stands = subst (StandsAlone written) (some_is x t e) stands
@@ -84,9 +85,9 @@ only_alone [] [] [] (x ∷ y ∷ d) t sa sb sc sd e = absurd (cc e)
 -- ---- a topic that one query can ask
 
 pub record IsAsked (r : ServiceRequest) (t : Topic) : Type 0 where
-  pub proper : IsProperTopic (service_of t) t
+  pub proper : IsProperTopic (service_asked t) t
   pub one_line : HasOneLine t
-  pub written : as_texts (written_service_request (queried r)) ≡ list_of_one (request_name (service_of t)) (as_texts (written_topic t))
+  pub written : as_texts (written_service_request (queried r)) ≡ list_of_one (request_name (service_asked t)) (as_texts (written_topic t))
 
 -- a topic without several lines
 record IsWithin (x t : Topic) : Type 0 where

@@ -28,11 +28,12 @@ use Rattle.siri_wire.proofs.BackDocuments.{message_back, message_within}
 use Rattle.siri_queries.specs.Documents.{list_of_one, request_name, document_tree, document_of}
 use Rattle.siri_queries.specs.Pairs.{path_in, query_in}
 use Rattle.siri_queries.specs.Paths.{path_of, service_at}
-use Rattle.siri_queries.specs.Targets.{behind_path, form_of, query_topic, service_of, target_of, topic_target, unless_too_long}
+use Rattle.siri_queries.specs.Targets.{behind_path, form_of, query_topic, target_of, topic_target, unless_too_long}
 use Rattle.siri_queries.proofs.Bounds.{document_within}
 use Rattle.siri_laws.specs.queries.Queried.{queried}
 use Rattle.siri_laws.proofs.queries.AskedTopics.{asked_is}
 use Rattle.siri_laws.proofs.queries.OnlyTopics.{IsAsked, topic_asked}
+use Rattle.siri_topic.specs.Services.{service_asked}
 
 -- ---- the target
 
@@ -82,11 +83,11 @@ target_topic r target (Some t) is e = record {
 
 -- the document of a topic's query is the request as it is written, with texts for its numbers
 tree_is : (r : ServiceRequest) (t : Topic) → IsAsked r t
-    → document_tree (service_of t) (form_of t) ≡ as_texts (written_message (message.ServiceRequest (queried r)))
+    → document_tree (service_asked t) (form_of t) ≡ as_texts (written_message (message.ServiceRequest (queried r)))
 unfolding written_message written_body
 tree_is r t asked =
     ap (λ (d : Data). row_object ((SIRI.now, Some (row_object ((SERVICE_REQUEST.now, Some d) ∷ []))) ∷ []))
-    (ap (list_of_one (request_name (service_of t))) (asked_is t asked.proper asked.one_line) ∙ sym asked.written)
+    (ap (list_of_one (request_name (service_asked t))) (asked_is t asked.proper asked.one_line) ∙ sym asked.written)
 
 queried_proper : (r : ServiceRequest) → IsProperServiceRequest r → IsProper (message.ServiceRequest (queried r))
 queried_proper r p = ((tt, (tt, (tt, p.0.1.1.1))), p.1)
@@ -136,7 +137,7 @@ read_back r target p e =
     let is = target_topic r target (query_topic r) refl e in
     let lists = p.0.1.1.1 in
     let asked = topic_asked r is.topic lists.0.each lists.1.0.each lists.1.1.0.each lists.1.1.1.0.each is.found in
-    let s = service_of is.topic in
+    let s = service_asked is.topic in
     let parts = subst (IsTargetOf s (form_of is.topic)) is.fitting.same (parts_are s (form_of is.topic)) in
     let document = compact_text (document_tree s (query_in target)) in
     let written : document ≡ compact_text (as_texts (written_message (message.ServiceRequest (queried r)))) =

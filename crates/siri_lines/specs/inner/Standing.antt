@@ -34,10 +34,10 @@ pub record IsWithin (r : Reader) : Type 0 where
   pub line : length r.line.items ≤ 1048577
   pub begun : HasNoBreak r.line.items
 
--- the line becomes too long by these bytes, or there is no memory for them
+-- the line becomes too long by these bytes; or it doesn't, and there is no memory for them
 abbrev pub HasNoRoom : Reader → List ℕ → Stop → Type 0
 HasNoRoom r run (stop.Limit n) = (n ≡ r.lines + 1) × (1048577 < length (r.line.items ++ run))
-HasNoRoom r run stop.OutOfMemory = Unit {0}
+HasNoRoom r run stop.OutOfMemory = length (r.line.items ++ run) ≤ 1048577
 HasNoRoom r run other = ⊥
 
 -- the sink's count never falls, and a run that failed to write raised it

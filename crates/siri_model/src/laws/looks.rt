@@ -27,9 +27,9 @@ pub fn steps_keep_the_facts()
     ensures look { LookFollows }
 {}
 
-/// A law: by the two facts a look needs the keys alone that were touched, that are kept apart, or of whose item an end
-/// of the window passed an edge, unless the topic has MaximumStopVisits; and where none was touched and no item was
-/// crossed, the direct response is as it was, whatever the topic.
+/// A law: by the two facts a look needs the keys alone that are kept apart, or that may be of an item that is shown to the
+/// topic and were touched, or of whose item an end of the window passed an edge, unless the topic has MaximumStopVisits;
+/// and where no such key was touched or crossed, the direct response is as it was, whatever the topic.
 pub fn facts_tell_a_look()
     ensures keys { FactsSuffice }
     ensures stays { DirectStays }

@@ -4,13 +4,13 @@ ghost use Rattle.std.specs.Prelude.{◌≡◌, true};
 ghost use Rattle.siri_change.specs.Views.{is_view};
 ghost use Rattle.siri_life.specs.Meaning.{IsLawful};
 ghost use Rattle.siri_model.specs.History.{History};
-ghost use Rattle.siri_messages.specs.Asked.{Asked};
+ghost use Rattle.siri_messages.specs.Asked.{AskedFor};
 ghost use Rattle.siri_model.specs.Meaning.{direct_of, meaning};
 
 /// A law, which does nothing when it is called: the direct response to any subscription after any history is a view, in
 /// order of key, each item under its own key, and of at most 20,000 items.
 pub fn direct_responses_are_views()
-    ensures { (h : History) (wanted : Asked) → is_view (direct_of h wanted) ≡ true }
+    ensures { (h : History) (wanted : AskedFor) → is_view (direct_of h wanted) ≡ true }
 {}
 
 /// A law: items, their changes in parts of a hundred, and histories have what lives ask of views and parts. The parts

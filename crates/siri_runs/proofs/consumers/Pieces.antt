@@ -1,10 +1,9 @@
 -- A text that is written piece by piece: of each entry of a list what it shows.
-use Rattle.std.proofs.Common.{◌≡◌, ℕ, ◌+◌, List, [], ◌∷◌, ◌++◌, length, take, drop, Option, Some, None, refl, sym, ap, ◌∙◌, subst, append-nil, take-append-drop}
+use Rattle.std.proofs.Common.{◌≡◌, ℕ, ◌+◌, List, [], ◌∷◌, ◌++◌, take, drop, Option, Some, None, refl, sym, ap, ◌∙◌, subst, append-nil, take-append-drop}
 use Rattle.std.specs.Prelude.{flat_map, option_map, slice_get}
 use Rattle.std.specs.Io.KnownBytes.{Appends}
 use Rattle.std.proofs.KnownBytes.{Appends-trans}
 use Rattle.std.proofs.lemmas.Grind.{flat_map-append}
-use Rattle.std.proofs.Math.Seq.{take-length}
 use Rattle.siri_lines.specs.Ends.{Bytes, AppendsFront}
 use Rattle.siri_lines.proofs.Written.{front_longer, front_more}
 use Rattle.siri_records.proofs.Placed.{take_at, take_past}
@@ -57,6 +56,3 @@ module _ {X Y : Type 0} (shows : X → Y) (text : Y → List ℕ) where
       by : (o : Option X) → slice_get xs i ≡ o → None ≡ option_map shows o → Appends a b (texts xs)
       by None there is = subst (Appends a b) (ap texts (take_past xs i there)) p
       by (Some x) there is = absurd (cc)
-
-  pub pieces_end : (a b : Bytes) (xs : List X) (i : ℕ) → i ≡ length xs → Appends a b (texts (take i xs)) → Appends a b (texts xs)
-  pieces_end a b xs i is p = subst (Appends a b) (ap texts (ap (λ j. take j xs) is ∙ take-length xs)) p

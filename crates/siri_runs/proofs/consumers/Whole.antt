@@ -19,7 +19,7 @@ use Rattle.siri_runs.specs.Errors.{status_of}
 use Rattle.siri_runs.specs.Run.{Completes, EndsBefore, EndsInTurns, MakesTurns}
 use Rattle.siri_runs.specs.Turns.{running}
 use Rattle.siri_runs.specs.declared.network_error.NetworkError.{NetworkError}
-use Rattle.siri_runs.specs.consumers.Consumption.{Asks, Consumption, Target, after_asking, requests, turning}
+use Rattle.siri_runs.specs.consumers.Consumption.{ConsumerAsks, Consumption, Target, after_asking, requests, turning}
 use Rattle.siri_runs.specs.consumers.Opening.{opened}
 use Rattle.siri_runs.specs.consumers.Runs.{BeginsConsuming, consume_procedure, end_text}
 use Rattle.siri_runs.specs.consumers.inner.Steps.{OpensConsumer}
@@ -41,7 +41,7 @@ asks_all : (target : Target) (list : List Wanted) (first begun later : Consuming
     → SendsUp target.0 target.1 (requests begun list)
     (at_of (after_asking begun list) none wire.tells wire.faults)
     (at_of later tally after.tells after.faults)
-    → Asks target list first (outside_of wire clock keeper) (running (counting later tally) (outside_of after clock keeper))
+    → ConsumerAsks target list first (outside_of wire clock keeper) (running (counting later tally) (outside_of after clock keeper))
 asks_all target list first begun later none tally wire after clock keeper is nothing sends = record {
   sends = subst (λ t. SendsUp target.0 target.1 (requests first list)
       (at_of (after_asking first list) t wire.tells wire.faults)

@@ -52,12 +52,12 @@ abbrev pub asking : Consuming → List Wanted → Told WireState → At Consumin
 asking consumer list wire = at_of (after_asking consumer list) nothing_yet wire.tells wire.faults
 
 -- the request goes to the producer, whose response is taken; its replies are sent as well
-pub record Asks (target : Target) (list : List Wanted) (consumer : Consuming) (from : Outside) (to : Running Consumption) : Type 0 where
+pub record ConsumerAsks (target : Target) (list : List Wanted) (consumer : Consuming) (from : Outside) (to : Running Consumption) : Type 0 where
   pub sends : SendsUp target.0 target.1 (requests consumer list) (asking consumer list from.wire) (end_at to.state to.outside.wire)
   pub rest : to.outside ≡ record from { wire = to.outside.wire }
 
 -- there was no memory to ask: nothing was sent, or the first of that
-pub record AsksSome (target : Target) (list : List Wanted) (consumer : Consuming) (from to : Outside) : Type 0 where
+pub record ConsumerAsksSome (target : Target) (list : List Wanted) (consumer : Consuming) (from to : Outside) : Type 0 where
   pub sends : (to.wire ≡ from.wire) ⊎ FirstSendsUp target.0 target.1 (requests consumer list) (after_asking consumer list) from.wire.tells to.wire.tells
   pub rest : to ≡ record from { wire = to.wire }
 

@@ -8,7 +8,7 @@ use Rattle.siri_runs.specs.Calls.{Outside}
 use Rattle.siri_runs.specs.Run.{Procedure, Run}
 use Rattle.siri_runs.specs.Summaries.{summary_text}
 use Rattle.siri_runs.specs.Turns.{Running}
-use Rattle.siri_runs.specs.consumers.Consumption.{Asks, AsksSome, Consumption, Target, turning}
+use Rattle.siri_runs.specs.consumers.Consumption.{ConsumerAsks, ConsumerAsksSome, Consumption, Target, turning}
 use Rattle.siri_runs.specs.consumers.Opening.{FailsToOpen, Opens, opened}
 use Rattle.siri_runs.specs.consumers.Reading.{is_of_source}
 use Rattle.siri_runs.specs.consumers.Views.{views_text}
@@ -20,7 +20,7 @@ pub record BeginsConsuming (name listen : List ℕ) (target : Target) (input : B
   pub moment : ℕ
   pub open_ : Outside
   pub opens : Opens name listen input start list moment from open_
-  pub asks : Asks target list (opened name listen start moment) open_ first
+  pub asks : ConsumerAsks target list (opened name listen start moment) open_ first
 
 -- it opened, and there was no memory to ask
 pub record FailsToAsk (name listen : List ℕ) (target : Target) (input : Bytes) (end : Status) (from to : Outside) : Type 0 where
@@ -30,7 +30,7 @@ pub record FailsToAsk (name listen : List ℕ) (target : Target) (input : Bytes)
   pub moment : ℕ
   pub open_ : Outside
   pub opens : Opens name listen input start list moment from open_
-  pub asks : AsksSome target list (opened name listen start moment) open_ to
+  pub asks : ConsumerAsksSome target list (opened name listen start moment) open_ to
 
 -- its views, and the summary
 abbrev pub end_text : Consumption → List ℕ

@@ -8,7 +8,7 @@ ghost use Rattle.siri_lines.specs.Pieces.{ReadsNoFurther};
 ghost use Rattle.siri_lines.specs.RunResult.{verdict};
 ghost use Rattle.siri_runs.specs.consumers.Wanting.{event, nothing_wanted, most_wanted};
 ghost use Rattle.siri_lines.specs.Ends.{ReadsAll};
-ghost use Rattle.siri_runs.specs.Calls.{outside_told};
+ghost use Rattle.siri_runs.specs.Calls.{outside};
 ghost use Rattle.siri_runs.specs.consumers.Opening.{FailsToOpen, opened, own_address};
 ghost use Rattle.siri_runs.specs.consumers.inner.Steps.{MayAsk, OpensConsumer};
 
@@ -27,7 +27,7 @@ const MOST_WANTED: u64 = 200;
 
 /// A consumer, and what it is to ask for.
 #[derive(Drop)]
-pub(crate) struct Opened {
+pub(crate) struct OpenedConsumer {
     pub consumer: Consumer,
     pub wanted: List<Wanted>,
 }
@@ -42,14 +42,14 @@ pub(crate) fn open<S: Source, W: Wire, C: Clock, E: Keeper>(
     wire: &mut W,
     clock: &mut C,
     keeper: &mut E,
-) -> Result<Opened, Status>
+) -> Result<OpenedConsumer, Status>
     requires { length address.now ≤ 247 }
     ensures ok { IfOk result (λ opened. OpensConsumer name address.now (S.left source.old) opened.wanted opened.consumer
-        (outside_told W.Wire C.Clock E.Keeper wire.old clock.old keeper.old)
-        (outside_told W.Wire C.Clock E.Keeper wire.new clock.new keeper.new)) }
+        (outside W.Wire C.Clock E.Keeper wire.old clock.old keeper.old)
+        (outside W.Wire C.Clock E.Keeper wire.new clock.new keeper.new)) }
     ensures err { IfErr result (λ end. FailsToOpen name address.now (S.left source.old) (S.left source.new) end
-        (outside_told W.Wire C.Clock E.Keeper wire.old clock.old keeper.old)
-        (outside_told W.Wire C.Clock E.Keeper wire.new clock.new keeper.new)) }
+        (outside W.Wire C.Clock E.Keeper wire.old clock.old keeper.old)
+        (outside W.Wire C.Clock E.Keeper wire.new clock.new keeper.new)) }
     ensures may_ask { IfOk result (λ opened. MayAsk opened.consumer opened.wanted) }
     ensures all { OnOk result (ReadsAll (S.left source.new) Status.Done) }
     ensures read { IfErr result (λ end. end ≡ Status.ReadFault → Rose (S.faults source.old) (S.faults source.new)) }
@@ -61,7 +61,7 @@ pub(crate) fn open<S: Source, W: Wire, C: Clock, E: Keeper>(
     let moment = now(clock)?;
     listen(wire, address)?;
     match consumer_of(alloc, name, address, start, moment) {
-        Ok(consumer) => Ok(Opened { consumer, wanted }),
+        Ok(consumer) => Ok(OpenedConsumer { consumer, wanted }),
         Err(_) => Err(Status::OutOfMemory),
     }
 }

@@ -1,7 +1,7 @@
 //! How a run opens.
 
 ghost use Rattle.std.specs.Prelude.{IfOk, IfErr};
-ghost use Rattle.siri_runs.specs.Calls.{outside_told};
+ghost use Rattle.siri_runs.specs.Calls.{outside};
 ghost use Rattle.siri_runs.specs.producers.Opening.{FailsToOpen};
 ghost use Rattle.siri_runs.specs.producers.Steps.{OpensProducer};
 
@@ -21,11 +21,11 @@ pub(crate) fn open<W: Wire, C: Clock, E: Keeper>(
     keeper: &mut E,
 ) -> Result<Producer, NetworkError>
     ensures ok { IfOk result (λ producer. OpensProducer name address.now producer
-        (outside_told W.Wire C.Clock E.Keeper wire.old clock.old keeper.old)
-        (outside_told W.Wire C.Clock E.Keeper wire.new clock.new keeper.new)) }
+        (outside W.Wire C.Clock E.Keeper wire.old clock.old keeper.old)
+        (outside W.Wire C.Clock E.Keeper wire.new clock.new keeper.new)) }
     ensures err { IfErr result (λ error. FailsToOpen address.now error
-        (outside_told W.Wire C.Clock E.Keeper wire.old clock.old keeper.old)
-        (outside_told W.Wire C.Clock E.Keeper wire.new clock.new keeper.new)) }
+        (outside W.Wire C.Clock E.Keeper wire.old clock.old keeper.old)
+        (outside W.Wire C.Clock E.Keeper wire.new clock.new keeper.new)) }
 {
     let start = raise(keeper)?;
     listen(wire, address)?;

@@ -28,7 +28,7 @@ pub struct Rounds {
     fetched: bool,
     acknowledged: View,
     last: u64,
-    outstanding: Option<Opened>,
+    outstanding: Option<OpenRound>,
 }
 
 impl Drop for Rounds {
@@ -44,7 +44,7 @@ impl Drop for Rounds {
 
 /// The outstanding round. Its base is the acknowledged view.
 #[derive(Drop)]
-pub(crate) struct Opened {
+pub(crate) struct OpenRound {
     moment: Moment,
     target: View,
     changes: List<Change>,
@@ -118,7 +118,7 @@ impl Rounds {
         ensures { self.new ≡ begun self.old (round_on self.old.acknowledged now wanted list) }
     {
         self.last += 1;
-        self.keep(Opened {
+        self.keep(OpenRound {
             moment: now,
             target: wanted,
             changes: list,
@@ -227,7 +227,7 @@ impl Rounds {
     }
 
     /// This round is the outstanding one.
-    fn keep(&mut self, round: Opened)
+    fn keep(&mut self, round: OpenRound)
         requires { IsWanting round }
         ensures { self.new ≡ record self.old { outstanding = Some (outstanding_on self.old.acknowledged round) } }
     {
@@ -235,7 +235,7 @@ impl Rounds {
     }
 }
 
-impl Opened {
+impl OpenRound {
     /// The place of the wanted part, in the round of this number.
     fn place(&self, round: u64) -> Place
         requires { self.now.acknowledged_parts + 1 < 2 ^ 64 }

@@ -2,7 +2,7 @@
 use Rattle.std.specs.Prelude.{◌≡◌, ℕ, Bool, ◌&&◌, List, [], ◌∷◌, ◌++◌, filter, flat_map, Option, Some, None, if◌then◌else◌}
 use Rattle.std.specs.List.{list_any}
 use Rattle.siri_records.specs.Keyed.{Items}
-use Rattle.siri_messages.specs.Asked.{Asked}
+use Rattle.siri_messages.specs.Asked.{AskedFor}
 use Rattle.siri_change.specs.Parts.{Carried}
 use Rattle.siri_life.specs.Life.{Packet}
 use Rattle.siri_life.specs.Named.{Name, first, those}
@@ -17,7 +17,7 @@ use Rattle.siri_subscriptions.specs.Sends.{At, row_sends}
 use Rattle.siri_producer.specs.Sends.{at_of}
 
 -- steps after a start, as each subscription hears them
-abbrev pub acts_along : History → List (Act Carried Asked Entry)
+abbrev pub acts_along : History → List (Act Carried AskedFor Entry)
 acts_along steps = flat_map acts_of steps
 
 -- a step is a moment, a feed or a settle, or a message that names this subscription
@@ -49,7 +49,7 @@ abbrev pub HasRoomFor : (subscriber identifier : Name) → (number moment : ℕ)
 HasRoomFor subscriber identifier number moment steps = HaveRoom meaning subscriber identifier (acts_along steps) (opening meaning number moment)
 
 -- what is sent of a subscription along these steps after a start, in order
-abbrev pub packets_along : (subscriber identifier : Name) → (number moment : ℕ) → History → List (Packet Carried Asked)
+abbrev pub packets_along : (subscriber identifier : Name) → (number moment : ℕ) → History → List (Packet Carried AskedFor)
 packets_along subscriber identifier number moment steps =
     packets_of meaning (those subscriber identifier (serving_letters meaning (acts_along steps) (opening_serving meaning number moment)))
 
@@ -78,4 +78,4 @@ pub record IsAlike (subscriber identifier : Name) (number moment : ℕ) (one oth
   pub sent : packets_along subscriber identifier number moment one ≡ packets_along subscriber identifier number moment other
   pub sends : (name : Name) → sends_along name subscriber identifier
       (Start number moment ∷ []) one ≡ sends_along name subscriber identifier (Start number moment ∷ []) other
-  pub direct : (wanted : Asked) → direct_of (Start number moment ∷ one) wanted ≡ direct_of (Start number moment ∷ other) wanted
+  pub direct : (wanted : AskedFor) → direct_of (Start number moment ∷ one) wanted ≡ direct_of (Start number moment ∷ other) wanted

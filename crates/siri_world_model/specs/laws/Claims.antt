@@ -8,7 +8,7 @@ use Rattle.siri_life.specs.laws.Claims.{NamesRound, NamesPart}
 use Rattle.siri_model.specs.Meaning.{direct_of}
 use Rattle.siri_view.specs.Consuming.{Consuming, seen_of}
 use Rattle.siri_view.specs.Hearing.{Heard, Delivered, Notified, Noted, Foreign}
-use Rattle.siri_view.specs.Kept.{KeptSubscription, kept_of}
+use Rattle.siri_view.specs.Kept.{HeldSubscription, kept_of}
 use Rattle.siri_view.specs.declared.outcome.Outcome.{Outcome}
 use Rattle.siri_view.specs.declared.outcome.Outcome.TheVariants as outcome
 use Rattle.siri_world_model.specs.Consumers.{consumer_of}
@@ -25,7 +25,7 @@ use Rattle.siri_world_model.specs.laws.Networks.{kept_by}
 -- to it at this moment, over all observations that were taken since the producer's latest start: it has the same keys, and each item is near
 abbrev pub MeetsWhereQuiet : World → Type 0
 MeetsWhereQuiet world =
-    (name identifier : Name) (consumer : Consuming) (kept : KeptSubscription) → consumer_of name world.consumers ≡ Some consumer
+    (name identifier : Name) (consumer : Consuming) (kept : HeldSubscription) → consumer_of name world.consumers ≡ Some consumer
     → kept_of identifier consumer.held ≡ Some kept → is_quiet world consumer.name identifier kept.number ≡ true
     → meets kept.wanted.subscription.slack (goal world consumer.name identifier kept.origin) (direct_of (latest world) kept.wanted) ≡ true
 
@@ -74,10 +74,10 @@ ShowsNoGap other = Unit {0}
 -- it; a notification tells of such a round
 abbrev pub CarriesItsRound : World → (receiver : Name) → (moment : ℕ) → Heard → Type 0
 CarriesItsRound world receiver moment (Delivered subscriber identifier m more part) =
-    (kept : KeptSubscription) → kept_by receiver identifier world.consumers ≡ Some kept → m.number ≡ kept.number
+    (kept : HeldSubscription) → kept_by receiver identifier world.consumers ≡ Some kept → m.number ≡ kept.number
     → NamesPart (rounds_in (start_at m.start world) receiver identifier kept.number m.start) m moment more part
 CarriesItsRound world receiver moment (Notified identifier m) =
-    (kept : KeptSubscription) → kept_by receiver identifier world.consumers ≡ Some kept → m.number ≡ kept.number
+    (kept : HeldSubscription) → kept_by receiver identifier world.consumers ≡ Some kept → m.number ≡ kept.number
     → NamesRound (rounds_in (start_at m.start world) receiver identifier kept.number m.start) m moment
 CarriesItsRound world receiver moment Noted = Unit {0}
 CarriesItsRound world receiver moment Foreign = Unit {0}

@@ -2,7 +2,7 @@
 use Rattle.std.specs.Prelude.{ℕ, ℤ, zero, suc, nat_lt, Bool, true, false, List, [], ◌∷◌, ◌++◌, if◌then◌else◌, Option}
 use Rattle.std.specs.Prelude.{Some, None}
 use Rattle.siri_topic.specs.declared.subscription.Subscription.{Subscription}
-use Rattle.siri_messages.specs.Asked.{Asked}
+use Rattle.siri_messages.specs.Asked.{AskedFor}
 use Rattle.siri_life.specs.Named.{Name}
 use Rattle.siri_life.specs.Network.{Happening, Starts, Clocks, Feeds, Asks, Stops, Requests, Delivers, restarts_of_all}
 use Rattle.siri_model.specs.History.{Entry, entries_of}
@@ -20,10 +20,10 @@ use Rattle.siri_world_model.specs.Told.{refusal, after}
 use Rattle.siri_world_model.specs.World.{World, nothing}
 
 abbrev pub Happens : Type 0
-Happens = Happening Asked Entry
+Happens = Happening AskedFor Entry
 
 -- all that a consumer asks for with a subscription
-abbrev pub asked_by : Consuming → Subscription → (beat : ℤ) → Asked
+abbrev pub asked_by : Consuming → Subscription → (beat : ℤ) → AskedFor
 asked_by consumer wanted beat = record { subscription = own consumer.name wanted; address = consumer.address; beat = beat }
 
 -- a consumer that is refused asks for nothing

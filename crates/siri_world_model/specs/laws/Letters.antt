@@ -1,6 +1,6 @@
 -- The packets of a world as letters of a network: what each is about (EN 15531-2, subscriptions and deliveries).
 use Rattle.std.specs.Prelude.{ℕ, List, [], ◌∷◌, map, Bool, true, false, Option, Some, unwrap_or}
-use Rattle.siri_messages.specs.Asked.{Asked, asked_in}
+use Rattle.siri_messages.specs.Asked.{AskedFor, asked_in}
 use Rattle.siri_messages.specs.declared.message.Message.{Message}
 use Rattle.siri_messages.specs.declared.message.Message.TheVariants as message
 use Rattle.siri_messages.specs.declared.supplies.Mark.{Mark}
@@ -15,20 +15,20 @@ use Rattle.siri_world_model.specs.Packets as packet
 
 -- a letter is of one subscription, or of none
 abbrev pub Letter : Type 0
-Letter = Of (About Carried Asked)
+Letter = Of (About Carried AskedFor)
 
 -- of one subscription of a consumer
-abbrev pub of_one : (consumer identifier : Name) → About Carried Asked → Letter
+abbrev pub of_one : (consumer identifier : Name) → About Carried AskedFor → Letter
 of_one consumer identifier it = record { subscriber = consumer; identifier = identifier; it = it }
 
 -- of none
-abbrev pub of_none : (consumer : Name) → About Carried Asked → Letter
+abbrev pub of_none : (consumer : Name) → About Carried AskedFor → Letter
 of_none consumer it = of_one consumer [] it
 
 -- ---- to the producer
 
 -- a request for one subscription under a number
-abbrev pub asking : (sender : Name) → (number : ℕ) → List Asked → Letter
+abbrev pub asking : (sender : Name) → (number : ℕ) → List AskedFor → Letter
 asking sender number (asked ∷ []) = of_one sender asked.subscription.identifier (Carries (Subscribe number asked))
 asking sender number other = of_none sender (ToProducer true)
 

@@ -3,14 +3,14 @@
 use Rattle.std.specs.Prelude.{◌≡◌, ℕ, List, [], ◌∷◌, ◌++◌, Option}
 use Rattle.std.specs.Option.{option_map_or, option_and_then}
 use Rattle.siri_records.specs.Keyed.{Items}
-use Rattle.siri_messages.specs.Asked.{Asked}
+use Rattle.siri_messages.specs.Asked.{AskedFor}
 use Rattle.siri_change.specs.Parts.{Carried}
 use Rattle.siri_life.specs.Named.{Name, Of, next_of}
 use Rattle.siri_life.specs.Network.{Network}
 use Rattle.siri_model.specs.History.{History}
 use Rattle.siri_model.specs.Lives.{Living, Served, none_served, serving_of}
 use Rattle.siri_view.specs.Consuming.{Consuming}
-use Rattle.siri_view.specs.Kept.{KeptSubscription, kept_of}
+use Rattle.siri_view.specs.Kept.{HeldSubscription, kept_of}
 use Rattle.siri_world_model.specs.Consumers.{consumer_of}
 use Rattle.siri_world_model.specs.World.{World}
 use Rattle.siri_world_model.specs.laws.Letters.{letters_of}
@@ -42,13 +42,13 @@ abbrev pub next_number_of : Name → List Consuming → ℕ
 next_number_of name consumers = option_map_or (λ consumer. consumer.next_number) (consumer_of name consumers) 1
 
 -- what a consumer keeps of a subscription
-abbrev pub kept_by : (name identifier : Name) → List Consuming → Option KeptSubscription
+abbrev pub kept_by : (name identifier : Name) → List Consuming → Option HeldSubscription
 kept_by name identifier consumers = option_and_then (λ consumer. kept_of identifier consumer.held) (consumer_of name consumers)
 
 -- ---- the network
 
 abbrev pub WorldNetwork : Type 0
-WorldNetwork = Network Items Carried Asked History
+WorldNetwork = Network Items Carried AskedFor History
 
 -- a network is the one that a world is
 pub record Fits (world : World) (network : WorldNetwork) : Type 0 where

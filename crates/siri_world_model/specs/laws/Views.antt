@@ -5,7 +5,7 @@ use Rattle.std.specs.Prelude.{◌≡◌, ◌≤◌, ◌⊎◌, ℕ, ℤ, List, [
 use Rattle.std.specs.List.{All, Contains}
 use Rattle.siri_records.specs.declared.item.Item.{Item as AnItem}
 use Rattle.siri_records.specs.Keyed.{Items, InOrder}
-use Rattle.siri_messages.specs.Asked.{Asked}
+use Rattle.siri_messages.specs.Asked.{AskedFor}
 use Rattle.siri_messages.specs.declared.deliveries.FunctionalDelivery.{FunctionalDelivery}
 use Rattle.siri_messages.specs.declared.deliveries.ServiceDelivery.{ServiceDelivery}
 use Rattle.siri_messages.specs.declared.message.Message.{Message}
@@ -77,7 +77,7 @@ pub record ShowsDirect (events : List Event) (consumer identifier : Name) (lines
   pub quiet : Bool
   pub says : lines ≡ line.View consumer identifier held (length items) quiet ∷ map line.Item items
   pub are_sent : All (WasSent events consumer identifier held) items
-  pub asked : Asked
+  pub asked : AskedFor
   pub is_asked : asked_last events consumer identifier ≡ Some asked
   pub is_direct : quiet ≡ true → AreDirect asked.subscription.slack items (direct_response events asked.subscription.topic)
 

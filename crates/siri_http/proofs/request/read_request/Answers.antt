@@ -11,8 +11,8 @@ returns-in_err-front-clause-told g c =
     let p = err_from_is_err_and c.from_residual.result c.from_residual.ensures.1 in
     rw (p.1, p.2) (no_head IsRequest _ _ _ c.in_err-front.ensures.end)
 
-pub read_asked-requires-clause-head : goal.read_asked-requires-clause-head
-read_asked-requires-clause-head g c =
+pub head_of_request-requires-clause-head : goal.head_of_request-requires-clause-head
+head_of_request-requires-clause-head g c =
     let cut : c.split_at.result.0.now ≡ take c.in_ok-front.front.head.len c.in_ok-front.front.bytes.items = search rules in
     text_found c.in_ok-front.front.bytes.items c.split_at.result.0.now c.in_ok-front.front.head c.in_ok-front.ensures.head cut
 

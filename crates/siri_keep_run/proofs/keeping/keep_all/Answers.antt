@@ -12,11 +12,12 @@ returns-in_err-run_turns-clause-err g c =
     let opens = c.in_ok-kept.ensures.ok in
     let name = c.args.name in
     let listen = c.args.address.now in
-    rw p.1 (turn_ended name listen c.args.count c.in_ok-kept.kept _ _ _ _ opens _ _ _ _ p.2
+    let file = c.args.file.now in
+    rw p.1 (turn_ended name listen file c.args.count c.in_ok-kept.kept _ _ _ _ opens _ _ _ _ p.2
     (stop_is_seen (c.in_err-run_turns.ensures.err _) turning (rests g.B.Shelf.is_open g.B.Shelf.tells g.B.Shelf.faults)
     (LeavesLast g.B.Shelf.is_open g.B.Shelf.tells g.B.Shelf.faults) (keep_is_viewed g.B.Shelf.is_open g.B.Shelf.tells g.B.Shelf.faults) name opens.opened.begun.name_is
-    (first_state name listen c.args.count c.in_ok-kept.kept _ _ _ _ opens)
-    (first_rests name listen c.args.count c.in_ok-kept.kept _ _ _ _ opens _ c.new-tally.ensures)))
+    (first_state name listen file c.args.count c.in_ok-kept.kept _ _ _ _ opens)
+    (first_rests name listen file c.args.count c.in_ok-kept.kept _ _ _ _ opens _ c.new-tally.ensures)))
 
 pub returns-in_err-run_turns-clause-fault : goal.returns-in_err-run_turns-clause-fault
 returns-in_err-run_turns-clause-fault g c =
@@ -28,8 +29,9 @@ returns-clause-ok g c =
     let opens = c.in_ok-kept.ensures.ok in
     let name = c.args.name in
     let listen = c.args.address.now in
-    all_kept name listen c.args.count c.in_ok-kept.kept _ _ _ _ opens c.run_turns.new.taker _ _ _
+    let file = c.args.file.now in
+    all_kept name listen file c.args.count c.in_ok-kept.kept _ _ _ _ opens c.run_turns.new.taker _ _ _
     (made_seen _ _ _ (c.in_ok-run_turns.ensures.ok _) turning (rests g.B.Shelf.is_open g.B.Shelf.tells g.B.Shelf.faults)
     (LeavesLast g.B.Shelf.is_open g.B.Shelf.tells g.B.Shelf.faults) (keep_is_viewed g.B.Shelf.is_open g.B.Shelf.tells g.B.Shelf.faults) name opens.opened.begun.name_is
-    (first_state name listen c.args.count c.in_ok-kept.kept _ _ _ _ opens)
-    (first_rests name listen c.args.count c.in_ok-kept.kept _ _ _ _ opens _ c.new-tally.ensures))
+    (first_state name listen file c.args.count c.in_ok-kept.kept _ _ _ _ opens)
+    (first_rests name listen file c.args.count c.in_ok-kept.kept _ _ _ _ opens _ c.new-tally.ensures))

@@ -2,6 +2,7 @@ use Rattle.std.proofs.Common.{◌≡◌, List, length, ap, ◌∙◌, arith}
 use Rattle.std.proofs.lemmas.Result.{IfOk-weaker}
 use Rattle.siri_records.specs.Keyed.{Items, entries_view}
 use Rattle.siri_topic.specs.Shown.{window_of}
+use Rattle.siri_store.specs.Candidates.{candidates}
 use Rattle.siri_store.specs.Held.{Held}
 use Rattle.siri_responder.specs.Looking.{with_items, near_entries, far_entries}
 use Rattle.siri_responder.proofs.Crossing.{few_found, crossed_found}
@@ -46,4 +47,4 @@ returns-clause-ok c =
     ∙ ap (λ (es : Items). with_items es (far_entries topic earlier now store.entries))
     (c.in_ok-put_near.ensures.ok ∙ ap (λ (es : List Shared). with_items (entries_view es) (near_entries topic earlier now store.entries)) c.new-found.ensures.empty)
     ∙ crossed_found topic c.args.before store.moment store.entries earlier now c.window-earlier.ensures later c.requires.ordered in
-    IfOk-weaker c.in_order.result (λ (items : Items). items ≡ entries_view c.put_far.new.found.entries) _ (λ items made. made ∙ is) c.in_order.ensures
+    IfOk-weaker c.asked_in_order.result (λ (items : Items). items ≡ candidates topic (entries_view c.put_far.new.found.entries)) _ (λ items made. made ∙ ap (candidates topic) is) c.asked_in_order.ensures

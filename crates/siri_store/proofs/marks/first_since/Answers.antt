@@ -1,24 +1,16 @@
-use Rattle.std.proofs.Common.{◌≡◌, ◌-◌, ◌∙◌, ℕ, filter, take, nat_le, false, get_or, ap, sym, arith}
-use Rattle.siri_records.specs.declared.key.Key.{Key}
-use Rattle.siri_store.specs.Marked.{is_since}
-use Rattle.siri_store.proofs.Marking.{rest_since, none_upto}
+use Rattle.std.proofs.Common.{◌≤◌, length, ltb, arith, rules}
+use Rattle.std.proofs.lemmas.List.Sorted.{IsPartitionPoint-from_clause, IsPartitionedBy-ltb}
+use Rattle.siri_store.proofs.Marking.{Mark, rising, rest_since}
 use Rattle.siri_store.proofs.marks.first_since.Goals as goal
 
-pub returns-else-index-number-clause-marks : goal.returns-else-index-number-clause-marks
-returns-else-index-number-clause-marks c =
+pub returns-clause-marks : goal.returns-clause-marks
+returns-clause-marks c =
     let log = c.args.log.now.items in
-    let mark = c.index.result.now in
-    let first = c.loop-first.first in
-    let before : nat_le c.args.number mark.0 ≡ false = grind (arith, c.if-index-number.false) in
-    let there : nat_le c.args.number (get_or log (first - 1) mark).0 ≡ false =
-    ap (λ (m : ℕ × Key). nat_le c.args.number m.0) (sym c.index.ensures) ∙ before in
-    rest_since c.args.number log first
-    (none_upto c.args.top c.args.number log first mark c.loop-first-test.true c.loop-first.invariant.within
-    c.requires there)
-    c.loop-first.invariant.since
-
-pub returns-after-loop-first-clause-marks : goal.returns-after-loop-first-clause-marks
-returns-after-loop-first-clause-marks c =
-    let none : c.loop-first.first ≡ 0 = omega (arith, c.loop-first-test.false) in
-    rest_since c.args.number c.args.log.now.items c.loop-first.first
-    (ap (λ p. filter (is_since c.args.number) (take p c.args.log.now.items)) none) c.loop-first.invariant.since
+    let number = c.args.number in
+    let parted = IsPartitionedBy-ltb (λ (mark : Mark). mark.0) log number (rising c.args.top log c.requires) in
+    let point =
+    IsPartitionPoint-from_clause (λ (mark : Mark). ltb mark.0 number) log c.partition_point.result
+    c.partition_point.ensures.partitioned parted (λ a r f called. search rules) in
+    let within : c.partition_point.result ≤ length log =
+    omega (arith, c.partition_point.ensures.bound, c.args.log.now.ok.0) in
+    rest_since number log c.partition_point.result within point.0 point.1

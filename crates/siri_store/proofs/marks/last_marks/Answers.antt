@@ -1,4 +1,4 @@
-use Rattle.std.proofs.Common.{◌∙◌, ℕ, List, [], ◌∷◌, ◌++◌, drop, reverse, not, refl, ap, sym, arith}
+use Rattle.std.proofs.Common.{◌∙◌, ℕ, List, ◌∷◌, drop, not, refl, ap, sym, arith}
 use Rattle.std.specs.BTreeSet.{insert_key}
 use Rattle.siri_records.specs.declared.key.Key.{Key}
 use Rattle.siri_records.specs.KeyLists.{is_among}
@@ -7,8 +7,8 @@ use Rattle.siri_store.specs.Marked.{last_of_each}
 use Rattle.siri_store.proofs.Lasting.{keys_in, drop_before, seen_more, one_more_last, no_more_last}
 use Rattle.siri_store.proofs.marks.last_marks.Goals as goal
 
-pub loop-place-preserved-in_ok-push : goal.loop-place-preserved-in_ok-push
-loop-place-preserved-in_ok-push c =
+pub loop-place-preserved-in_ok-push_front : goal.loop-place-preserved-in_ok-push_front
+loop-place-preserved-in_ok-push_front c =
     let so_far = c.loop-place.invariant in
     let mark = c.index-mark.result.now in
     let log = c.args.log.now.items in
@@ -22,8 +22,8 @@ loop-place-preserved-in_ok-push c =
     record {
       log = refl;
       within = omega (arith, so_far.within);
-      last = ap (λ (l : List (ℕ × Key)). reverse l) c.in_ok-push.ensures.items
-          ∙ ap (λ (k : Key). reverse (last ++ (mark.0, k) ∷ [])) c.in_ok-key.ensures
+      last = c.in_ok-push_front.ensures.items
+          ∙ ap (λ (k : Key). (mark.0, k) ∷ last) c.in_ok-key.ensures
           ∙ one_more_last rest last mark seen so_far.seen anew so_far.last
           ∙ ap last_of_each (sym next);
       seen = λ q.

@@ -7,8 +7,8 @@ pub loop-one-preserved : goal.loop-one-preserved
 loop-one-preserved c =
     let wanted = c.args.wanted.now in
     let found = c.args.found.now in
-    let lt = rw c.slice-one-items.ensures at c.loop-one-test.true in
-    let is = rw c.slice-one-items.ensures at c.one-item.is in
+    let lt = c.loop-one-test.true in
+    let is = c.one-item.is in
     elim c.match-branch-2.branch [
       | in-Some+in_ok-push-in-Some w ↦
           rw w.list-is

@@ -10,6 +10,7 @@ returns c =
     let stands = c.held.ensures.stands in
     record {
       ordered = c.held.ensures.in_order;
+      keyed = c.held.ensures.keyed;
       alive = λ key i is.
           ap (is_dead i) stands.1.moment
           ∙ alive_in (now_of stands.0) (current stands.0) key i

@@ -10,5 +10,5 @@ returns c =
     let facts = c.binary_search_by.ensures in
     let by_key = facts.position (λ e. key_cmp e.0 c.args.key.now)
     (always_returns_same _ _ _ (λ a r q called. search rules)) in
-    let finds = found key_cmp_total c.args.key.now _ (rw c.slice.ensures c.requires) _ facts.bound by_key in
-    c.is_ok.ensures.value ∙ sought c.args.key.now c.args.found.now _ c.requires (rw c.slice.ensures at finds)
+    let finds = found key_cmp_total c.args.key.now _ c.requires _ facts.bound by_key in
+    c.is_ok.ensures.value ∙ sought c.args.key.now c.args.found.now _ c.requires finds

@@ -1,6 +1,7 @@
 use Rattle.std.proofs.Common.{[], ◌∷◌, Ok}
 use Rattle.siri_model.specs.History.{Take}
-use Rattle.siri_keep.proofs.Fronts.{name_stays, stands_on, told_fronts, told_fronts_same, told_goes}
+use Rattle.siri_producer.specs.declared.answers.Answer.{Answer}
+use Rattle.siri_keep.proofs.Fronts.{name_stays, stands_on, told_fronts, told_fronts_same, told_goes, told_stays_err}
 use Rattle.siri_keep.proofs.kept.Kept.take_short.Goals as goal
 
 pub returns-in-Ok-write-clause-ok : goal.returns-in-Ok-write-clause-ok
@@ -25,3 +26,6 @@ returns-in-Ok-write-clause-name g c = name_stays c.args.self.now c.plan_take.new
 
 pub returns-in-Err-clause-trail : goal.returns-in-Err-clause-trail
 returns-in-Err-clause-trail g c = told_fronts_same c.args.self.now (Take c.args.message ∷ []) _
+
+pub returns-in-Err-write-clause-stays : goal.returns-in-Err-write-clause-stays
+returns-in-Err-write-clause-stays g c = told_stays_err (Unit {0}) Answer c.in-Ok.planned.puts c.in-Err-write.error _ _ c.in-Err-write.ensures.told

@@ -1,28 +1,22 @@
-use Rattle.std.proofs.Common.{◌≡◌, ◌<◌, ◌≤◌, [], ◌∙◌, ℕ, List, length, filter, map, ap, sym, refl, arith}
-use Rattle.siri_records.specs.declared.key.Key.{Key}
+use Rattle.std.proofs.Common.{◌≡◌, ◌∙◌, List, map, filter, drop, ap, arith}
 use Rattle.siri_records.specs.KeyLists.{in_order}
 use Rattle.siri_store.specs.Marked.{is_since}
-use Rattle.siri_store.proofs.Few.{some_left}
-use Rattle.siri_store.proofs.Marking.{none_later, dropped_all}
+use Rattle.siri_store.proofs.Marking.{Mark, later_stay, no_keys_stay}
 use Rattle.siri_store.proofs.marks.Marks.forget.Goals as goal
+use Rattle.siri_store.proofs.marks.Marks.forget.Goals.{After-loop}
 
-pub returns-then-first_since-len-clause-same : goal.returns-then-first_since-len-clause-same
-returns-then-first_since-len-clause-same c =
-    let log = c.self.inside.log.items in
-    let past : length log ≤ c.first_since.result = omega (arith, c.if-first_since-len.true, c.len.ensures) in
-    let none : filter (is_since c.args.number) log ≡ [] =
-    sym c.first_since.ensures.marks ∙ dropped_all log c.first_since.result past in
-    λ n le. rw (← c.self.view_is, c.clear.ensures.items)
-    (sym (ap (λ (l : List (ℕ × Key)). in_order (map (λ m. m.1) l)) (none_later c.args.number n log le none)))
+-- the marks from the number on are left
+left : (c : After-loop) → c.loop.self-inside.log.items ≡ filter (is_since c.args.number) c.self.inside.log.items
+left c =
+    let all : c.loop.counter ≡ c.first_since-end.result = omega (arith, c.loop-test.false, c.loop.auto.counter-end) in
+    c.loop.invariant.log ∙ ap (λ n. drop n c.self.inside.log.items) all ∙ c.first_since-end.ensures.marks
 
-pub returns-then-first_since-len-clause-fresh : goal.returns-then-first_since-len-clause-fresh
-returns-then-first_since-len-clause-fresh c = λ n none. rw c.clear.ensures.items refl
+pub returns-clause-same : goal.returns-clause-same
+returns-clause-same c = λ n le.
+    rw (← c.self.view_is, left c)
+    (ap (λ (log : List Mark). in_order (map (λ mark. mark.1) log)) (later_stay c.args.number n c.self.inside.log.items le))
 
-pub returns-else-first_since-len-clause-few : goal.returns-else-first_since-len-clause-few
-returns-else-first_since-len-clause-few c = λ none.
-    let log = c.self.inside.log.items in
-    let first = c.first_since.result in
-    let within : first < length log = omega (arith, c.if-first_since-len.false, c.len.ensures) in
+pub returns-clause-fresh : goal.returns-clause-fresh
+returns-clause-fresh c = λ n none.
     let none_there = rw (← c.self.view_is) at none in
-    let some = some_left log [] first within (c.first_since.ensures.marks ∙ none_there) in
-    absurd (omega (arith, some))
+    rw (left c) (no_keys_stay c.args.number n c.self.inside.log.items none_there)

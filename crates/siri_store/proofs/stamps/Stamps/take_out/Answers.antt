@@ -2,15 +2,16 @@ use Rattle.std.proofs.Common.{◌≡◌, ◌&&◌, Option, sym, ap, ◌∙◌}
 use Rattle.std.specs.Prelude.{not, option_map}
 use Rattle.std.specs.Borrow.{Bor}
 use Rattle.siri_records.specs.declared.item.Item.{Item}
-use Rattle.siri_store.specs.Stamped.{has_stamp, is_one_at, is_one_of, by_end, by_edge, service_of}
+use Rattle.siri_store.specs.Stamped.{has_stamp, is_one_at, is_one_of, by_end, by_edge}
 use Rattle.siri_store.proofs.Orders.{taken_out}
 use Rattle.siri_store.proofs.stamps.Stamps.take_out.Goals as goal
+use Rattle.siri_records.specs.Services.{service_of}
 
 pub returns-in-Some-clause-rest : goal.returns-in-Some-clause-rest
 returns-in-Some-clause-rest c =
     let kept = option_map (λ (item : Bor Item). item.now) c.args.kept in
     let order : c.by_edge.result ≡ by_edge (service_of c.in-Some.item.now) =
-    c.by_edge.ensures ∙ ap by_edge c.service_of.ensures in
+    c.by_edge.ensures ∙ ap by_edge c.service.ensures in
     let old = c.args.self.now in
     let mid = c.remove_all-key.new.self in
     λ s. taken_out c.args.key c.in-Some.item.now kept old mid c.remove_all.new.self

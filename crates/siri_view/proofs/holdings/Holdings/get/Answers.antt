@@ -3,7 +3,7 @@ use Rattle.std.proofs.lemmas.Map.{lookup-none}
 use Rattle.std.proofs.lemmas.Cmp.{nat_list_cmp_total}
 use Rattle.siri_records.proofs.Edited.{here_below}
 use Rattle.siri_life.specs.Named.{Name}
-use Rattle.siri_view.specs.Kept.{KeptSubscription, name_cmp}
+use Rattle.siri_view.specs.Kept.{HeldSubscription, name_cmp}
 use Rattle.siri_view.proofs.Keyed.{lookup_at, put_same, none_at}
 use Rattle.siri_view.proofs.holdings.Holdings.get.Goals as goal
 
@@ -12,7 +12,7 @@ index-requires c = omega (arith, here_below _ _ _ c.in-Ok.ensures)
 
 pub returns-in-Ok-clause-kept : goal.returns-in-Ok-clause-kept
 returns-in-Ok-clause-kept c = rw (← c.self.view_is)
-    (ap (λ (e : Name × KeptSubscription). Some e.1) c.index.ensures
+    (ap (λ (e : Name × HeldSubscription). Some e.1) c.index.ensures
     ∙ sym (lookup_at name_cmp c.args.identifier.now c.self.inside.entries.items c.in-Ok.at c.index.result.now
     c.in-Ok.ensures))
 

@@ -27,7 +27,7 @@ returns c = λ name d here.
     let new = c.subscribe.new.self in
     asks_subscribed d wanted c.args.beat now before c.in_ok-wanted.wanted c.subscribe.result _ new
     (is_there name items now place d before c.self.view_is here value) c.in_ok-wanted.ensures
-    facts.request facts.ok facts.spent facts.too_many facts.at_most facts.not_not_held facts.refused
+    facts.request facts.ok facts.spent facts.too_many.0 facts.at_most facts.not_not_held facts.refused
     (λ is. values_set entries place new ∙ written name items now place d before c.self.view_is here value new
     (after_subscribe d (wanted ∷ []) c.args.beat) is refl)
     (λ is. values_set entries place new ∙ unwritten name items now place d before c.self.view_is here value new is)

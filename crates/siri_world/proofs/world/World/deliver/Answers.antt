@@ -3,7 +3,7 @@ use Rattle.std.proofs.lemmas.Result.{IfOk-weaker}
 use Rattle.siri_model.specs.History.{History, Take}
 use Rattle.siri_producer.specs.Answers.{answer_to}
 use Rattle.siri_world_model.specs.Packets.{ToConsumer, ToProducer, packet_at, producer, reply_to}
-use Rattle.siri_world.specs.Asking.{Takes}
+use Rattle.siri_world.specs.Asking.{ConsumerTakes}
 use Rattle.siri_world.specs.Kept.{sent_packet}
 use Rattle.siri_world.specs.Known.{Known, Knows, Serves}
 use Rattle.siri_world.specs.Serving.{Settles, took_line}
@@ -46,7 +46,7 @@ returns-in-Some-ToConsumer c = IfOk-weaker c.take.result _ _ (λ happened takes 
     let packet : packet_at c.args.number c.self.inside.packets ≡ Some (ToConsumer receiver m) = sym c.at.ensures
     ∙ ap (option_map (λ packet. sent_packet packet.now)) c.in-Some-ToConsumer.is
     ∙ ap (λ p. Some (sent_packet p)) c.in-Some-ToConsumer.field-0-is in
-    let took = subst (λ it. Takes receiver (consumer_of receiver c.self.inside.consumers) it c.self.inside.consumers
+    let took = subst (λ it. ConsumerTakes receiver (consumer_of receiver c.self.inside.consumers) it c.self.inside.consumers
     c.take.new.consumers happened) c.deref-in-Some-ToConsumer.ensures takes in
     received_does old _ w c.args.number receiver m c.take.new.consumers happened
     (subst (λ known. Knows known w) (sym c.self.view_is) k) packet refl took) c.take.ensures

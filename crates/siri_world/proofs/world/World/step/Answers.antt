@@ -8,7 +8,8 @@ pub returns-in-Some-clause-refused : goal.returns-in-Some-clause-refused
 returns-in-Some-clause-refused c = λ es s.
     let w = world_after es in
     let e = c.args.event in
-    refuses w e c.in-Some.error (told_refused w e c.in-Some.error (refused_first w e c.in-Some.error (sym (c.refusal.ensures.first w s) ∙ c.in-Some.is)))
+    let first = sym (c.refusal.ensures.first w s) ∙ c.in-Some.is in
+    refuses w e c.in-Some.error first (told_refused w e c.in-Some.error (refused_first w e c.in-Some.error first))
 
 pub returns-clause-lines : goal.returns-clause-lines
 returns-clause-lines c = step_lines c.args.self.now c.happen.new.self c.args.event c.in_ok-happened.happened

@@ -1,7 +1,7 @@
 use Rattle.std.proofs.Common.{ap, length}
 use Rattle.std.proofs.lemmas.Result.{err_from_is_err_and}
 use Rattle.siri_http.proofs.Saying.{response_partial, response_overflows, response_short, response_failed, response_said}
-use Rattle.siri_http.proofs.response.read_answered.Goals as goal
+use Rattle.siri_http.proofs.response.head_of_response.Goals as goal
 
 pub returns-in-Ok-Partial-clause-says : goal.returns-in-Ok-Partial-clause-says
 returns-in-Ok-Partial-clause-says c = response_partial c.args.text.now c.args.full c.if-full.false

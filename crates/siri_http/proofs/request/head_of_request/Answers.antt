@@ -1,6 +1,6 @@
 use Rattle.std.proofs.Common.{◌≡◌, Some, ap, rules, length}
 use Rattle.siri_http.proofs.Saying.{request_partial, request_overflows, request_short, request_said, method_fits, target_fits}
-use Rattle.siri_http.proofs.request.read_asked.Goals as goal
+use Rattle.siri_http.proofs.request.head_of_request.Goals as goal
 
 pub returns-in-Ok-Partial-clause-says : goal.returns-in-Ok-Partial-clause-says
 returns-in-Ok-Partial-clause-says c = request_partial c.args.text.now c.args.full c.if-full.false
