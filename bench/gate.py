@@ -129,6 +129,27 @@ def crates():
         return re.findall(r"^(\w+):", file.read(), re.M)
 
 
+def below():
+    """Returns the crates that each crate names in crates.txt."""
+    with open(f"{TOP}/crates.txt", encoding="utf-8") as file:
+        lines = [line.partition("#")[0].partition(":") for line in file if re.match(r"\w+:", line)]
+    return {crate: set(rest.split()) & {it for it, _, _ in lines} for crate, _, rest in lines}
+
+
+def longest_chain(minutes):
+    """Returns the minutes of the crates that wait for one another longest, each for the proofs of those below it, and their names;
+    with the last one's tests, and its edits behind both."""
+    stands_on, chains = below(), {}
+
+    def chain_of(crate):
+        if crate not in chains:
+            before = max((chain_of(it) for it in stands_on[crate]), default=(0.0, []))
+            chains[crate] = (before[0] + minutes[crate, "proof"], [*before[1], crate])
+        return chains[crate]
+
+    return max((chain_of(it)[0] + minutes[it, "tests"] + minutes[it, "edits"], chain_of(it)[1]) for it in stands_on)
+
+
 def edits_of(crate):
     """Returns the names of the edits that the gate tries, in their order."""
     folder = f"{TOP}/crates/{crate}/must-fail"
@@ -183,12 +204,14 @@ def processor():
 def heading(told, minutes, run):
     """Returns what is told of the run as a whole. `run` has what was measured around it."""
     of = lambda kind: sum(it for (_, its), it in minutes.items() if its == kind)
+    chain, names = longest_chain(minutes)
     line = (
         f"{run['date']}, commit {run['commit']}, {run['processors']}, load {run['load']:.1f} before it: "
         f"{told.last or 'broken off'}, in {run['seconds']:,.0f} seconds of wall clock. "
         f"Processor minutes: {of('proof'):.1f} for proofs, {of('edits'):.1f} for edits, {of('tests'):.1f} for tests, "
         f"{run['minutes']:.1f} in all, with what builds and runs the programs. "
-        f"Memory: at most {run['memory'] / 1e9:.1f} GB together and {run['largest'] / 1e9:.1f} GB by one process."
+        f"Memory: at most {run['memory'] / 1e9:.1f} GB together and {run['largest'] / 1e9:.1f} GB by one process. "
+        f"The longest chain: {chain:.1f} processor minutes, of {', '.join(f'`{it}`' for it in names)} with its tests and edits."
     )
     edits = sum(told.kept_edits.values())
     kept = f"Kept from earlier runs: {len(told.kept)} crates and {edits} edits, so a first run takes more."
