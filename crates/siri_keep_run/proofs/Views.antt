@@ -33,8 +33,8 @@ module _ {B : Type 0} (is_open : B → Type 0) (tells : B → Option ShelfState)
   -- a producer over a shelf, as what a run calls
   abbrev pub kept_end : TakerGhosts Kept B Reply Out (Unit {0})
   kept_end = record {
-    Kept = List ℕ;
-    kept = λ kept. kept.producer.responder.name;
+    Identity = List ℕ;
+    identity = λ kept. kept.producer.responder.name;
     State = History;
     stands = λ kept h. StandsFor kept.producer h;
     is_ready = λ shelf. is_open shelf;
