@@ -13,10 +13,10 @@ use Rattle.siri_records.specs.Order.{key_cmp}
 use Rattle.siri_records.proofs.NearLaws.{near_itself}
 use Rattle.siri_records.specs.Keyed.{Items, InOrder, item_of, with_item, KeyChange, after_change, apply, most_live}
 use Rattle.siri_change.specs.Changes.{keys_of_both, acknowledged_if_near, meets, changes, target}
-use Rattle.siri_change.specs.Parts.{whole, load, base_view, part_after, parts_count, parts_of, has_item, as_sent, apply_parts}
+use Rattle.siri_change.specs.Parts.{whole, load, base_view, led_to, part_after, parts_count, parts_of, has_item, as_sent, apply_parts}
 use Rattle.siri_records.proofs.Placed.{take_whole}
 use Rattle.siri_change.proofs.Walks.{above_first, changes_added, changed, chosen, keys_chosen}
-use Rattle.siri_change.proofs.Leads.{tied, one_key, all_from, mentions, Fits, leads, fits_on, without_change}
+use Rattle.siri_change.proofs.Leads.{tied, one_key, all_from, mentions, Fits, leads, changes_lead, fits_on, without_change}
 
 -- ---- the parts of a list are the list
 
@@ -182,6 +182,11 @@ load_leads a t true s r = parts_lead a t (changes a t) s r (fits_on a t (keys_of
 load_leads a t false s r =
     ap (λ l. apply_parts [] (parts_of l)) (sym (whole_changes t r))
     ∙ parts_lead [] t (changes [] t) empty_order r (fits_on [] t (keys_of_both [] t)) (without_change [] t)
+
+-- at once
+pub load_applied : (a t : Items) (incremental : Bool) → InOrder a → InOrder t → led_to a incremental (load a t incremental) ≡ t
+load_applied a t true s r = changes_lead a t s r
+load_applied a t false s r = ap (apply []) (sym (whole_changes t r)) ∙ changes_lead [] t empty_order r
 
 -- ---- how many
 

@@ -23,6 +23,10 @@ load acknowledged target incremental = if incremental then changes acknowledged 
 abbrev pub base_view : Items → Bool → Items
 base_view acknowledged incremental = if incremental then acknowledged else []
 
+-- the view that a round leads to by what it carries
+abbrev pub led_to : Items → Bool → List KeyChange → Items
+led_to acknowledged incremental list = apply (base_view acknowledged incremental) list
+
 -- the part of a list that comes after so many others: each part is a hundred, and the last what is left
 abbrev pub part_after : {A : Type 0} → List A → ℕ → List A
 part_after list before = take 100 (drop (100 * before) list)

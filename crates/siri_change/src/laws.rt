@@ -8,7 +8,7 @@ ghost use Rattle.siri_change.specs.Same.{is_same};
 ghost use Rattle.siri_change.specs.Changes.{Meets, meets, target, changes};
 ghost use Rattle.siri_change.specs.Looks.{LooksByKeys};
 ghost use Rattle.siri_change.specs.Views.{is_keyed, is_view, is_keyed_change, are_keyed};
-ghost use Rattle.siri_change.specs.Parts.{load, base_view, part_after, parts_count, parts_of, as_sent, apply_parts, Carried, carried, changes_in, apply_carried};
+ghost use Rattle.siri_change.specs.Parts.{load, base_view, led_to, part_after, parts_count, parts_of, as_sent, apply_parts, Carried, carried, changes_in, apply_carried};
 
 /// A law, which does nothing when it is called: two items pass the test of sameness exactly where they are equal.
 pub fn same_items_are_equal()
@@ -26,9 +26,10 @@ pub fn changes_lead_to_the_view()
     ensures { (before after : Items) → InOrder before → InOrder after → apply before (changes before after) ≡ after }
 {}
 
-/// A law: what a round carries leads to its target part by part, though of each part the items are made before the
-/// removals. There is at least one part, and at most 400 where neither view has more than 20,000 items.
+/// A law: what a round carries leads to its target, at once and part by part, though of each part the items are made
+/// before the removals. There is at least one part, and at most 400 where neither view has more than 20,000 items.
 pub fn parts_lead_to_the_target()
+    ensures at_once { (acknowledged target : Items) (incremental : Bool) → InOrder acknowledged → InOrder target → led_to acknowledged incremental (load acknowledged target incremental) ≡ target }
     ensures whole { (acknowledged target : Items) (incremental : Bool) → InOrder acknowledged → InOrder target → apply_parts (base_view acknowledged incremental) (parts_of (load acknowledged target incremental)) ≡ target }
     ensures some_part { (list : List KeyChange) → 0 < length (parts_of list) }
     ensures few_parts { (acknowledged target : Items) (incremental : Bool) → length acknowledged ≤ most_live → length target ≤ most_live → length (parts_of (load acknowledged target incremental)) ≤ 400 }

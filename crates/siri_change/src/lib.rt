@@ -7,7 +7,7 @@
 //!     acknowledged view, direct response, slack -> differ             whether a round of changes is due
 //!     acknowledged view, direct response, slack -> target             the view that the round leads to
 //!     acknowledged view, target                 -> changes  --+
-//!     acknowledged view, changes                -> patch    <-+       the target
+//!     acknowledged view, changes                -> make     <-+       the target
 //! ```
 //!
 //! The changes of a round are cut in parts of a hundred, and a part is carried as items, whose keys are their own, and
@@ -31,5 +31,5 @@ pub use laws::{
     views_stay_views, views_that_meet_are_near,
 };
 pub use sameness::same;
-pub use siri_records::Change;
-pub use view::{View, patch};
+pub use siri_records::{Change, Room};
+pub use view::View;

@@ -1,14 +1,15 @@
 //! Views of current items.
 
-ghost use Rattle.std.specs.Prelude.{◌≡◌, [], ◌∷◌, ◌++◌, length, option_map, slice_get, ◌+◌, ◌<◌, ◌^◌, IsNone, IsSome, IsOk, OnSome, OnOk, OnErr};
+ghost use Rattle.std.specs.Prelude.{◌≡◌, [], ◌∷◌, ◌++◌, length, option_map, slice_get, ◌+◌, ◌<◌, ◌≤◌, ◌^◌, IsNone, IsSome, IsOk, IfOk, OnSome, OnOk, OnErr};
 ghost use Rattle.std.specs.List.Sorted.{IsStrictlySortedBy};
 ghost use Rattle.std.specs.Map.{keys_of};
 ghost use Rattle.siri_records.specs.Order.{key_cmp};
 ghost use Rattle.siri_records.specs.Keyed.{InOrder, item_of, deref_entry, after_change, apply};
+ghost use Rattle.siri_change.specs.Parts.{base_view, led_to};
 
 use crate::Change;
 use siri_base::{Copies, List, OutOfMemory};
-use siri_records::{Item, Key, KeyedItems, SharedKey};
+use siri_records::{Item, Key, KeyedItems, Room, SharedKey};
 use std::alloc::Global;
 use std::marker::Model;
 use std::rc::Rc;
@@ -104,6 +105,31 @@ impl View {
         self.items.change_all(list)
     }
 
+    /// Room for this number of changes of a round, which are made later: with incremental updates on the view, else on
+    /// the empty one. It is for some more items, so that few rounds move what is held.
+    pub fn room_for(&self, incremental: bool, number: usize) -> Result<Room, OutOfMemory>
+        ensures { IfOk result (λ room. length (base_view self.now incremental) + number ≤ room) }
+    {
+        let held = if incremental { self.len() } else { 0 };
+        let Some(least) = held.checked_add(number) else {
+            return Err(OutOfMemory);
+        };
+        let room = Room::new(self.allocator(), least.saturating_add(held / 4))?;
+        Ok(room)
+    }
+
+    /// Makes the changes of a round, for which room was taken before: with incremental updates on the view, else on the
+    /// empty one. It takes no memory.
+    pub fn make(&mut self, incremental: bool, list: List<Change>, room: Room)
+        requires { length (base_view self.old incremental) + length list ≤ room }
+        ensures { self.new ≡ led_to self.old incremental list }
+    {
+        if !incremental {
+            self.items = KeyedItems::new(self.allocator());
+        }
+        self.items.change_within(list, room);
+    }
+
     /// Puts an item at the end: its key is above those that are held. After want of memory the view is as before.
     pub fn push_last(&mut self, key: SharedKey, item: Rc<Item>) -> Result<(), OutOfMemory>
         requires { IsStrictlySortedBy key_cmp (keys_of self.old ++ key ∷ []) }
@@ -117,14 +143,6 @@ impl View {
     pub(crate) fn allocator(&self) -> Global {
         self.items.allocator()
     }
-}
-
-/// Makes changes, one after the other, and leaves them to the caller. After want of memory the view is as before.
-pub fn patch(view: &mut View, list: &List<Change>) -> Result<(), OutOfMemory>
-    ensures ok { OnOk result (view.new ≡ apply view.old list.now) }
-    ensures err { OnErr result (view.new ≡ view.old) }
-{
-    view.put_changes(list.copy()?)
 }
 
 impl Copies for View {

@@ -1,6 +1,6 @@
 //! Shared items in a vector, in order of key.
 
-ghost use Rattle.std.specs.Prelude.{◌≡◌, ◌<◌, ◌≤◌, ◌+◌, vec_len, length, is_some, option_map, IsNone, IsSome, IfSome, IsOk, OnOk, OnErr, IfOk, Err};
+ghost use Rattle.std.specs.Prelude.{◌≡◌, ◌<◌, ◌≤◌, ◌+◌, [], vec_len, length, is_some, option_map, IsNone, IsSome, IfSome, IsOk, OnOk, OnErr, IfOk, Err};
 ghost use Rattle.std.specs.Bool.{OnTrue};
 ghost use Rattle.std.specs.Vec.{vec_capacity};
 ghost use Rattle.std.specs.Map.{remove_entry};
@@ -79,6 +79,31 @@ pub(crate) fn make(entries: &mut Vec<Entry>, change: Change) -> Result<(), OutOf
             drop(key);
             Ok(())
         }
+    }
+}
+
+/// The change is made, for which there is room. It takes no memory.
+pub(crate) fn make_within(entries: &mut Vec<Entry>, change: Change)
+    requires ordered { InOrder entries.old.items }
+    requires room { vec_len entries.old < vec_capacity entries.old }
+    ensures change { entries_view entries.new.items ≡ after_change (entries_view entries.old.items) change }
+    ensures ordered { InOrder entries.new.items }
+    ensures len { vec_len entries.new ≤ vec_len entries.old + 1 }
+    ensures capacity { vec_capacity entries.old ≤ vec_capacity entries.new }
+{
+    let _ = make(entries, change);
+}
+
+/// Where there isn't room for so many more, the entries move to where it was taken for all of them. It takes no memory.
+pub(crate) fn widen(entries: &mut Vec<Entry>, more: usize, mut room: Vec<Entry>)
+    requires empty { room.items ≡ [] }
+    requires room { vec_len entries.old + more ≤ vec_capacity room }
+    ensures items { entries.new.items ≡ entries.old.items }
+    ensures room { vec_len entries.new + more ≤ vec_capacity entries.new }
+{
+    if entries.capacity() - entries.len() < more {
+        let _ = room.append(entries);
+        *entries = room;
     }
 }
 

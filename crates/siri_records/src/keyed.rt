@@ -1,14 +1,14 @@
 //! Shared items by their keys.
 
-ghost use Rattle.std.specs.Prelude.{◌≡◌, ◌<◌, ◌+◌, ◌^◌, [], ◌∷◌, ◌++◌, length, option_map, is_some, slice_get, IsNone, IsSome, IfSome, IsOk, OnSome, OnOk, OnErr};
+ghost use Rattle.std.specs.Prelude.{◌≡◌, ◌<◌, ◌≤◌, ◌+◌, ◌^◌, [], ◌∷◌, ◌++◌, length, option_map, is_some, slice_get, IsNone, IsSome, IfSome, IsOk, OnSome, OnOk, OnErr};
 ghost use Rattle.std.specs.List.Sorted.{IsStrictlySortedBy};
 ghost use Rattle.std.specs.Map.{keys_of, lookup, remove_entry};
 ghost use Rattle.std.specs.BTreeMap.{insert_entry, is_at};
 ghost use Rattle.siri_records.specs.Order.{key_cmp};
 ghost use Rattle.siri_records.specs.Keyed.{InOrder, PlacedAt, deref_entry, after_change, apply};
 
-use crate::entries::{copy_entry, find, make, put, remove, take};
-use crate::{Change, Item, Key, SharedKey};
+use crate::entries::{copy_entry, find, make, make_within, put, remove, take, widen};
+use crate::{Change, Item, Key, Room, SharedKey};
 use siri_base::{Copies, List, OutOfMemory};
 use std::alloc::Global;
 use std::marker::Model;
@@ -157,6 +157,18 @@ impl KeyedItems {
             make(&mut self.entries, change)?;
         }
         Ok(())
+    }
+
+    /// Makes changes, one after the other, for which room was taken before. It takes no memory.
+    pub fn change_within(&mut self, list: List<Change>, room: Room)
+        requires { length self.old + length list ≤ room }
+        ensures { self.new ≡ apply self.old list }
+    {
+        let ready = list.into_vec();
+        widen(&mut self.entries, ready.len(), room.into_entries());
+        for change in ready {
+            make_within(&mut self.entries, change);
+        }
     }
 
     /// Where the memory for more of them comes from.

@@ -2,7 +2,7 @@
 use Rattle.std.proofs.Common.{◌≡◌, ℕ, suc, ◌<◌, nat_lt, nat_eq, Bool, true, false, cond, not, ◌&&◌, List, Option, Some, None, option_map, refl, ap, sym, ◌∙◌}
 use Rattle.std.specs.Bool.{then_some}
 use Rattle.siri_records.specs.Keyed.{Items, KeyChange}
-use Rattle.siri_change.specs.Parts.{part_after, parts_count}
+use Rattle.siri_change.specs.Parts.{led_to, part_after, parts_count}
 use Rattle.siri_subs.specs.declared.rounds.kept.OpenRound.{OpenRound}
 use Rattle.siri_subs.specs.rounds.Kept.{outstanding_on}
 use Rattle.siri_subs.specs.rounds.Wanted.{RoundsOfChanges, PartOf, round_on, wanted_part_of}
@@ -49,7 +49,7 @@ is_missed true n e t = sym t ∙ e
 -- it was the last one
 pub last_taken : (fetched : Bool) (acknowledged : Items) (opened : ℕ) (o : OpenRound) (round part now : ℕ)
     → (nat_eq round opened && nat_eq part (suc o.acknowledged_parts)) ≡ true → nat_lt (suc o.acknowledged_parts) (parts_count o.changes) ≡ false
-    → with_acknowledgement (kept_by fetched acknowledged opened (Some o)) round part now ≡ kept_by fetched o.target opened None
+    → with_acknowledgement (kept_by fetched acknowledged opened (Some o)) round part now ≡ kept_by fetched (led_to acknowledged o.incremental o.changes) opened None
 last_taken fetched acknowledged opened o round part now hit last = rw (hit, parts_number o.changes, last) refl
 
 -- another follows

@@ -8,15 +8,15 @@
 //!       |                             |    |  +-- supply    the wanted part is fetched
 //!       |                             |    |
 //!       |                             |    +----- acknowledge of the wanted part, where another follows
-//!       +-----------------------------+---------- acknowledge of the last part: its target is the acknowledged view
+//!       +-----------------------------+---------- acknowledge of the last part: the changes are made
 //! ```
 //!
 //! At first nothing is acknowledged, and no round was opened. Where nothing is outstanding a round may begin: it has
-//! the next number, a moment, the view that it leads to, and a list of changes. The list is cut in parts of a hundred,
+//! the next number, a moment, and a list of changes, which lead to another view. The list is cut in parts of a hundred,
 //! in its order, and has one empty part where it is empty. One part is wanted: the first that isn't acknowledged. A
 //! message of it is due where none was sent yet, or the last one 30 seconds ago or more. What is supplied or
-//! acknowledged counts only where it is the wanted part; after the last part the view that the round leads to is the
-//! acknowledged one.
+//! acknowledged counts only where it is the wanted part; after the last part the changes are made, in room that was
+//! taken before the round began, and the view that they lead to is the acknowledged one.
 //!
 //! With fetched delivery a notification of a part is sent in its place, and the consumer asks for it: once a part is
 //! acknowledged, the consumer asks for the next without a notification, so one is due only 30 seconds later.

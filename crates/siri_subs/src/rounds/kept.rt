@@ -1,8 +1,8 @@
 //! The rounds of a subscription.
 
-ghost use Rattle.std.specs.Prelude.{◌≡◌, ◌≢◌, ◌↔◌, ◌<◌, suc, Ok, Err, [], true, false, ◌&&◌, is_some, option_map, not, nat_lt, ◌+◌, ◌^◌, Some, None, OnErr};
+ghost use Rattle.std.specs.Prelude.{◌≡◌, ◌≢◌, ◌↔◌, ◌<◌, ◌≤◌, suc, Ok, Err, [], length, true, false, ◌&&◌, is_some, option_map, not, nat_lt, ◌+◌, ◌^◌, Some, None, OnErr};
 ghost use Rattle.siri_records.specs.Keyed.{Items};
-ghost use Rattle.siri_change.specs.Parts.{parts_count};
+ghost use Rattle.siri_change.specs.Parts.{base_view, led_to, parts_count};
 ghost use Rattle.siri_life.specs.Life.{is_due, greatest_round};
 ghost use Rattle.siri_life.specs.Slot.{begun, sent, is_message_due, with_acknowledgement, with_supply};
 ghost use Rattle.siri_subs.specs.rounds.Kept.{IsWanting, outstanding_on};
@@ -11,7 +11,7 @@ ghost use Rattle.siri_subs.specs.rounds.Wanted.{round_on, rounds_carried, wanted
 use crate::rounds::parts::{Part, cut, part_at};
 use crate::rounds::{SupplyError, Taken};
 use siri_base::{GREATEST_NUMBER, List, Moment, Place};
-use siri_change::{Change, View};
+use siri_change::{Change, Room, View};
 use std::alloc::Global;
 use std::marker::Model;
 
@@ -42,12 +42,14 @@ impl Drop for Rounds {
     }
 }
 
-/// The outstanding round. Its base is the acknowledged view.
+/// The outstanding round: its changes, which are made once it is acknowledged whole, with the room that they want. With
+/// incremental updates they are made on the acknowledged view, else on the empty one.
 #[derive(Drop)]
 pub(crate) struct OpenRound {
     moment: Moment,
-    target: View,
+    incremental: bool,
     changes: List<Change>,
+    room: Room,
     acknowledged_parts: usize,
     last_sent: Option<Moment>,
 }
@@ -61,7 +63,7 @@ impl Model for Rounds {
 
     ghost view = { λ r. record { fetched = r.fetched; acknowledged = r.acknowledged; rounds_opened = r.last; outstanding = option_map (outstanding_on r.acknowledged) r.outstanding } };
 
-    ghost invariant = { λ r. IsOpen r.outstanding };
+    ghost invariant = { λ r. IsOpen r.acknowledged r.outstanding };
 }
 
 impl Rounds {
@@ -110,18 +112,21 @@ impl Rounds {
         }
     }
 
-    /// Opens the next round at a moment: it leads from the acknowledged view to another by a list of changes, and its
-    /// first part is wanted. Nothing is outstanding, and the last round is below the greatest. It takes no memory.
-    pub fn begin(&mut self, now: Moment, wanted: View, list: List<Change>)
+    /// Opens the next round at a moment, by a list of changes: with incremental updates they lead from the acknowledged
+    /// view to another, else from the empty one. Its first part is wanted. Nothing is outstanding, the last round is below
+    /// the greatest, and there is room for the changes, which are made after the last part. It takes no memory.
+    pub fn begin(&mut self, now: Moment, incremental: bool, list: List<Change>, room: Room)
         requires level { self.old.outstanding ≡ None }
         requires room { self.old.rounds_opened < greatest_round }
-        ensures { self.new ≡ begun self.old (round_on self.old.acknowledged now wanted list) }
+        requires fits { length (base_view self.old.acknowledged incremental) + length list ≤ room }
+        ensures { self.new ≡ begun self.old (round_on self.old.acknowledged now (led_to self.old.acknowledged incremental list) list) }
     {
         self.last += 1;
         self.keep(OpenRound {
             moment: now,
-            target: wanted,
+            incremental,
             changes: list,
+            room,
             acknowledged_parts: 0,
             last_sent: None,
         });
@@ -217,7 +222,8 @@ impl Rounds {
             return Taken::NotThis;
         }
         if round.is_last() {
-            self.acknowledged = round.target;
+            self.acknowledged
+                .make(round.incremental, round.changes, round.room);
         } else {
             round.acknowledged_parts += 1;
             round.last_sent = self.fetched.then_some(now);
@@ -228,7 +234,7 @@ impl Rounds {
 
     /// This round is the outstanding one.
     fn keep(&mut self, round: OpenRound)
-        requires { IsWanting round }
+        requires { IsWanting self.old.acknowledged round }
         ensures { self.new ≡ record self.old { outstanding = Some (outstanding_on self.old.acknowledged round) } }
     {
         self.outstanding = Some(round);

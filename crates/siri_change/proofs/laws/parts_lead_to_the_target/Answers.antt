@@ -1,5 +1,8 @@
-use Rattle.siri_change.proofs.InParts.{some_part, load_leads, load_few}
+use Rattle.siri_change.proofs.InParts.{some_part, load_applied, load_leads, load_few}
 use Rattle.siri_change.proofs.laws.parts_lead_to_the_target.Goals as goal
+
+pub returns-clause-at_once : goal.returns-clause-at_once
+returns-clause-at_once c = load_applied
 
 pub returns-clause-whole : goal.returns-clause-whole
 returns-clause-whole c = load_leads

@@ -19,7 +19,7 @@ returns-then-is_last-clause-rounds c =
     let last : nat_lt (suc o.acknowledged_parts) (parts_count o.changes) ≡ false =
     is_missed (nat_lt (suc o.acknowledged_parts) (parts_count o.changes)) c.is_last.result c.is_last.ensures.last
     c.if-is_last.true in
-    ap (kept_by kept.fetched o.target kept.last) c.take.ensures.after
+    (λ i. kept_by kept.fetched (c.make.ensures i) kept.last (c.take.ensures.after i))
     ∙ (sym (last_taken kept.fetched kept.acknowledged kept.last o round part now hit last)
     ∙ (ap (λ r. with_acknowledgement (kept_by kept.fetched kept.acknowledged kept.last r) round part now) (sym c.in-Some.is ∙ c.take.ensures.value)
     ∙ ap (λ s. with_acknowledgement s round part now) c.self.view_is))
