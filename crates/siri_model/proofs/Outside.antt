@@ -13,7 +13,7 @@ use Rattle.siri_topic.specs.declared.topics.Topic.{Topic}
 use Rattle.siri_topic.specs.Shown.{is_shown}
 use Rattle.siri_topic.proofs.Stays.{stays_shown}
 use Rattle.siri_store.specs.Candidates.{may_be_shown}
-use Rattle.siri_store.proofs.Leads.{hidden, own_found}
+use Rattle.siri_store.proofs.OwnKeys.{hidden, own_found}
 use Rattle.siri_change.specs.Changes.{agree_on}
 use Rattle.siri_change.specs.Looks.{changes_among}
 use Rattle.siri_model.specs.Direct.{shown}

@@ -200,7 +200,7 @@ enters_in topic window i = enters_from topic window i && is_before window.to (en
 abbrev pub comes_up_to : Items → Key × Item → Bool
 comes_up_to others entry = list_any (λ other. not (is_lt (soonest_cmp other entry))) others
 
--- of a topic with MaximumStopVisits the live visits from the near end of its window on, up to the last of the direct response;
+-- of a topic with MaximumStopVisits the visits of these from the near end of its window on, up to the last of the direct response;
 -- where this has fewer items than that, all whose entry is in the window
 abbrev pub visits_to : Topic → ℕ → Window → Items → Items → ℕ
 visits_to topic most window direct live =
@@ -212,21 +212,23 @@ abbrev pub first_visits : ℕ → Items → Topic → Option ℕ → ℕ
 first_visits now live topic None = 0
 first_visits now live topic (Some most) = visits_to topic most (window_of topic now) (direct_to now live topic) live
 
--- how many keys and items may have changed since a look
+-- how many keys were touched since a look, and of how many items that may be shown to the topic by their keys an end of its
+-- window passed an edge
 abbrev pub changed_since : ℕ → Items → Topic → Look → ℕ
-changed_since now live topic look = length look.touched + items_passed topic live look.moment now
+changed_since now live topic look = length look.touched + items_passed topic (candidates topic live) look.moment now
 
--- how many of them may be shown to the topic by their keys
+-- so of the keys those alone that may be shown to the topic
 abbrev pub asked_since : ℕ → Items → Topic → Look → ℕ
 asked_since now live topic look =
     count_by (may_be_shown topic) look.touched + items_passed topic (candidates topic live) look.moment now
 
+-- at the first look as many as may be shown to the topic by their keys: of a stop its visits
 abbrev pub bound_since : ℕ → Items → Row KeptLife → Option Look → ℕ
-bound_since now live row None = length live
+bound_since now live row None = length (candidates row.wanted.topic live)
 bound_since now live row (Some look) =
     let topic = row.wanted.topic in
     changed_since now live topic look + complete_set row (direct_to now live topic)
-    + (if asked_since now live topic look == 0 then 0 else first_visits now live topic (most_of topic))
+    + (if asked_since now live topic look == 0 then 0 else first_visits now (candidates topic live) topic (most_of topic))
 
 -- where a round is outstanding a settle is no look
 abbrev pub look_bound : ℕ → Items → Row Followed → ℕ

@@ -32,6 +32,7 @@ use Rattle.siri_change.proofs.Leads.{Fits, mentions, leads}
 use Rattle.siri_model.specs.Direct.{at_most, direct_to, items_before, most_of, shown, soonest, soonest_cmp}
 use Rattle.siri_model.specs.Followed.{comes_up_to, enters_from, enters_in, visits_to}
 use Rattle.siri_model.proofs.Lawful.{shown_in_order}
+use Rattle.siri_store.specs.Candidates.{candidates, may_be_shown}
 use Rattle.siri_store.specs.First.{enters, first_entries, looked_until, visits_for}
 use Rattle.siri_store.specs.Walk.{shown_at}
 use Rattle.siri_store.proofs.Firsts.{by_alike, filter_visits, looked_first, looked_over, shown_enters}
@@ -446,19 +447,31 @@ first_are now es (topic.Timetable t) most s is = absurd (cc is)
 first_are now es (topic.Vehicle t) most s is = absurd (cc is)
 first_are now es (topic.Situation t) most s is = absurd (cc is)
 
-pub first_few : (now : ℕ) (es : Items) (topic : Topic) (most : ℕ) → InOrder es → most_of topic ≡ Some most
+first_few : (now : ℕ) (es : Items) (topic : Topic) (most : ℕ) → InOrder es → most_of topic ≡ Some most
     → looked_until (shown_at topic now) most (visits_for topic now es) ≤ length es
 first_few now es (topic.Stop t) most s is = looked_all t now es s most
 first_few now es (topic.Timetable t) most s is = absurd (cc is)
 first_few now es (topic.Vehicle t) most s is = absurd (cc is)
 first_few now es (topic.Situation t) most s is = absurd (cc is)
 
+-- of those that may be shown to the topic by their keys
+asked_ordered : (es : Items) (topic : Topic) → InOrder es → InOrder (candidates topic es)
+asked_ordered es topic s = sorted_kept (λ (e : Key × Item). may_be_shown topic e.0) key_cmp es s
+
+module _ (now : ℕ) (es : Items) (topic : Topic) (most before after : ℕ) (s : InOrder es) (is : most_of topic ≡ Some most)
+    (le : after ≤ before + looked_until (shown_at topic now) most (visits_for topic now (candidates topic es))) where
+  pub first_asked : after ≤ before + length (candidates topic es)
+  first_asked = omega (arith, le, first_few now (candidates topic es) topic most (asked_ordered es topic s) is)
+
+  pub first_held : after ≤ before + length es
+  first_held = omega (arith, first_asked, fewer_pass (λ (e : Key × Item). may_be_shown topic e.0) (λ e. true) (λ e h. refl) es, all_pass es)
+
 same_most : (a b : ℕ) (m : Option ℕ) → m ≡ Some a → m ≡ Some b → a ≡ b
 same_most a b m x y = cc (sym x ∙ y)
 
-pub first_within : (now : ℕ) (es : Items) (topic : Topic) (most before after : ℕ) → InOrder es → most_of topic ≡ Some most
+within_visits : (now : ℕ) (es : Items) (topic : Topic) (most before after : ℕ) → InOrder es → most_of topic ≡ Some most
     → after ≤ before + looked_until (shown_at topic now) most (visits_for topic now es) → AreWithin now es topic before after
-first_within now es (topic.Stop t) most before after s is le other named =
+within_visits now es (topic.Stop t) most before after s is le other named =
     let same = same_most most other (most_of (topic.Stop t)) is named in
     let direct : soonest most (shown now es (topic.Stop t)) ≡ direct_to now es (topic.Stop t) =
     ap (λ m. at_most m (shown now es (topic.Stop t))) (sym is) in
@@ -466,6 +479,12 @@ first_within now es (topic.Stop t) most before after s is le other named =
     ≡ visits_to (topic.Stop t) other (window_of (topic.Stop t) now) (direct_to now es (topic.Stop t)) es =
     λ i. visits_to (topic.Stop t) (same i) (window_of (topic.Stop t) now) (direct i) es in
     omega (arith, le, looked_within t now es s most, bound)
-first_within now es (topic.Timetable t) most before after s is le other named = absurd (cc is)
-first_within now es (topic.Vehicle t) most before after s is le other named = absurd (cc is)
-first_within now es (topic.Situation t) most before after s is le other named = absurd (cc is)
+within_visits now es (topic.Timetable t) most before after s is le other named = absurd (cc is)
+within_visits now es (topic.Vehicle t) most before after s is le other named = absurd (cc is)
+within_visits now es (topic.Situation t) most before after s is le other named = absurd (cc is)
+
+pub first_within : (now : ℕ) (es : Items) (topic : Topic) (most before after : ℕ) → InOrder es → most_of topic ≡ Some most
+    → after ≤ before + looked_until (shown_at topic now) most (visits_for topic now (candidates topic es))
+    → AreWithin now (candidates topic es) topic before after
+first_within now es topic most before after s is le =
+    within_visits now (candidates topic es) topic most before after (asked_ordered es topic s) is le

@@ -1,5 +1,5 @@
 -- Shared items that are put under their keys, and gathered in order of key.
-use Rattle.std.proofs.Common.{◌≡◌, List, [], ◌∷◌, ◌++◌, true, false, refl, ap, sym, ◌∙◌, append_assoc}
+use Rattle.std.proofs.Common.{◌≡◌, List, [], ◌∷◌, ◌++◌, refl, ap}
 use Rattle.std.specs.BTreeMap.{insert_entry}
 use Rattle.std.specs.List.{AllByRecursion}
 use Rattle.std.specs.List.Sorted.{IsStrictlySortedBy}
@@ -12,8 +12,6 @@ use Rattle.siri_records.specs.declared.item.Item.{Item}
 use Rattle.siri_records.specs.declared.key.Key.{Key}
 use Rattle.siri_records.specs.Keyed.{Items, InOrder, with_item, entries_view}
 use Rattle.siri_records.specs.Order.{key_cmp}
-use Rattle.siri_topic.specs.declared.topics.Topic.{Topic}
-use Rattle.siri_store.specs.Candidates.{candidates, may_be_shown}
 
 abbrev pub Shared : Type 0
 Shared = Key × Rc Item Global
@@ -47,29 +45,3 @@ keys_view (e ∷ es) = ap (λ l. e.0 ∷ l) (keys_view es)
 
 pub view_in_order : (es : List Shared) → IsStrictlySortedBy key_cmp (keys_of es) → InOrder (entries_view es)
 view_in_order es s = rw (keys_view es) s
-
--- ---- those that may be shown to a topic
-
-asked_first : (t : Topic) (e : Key × Item) (es : Items) → may_be_shown t e.0 ≡ true
-    → candidates t (e ∷ es) ≡ e ∷ candidates t es
-asked_first t e es may = rw may refl
-
--- the next of them is one
-pub asked_here : (t : Topic) (items : Items) (e : Key × Item) (es all : Items) → may_be_shown t e.0 ≡ true
-    → items ++ candidates t (e ∷ es) ≡ all → items ++ e ∷ candidates t es ≡ all
-asked_here t items e es all may so_far = ap (λ (l : Items). items ++ l) (sym (asked_first t e es may)) ∙ so_far
-
-pub asked_more : (t : Topic) (items more : Items) (e : Key × Item) (es all : Items) → more ≡ items ++ e ∷ []
-    → may_be_shown t e.0 ≡ true → items ++ candidates t (e ∷ es) ≡ all → more ++ candidates t es ≡ all
-asked_more t items more e es all is may so_far =
-    ap (λ (l : Items). l ++ candidates t es) is
-    ∙ (append_assoc items (e ∷ []) (candidates t es) ∙ asked_here t items e es all may so_far)
-
--- or it isn't
-pub asked_past : (t : Topic) (items : Items) (e : Key × Item) (es all : Items) → may_be_shown t e.0 ≡ false
-    → items ++ candidates t (e ∷ es) ≡ all → items ++ candidates t es ≡ all
-asked_past t items e es all may so_far = ap (λ (l : Items). items ++ l) (sym (asked_next t e es may)) ∙ so_far
-  where
-    asked_next : (t : Topic) (e : Key × Item) (es : Items) → may_be_shown t e.0 ≡ false
-        → candidates t (e ∷ es) ≡ candidates t es
-    asked_next t e es may = rw may refl

@@ -2,6 +2,7 @@
 
 ghost use Rattle.std.specs.Prelude.{◌≡◌, ◌+◌, ◌≤◌, length, IfOk, Some};
 ghost use Rattle.siri_model.specs.Direct.{direct_to, most_of};
+ghost use Rattle.siri_store.specs.Candidates.{candidates};
 ghost use Rattle.siri_responder.specs.Firsts.{AreWithin};
 
 use crate::answers::most_of;
@@ -23,7 +24,8 @@ pub(crate) fn direct_to(
     ensures rest { store.new ≡ record store.old { reads = store.new.reads } }
     ensures risen { store.old.reads ≤ store.new.reads }
     ensures reads { store.new.reads ≤ store.old.reads + length store.old.entries }
-    ensures first { AreWithin store.old.moment store.old.entries topic.now store.old.reads store.new.reads }
+    ensures asked { store.new.reads ≤ store.old.reads + length (candidates topic.now store.old.entries) }
+    ensures first { AreWithin store.old.moment (candidates topic.now store.old.entries) topic.now store.old.reads store.new.reads }
 {
     match most_of(topic) {
         Some(most) => first_to(alloc, store, topic, most),
@@ -31,8 +33,8 @@ pub(crate) fn direct_to(
     }
 }
 
-/// The first so many visits that are shown to a topic, in order of key: they are looked at by entry and then key, until
-/// so many were shown.
+/// The first so many visits that are shown to a topic, in order of key: those of its stop are looked at by entry and then
+/// key, until so many were shown.
 fn first_to(
     alloc: Global,
     store: &mut Store,
@@ -44,7 +46,8 @@ fn first_to(
     ensures rest { store.new ≡ record store.old { reads = store.new.reads } }
     ensures risen { store.old.reads ≤ store.new.reads }
     ensures reads { store.new.reads ≤ store.old.reads + length store.old.entries }
-    ensures first { AreWithin store.old.moment store.old.entries topic.now store.old.reads store.new.reads }
+    ensures asked { store.new.reads ≤ store.old.reads + length (candidates topic.now store.old.entries) }
+    ensures first { AreWithin store.old.moment (candidates topic.now store.old.entries) topic.now store.old.reads store.new.reads }
 {
     let _ = store.held(); // the items are in order of key
     let first = store.first_shown(alloc, topic, most)?;

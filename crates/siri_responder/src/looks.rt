@@ -6,11 +6,12 @@ ghost use Rattle.siri_model.specs.Followed.{items_passed};
 ghost use Rattle.siri_model.specs.Looks.{crossed_items, found_of};
 ghost use Rattle.siri_store.specs.Candidates.{candidates};
 ghost use Rattle.siri_store.specs.Crossing.{crossed_entries};
+ghost use Rattle.siri_topic.specs.Services.{service_asked};
 ghost use Rattle.siri_responder.specs.Looking.{far_entries, near_entries, with_items};
 
 use siri_base::{List, Moment, OutOfMemory};
-use siri_records::{Change, Item, Key, KeyedItems, Service, SharedKey};
-use siri_store::{Store, may_be_shown};
+use siri_records::{Change, Item, Key, KeyedItems, SharedKey};
+use siri_store::Store;
 use siri_topic::{Topic, Window, window};
 use std::alloc::Global;
 use std::collections::{BTreeMap, BTreeSet};
@@ -49,8 +50,8 @@ pub(crate) fn found(
 }
 
 /// The held items that may be shown to a topic by their keys and that the ends of its window crossed between a moment and
-/// the store's, in order of key. It takes at most a step for each of which the near end passed an edge, and for each of
-/// which the far end did.
+/// the store's, in order of key. It takes at most a step for each of them of which the near end passed an edge, and for
+/// each of which the far end did.
 pub(crate) fn crossed(
     alloc: Global,
     store: &mut Store,
@@ -61,14 +62,14 @@ pub(crate) fn crossed(
     ensures ok { IfOk result (λ items. items ≡ candidates topic.now (crossed_items topic.now before store.old.moment store.old.entries)) }
     ensures rest { store.new ≡ record store.old { reads = store.new.reads } }
     ensures risen { store.old.reads ≤ store.new.reads }
-    ensures reads { store.new.reads ≤ store.old.reads + items_passed topic.now store.old.entries before store.old.moment }
+    ensures reads { store.new.reads ≤ store.old.reads + items_passed topic.now (candidates topic.now store.old.entries) before store.old.moment }
 {
     let earlier = window(topic, before);
     let later = window(topic, store.now());
     let mut found = BTreeMap::new(alloc);
     put_near(alloc, store, topic, &earlier, &later, &mut found)?;
     put_far(alloc, store, topic, &earlier, &later, &mut found)?;
-    asked_in_order(alloc, found, topic)
+    in_order(alloc, found)
 }
 
 /// Puts those under their keys of which the near end passed an edge, for a situation topic: a visit and a journey are
@@ -81,22 +82,13 @@ fn put_near(
     later: &Window,
     found: &mut BTreeMap<SharedKey, Rc<Item>>,
 ) -> Result<(), OutOfMemory>
-    ensures ok { OnOk result (entries_view found.new.entries ≡ with_items (entries_view found.old.entries) (near_entries topic.now earlier.now later.now store.old.entries)) }
+    ensures ok { OnOk result (entries_view found.new.entries ≡ with_items (entries_view found.old.entries) (near_entries topic.now earlier.now later.now (candidates topic.now store.old.entries))) }
     ensures rest { store.new ≡ record store.old { reads = store.new.reads } }
     ensures risen { store.old.reads ≤ store.new.reads }
-    ensures reads { store.new.reads ≤ store.old.reads + length (near_entries topic.now earlier.now later.now store.old.entries) }
+    ensures reads { store.new.reads ≤ store.old.reads + length (near_entries topic.now earlier.now later.now (candidates topic.now store.old.entries)) }
 {
     match topic {
-        Topic::Situation(_) => {
-            put_crossed(
-                alloc,
-                store,
-                Service::Situation,
-                earlier.from,
-                later.from,
-                found,
-            )
-        }
+        Topic::Situation(_) => { put_crossed(alloc, store, topic, earlier.from, later.from, found) }
         _ => Ok(()),
     }
 }
@@ -110,36 +102,36 @@ fn put_far(
     later: &Window,
     found: &mut BTreeMap<SharedKey, Rc<Item>>,
 ) -> Result<(), OutOfMemory>
-    ensures ok { OnOk result (entries_view found.new.entries ≡ with_items (entries_view found.old.entries) (far_entries topic.now earlier.now later.now store.old.entries)) }
+    ensures ok { OnOk result (entries_view found.new.entries ≡ with_items (entries_view found.old.entries) (far_entries topic.now earlier.now later.now (candidates topic.now store.old.entries))) }
     ensures rest { store.new ≡ record store.old { reads = store.new.reads } }
     ensures risen { store.old.reads ≤ store.new.reads }
-    ensures reads { store.new.reads ≤ store.old.reads + length (far_entries topic.now earlier.now later.now store.old.entries) }
+    ensures reads { store.new.reads ≤ store.old.reads + length (far_entries topic.now earlier.now later.now (candidates topic.now store.old.entries)) }
 {
     match (earlier.to, later.to) {
-        (Some(from), Some(to)) => put_crossed(alloc, store, topic.service(), from, to, found),
+        (Some(from), Some(to)) => put_crossed(alloc, store, topic, from, to, found),
         _ => Ok(()),
     }
 }
 
-/// Puts those items of a service under their keys that have an edge at or after one moment, and before another: none
-/// where the other isn't later, as at each look until the clock moves.
+/// Puts those items under their keys that may be shown to a topic by these and that have an edge at or after one moment,
+/// and before another: none where the other isn't later, as at each look until the clock moves.
 fn put_crossed(
     alloc: Global,
     store: &mut Store,
-    service: Service,
+    topic: &Topic,
     from: i64,
     to: i64,
     found: &mut BTreeMap<SharedKey, Rc<Item>>,
 ) -> Result<(), OutOfMemory>
-    ensures ok { OnOk result (entries_view found.new.entries ≡ with_items (entries_view found.old.entries) (crossed_entries service from to store.old.entries)) }
+    ensures ok { OnOk result (entries_view found.new.entries ≡ with_items (entries_view found.old.entries) (crossed_entries (service_asked topic.now) from to (candidates topic.now store.old.entries))) }
     ensures rest { store.new ≡ record store.old { reads = store.new.reads } }
     ensures risen { store.old.reads ≤ store.new.reads }
-    ensures reads { store.new.reads ≤ store.old.reads + length (crossed_entries service from to store.old.entries) }
+    ensures reads { store.new.reads ≤ store.old.reads + length (crossed_entries (service_asked topic.now) from to (candidates topic.now store.old.entries)) }
 {
     if from >= to {
         return Ok(());
     }
-    let entries = store.crossed(alloc, service, from, to)?;
+    let entries = store.crossed(alloc, topic, from, to)?;
     put_all(entries, found)
 }
 
@@ -166,23 +158,6 @@ pub(crate) fn in_order(
     let mut items = KeyedItems::new(alloc);
     for (key, item) in found {
         items.push_last(key, item)?;
-    }
-    Ok(items)
-}
-
-/// Those of the items that may be shown to a topic by their keys, in order of these.
-fn asked_in_order(
-    alloc: Global,
-    found: BTreeMap<SharedKey, Rc<Item>>,
-    topic: &Topic,
-) -> Result<KeyedItems, OutOfMemory>
-    ensures { IfOk result (λ items. items ≡ candidates topic.now (entries_view found.entries)) }
-{
-    let mut items = KeyedItems::new(alloc);
-    for (key, item) in found {
-        if may_be_shown(topic, key.key()) {
-            items.push_last(key, item)?;
-        }
     }
     Ok(items)
 }

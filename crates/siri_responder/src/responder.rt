@@ -142,14 +142,16 @@ impl Responder {
     }
 
     /// The direct response to a topic, in order of key. Nothing but the counter changes, and that rises by at most as many
-    /// steps as items are held; where the topic has MaximumStopVisits, by no more than the visits whose entry is in its
-    /// window and that come, by entry and then key, up to the last of the response.
+    /// steps as items are held that may be shown to the topic by their keys; where it has MaximumStopVisits, by no more than
+    /// those visits of its stop whose entry is in its window and that come, by entry and then key, up to the last of the
+    /// response.
     pub fn direct_to(&mut self, topic: &Topic) -> Result<KeyedItems, OutOfMemory>
         ensures ok { IfOk result (λ items. items ≡ direct_to self.old.moment self.old.held topic.now) }
         ensures rest { self.new ≡ record self.old { reads = self.new.reads } }
         ensures risen { self.old.reads ≤ self.new.reads }
         ensures reads { self.new.reads ≤ self.old.reads + length self.old.held }
-        ensures first { AreWithin self.old.moment self.old.held topic.now self.old.reads self.new.reads }
+        ensures asked { self.new.reads ≤ self.old.reads + length (candidates topic.now self.old.held) }
+        ensures first { AreWithin self.old.moment (candidates topic.now self.old.held) topic.now self.old.reads self.new.reads }
     {
         direct_to(self.alloc, &mut self.feeding.store, topic)
     }
@@ -168,13 +170,13 @@ impl Responder {
 
     /// The held items that may be shown to a topic by their keys and of which an end of its window passed an edge since a
     /// moment, such that they may be shown now and weren't then, or were and aren't; in order of key. Nothing but the
-    /// counter changes, and that rises by at most a step for each item of the topic's service of which the near end passed
-    /// an edge, and for each of which the far end did.
+    /// counter changes, and that rises by at most a step for each item that may be shown to the topic by its key and of
+    /// which the near end passed an edge, and for each of which the far end did.
     pub fn crossed(&mut self, topic: &Topic, before: Moment) -> Result<KeyedItems, OutOfMemory>
         ensures ok { IfOk result (λ items. items ≡ candidates topic.now (crossed_items topic.now before self.old.moment self.old.held)) }
         ensures rest { self.new ≡ record self.old { reads = self.new.reads } }
         ensures risen { self.old.reads ≤ self.new.reads }
-        ensures reads { self.new.reads ≤ self.old.reads + items_passed topic.now self.old.held before self.old.moment }
+        ensures reads { self.new.reads ≤ self.old.reads + items_passed topic.now (candidates topic.now self.old.held) before self.old.moment }
     {
         crossed(self.alloc, &mut self.feeding.store, topic, before)
     }

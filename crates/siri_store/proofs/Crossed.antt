@@ -21,7 +21,7 @@ use Rattle.siri_records.specs.declared.item.Item.TheVariants as item
 use Rattle.siri_records.specs.declared.item.Service.{Service}
 use Rattle.siri_records.specs.declared.item.Service.TheVariants as service
 use Rattle.siri_records.specs.declared.key.Key.{Key}
-use Rattle.siri_records.specs.Edges.{edges_of, is_within, has_edge}
+use Rattle.siri_records.specs.Edges.{edges_of, is_within, has_edge, listed}
 use Rattle.siri_records.specs.Keyed.{Items, InOrder, item_of}
 use Rattle.siri_records.specs.Order.{key_cmp, key_cmp_total}
 use Rattle.siri_records.proofs.Order.{key_cmp_exact}
@@ -29,11 +29,12 @@ use Rattle.siri_store.specs.Between.{is_between, between}
 use Rattle.siri_store.specs.Crossing.{least_edge, edge_cmp, in_order_of_edges, crossed_entries}
 use Rattle.siri_store.specs.Held.{counted}
 use Rattle.siri_store.specs.CrossWalk.{led_at, entry_list, led}
-use Rattle.siri_store.specs.Stamped.{Stamp, stamp_cmp, has_stamp, has, by_edge, moments_of, moments_held, Tied}
+use Rattle.siri_store.specs.Stamped.{Stamp, stamp_cmp, has_stamp, has, by_edge, by_end, own_end_of, moments_of, moments_held, Tied}
 use Rattle.siri_store.proofs.LeastEdge.{least_in_range}
+use Rattle.siri_store.proofs.Orders.{unnamed_edge}
 use Rattle.siri_store.proofs.LookUps.{by_bool, lookup-insert_entry, later_apart}
 use Rattle.siri_store.proofs.Inserted.{sorted_inserted, same_entries}
-use Rattle.siri_records.specs.Services.{is_of}
+use Rattle.siri_records.specs.Services.{is_of, service_of}
 
 abbrev pub Edged : Type 0
 Edged = List ((ℕ × Key) × Item)
@@ -289,22 +290,25 @@ first_edge from to i = option_map_or (λ edge. edge) (least_edge from to i) 0
 -- ---- both are the same
 
 pub service_moments : (s : Service) (i : Item) → moments_of (by_edge s) i ≡ cond (is_of s i) (edges_of i) []
-service_moments service.Stop (item.Visit v) = refl
-service_moments service.Stop (item.Journey j) = refl
-service_moments service.Stop (item.Vehicle v) = refl
-service_moments service.Stop (item.Situation x) = refl
-service_moments service.Timetable (item.Visit v) = refl
-service_moments service.Timetable (item.Journey j) = refl
-service_moments service.Timetable (item.Vehicle v) = refl
-service_moments service.Timetable (item.Situation x) = refl
-service_moments service.Vehicle (item.Visit v) = refl
-service_moments service.Vehicle (item.Journey j) = refl
-service_moments service.Vehicle (item.Vehicle v) = refl
-service_moments service.Vehicle (item.Situation x) = refl
-service_moments service.Situation (item.Visit v) = refl
-service_moments service.Situation (item.Journey j) = refl
-service_moments service.Situation (item.Vehicle v) = refl
-service_moments service.Situation (item.Situation x) = refl
+service_moments s i = ap (λ b. cond (nat_eq (by_edge s) by_end) (listed (own_end_of i)) (cond (nat_eq (by_edge s) (by_edge (service_of i)) || b) (edges_of i) [])) (unnamed_edge s i) ∙ by s i
+  where
+    by : (s : Service) (i : Item) → cond (nat_eq (by_edge s) by_end) (listed (own_end_of i)) (cond (nat_eq (by_edge s) (by_edge (service_of i)) || false) (edges_of i) []) ≡ cond (is_of s i) (edges_of i) []
+    by service.Stop (item.Visit v) = refl
+    by service.Stop (item.Journey j) = refl
+    by service.Stop (item.Vehicle v) = refl
+    by service.Stop (item.Situation x) = refl
+    by service.Timetable (item.Visit v) = refl
+    by service.Timetable (item.Journey j) = refl
+    by service.Timetable (item.Vehicle v) = refl
+    by service.Timetable (item.Situation x) = refl
+    by service.Vehicle (item.Visit v) = refl
+    by service.Vehicle (item.Journey j) = refl
+    by service.Vehicle (item.Vehicle v) = refl
+    by service.Vehicle (item.Situation x) = refl
+    by service.Situation (item.Visit v) = refl
+    by service.Situation (item.Journey j) = refl
+    by service.Situation (item.Vehicle v) = refl
+    by service.Situation (item.Situation x) = refl
 
 lead_bits : (a b c : Bool) (i : Item) → (a && not b) ≡ c
     → cond a (cond b None (Some i)) None ≡ or_else (cond (true && c) (Some i) None) None
@@ -370,21 +374,26 @@ of_order order test (x ∷ xs) = by_bool (nat_eq x.0 order && test x.1)
     (λ h. rw h (equal_numbers x.0 order (left_true (nat_eq x.0 order) (test x.1) h), of_order order test xs))
     (λ h. rw h (of_order order test xs))
 
-module _ (s : Service) (from to : ℤ) (es : Items) (stamps : List Stamp) (tied : Tied es stamps) where
-  pub led_crossed : InOrder es → IsStrictlySortedBy stamp_cmp stamps
-      → led from es (between (by_edge s) from to stamps) ≡ crossed_entries s from to es
+-- of an order in which the held items have the moments that they have in that of a service
+abbrev pub Alike : ℕ → Service → Items → Type 0
+Alike order s es = (k : Key) → moments_held order (item_of es k) ≡ moments_held (by_edge s) (item_of es k)
+
+module _ (order : ℕ) (s : Service) (from to : ℤ) (es : Items) (stamps : List Stamp) (tied : Tied es stamps) where
+  pub led_crossed : Alike order s es → InOrder es → IsStrictlySortedBy stamp_cmp stamps
+      → led from es (between order from to stamps) ≡ crossed_entries s from to es
   unfolding IsStrictlySortedBy
-  led_crossed ordered sorted =
-      let there = between (by_edge s) from to stamps in
-      let all : AllByRecursion (λ x. x.0 ≡ by_edge s) there = of_order (by_edge s) (is_within from to) stamps in
+  led_crossed alike ordered sorted =
+      let there = between order from to stamps in
+      let all : AllByRecursion (λ x. x.0 ≡ order) there = of_order order (is_within from to) stamps in
       let l = edged from es there in
       let r = in_order_of_edges s from to es in
       let same : l ≡ r = same_entries edge_total edge_exact l r
-      (sorted_edged from es (by_edge s) there
-      (IsStrictlySortedBy-filter stamp_cmp (is_between (by_edge s) from to) stamps sorted) all)
+      (sorted_edged from es order there
+      (IsStrictlySortedBy-filter stamp_cmp (is_between order from to) stamps sorted) all)
       (sorted_fold (crossing s from to) (first_edge from to) [] (filter (λ e. crossing s from to e.1) es) tt)
-      (λ x. found_edged from es (by_edge s) x.0 x.1 there all
-      ∙ (ap (λ b. cond b (value from x.0 (item_of es x.1)) None) (stamp_passing (by_edge s) (is_within from to) stamps es tied x.0 x.1)
+      (λ x. found_edged from es order x.0 x.1 there all
+      ∙ (ap (λ b. cond b (value from x.0 (item_of es x.1)) None)
+      (stamp_passing order (is_within from to) stamps es tied x.0 x.1 ∙ ap (λ ms. is_within from to x.0 && has x.0 ms) (alike x.1))
       ∙ (of_held s from to x.0 (item_of es x.1) ∙ sym (found_placed (crossing s from to) (first_edge from to) x.0 x.1 es [] ordered)))) in
       sym (unkeyed from es there) ∙ ap (map (λ f. (f.0.1, f.1))) same
 

@@ -1,5 +1,5 @@
 -- The first stamp is that of the item that ends first.
-use Rattle.std.proofs.Common.{◌≡◌, ℕ, Bool, true, false, cond, ◌||◌, List, Option, Some, None, refl, ap, ◌∙◌, sym, subst, arith}
+use Rattle.std.proofs.Common.{◌≡◌, ℕ, Bool, true, false, cond, ◌||◌, List, [], Option, Some, None, refl, ap, ◌∙◌, sym, subst, arith}
 use Rattle.std.specs.Prelude.{nat_eq, nat_lt, option_map, IfSome, IfNone}
 use Rattle.std.specs.Borrow.{Bor}
 use Rattle.std.specs.Option.{option_cmp}
@@ -11,12 +11,14 @@ use Rattle.siri_records.specs.declared.item.Item.{Item}
 use Rattle.siri_records.specs.declared.item.Item.TheVariants as item
 use Rattle.siri_records.specs.declared.item.Service.TheVariants as service
 use Rattle.siri_records.specs.declared.key.Key.{Key}
-use Rattle.siri_records.specs.Edges.{listed}
+use Rattle.siri_records.specs.Edges.{edges_of, listed}
+use Rattle.siri_records.specs.Services.{is_of}
 use Rattle.siri_records.specs.Ends.{end_of}
 use Rattle.siri_records.specs.Keyed.{Items, item_of}
 use Rattle.siri_records.specs.Order.{key_cmp}
 use Rattle.siri_store.specs.Ended.{EndsFirst, NoneHasEnded}
 use Rattle.siri_store.specs.Stamped.{Stamp, has_stamp, has, moments_of, moments_held, by_end, by_edge, is_of_ends}
+use Rattle.siri_store.proofs.Crossed.{service_moments}
 use Rattle.siri_store.specs.Stamped.{AllKeyed, IsFirstEnd, IsFirstOfEnds, NoneEnded, Tied}
 
 itself : (m : ℕ) → nat_eq m m ≡ true
@@ -70,11 +72,14 @@ at_end (item.Journey j) m h = its_end m (end_of (item.Journey j)) h
 at_end (item.Vehicle v) m h = its_end m (end_of (item.Vehicle v)) h
 at_end (item.Situation s) m h = its_end m (end_of (item.Situation s)) h
 
+at_visit : (i : Item) (m : ℕ) → has m (cond (is_of service.Stop i) (edges_of i) []) ≡ true → end_of i ≡ Some m
+at_visit (item.Visit v) m h = its_end m (end_of (item.Visit v)) h
+at_visit (item.Journey j) m h = absurd (cc h)
+at_visit (item.Vehicle v) m h = absurd (cc h)
+at_visit (item.Situation s) m h = absurd (cc h)
+
 at_edge : (i : Item) (m : ℕ) → has m (moments_of (by_edge service.Stop) i) ≡ true → end_of i ≡ Some m
-at_edge (item.Visit v) m h = its_end m (end_of (item.Visit v)) h
-at_edge (item.Journey j) m h = absurd (cc h)
-at_edge (item.Vehicle v) m h = absurd (cc h)
-at_edge (item.Situation s) m h = absurd (cc h)
+at_edge i m h = at_visit i m (sym (ap (has m) (service_moments service.Stop i)) ∙ h)
 
 of_order : (order : ℕ) (i : Item) (m : ℕ) → is_of_ends order ≡ true → has m (moments_of order i) ≡ true → end_of i ≡ Some m
 of_order order i m ends at = by (nat_eq order by_end) refl

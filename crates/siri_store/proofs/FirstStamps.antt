@@ -1,6 +1,6 @@
 -- The first stamp of an order, and the first of those that are of ends.
 use Rattle.std.proofs.Common.{◌≡◌, ℕ, Bool, true, false, cond, ◌&&◌, ◌||◌, List, [], ◌∷◌, Option, Some, None, refl, ap, ◌∙◌, sym, subst, arith}
-use Rattle.std.specs.Prelude.{nat_eq, not, filter, pos, int_lt, if◌then◌else◌}
+use Rattle.std.specs.Prelude.{nat_eq, not, filter, pos, int_lt}
 use Rattle.std.specs.List.{AllByRecursion}
 use Rattle.std.specs.List.Sorted.{IsStrictlySortedBy}
 use Rattle.std.specs.Cmp.{IsTotalOrder, Equal-is, tied_itself, upto, then_total, on_total, nat_cmp_total}

@@ -1,6 +1,6 @@
 -- The visits of a window by their stamps; and a walk over them until so many pass a test.
 use Rattle.std.proofs.Common.{◌≡◌, ℕ, suc, zero, ◌+◌, ◌-◌, ◌≤◌, Bool, true, false, cond, ◌&&◌, ◌||◌, List, [], ◌∷◌, ◌++◌, map, filter, fold}
-use Rattle.std.proofs.Common.{append_assoc, drop, take, Option, Some, None, refl, ap, ◌∙◌, sym, subst, arith}
+use Rattle.std.proofs.Common.{append_assoc, drop, take, Option, Some, None, refl, ap, ◌∙◌, sym, arith}
 use Rattle.std.specs.Prelude.{ℤ, pos, nat_eq}
 use Rattle.std.specs.BTreeMap.{insert_entry, is_at}
 use Rattle.std.specs.Cmp.{Equal-is}
@@ -37,7 +37,7 @@ use Rattle.siri_store.specs.Stamped.{Stamp, stamp_cmp, has, moments_held, Tied}
 use Rattle.siri_store.specs.Visits.{AreVisits}
 use Rattle.siri_store.specs.Walk.{shown_entries}
 use Rattle.siri_store.proofs.Crossed.{Edged, edge_total, edge_exact, edged, unkeyed, sorted_edged, found_edged, value, or_else}
-use Rattle.siri_store.proofs.Crossed.{at, placed, sorted_fold, found_placed, service_moments, none_bits, of_order, stamp_passing}
+use Rattle.siri_store.proofs.Crossed.{Alike, at, placed, sorted_fold, found_placed, service_moments, none_bits, of_order, stamp_passing}
 use Rattle.siri_store.proofs.Inserted.{same_entries}
 use Rattle.siri_store.proofs.LookUps.{by_bool, later_apart}
 use Rattle.siri_records.specs.Services.{is_of}
@@ -152,53 +152,50 @@ module _ (window : Window) (p : Item → Bool) where
       ap (λ ms. kept_if p (cond (in_window window q && has q ms) (value window.from q (Some i)) None)) (service_moments service.Stop i)
       ∙ of_item q i (is_of service.Stop i) refl
 
-  module _ (es : Items) (stamps : List Stamp) (tied : Tied es stamps) where
-    pub led_visits : InOrder es → IsStrictlySortedBy stamp_cmp stamps
-        → filter (λ e. p e.1) (led window.from es (inside 1 window stamps)) ≡ visits_by_entry (λ i. enters window i && p i) es
+  module _ (order : ℕ) (es : Items) (stamps : List Stamp) (tied : Tied es stamps) where
+    pub led_visits : Alike order service.Stop es → InOrder es → IsStrictlySortedBy stamp_cmp stamps
+        → filter (λ e. p e.1) (led window.from es (inside order window stamps)) ≡ visits_by_entry (λ i. enters window i && p i) es
     unfolding IsStrictlySortedBy
-    led_visits ordered sorted =
-        let there = inside 1 window stamps in
-        let all = of_order 1 (in_window window) stamps in
+    led_visits alike ordered sorted =
+        let there = inside order window stamps in
+        let all = of_order order (in_window window) stamps in
         let found = edged window.from es there in
-        let found_sorted = sorted_edged window.from es 1 there
-        (IsStrictlySortedBy-filter stamp_cmp (λ stamp. nat_eq stamp.0 1 && in_window window stamp.1) stamps sorted) all in
+        let found_sorted = sorted_edged window.from es order there
+        (IsStrictlySortedBy-filter stamp_cmp (λ stamp. nat_eq stamp.0 order && in_window window stamp.1) stamps sorted) all in
         let l = filter (λ (f : (ℕ × Key) × Item). p f.1) found in
         let r = placed enters_passing entry_at [] es in
         let same : l ≡ r = same_entries edge_total edge_exact l r
         (sorted_kept (λ (f : (ℕ × Key) × Item). p f.1) edge_cmp found found_sorted)
         (sorted_fold enters_passing entry_at [] (filter (λ e. enters_passing e.1) es) tt)
         (λ x. lookup_kept p x found found_sorted
-        ∙ (ap (kept_if p) (found_edged window.from es 1 x.0 x.1 there all
-        ∙ ap (λ b. cond b (value window.from x.0 (item_of es x.1)) None) (stamp_passing 1 (in_window window) stamps es tied x.0 x.1))
+        ∙ (ap (kept_if p) (found_edged window.from es order x.0 x.1 there all
+        ∙ ap (λ b. cond b (value window.from x.0 (item_of es x.1)) None)
+        (stamp_passing order (in_window window) stamps es tied x.0 x.1 ∙ ap (λ ms. in_window window x.0 && has x.0 ms) (alike x.1)))
         ∙ (of_held x.0 (item_of es x.1) ∙ sym (found_placed enters_passing entry_at x.0 x.1 es [] ordered)))) in
         ap (filter (λ (e : Key × Item). p e.1)) (sym (unkeyed window.from es there))
         ∙ (sym (kept_unkeyed p found) ∙ ap (map {B = Key × Item} (λ (f : (ℕ × Key) × Item). (f.0.1, f.1))) same)
 
 -- the stamps of a window that has a far end, and of one that has none
-inside_to : (window : Window) (to : ℤ) (stamps : List Stamp) → window.to ≡ Some to → between 1 window.from to stamps ≡ inside 1 window stamps
-inside_to window to stamps is =
-    ap (λ t. filter (λ (s : Stamp). nat_eq s.0 1 && (is_from window.from (Some s.1) && is_before t (Some s.1))) stamps) (sym is)
+pub inside_to : (order : ℕ) (window : Window) (to : ℤ) (stamps : List Stamp) → window.to ≡ Some to
+    → between order window.from to stamps ≡ inside order window stamps
+inside_to order window to stamps is =
+    ap (λ t. filter (λ (s : Stamp). nat_eq s.0 order && (is_from window.from (Some s.1) && is_before t (Some s.1))) stamps) (sym is)
 
 true_and : (a b : Bool) → (a && b) ≡ (a && (b && true))
 true_and true true = refl
 true_and true false = refl
 true_and false b = refl
 
-inside_since : (window : Window) (stamps : List Stamp) → window.to ≡ None → since 1 window.from stamps ≡ inside 1 window stamps
-inside_since window stamps is =
-    (λ i. filter (λ (s : Stamp). true_and (nat_eq s.0 1) (is_from window.from (Some s.1)) i) stamps)
-    ∙ ap (λ t. filter (λ (s : Stamp). nat_eq s.0 1 && (is_from window.from (Some s.1) && is_before t (Some s.1))) stamps) (sym is)
+pub inside_since : (order : ℕ) (window : Window) (stamps : List Stamp) → window.to ≡ None
+    → since order window.from stamps ≡ inside order window stamps
+inside_since order window stamps is =
+    (λ i. filter (λ (s : Stamp). true_and (nat_eq s.0 order) (is_from window.from (Some s.1)) i) stamps)
+    ∙ ap (λ t. filter (λ (s : Stamp). nat_eq s.0 order && (is_from window.from (Some s.1) && is_before t (Some s.1))) stamps) (sym is)
 
-module _ (window : Window) (es : Items) (stamps : List Stamp) (tied : Tied es stamps) (ordered : InOrder es)
+module _ (order : ℕ) (window : Window) (es : Items) (stamps : List Stamp) (tied : Tied es stamps) (ordered : InOrder es)
     (sorted : IsStrictlySortedBy stamp_cmp stamps) where
-  are_visits : AreVisits window es (inside 1 window stamps)
-  are_visits p = led_visits window p es stamps tied ordered sorted
-
-  pub visits_to : (to : ℤ) → window.to ≡ Some to → AreVisits window es (between 1 window.from to stamps)
-  visits_to to is = subst (AreVisits window es) (sym (inside_to window to stamps is)) are_visits
-
-  pub visits_since : window.to ≡ None → AreVisits window es (since 1 window.from stamps)
-  visits_since is = subst (AreVisits window es) (sym (inside_since window stamps is)) are_visits
+  pub are_visits : Alike order service.Stop es → AreVisits window es (inside order window stamps)
+  are_visits alike p = led_visits window p order es stamps tied alike ordered sorted
 
 -- ---- all of them, and those that are shown
 
@@ -299,10 +296,10 @@ and_false : (b : Bool) → (b && false) ≡ false
 and_false true = refl
 and_false false = refl
 
-pub none_between : (stamps : List Stamp) → between 1 (pos 0) (pos 0) stamps ≡ []
-none_between stamps =
-    none_pass (λ (s : Stamp). nat_eq s.0 1 && is_within (pos 0) (pos 0) s.1)
-    (λ s. ap (λ b. nat_eq s.0 1 && b) (none_within s.1) ∙ and_false (nat_eq s.0 1)) stamps
+pub none_between : (order : ℕ) (stamps : List Stamp) → between order (pos 0) (pos 0) stamps ≡ []
+none_between order stamps =
+    none_pass (λ (s : Stamp). nat_eq s.0 order && is_within (pos 0) (pos 0) s.1)
+    (λ s. ap (λ b. nat_eq s.0 order && b) (none_within s.1) ∙ and_false (nat_eq s.0 order)) stamps
 
 -- what is known of a walk for it: nothing is looked at
 pub record Nothing (from : ℤ) (t : Topic) (now : ℕ) (es : Items) (there : List Stamp) : Type 0 where

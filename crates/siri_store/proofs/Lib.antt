@@ -14,6 +14,8 @@ pub mod Inserted
 pub mod Crossed
 pub mod Firsts
 pub mod Leads
+pub mod AskedFor
+pub mod Digests
 pub mod Lasting
 pub mod Marking
 pub mod Touching

@@ -1,5 +1,5 @@
 -- Numbers of marks never fall.
-use Rattle.std.proofs.Common.{◌≡◌, ℕ, suc, zero, add-one, ◌≤◌, ◌<◌, ◌+◌, ◌-◌, List, [], ◌∷◌, ◌++◌, length, Bool, true}
+use Rattle.std.proofs.Common.{◌≡◌, ℕ, suc, zero, add-one, ◌≤◌, ◌<◌, ◌+◌, List, [], ◌∷◌, ◌++◌, length, Bool, true}
 use Rattle.std.proofs.Common.{false, cond, refl, ap, sym, ◌∙◌, arith, filter, map, drop, ltb, get_or}
 use Rattle.std.specs.List.{AllByRecursion, AllWithin}
 use Rattle.std.specs.List.Sorted.{IsNonDecreasingBy}

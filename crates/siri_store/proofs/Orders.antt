@@ -1,22 +1,23 @@
 -- Stamps that are put, that are taken out, and that come first.
-use Rattle.std.proofs.Common.{◌≡◌, ◌+◌, ℕ, Bool, true, false, cond, ◌&&◌, ◌||◌, List, [], ◌∷◌, Option, Some, None, refl, ap}
+use Rattle.std.proofs.Common.{◌≡◌, ◌+◌, ◌<◌, ℕ, Bool, true, false, cond, ◌&&◌, ◌||◌, List, [], ◌∷◌, Option, Some, None, refl, ap}
 use Rattle.std.proofs.Common.{◌∙◌, sym, arith}
 use Rattle.std.specs.Prelude.{not, nat_eq, nat_lt, nat_le, max, ℤ, pos, int_lt}
 use Rattle.std.specs.BTreeMap.Range.{range_contains}
 use Rattle.std.specs.declared.ops.Bound.TheVariants.{Included, Excluded}
 use Rattle.std.specs.Ordering.{nat_cmp, ordering_then, is_eq, is_lt, is_le}
-use Rattle.std.specs.Option.{option_cmp}
+use Rattle.std.specs.Option.{option_cmp, option_map_or}
 use Rattle.std.specs.declared.cmp.Ordering.{Ordering}
 use Rattle.std.specs.declared.cmp.Ordering.TheVariants.{Less, Equal, Greater}
 use Rattle.std.proofs.lemmas.Bool.Decides.{nat_tests}
 use Rattle.siri_records.specs.declared.item.Item.{Item}
+use Rattle.siri_records.specs.declared.item.Item.TheVariants as item
 use Rattle.siri_records.specs.declared.item.Service.{Service}
 use Rattle.siri_records.specs.declared.item.Service.TheVariants as service
 use Rattle.siri_records.specs.declared.key.Key.{Key}
 use Rattle.siri_records.specs.Edges.{listed, edges_of}
 use Rattle.siri_records.specs.Order.{key_cmp}
-use Rattle.siri_store.specs.Stamped.{Stamp, stamp_cmp, has_stamp, has, moments_of, is_one_at, is_one_of}
-use Rattle.siri_store.specs.Stamped.{by_end, by_edge, own_end_of}
+use Rattle.siri_store.specs.Stamped.{Stamp, stamp_cmp, has_stamp, has, moments_of, is_one_at, is_one_named, is_one_of}
+use Rattle.siri_store.specs.Stamped.{by_end, by_edge, digest, is_by_name, order_of_name, own_end_of}
 use Rattle.siri_store.specs.Between.{is_between, is_since}
 use Rattle.siri_records.specs.Services.{service_of}
 
@@ -113,48 +114,98 @@ none_there order key (o, n, Some k) = none_bits (nat_eq order o) (is_eq (key_cmp
 
 -- ---- the stamps of an item
 
+-- an order of a name is none of those by ends and by edges
+above : (n d : ℕ) → n < 5 → nat_eq (5 + d) n ≡ false
+above n d below = grind (arith, nat_tests)
+
+below_five : (s : Service) → by_edge s < 5
+below_five service.Stop = omega arith
+below_five service.Timetable = omega arith
+below_five service.Vehicle = omega arith
+below_five service.Situation = omega arith
+
+-- no item has a name in those
+pub unnamed : (order : ℕ) (i : Item) → order < 5 → is_by_name order i ≡ false
+unnamed order (item.Visit v) below = above order (digest (by_edge service.Stop) v.monitoring_ref) below
+unnamed order (item.Journey j) below = above order (digest (by_edge service.Timetable) j.line_ref) below
+unnamed order (item.Vehicle v) below = refl
+unnamed order (item.Situation s) below = refl
+
+pub unnamed_edge : (s : Service) (i : Item) → is_by_name (by_edge s) i ≡ false
+unnamed_edge s i = unnamed (by_edge s) i (below_five s)
+
 apart : (order : ℕ) (s : Service) → nat_eq order 0 ≡ true → nat_eq order (by_edge s) ≡ false
 apart order service.Stop h = grind (arith, nat_tests)
 apart order service.Timetable h = grind (arith, nat_tests)
 apart order service.Vehicle h = grind (arith, nat_tests)
 apart order service.Situation h = grind (arith, nat_tests)
 
-item_bits : (ends edges same e1 e2 e : Bool) → (ends ≡ true → edges ≡ false)
-    → (ends ≡ true → e ≡ e1) → (ends ≡ false → edges ≡ true → e ≡ e2) → (ends ≡ false → edges ≡ false → e ≡ false)
-    → (same && e) ≡ ((ends && (same && e1)) || (edges && (same && e2)))
-item_bits true true same e1 e2 e unlike a b c = absurd (cc (unlike refl))
-item_bits true false true e1 e2 e unlike a b c = a refl ∙ right e1
+apart_name : (order : ℕ) (i : Item) → nat_eq order 0 ≡ true → is_by_name order i ≡ false
+apart_name order i h = ap (λ o. is_by_name o i) (equal_numbers order 0 h) ∙ unnamed 0 i (omega arith)
+
+item_bits : (ends edges named same e1 e2 e : Bool) → (ends ≡ true → edges ≡ false) → (ends ≡ true → named ≡ false)
+    → (ends ≡ true → e ≡ e1) → (ends ≡ false → (edges || named) ≡ true → e ≡ e2)
+    → (ends ≡ false → (edges || named) ≡ false → e ≡ false)
+    → (same && e) ≡ ((ends && (same && e1)) || ((edges && (same && e2)) || (named && (same && e2))))
+item_bits true true named same e1 e2 e unlike other a b c = absurd (cc (unlike refl))
+item_bits true false true same e1 e2 e unlike other a b c = absurd (cc (other refl))
+item_bits true false false true e1 e2 e unlike other a b c = a refl ∙ right e1
   where
     right : (b : Bool) → b ≡ (b || false)
     right true = refl
     right false = refl
-item_bits true false false e1 e2 e unlike a b c = refl
-item_bits false true true e1 e2 e unlike a b c = b refl refl
-item_bits false true false e1 e2 e unlike a b c = refl
-item_bits false false true e1 e2 e unlike a b c = c refl refl
-item_bits false false false e1 e2 e unlike a b c = refl
+item_bits true false false false e1 e2 e unlike other a b c = refl
+item_bits false true named true e1 e2 e unlike other a b c = b refl refl ∙ twice named e2
+  where
+    twice : (n b : Bool) → b ≡ (b || (n && b))
+    twice n true = refl
+    twice true false = refl
+    twice false false = refl
+item_bits false true named false e1 e2 e unlike other a b c = none named
+  where
+    none : (n : Bool) → false ≡ (n && false)
+    none true = refl
+    none false = refl
+item_bits false false true true e1 e2 e unlike other a b c = b refl refl
+item_bits false false true false e1 e2 e unlike other a b c = refl
+item_bits false false false true e1 e2 e unlike other a b c = c refl refl
+item_bits false false false false e1 e2 e unlike other a b c = refl
 
 module _ (order : ℕ) (i : Item) where
   at_end : nat_eq order by_end ≡ true → moments_of order i ≡ listed (own_end_of i)
   at_end h = rw h refl
 
-  at_edge : nat_eq order by_end ≡ false → nat_eq order (by_edge (service_of i)) ≡ true → moments_of order i ≡ edges_of i
+  at_edge : nat_eq order by_end ≡ false → (nat_eq order (by_edge (service_of i)) || is_by_name order i) ≡ true
+      → moments_of order i ≡ edges_of i
   at_edge h e = rw h (rw e refl)
 
-  at_none : nat_eq order by_end ≡ false → nat_eq order (by_edge (service_of i)) ≡ false → moments_of order i ≡ []
+  at_none : nat_eq order by_end ≡ false → (nat_eq order (by_edge (service_of i)) || is_by_name order i) ≡ false
+      → moments_of order i ≡ []
   at_none h e = rw h (rw e refl)
+
+named_is : (key : Key) (named : Option ℕ) (edges : List ℕ) (o m : ℕ) (k : Key)
+    → (option_map_or (λ n. nat_eq n o) named false && (is_eq (key_cmp key k) && has m edges))
+    ≡ is_one_named named key edges (o, m, Some k)
+named_is key None edges o m k = refl
+named_is key (Some n) edges o m k = refl
+
+none_named : (key : Key) (named : Option ℕ) (edges : List ℕ) (o m : ℕ) → is_one_named named key edges (o, m, None) ≡ false
+none_named key None edges o m = refl
+none_named key (Some n) edges o m = refl
 
 pub of_item : (key : Key) (i : Item) (s : Stamp)
     → is_one_of key (Some i) s
-    ≡ (is_one_at by_end key (listed (own_end_of i)) s || is_one_at (by_edge (service_of i)) key (edges_of i) s)
-of_item key i (o, m, None) = refl
+    ≡ (is_one_at by_end key (listed (own_end_of i)) s
+    || (is_one_at (by_edge (service_of i)) key (edges_of i) s || is_one_named (order_of_name i) key (edges_of i) s))
+of_item key i (o, m, None) = sym (none_named key (order_of_name i) (edges_of i) o m)
 of_item key i (o, m, Some k) =
-    item_bits (nat_eq o by_end) (nat_eq o (by_edge (service_of i))) (is_eq (key_cmp key k)) (has m (listed (own_end_of i)))
-    (has m (edges_of i)) (has m (moments_of o i))
-    (apart o (service_of i))
+    item_bits (nat_eq o by_end) (nat_eq o (by_edge (service_of i))) (is_by_name o i) (is_eq (key_cmp key k))
+    (has m (listed (own_end_of i))) (has m (edges_of i)) (has m (moments_of o i))
+    (apart o (service_of i)) (apart_name o i)
     (λ h. ap (has m) (at_end o i h)) (λ h e. ap (has m) (at_edge o i h e)) (λ h e. ap (has m) (at_none o i h e))
     ∙ (λ j. (turned_eq o by_end j && (is_eq (key_cmp key k) && has m (listed (own_end_of i)))) ||
-    (turned_eq o (by_edge (service_of i)) j && (is_eq (key_cmp key k) && has m (edges_of i))))
+    ((turned_eq o (by_edge (service_of i)) j && (is_eq (key_cmp key k) && has m (edges_of i))) ||
+    named_is key (order_of_name i) (edges_of i) o m k j))
 
 -- ---- one more of many
 
@@ -222,44 +273,159 @@ true_and false = refl
 
 -- ---- the stamps of an item, added and taken out
 
-add_bits : (a b old mid new : Bool) → mid ≡ (a || old) → new ≡ (b || mid) → new ≡ ((a || b) || old)
-add_bits true true old mid new m n = rw n refl
-add_bits true false old mid new m n = n ∙ m
-add_bits false true old mid new m n = rw n refl
-add_bits false false old mid new m n = n ∙ m
+add_bits : (a b n old mid more new : Bool) → mid ≡ (a || old) → more ≡ (b || mid) → new ≡ (n || more)
+    → new ≡ ((a || (b || n)) || old)
+add_bits a b true old mid more new m k n = n ∙ whole a b
+  where
+    whole : (a b : Bool) → true ≡ ((a || (b || true)) || old)
+    whole true b = refl
+    whole false true = refl
+    whole false false = refl
+add_bits true true false old mid more new m k n = n ∙ k
+add_bits true false false old mid more new m k n = n ∙ (k ∙ m)
+add_bits false true false old mid more new m k n = n ∙ k
+add_bits false false false old mid more new m k n = n ∙ (k ∙ m)
+
+-- with the stamps of the order of an item's name, where it has one
+abbrev pub Named : Key → Option ℕ → List ℕ → List Stamp → List Stamp → Type 0
+Named key named edges mid new = (s : Stamp) → has_stamp new s ≡ (is_one_named named key edges s || has_stamp mid s)
 
 module _ (key : Key) (i : Item) (old : List Stamp) where
-  pub added : (mid new : List Stamp)
+  pub added : (mid more new : List Stamp)
       → ((s : Stamp) → has_stamp mid s ≡ (is_one_at by_end key (listed (own_end_of i)) s || has_stamp old s))
-      → ((s : Stamp) → has_stamp new s ≡ (is_one_at (by_edge (service_of i)) key (edges_of i) s || has_stamp mid s))
+      → ((s : Stamp) → has_stamp more s ≡ (is_one_at (by_edge (service_of i)) key (edges_of i) s || has_stamp mid s))
+      → Named key (order_of_name i) (edges_of i) more new
       → (s : Stamp) → has_stamp new s ≡ (is_one_of key (Some i) s || has_stamp old s)
-  added mid new a b s =
+  added mid more new a b n s =
       add_bits (is_one_at by_end key (listed (own_end_of i)) s) (is_one_at (by_edge (service_of i)) key (edges_of i) s)
-      (has_stamp old s) (has_stamp mid s) (has_stamp new s) (a s) (b s)
+      (is_one_named (order_of_name i) key (edges_of i) s)
+      (has_stamp old s) (has_stamp mid s) (has_stamp more s) (has_stamp new s) (a s) (b s) (n s)
       ∙ ap (λ x. x || has_stamp old s) (sym (of_item key i s))
 
-out_bits : (a b kept old mid new : Bool) → mid ≡ (old && not (a && not kept)) → new ≡ (mid && not (b && not kept))
-    → new ≡ (old && not ((a || b) && not kept))
-out_bits true b kept true mid new m n = rw n (rw m (stay kept b))
+-- some stamps of an item are there, and none else is new
+some_bits_of : (own part mid new old : Bool) → (part ≡ true → own ≡ true) → mid ≡ (old || (own && mid))
+    → new ≡ (mid || (part && new)) → new ≡ (old || (own && new))
+some_bits_of true part mid new true within m n = n ∙ ap (λ b. b || (part && new)) m
+some_bits_of true part mid new false within m n = refl
+some_bits_of false true mid new old within m n = absurd (cc (within refl))
+some_bits_of false false mid new old within m n = n ∙ (right mid ∙ m)
   where
-    stay : (k b : Bool) → (not (not k) && not (b && not k)) ≡ not (not k)
-    stay true true = refl
-    stay true false = refl
-    stay false b = refl
-out_bits true b kept false mid new m n = rw n (rw m refl)
-out_bits false b kept old mid new m n = rw n (rw m (ap (λ x. x && not (b && not kept)) (sym (true_and old))))
+    right : (b : Bool) → (b || false) ≡ b
+    right true = refl
+    right false = refl
 
-pub taken_out : (key : Key) (i : Item) (kept : Option Item) (old mid new : List Stamp)
+or_left : (a b : Bool) → a ≡ true → (a || b) ≡ true
+or_left true b h = refl
+or_left false b h = absurd (cc h)
+
+or_right : (a b : Bool) → b ≡ true → (a || b) ≡ true
+or_right true b h = refl
+or_right false b h = h
+
+module _ (key : Key) (i : Item) (s : Stamp) where
+  abbrev one_end : Bool
+  one_end = is_one_at by_end key (listed (own_end_of i)) s
+
+  abbrev one_edge : Bool
+  one_edge = is_one_at (by_edge (service_of i)) key (edges_of i) s
+
+  abbrev one_name : Bool
+  one_name = is_one_named (order_of_name i) key (edges_of i) s
+
+  end_within : one_end ≡ true → is_one_of key (Some i) s ≡ true
+  end_within h = of_item key i s ∙ or_left one_end (one_edge || one_name) h
+
+  edge_within : one_edge ≡ true → is_one_of key (Some i) s ≡ true
+  edge_within h = of_item key i s ∙ or_right one_end (one_edge || one_name) (or_left one_edge one_name h)
+
+  name_within : one_name ≡ true → is_one_of key (Some i) s ≡ true
+  name_within h = of_item key i s ∙ or_right one_end (one_edge || one_name) (or_right one_edge one_name h)
+
+abbrev pub SomeOf : Key → Item → List Stamp → List Stamp → Type 0
+SomeOf key i old new = (s : Stamp) → has_stamp new s ≡ (has_stamp old s || (is_one_of key (Some i) s && has_stamp new s))
+
+none_more : (b c : Bool) → b ≡ (b || (c && b))
+none_more true c = refl
+none_more false true = refl
+none_more false false = refl
+
+module _ (key : Key) (i : Item) (old mid new : List Stamp) where
+  pub some_end : ((s : Stamp) → has_stamp new s ≡ (has_stamp old s || (is_one_at by_end key (listed (own_end_of i)) s && has_stamp new s)))
+      → SomeOf key i old new
+  some_end n s =
+      some_bits_of (is_one_of key (Some i) s) (one_end key i s) (has_stamp old s) (has_stamp new s) (has_stamp old s) (end_within key i s)
+      (none_more (has_stamp old s) (is_one_of key (Some i) s)) (n s)
+
+  pub some_edge : SomeOf key i old mid
+      → ((s : Stamp) → has_stamp new s ≡ (has_stamp mid s || (is_one_at (by_edge (service_of i)) key (edges_of i) s && has_stamp new s)))
+      → SomeOf key i old new
+  some_edge m n s =
+      some_bits_of (is_one_of key (Some i) s) (one_edge key i s) (has_stamp mid s) (has_stamp new s) (has_stamp old s) (edge_within key i s)
+      (m s) (n s)
+
+  pub some_name : SomeOf key i old mid
+      → ((s : Stamp) → has_stamp new s ≡ (has_stamp mid s || (is_one_named (order_of_name i) key (edges_of i) s && has_stamp new s)))
+      → SomeOf key i old new
+  some_name m n s =
+      some_bits_of (is_one_of key (Some i) s) (one_name key i s) (has_stamp mid s) (has_stamp new s) (has_stamp old s) (name_within key i s)
+      (m s) (n s)
+
+out_bits : (a b n kept old mid more new : Bool) → mid ≡ (old && not (a && not kept)) → more ≡ (mid && not (b && not kept))
+    → new ≡ (more && not (n && not kept)) → new ≡ (old && not ((a || (b || n)) && not kept))
+out_bits a b n true old mid more new m k l = l ∙ ((λ i. k i && not (n && false)) ∙ ((λ i. (m i && not (b && false)) && not (n && false)) ∙ stay a b n old))
+  where
+    stay : (a b n old : Bool) → (((old && not (a && false)) && not (b && false)) && not (n && false)) ≡ (old && not ((a || (b || n)) && false))
+    stay true true true true = refl
+    stay true true true false = refl
+    stay true true false true = refl
+    stay true true false false = refl
+    stay true false true true = refl
+    stay true false true false = refl
+    stay true false false true = refl
+    stay true false false false = refl
+    stay false true true true = refl
+    stay false true true false = refl
+    stay false true false true = refl
+    stay false true false false = refl
+    stay false false true true = refl
+    stay false false true false = refl
+    stay false false false true = refl
+    stay false false false false = refl
+out_bits a b n false old mid more new m k l = l ∙ ((λ i. k i && not (n && true)) ∙ ((λ i. (m i && not (b && true)) && not (n && true)) ∙ gone a b n old))
+  where
+    gone : (a b n old : Bool) → (((old && not (a && true)) && not (b && true)) && not (n && true)) ≡ (old && not ((a || (b || n)) && true))
+    gone true true true true = refl
+    gone true true true false = refl
+    gone true true false true = refl
+    gone true true false false = refl
+    gone true false true true = refl
+    gone true false true false = refl
+    gone true false false true = refl
+    gone true false false false = refl
+    gone false true true true = refl
+    gone false true true false = refl
+    gone false true false true = refl
+    gone false true false false = refl
+    gone false false true true = refl
+    gone false false true false = refl
+    gone false false false true = refl
+    gone false false false false = refl
+
+pub taken_out : (key : Key) (i : Item) (kept : Option Item) (old mid more new : List Stamp)
     → ((s : Stamp)
     → has_stamp mid s
     ≡ (has_stamp old s && not (is_one_at by_end key (listed (own_end_of i)) s && not (is_one_of key kept s))))
     → ((s : Stamp)
-    → has_stamp new s
+    → has_stamp more s
     ≡ (has_stamp mid s && not (is_one_at (by_edge (service_of i)) key (edges_of i) s && not (is_one_of key kept s))))
+    → ((s : Stamp)
+    → has_stamp new s
+    ≡ (has_stamp more s && not (is_one_named (order_of_name i) key (edges_of i) s && not (is_one_of key kept s))))
     → (s : Stamp) → has_stamp new s ≡ (has_stamp old s && not (is_one_of key (Some i) s && not (is_one_of key kept s)))
-taken_out key i kept old mid new a b s =
+taken_out key i kept old mid more new a b n s =
     out_bits (is_one_at by_end key (listed (own_end_of i)) s) (is_one_at (by_edge (service_of i)) key (edges_of i) s)
-    (is_one_of key kept s) (has_stamp old s) (has_stamp mid s) (has_stamp new s) (a s) (b s)
+    (is_one_named (order_of_name i) key (edges_of i) s)
+    (is_one_of key kept s) (has_stamp old s) (has_stamp mid s) (has_stamp more s) (has_stamp new s) (a s) (b s) (n s)
     ∙ ap (λ x. has_stamp old s && not (x && not (is_one_of key kept s))) (sym (of_item key i s))
 
 pub none_out : (key : Key) (kept : Option Item) (old : List Stamp) (s : Stamp)

@@ -1,9 +1,11 @@
 -- Items under their own keys, and which of them are shown.
 use Rattle.std.proofs.Common.{◌≡◌, ℕ, ◌≤◌, List, [], ◌∷◌, filter, length, take, drop, Bool, true, false, ◌&&◌, ◌||◌, refl, ap, sym, ◌∙◌}
-use Rattle.std.proofs.Common.{slice_range}
+use Rattle.std.proofs.Common.{Option, Some, None, slice_range}
+use Rattle.std.specs.Cmp.{Equal-is}
 use Rattle.std.specs.List.{All, AllByRecursion}
 use Rattle.std.specs.Map.{remove_entry}
 use Rattle.std.specs.BTreeMap.{insert_entry, is_at}
+use Rattle.std.specs.Ordering.{is_eq}
 use Rattle.std.specs.declared.cmp.Ordering.{Ordering}
 use Rattle.std.specs.declared.cmp.Ordering.TheVariants.{Less, Equal, Greater}
 use Rattle.std.proofs.lemmas.List.Elements.{All-from_recursion, recursion_from_All, All-weaker}
@@ -11,7 +13,7 @@ use Rattle.siri_records.specs.declared.item.Item.{Item}
 use Rattle.siri_records.specs.declared.item.Item.TheVariants as item
 use Rattle.siri_records.specs.declared.journey.Journey.{Journey}
 use Rattle.siri_records.specs.declared.key.Key.{Key}
-use Rattle.siri_records.specs.Keyed.{Items}
+use Rattle.siri_records.specs.Keyed.{Items, item_of}
 use Rattle.siri_records.specs.Keys.{key_of}
 use Rattle.siri_records.specs.Order.{key_cmp}
 use Rattle.siri_records.proofs.Order.{key_cmp_exact}
@@ -23,6 +25,7 @@ use Rattle.siri_topic.specs.Shown.{is_shown}
 use Rattle.siri_store.specs.Candidates.{UnderOwnKeys, may_be_line, may_be_shown, candidates}
 use Rattle.siri_store.specs.Sides.{is_below}
 use Rattle.siri_store.specs.Walk.{shown_at, shown_entries}
+use Rattle.siri_store.proofs.LookUps.{by_bool}
 use Rattle.siri_store.proofs.Ranges.{filter_through, in_turn, range_is_kept, range_after, range_before}
 use Rattle.siri_store.proofs.Sides.{below_none, above_none, between_all, not_both}
 
@@ -93,7 +96,22 @@ agreeing t i is = absurd (cc is)
 pub showing : (t : Topic) (now : ℕ) (e : Key × Item) → Own e → is_shown t e.1 now ≡ true → may_be_shown t e.0 ≡ true
 showing t now e own is = ap (may_be_shown t) own ∙ agreeing t e.1 (both_left _ _ (both_left _ _ is))
 
-all_showing : (t : Topic) (now : ℕ) (es : Items) → AllByRecursion Own es
+-- what is held of a key is of that key
+pub own_found : (es : Items) (k : Key) (i : Item) → AllByRecursion Own es → item_of es k ≡ Some i → k ≡ key_of i
+own_found [] k i own is = absurd (cc is)
+own_found (e ∷ es) k i own is = by_bool (is_eq (key_cmp k e.0))
+    (λ h.
+    let same : e.1 ≡ i = cc (rw h at is) in
+    key_cmp_exact k e.0 ((Equal-is (key_cmp k e.0)).0 h) ∙ (own.0 ∙ ap key_of same))
+    (λ h. own_found es k i own.1 (rw h at is))
+
+-- and isn't shown where its key says so
+pub hidden : (t : Topic) (now : ℕ) (k : Key) (i : Item) → k ≡ key_of i → may_be_shown t k ≡ false → is_shown t i now ≡ false
+hidden t now k i own may = by_bool (is_shown t i now)
+    (λ h. absurd (cc (sym may ∙ showing t now (k, i) own h)))
+    (λ h. h)
+
+pub all_showing : (t : Topic) (now : ℕ) (es : Items) → AllByRecursion Own es
     → AllByRecursion (λ e. is_shown t e.1 now ≡ true → may_be_shown t e.0 ≡ true) es
 all_showing t now [] a = tt
 all_showing t now (e ∷ es) a = (showing t now e a.0, all_showing t now es a.1)

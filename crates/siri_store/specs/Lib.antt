@@ -6,6 +6,7 @@ pub mod Walk
 pub mod Crossing
 pub mod Sides
 pub mod Stamped
+pub mod Asked
 pub mod Between
 pub mod Ended
 pub mod CrossWalk

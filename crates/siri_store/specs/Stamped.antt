@@ -1,6 +1,6 @@
 -- Stamps: at which moments items end, and at which they have an edge.
-use Rattle.std.specs.Prelude.{◌≡◌, ℕ, Bool, true, false, ◌&&◌, ◌||◌, nat_eq, nat_lt, if◌then◌else◌, List, [], Option, Some}
-use Rattle.std.specs.Prelude.{None}
+use Rattle.std.specs.Prelude.{◌≡◌, ℕ, ◌+◌, ◌*◌, ◌%◌, ◌^◌, Bool, true, false, ◌&&◌, ◌||◌, nat_eq, nat_lt, if◌then◌else◌}
+use Rattle.std.specs.Prelude.{List, [], ◌∷◌, fold, Option, Some, None}
 use Rattle.std.specs.BTreeMap.{is_at}
 use Rattle.std.specs.List.{list_any}
 use Rattle.std.specs.Option.{option_cmp, option_map_or}
@@ -16,6 +16,10 @@ use Rattle.siri_records.specs.Ends.{end_of}
 use Rattle.siri_records.specs.Keyed.{Items, item_of}
 use Rattle.siri_records.specs.Order.{key_cmp}
 use Rattle.siri_records.specs.Services.{service_of}
+use Rattle.siri_topic.specs.declared.topics.LineDirection.{LineDirection}
+use Rattle.siri_topic.specs.declared.topics.Topic.{Topic}
+use Rattle.siri_topic.specs.declared.topics.Topic.TheVariants as topic
+use Rattle.siri_topic.specs.Services.{service_asked}
 
 -- the number of an order, a moment and a key
 abbrev pub Stamp : Type 0
@@ -53,11 +57,39 @@ own_end_of (item.Journey j) = end_of (item.Journey j)
 own_end_of (item.Vehicle v) = end_of (item.Vehicle v)
 own_end_of (item.Situation s) = end_of (item.Situation s)
 
--- the moments of an item in an order: its end in the one, where that isn't its edge; its edges in the one of its service
+-- a number that is made of the bytes of a name; two names may have the same
+unfoldable pub digest : ℕ → List ℕ → ℕ
+digest start name = fold (λ sum byte. (sum * 1000003 + byte) % 2 ^ 40) start name
+
+-- the order by their edges of a service's items of one name; two names may share one
+abbrev pub by_name : Service → List ℕ → ℕ
+by_name s name = 5 + digest (by_edge s) name
+
+-- of a visit that of its stop, of a journey that of its line
+abbrev pub order_of_name : Item → Option ℕ
+order_of_name (item.Visit v) = Some (by_name service.Stop v.monitoring_ref)
+order_of_name (item.Journey j) = Some (by_name service.Timetable j.line_ref)
+order_of_name i = None
+
+abbrev pub is_by_name : ℕ → Item → Bool
+is_by_name order i = option_map_or (λ named. nat_eq named order) (order_of_name i) false
+
+-- the order in which those stand by their edges that may be shown to a topic by their keys
+abbrev pub order_of_lines : List LineDirection → ℕ
+order_of_lines (only ∷ []) = by_name service.Timetable only.line_ref
+order_of_lines lines = by_edge service.Timetable
+
+abbrev pub order_asked : Topic → ℕ
+order_asked (topic.Stop t) = by_name service.Stop t.monitoring_ref
+order_asked (topic.Timetable t) = order_of_lines t.lines
+order_asked t = by_edge (service_asked t)
+
+-- the moments of an item in an order: its end in the one, where that isn't its edge; its edges in the one of its service and in
+-- that of its stop or line
 abbrev pub moments_of : ℕ → Item → List ℕ
 moments_of order i =
     if nat_eq order by_end then listed (own_end_of i) else
-    (if nat_eq order (by_edge (service_of i)) then edges_of i else [])
+    (if nat_eq order (by_edge (service_of i)) || is_by_name order i then edges_of i else [])
 
 abbrev pub moments_held : ℕ → Option Item → List ℕ
 moments_held order None = []
@@ -69,6 +101,11 @@ moments_held order (Some i) = moments_of order i
 abbrev pub is_one_at : ℕ → Key → List ℕ → Stamp → Bool
 is_one_at order key moments stamp =
     option_map_or (λ k. nat_eq order stamp.0 && (is_eq (key_cmp key k) && has stamp.1 moments)) stamp.2 false
+
+-- so in an order that there may not be
+abbrev pub is_one_named : Option ℕ → Key → List ℕ → Stamp → Bool
+is_one_named None key moments stamp = false
+is_one_named (Some order) key moments stamp = is_one_at order key moments stamp
 
 -- a stamp of a key at one of the moments of the item that it may have
 abbrev pub is_one_of : Key → Option Item → Stamp → Bool

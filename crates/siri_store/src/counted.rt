@@ -11,6 +11,7 @@ ghost use Rattle.siri_store.specs.Crossing.{crossed_entries, crossed_of};
 ghost use Rattle.siri_store.specs.CrossWalk.{to_cross};
 ghost use Rattle.siri_store.specs.Ended.{EndsFirst, NoneClosed, NoneHasEnded};
 ghost use Rattle.siri_store.specs.Held.{counted};
+ghost use Rattle.siri_topic.specs.Services.{service_asked};
 ghost use Rattle.siri_store.specs.First.{first_entries, first_of, looked_until, visits_for};
 ghost use Rattle.siri_store.specs.FirstWalk.{to_lend_first, to_look_at};
 ghost use Rattle.siri_store.specs.Walk.{shown_at, shown_entries, shown_of, to_lend};
@@ -163,6 +164,7 @@ impl CountedItems {
         ensures rest { self.new ≡ record self.old { reads = self.new.reads } }
         ensures risen { self.old.reads ≤ self.new.reads }
         ensures at_most { self.new.reads ≤ self.old.reads + length self.old.entries }
+        ensures asked { self.new.reads ≤ self.old.reads + length (candidates topic.now self.old.entries) }
         ensures ordered { InOrder self.old.entries }
     {
         let mut walk = Selected::over(self.items.entries(), &mut self.counter, topic, moment);
@@ -181,6 +183,7 @@ impl CountedItems {
         ensures rest { self.new ≡ record self.old { reads = self.new.reads } }
         ensures risen { self.old.reads ≤ self.new.reads }
         ensures at_most { self.new.reads ≤ self.old.reads + length self.old.entries }
+        ensures asked { self.new.reads ≤ self.old.reads + length (candidates topic.now self.old.entries) }
         ensures ordered { InOrder self.old.entries }
     {
         let mut walk = Selected::over(self.items.entries(), &mut self.counter, topic, moment);
@@ -201,24 +204,31 @@ impl CountedItems {
         Crossing::over(items.entries(), &mut self.counter, stamps, from)
     }
 
-    /// All of them with their keys, shared with those that are held. After want of memory nothing but the counter has
-    /// changed.
+    /// Those that have an edge there of the items that may be shown to a topic by their keys, with their keys, shared with
+    /// those that are held. After want of memory nothing but the counter has changed.
     pub(crate) fn crossed(
         &mut self,
         alloc: Global,
-        service: Service,
+        topic: &Topic,
         from: i64,
         to: i64,
     ) -> Result<Vec<(SharedKey, Rc<Item>)>, OutOfMemory>
-        ensures ok { IfOk result (λ found. entries_view found.items ≡ crossed_entries service from to self.old.entries) }
-        ensures steps { OnOk result (self.new.reads ≡ counted self.old.reads (length (crossed_entries service from to self.old.entries))) }
-        ensures at_most { self.new.reads ≤ self.old.reads + length (crossed_entries service from to self.old.entries) }
+        ensures ok { IfOk result (λ found. entries_view found.items ≡ crossed_entries (service_asked topic.now) from to (candidates topic.now self.old.entries)) }
+        ensures steps { OnOk result (self.new.reads ≡ counted self.old.reads (length (crossed_entries (service_asked topic.now) from to (candidates topic.now self.old.entries)))) }
+        ensures at_most { self.new.reads ≤ self.old.reads + length (crossed_entries (service_asked topic.now) from to (candidates topic.now self.old.entries)) }
         ensures risen { self.old.reads ≤ self.new.reads }
         ensures rest { self.new ≡ record self.old { reads = self.new.reads } }
     {
         let items = &self.items;
-        let stamps = items.edges(service, from, to);
-        crossed_entries(alloc, items.entries(), &mut self.counter, stamps, from)
+        let stamps = items.edges_asked(topic, from, to);
+        crossed_entries(
+            alloc,
+            items.entries(),
+            &mut self.counter,
+            topic,
+            stamps,
+            from,
+        )
     }
 
     /// Lends, by entry and then key, the visits that are shown to a topic at a moment.
@@ -254,14 +264,14 @@ impl CountedItems {
         most: u64,
     ) -> Result<Vec<(SharedKey, Rc<Item>)>, OutOfMemory>
         ensures ok { IfOk result (λ found. entries_view found.items ≡ take most (first_entries topic.now moment self.old.entries)) }
-        ensures steps { OnOk result (self.new.reads ≡ counted self.old.reads (looked_until (shown_at topic.now moment) most (visits_for topic.now moment self.old.entries))) }
-        ensures at_most { self.new.reads ≤ self.old.reads + looked_until (shown_at topic.now moment) most (visits_for topic.now moment self.old.entries) }
+        ensures steps { OnOk result (self.new.reads ≡ counted self.old.reads (looked_until (shown_at topic.now moment) most (visits_for topic.now moment (candidates topic.now self.old.entries)))) }
+        ensures at_most { self.new.reads ≤ self.old.reads + looked_until (shown_at topic.now moment) most (visits_for topic.now moment (candidates topic.now self.old.entries)) }
         ensures risen { self.old.reads ≤ self.new.reads }
         ensures rest { self.new ≡ record self.old { reads = self.new.reads } }
     {
         let window = window(topic, moment);
         let items = &self.items;
-        let stamps = items.visits(topic, moment, &window);
+        let stamps = items.visits_asked(topic, moment, &window);
         first_shown(
             alloc,
             items.entries(),

@@ -4,13 +4,16 @@ ghost use Rattle.std.specs.Iterator.{at_most};
 ghost use Rattle.std.specs.Prelude.{◌≡◌, ◌+◌, ◌<◌, ◌≤◌, [], ◌∷◌, length, not, pos, option_map, MatchOption, IfOk, OnOk};
 ghost use Rattle.siri_records.specs.Edges.{has_edge};
 ghost use Rattle.siri_records.specs.Keyed.{entries_view};
+ghost use Rattle.siri_store.specs.Asked.{asked_stamps, is_asked};
 ghost use Rattle.siri_store.specs.CrossWalk.{crosses, led, led_by};
 ghost use Rattle.siri_store.specs.Held.{counted};
 
+use crate::candidates::may_be_shown;
 use crate::counter::Counter;
 use crate::stamps::Stamp;
 use siri_base::{Copies, OutOfMemory};
 use siri_records::{Item, KeyedItems, SharedKey, edges_of};
+use siri_topic::Topic;
 use std::alloc::Global;
 use std::collections::btree_set::Range;
 use std::rc::Rc;
@@ -84,28 +87,75 @@ pub(crate) fn next_crossed<'a>(
     }
 }
 
-/// All of them in one call: the entries whose items have an edge in a range of moments, by the stamps there. (A walk
-/// that holds stamps gives the one who lets it go no word of its counter, so the counter is lent to this one itself.)
+/// In one call all entries that may be shown to a topic by their keys and whose items have an edge in a range of moments,
+/// by the stamps there. (A walk that holds stamps gives the one who lets it go no word of its counter, so the counter is
+/// lent to this one itself.)
 pub(crate) fn crossed_entries<'a>(
     alloc: Global,
     items: &'a KeyedItems,
     counter: &mut Counter,
+    topic: &Topic,
     stamps: Range<'a, Stamp>,
     from: i64,
 ) -> Result<Vec<(SharedKey, Rc<Item>)>, OutOfMemory>
-    ensures ok { IfOk result (λ found. entries_view found.items ≡ led from items.now stamps.entry) }
-    ensures steps { OnOk result (counter.new ≡ counted counter.old (length (led from items.now stamps.entry))) }
+    ensures ok { IfOk result (λ found. entries_view found.items ≡ led from items.now (asked_stamps topic.now stamps.entry)) }
+    ensures steps { OnOk result (counter.new ≡ counted counter.old (length (led from items.now (asked_stamps topic.now stamps.entry)))) }
     ensures risen { counter.old ≤ counter.new }
-    ensures at_most { counter.new ≤ counter.old + length (led from items.now stamps.entry) }
+    ensures at_most { counter.new ≤ counter.old + length (led from items.now (asked_stamps topic.now stamps.entry)) }
 {
     let mut stamps = stamps;
     let mut found = Vec::new(alloc);
-    while let Some(entry) = next_crossed(items, counter, &mut stamps, from) {
+    while let Some(entry) = next_asked_crossed(items, counter, topic, &mut stamps, from) {
         let item = entry.1.clone()?;
         let key = entry.0.copy()?;
         found.push((key, item))?;
     }
     Ok(found)
+}
+
+/// The key and the item of the first stamp that leads to what may be shown to a topic by its key, counted as a step, and
+/// behind it the stamps that are left.
+fn next_asked_crossed<'a>(
+    entries: &'a KeyedItems,
+    counter: &mut Counter,
+    topic: &Topic,
+    stamps: &mut Range<'a, Stamp>,
+    from: i64,
+) -> Option<(&'a SharedKey, &'a Rc<Item>)>
+    ensures lent { MatchOption result ((led from entries.now (asked_stamps topic.now stamps.old) ≡ []) × (led from entries.now (asked_stamps topic.now stamps.new) ≡ [])) (λ entry. led from entries.now (asked_stamps topic.now stamps.old) ≡ (entry.0.now, entry.1.now.value) ∷ led from entries.now (asked_stamps topic.now stamps.new)) }
+    ensures counter { MatchOption result (counter.new ≡ counter.old) (λ _. counter.new ≡ counted counter.old 1) }
+    ensures onward { MatchOption result (length stamps.new ≤ length stamps.old) (λ _. length stamps.new < length stamps.old) }
+{
+    loop {
+        let stamp = next_asked(topic, stamps)?;
+        if let Some(entry) = led(entries, from, stamp) {
+            counter.count();
+            return Some(entry);
+        }
+    }
+}
+
+/// The first stamp whose item may be shown to a topic by its key, and behind it the stamps that are left.
+pub(crate) fn next_asked<'a>(topic: &Topic, stamps: &mut Range<'a, Stamp>) -> Option<&'a Stamp>
+    ensures next { MatchOption result ((asked_stamps topic.now stamps.old ≡ []) × (asked_stamps topic.now stamps.new ≡ [])) (λ stamp. asked_stamps topic.now stamps.old ≡ stamp.now ∷ asked_stamps topic.now stamps.new) }
+    ensures onward { MatchOption result (length stamps.new ≤ length stamps.old) (λ _. length stamps.new < length stamps.old) }
+{
+    loop {
+        let stamp = stamps.next()?;
+        if is_asked(topic, stamp) {
+            return Some(stamp);
+        }
+    }
+}
+
+/// Whether the item of a stamp may be shown to a topic by its key.
+fn is_asked(topic: &Topic, stamp: &Stamp) -> bool
+    ensures { result ≡ is_asked topic.now stamp.now }
+{
+    match &stamp.2 {
+        Some(key) => may_be_shown(topic, key.key()),
+        None => false,
+    }
 }
 
 /// The key and the item of a stamp, where the item has no edge in the range before that stamp.

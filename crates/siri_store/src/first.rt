@@ -3,7 +3,7 @@
 ghost use Rattle.std.specs.Iterator.{at_most};
 ghost use Rattle.std.specs.Prelude.{◌≡◌, ◌+◌, ◌<◌, ◌≤◌, [], ◌∷◌, drop, length, take, true, option_map, MatchOption, IfOk, OnOk};
 ghost use Rattle.siri_records.specs.Keyed.{entries_view};
-ghost use Rattle.siri_store.specs.Candidates.{UnderOwnKeys};
+ghost use Rattle.siri_store.specs.Asked.{asked_stamps};
 ghost use Rattle.siri_store.specs.CrossWalk.{led, led_by};
 ghost use Rattle.siri_store.specs.First.{looked_until};
 ghost use Rattle.siri_store.specs.FirstWalk.{firsts};
@@ -11,9 +11,8 @@ ghost use Rattle.siri_store.specs.Held.{counted};
 ghost use Rattle.siri_store.specs.Visits.{all_lead, shown_if};
 ghost use Rattle.siri_store.specs.Walk.{shown_at, shown_entries};
 
-use crate::candidates::may_be_shown;
 use crate::counter::Counter;
-use crate::crossing::{led, next_crossed};
+use crate::crossing::{led, next_asked, next_crossed};
 use crate::stamps::Stamp;
 use siri_base::{Copies, Moment, OutOfMemory};
 use siri_records::{Item, KeyedItems, SharedKey};
@@ -109,8 +108,8 @@ fn next_first<'a>(
     }
 }
 
-/// The same over stamps that all lead to an item: each is a step, and of those alone is the item looked up whose key says
-/// that it may be shown. So a visit of another stop takes no search.
+/// The same over stamps of items of which those that may be shown to the topic by their keys all lead: each of these is a
+/// step. A visit of another stop is none, and takes no search.
 fn next_visit<'a>(
     entries: &'a KeyedItems,
     counter: &mut Counter,
@@ -119,15 +118,14 @@ fn next_visit<'a>(
     stamps: &mut Range<'a, Stamp>,
     from: i64,
 ) -> Option<(&'a SharedKey, &'a Rc<Item>)>
-    requires own { UnderOwnKeys entries.now }
-    requires leads { all_lead from entries.now stamps.old ≡ true }
-    ensures leads { all_lead from entries.now stamps.new ≡ true }
-    ensures lent { MatchOption result ((shown_entries topic.now moment (led from entries.now stamps.old) ≡ []) × (shown_entries topic.now moment (led from entries.now stamps.new) ≡ [])) (λ entry. shown_entries topic.now moment (led from entries.now stamps.old) ≡ (entry.0.now, entry.1.now.value) ∷ shown_entries topic.now moment (led from entries.now stamps.new)) }
-    ensures looked { led from entries.now stamps.new ≡ drop (looked_until (shown_at topic.now moment) 1 (led from entries.now stamps.old)) (led from entries.now stamps.old) }
-    ensures counter { counter.new ≡ counted counter.old (looked_until (shown_at topic.now moment) 1 (led from entries.now stamps.old)) }
+    requires leads { all_lead from entries.now (asked_stamps topic.now stamps.old) ≡ true }
+    ensures leads { all_lead from entries.now (asked_stamps topic.now stamps.new) ≡ true }
+    ensures lent { MatchOption result ((shown_entries topic.now moment (led from entries.now (asked_stamps topic.now stamps.old)) ≡ []) × (shown_entries topic.now moment (led from entries.now (asked_stamps topic.now stamps.new)) ≡ [])) (λ entry. shown_entries topic.now moment (led from entries.now (asked_stamps topic.now stamps.old)) ≡ (entry.0.now, entry.1.now.value) ∷ shown_entries topic.now moment (led from entries.now (asked_stamps topic.now stamps.new))) }
+    ensures looked { led from entries.now (asked_stamps topic.now stamps.new) ≡ drop (looked_until (shown_at topic.now moment) 1 (led from entries.now (asked_stamps topic.now stamps.old))) (led from entries.now (asked_stamps topic.now stamps.old)) }
+    ensures counter { counter.new ≡ counted counter.old (looked_until (shown_at topic.now moment) 1 (led from entries.now (asked_stamps topic.now stamps.old))) }
 {
     loop {
-        let stamp = stamps.next()?;
+        let stamp = next_asked(topic, stamps)?;
         counter.count();
         if let Some(entry) = led_if_shown(entries, topic, moment, from, stamp) {
             return Some(entry);
@@ -143,13 +141,8 @@ fn led_if_shown<'a>(
     from: i64,
     stamp: &'a Stamp,
 ) -> Option<(&'a SharedKey, &'a Rc<Item>)>
-    requires { UnderOwnKeys entries.now }
     ensures { option_map (λ entry. (entry.0.now, entry.1.now.value)) result ≡ shown_if topic.now moment (led_by from entries.now stamp.now) }
 {
-    let key = stamp.2.as_ref()?;
-    if !may_be_shown(topic, key.key()) {
-        return None;
-    }
     let entry = led(entries, from, stamp)?;
     if shown(topic, entry.1, moment) {
         Some(entry)
@@ -170,12 +163,11 @@ pub(crate) fn first_shown<'a>(
     from: i64,
     most: u64,
 ) -> Result<Vec<(SharedKey, Rc<Item>)>, OutOfMemory>
-    requires own { UnderOwnKeys items.now }
-    requires leads { all_lead from items.now stamps ≡ true }
-    ensures ok { IfOk result (λ found. entries_view found.items ≡ take most (shown_entries topic.now moment (led from items.now stamps.entry))) }
-    ensures steps { OnOk result (counter.new ≡ counted counter.old (looked_until (shown_at topic.now moment) most (led from items.now stamps.entry))) }
+    requires leads { all_lead from items.now (asked_stamps topic.now stamps) ≡ true }
+    ensures ok { IfOk result (λ found. entries_view found.items ≡ take most (shown_entries topic.now moment (led from items.now (asked_stamps topic.now stamps.entry)))) }
+    ensures steps { OnOk result (counter.new ≡ counted counter.old (looked_until (shown_at topic.now moment) most (led from items.now (asked_stamps topic.now stamps.entry)))) }
     ensures risen { counter.old ≤ counter.new }
-    ensures at_most { counter.new ≤ counter.old + looked_until (shown_at topic.now moment) most (led from items.now stamps.entry) }
+    ensures at_most { counter.new ≤ counter.old + looked_until (shown_at topic.now moment) most (led from items.now (asked_stamps topic.now stamps.entry)) }
 {
     let mut stamps = stamps;
     let mut found = Vec::new(alloc);

@@ -8,12 +8,19 @@ ghost use Rattle.siri_records.specs.Order.{key_cmp};
 ghost use Rattle.siri_store.specs.Crossing.{crossed_entries};
 ghost use Rattle.siri_store.specs.CrossWalk.{led};
 ghost use Rattle.siri_store.specs.Ended.{EndsFirst, NoneHasEnded};
-ghost use Rattle.siri_store.specs.First.{enters, first_entries, visits_by_entry, visits_for};
-ghost use Rattle.siri_store.specs.Visits.{AreVisits, all_lead};
+ghost use Rattle.std.specs.List.{All};
+ghost use Rattle.siri_store.specs.Asked.{asked_stamps};
+ghost use Rattle.siri_store.specs.Between.{is_between, is_inside};
+ghost use Rattle.siri_store.specs.Stamped.{order_asked};
+ghost use Rattle.siri_store.specs.Candidates.{UnderOwnKeys, candidates};
+ghost use Rattle.siri_store.specs.First.{first_entries, visits_for};
+ghost use Rattle.siri_store.specs.Visits.{all_lead};
 ghost use Rattle.siri_store.specs.Walk.{shown_entries};
+ghost use Rattle.siri_topic.specs.Services.{service_asked};
 ghost use Rattle.siri_topic.specs.Shown.{window_of};
 
-use crate::stamps::{Stamp, Stamps, by_edge};
+use crate::order_numbers::{by_edge, order_asked};
+use crate::stamps::{Stamp, Stamps};
 use siri_base::{Copies, Moment, OutOfMemory};
 use siri_records::{Item, Key, KeyedItems, Service, SharedKey};
 use siri_topic::{Topic, Window};
@@ -84,20 +91,41 @@ impl IndexedItems {
         ensures shown { shown_entries topic.now moment (led window.now.from self.now result) ≡ first_entries topic.now moment self.now }
     {
         match topic {
-            Topic::Stop(_) => self.visits_in(*window),
+            Topic::Stop(_) => self.stamps.inside(by_edge(Service::Stop), *window),
             _ => self.stamps.between(by_edge(Service::Stop), 0, 0),
         }
     }
 
-    /// The stamps of the visits whose entry is in a window.
-    fn visits_in(&self, window: Window) -> Range<'_, Stamp>
-        ensures stamps { led window.from self.now result ≡ visits_by_entry (enters window) self.now }
-        ensures leads { all_lead window.from self.now result ≡ true }
-        ensures passing { AreVisits window self.now result }
+    /// The stamps of the items that may be shown to a topic by their keys, by their edges at or after one number of
+    /// milliseconds since 1970 and before another. They are all of the order of the topic's stop or single line; others
+    /// that share it may be among them, which their keys tell.
+    pub(crate) fn edges_asked(&self, topic: &Topic, from: i64, to: i64) -> Range<'_, Stamp>
+        requires { UnderOwnKeys self.now }
+        ensures crossed { led from self.now (asked_stamps topic.now result) ≡ crossed_entries (service_asked topic.now) from to (candidates topic.now self.now) }
+        ensures walked { All (λ stamp. is_between (order_asked topic.now) from to stamp ≡ true) result }
     {
-        match window.to {
-            Some(to) => self.stamps.between(by_edge(Service::Stop), window.from, to),
-            None => self.stamps.since(by_edge(Service::Stop), window.from),
+        self.stamps.between(order_asked(topic), from, to)
+    }
+
+    /// Of a topic of Stop Monitoring the stamps of its stop's visits whose entry is in its window, by entry and then key;
+    /// none for a topic of another service. They are all of the order of that stop; others that share it may be among
+    /// them, which their keys tell. The window is that of the topic at a moment.
+    pub(crate) fn visits_asked(
+        &self,
+        topic: &Topic,
+        moment: Moment,
+        window: &Window,
+    ) -> Range<'_, Stamp>
+        requires window { window.now ≡ window_of topic.now moment }
+        requires own { UnderOwnKeys self.now }
+        ensures visits { led window.now.from self.now (asked_stamps topic.now result) ≡ visits_for topic.now moment (candidates topic.now self.now) }
+        ensures walked { All (λ stamp. is_inside (order_asked topic.now) window.now stamp ≡ true) result }
+        ensures leads { all_lead window.now.from self.now (asked_stamps topic.now result) ≡ true }
+        ensures shown { shown_entries topic.now moment (led window.now.from self.now (asked_stamps topic.now result)) ≡ first_entries topic.now moment self.now }
+    {
+        match topic {
+            Topic::Stop(_) => self.stamps.inside(order_asked(topic), *window),
+            _ => self.stamps.between(by_edge(Service::Stop), 0, 0),
         }
     }
 

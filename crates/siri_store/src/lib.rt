@@ -9,10 +9,11 @@
 //!     topic         -> select    ---> the items that are shown     a step for each item that is looked at
 //!     topic         -> shown     ---> all of them in one call      a step for each that may be shown by its key
 //!     service, range -> crossing ---> the items with an edge there a step for each of them
-//!     service, range -> crossed  ---> all of them in one call      a step for each of them
+//!     topic, range  -> crossed   ---> in one call those of them that may be shown by their keys, a step for each
 //!     topic         -> first     ---> the visits that are shown, by entry and then key
 //!                                                                  a step for each visit that is looked at
-//!     topic, how many -> first_shown ---> so many of them in one call, with a step for each that is looked at
+//!     topic, how many -> first_shown ---> so many of them in one call, with a step for each visit of the topic's stop that
+//!                                     is looked at
 //! ```
 //!
 //! An item leaves once it is dead at the store's moment: the store's owner moves the moment by `advance` and then lets
@@ -35,6 +36,7 @@ mod crossing;
 mod first;
 mod indexed;
 mod marks;
+mod order_numbers;
 mod selected;
 mod stamps;
 mod store;

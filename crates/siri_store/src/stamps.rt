@@ -1,26 +1,25 @@
 //! Keys in order of moments: by when their items end, and by the edges at which these may come into a window or leave
-//! it.
+//! it, all of a service and those of each stop and each line.
 
 ghost use Rattle.std.specs.Prelude.{◌≡◌, ◌+◌, ◌<◌, ◌^◌, ℕ, pos, nat_lt, int_lt, [], ◌∷◌, ◌&&◌, ◌||◌, not, Some, IsSome, option_map, IfSome, IfNone, OnOk, OnErr};
 ghost use Rattle.std.specs.List.Sorted.{IsStrictlySortedBy};
-ghost use Rattle.siri_store.specs.Stamped.{Stamp, stamp_cmp, has_stamp, has, moments_of, moments_held, is_one_at, is_one_of, by_edge, own_end_of, end_cmp, earlier, IsFirstIn, IsFirstEnd, NoneEnded, AllKeyed};
+ghost use Rattle.siri_store.specs.Stamped.{Stamp, stamp_cmp, has_stamp, has, moments_of, moments_held, is_one_at, is_one_named, is_one_of, own_end_of, end_cmp, earlier, IsFirstIn, IsFirstEnd, NoneEnded, AllKeyed};
 ghost use Rattle.std.specs.Ordering.{is_gt};
 ghost use Rattle.siri_records.specs.Edges.{listed};
-ghost use Rattle.siri_store.specs.Between.{between, since};
+ghost use Rattle.siri_store.specs.Between.{between, inside, since};
 
+use crate::order_numbers::{BY_END, by_edge, is_by_name, order_of_name};
 use siri_base::{Copies, Moment, OutOfMemory};
 use siri_records::{Item, Moments, Service, SharedKey, edges_of, ends_of};
+use siri_topic::Window;
 use std::alloc::Global;
 use std::cmp::Ordering;
 use std::collections::BTreeSet;
 use std::collections::btree_set::Range;
 use std::marker::Model;
 
-/// The order by their ends of all items but visits, whose one edge is their end. It is before those by edges.
-pub(crate) const BY_END: u8 = 0;
-
 /// The number of an order, a moment and a key. The bounds of a range have no key, which comes before all keys.
-pub(crate) type Stamp = (u8, u64, Option<SharedKey>);
+pub(crate) type Stamp = (u64, u64, Option<SharedKey>);
 
 /// Stamps by order, then by moment and then by key, each once.
 pub(crate) struct Stamps {
@@ -58,7 +57,8 @@ impl Stamps {
         ensures some { (stamp : Stamp) → has_stamp self.new stamp ≡ (has_stamp self.old stamp || (is_one_of key.now (Some item.now) stamp && has_stamp self.new stamp)) }
     {
         self.put_all(BY_END, own_ends_of(item), key)?;
-        self.put_all(by_edge(item.service()), edges_of(item), key)
+        self.put_all(by_edge(item.service()), edges_of(item), key)?;
+        self.put_named(order_of_name(item), edges_of(item), key)
     }
 
     /// Without the stamps of an item, but for those of one that stays under its key. It takes no memory.
@@ -75,13 +75,30 @@ impl Stamps {
             None => key,
             Some(item) => {
                 let key = self.remove_all(BY_END, own_ends_of(item), kept, key);
-                self.remove_all(by_edge(item.service()), edges_of(item), kept, key)
+                let key = self.remove_all(by_edge(item.service()), edges_of(item), kept, key);
+                self.remove_named(order_of_name(item), edges_of(item), kept, key)
             }
         }
     }
 
+    /// As `put_all`, in an order that there may not be.
+    fn put_named(
+        &mut self,
+        order: Option<u64>,
+        moments: Moments,
+        key: &SharedKey,
+    ) -> Result<(), OutOfMemory>
+        ensures ok { OnOk result ((stamp : Stamp) → has_stamp self.new stamp ≡ (is_one_named order key.now moments.entry stamp || has_stamp self.old stamp)) }
+        ensures some { (stamp : Stamp) → has_stamp self.new stamp ≡ (has_stamp self.old stamp || (is_one_named order key.now moments.entry stamp && has_stamp self.new stamp)) }
+    {
+        match order {
+            Some(order) => self.put_all(order, moments, key),
+            None => Ok(()),
+        }
+    }
+
     /// A stamp more for each moment. After want of memory there may be some of them more.
-    fn put_all(&mut self, order: u8, moments: Moments, key: &SharedKey) -> Result<(), OutOfMemory>
+    fn put_all(&mut self, order: u64, moments: Moments, key: &SharedKey) -> Result<(), OutOfMemory>
         ensures ok { OnOk result ((stamp : Stamp) → has_stamp self.new stamp ≡ (is_one_at order key.now moments.entry stamp || has_stamp self.old stamp)) }
         ensures some { (stamp : Stamp) → has_stamp self.new stamp ≡ (has_stamp self.old stamp || (is_one_at order key.now moments.entry stamp && has_stamp self.new stamp)) }
     {
@@ -92,7 +109,7 @@ impl Stamps {
     }
 
     /// One stamp more. After want of memory all is as before.
-    fn put(&mut self, order: u8, moment: Moment, key: &SharedKey) -> Result<(), OutOfMemory>
+    fn put(&mut self, order: u64, moment: Moment, key: &SharedKey) -> Result<(), OutOfMemory>
         ensures ok { OnOk result ((stamp : Stamp) → has_stamp self.new stamp ≡ (is_one_at order key.now (moment ∷ []) stamp || has_stamp self.old stamp)) }
         ensures err { OnErr result (self.new ≡ self.old) }
     {
@@ -100,10 +117,27 @@ impl Stamps {
         Ok(())
     }
 
+    /// As `remove_all`, in an order that there may not be.
+    fn remove_named(
+        &mut self,
+        order: Option<u64>,
+        moments: Moments,
+        kept: Option<&Item>,
+        key: SharedKey,
+    ) -> SharedKey
+        ensures rest { (stamp : Stamp) → has_stamp self.new stamp ≡ (has_stamp self.old stamp && not (is_one_named order key moments.entry stamp && not (is_one_of key (option_map (λ item. item.now) kept.entry) stamp))) }
+        ensures key { result ≡ key }
+    {
+        match order {
+            Some(order) => self.remove_all(order, moments, kept, key),
+            None => key,
+        }
+    }
+
     /// Without the stamps at these moments, but for those of an item that stays. It takes no memory.
     fn remove_all(
         &mut self,
-        order: u8,
+        order: u64,
         moments: Moments,
         kept: Option<&Item>,
         key: SharedKey,
@@ -122,7 +156,7 @@ impl Stamps {
 
     /// Without a stamp. A set is asked by a stamp that one has, so the key is lent to it and given back: it takes no
     /// memory.
-    fn remove(&mut self, order: u8, moment: Moment, key: SharedKey) -> SharedKey
+    fn remove(&mut self, order: u64, moment: Moment, key: SharedKey) -> SharedKey
         ensures rest { (stamp : Stamp) → has_stamp self.new stamp ≡ (has_stamp self.old stamp && not (is_one_at order key (moment ∷ []) stamp)) }
         ensures key { result ≡ key }
     {
@@ -132,7 +166,7 @@ impl Stamps {
     }
 
     /// The stamps of an order, at or after one number of milliseconds since 1970 and before another.
-    pub(crate) fn between(&self, order: u8, from: i64, to: i64) -> Range<'_, Stamp>
+    pub(crate) fn between(&self, order: u64, from: i64, to: i64) -> Range<'_, Stamp>
         ensures stamps { result ≡ between order from to self.now }
         ensures ordered { IsStrictlySortedBy stamp_cmp self.now }
     {
@@ -142,13 +176,25 @@ impl Stamps {
     }
 
     /// The stamps of an order, at or after a number of milliseconds since 1970.
-    pub(crate) fn since(&self, order: u8, from: i64) -> Range<'_, Stamp>
-        requires { order + 1 < 2 ^ 8 }
+    pub(crate) fn since(&self, order: u64, from: i64) -> Range<'_, Stamp>
+        requires { order + 1 < 2 ^ 64 }
         ensures stamps { result ≡ since order from self.now }
         ensures ordered { IsStrictlySortedBy stamp_cmp self.now }
     {
         self.set
             .range((order, bound(from), None)..(order + 1, 0, None))
+    }
+
+    /// The stamps of an order in a window.
+    pub(crate) fn inside(&self, order: u64, window: Window) -> Range<'_, Stamp>
+        requires { order + 1 < 2 ^ 64 }
+        ensures stamps { result ≡ inside order window self.now }
+        ensures ordered { IsStrictlySortedBy stamp_cmp self.now }
+    {
+        match window.to {
+            Some(to) => self.between(order, window.from, to),
+            None => self.since(order, window.from),
+        }
     }
 
     /// The key of the first stamp of ends, where that is of a moment before another. Those are the stamps by ends and, of
@@ -169,8 +215,8 @@ impl Stamps {
     }
 
     /// The first stamp of an order.
-    fn first_of(&self, order: u8) -> Option<&Stamp>
-        requires { order + 1 < 2 ^ 8 }
+    fn first_of(&self, order: u64) -> Option<&Stamp>
+        requires { order + 1 < 2 ^ 64 }
         ensures { IsFirstIn order self.now (option_map (λ first. first.now) result) }
     {
         let mut stamps = self.since(order, 0);
@@ -211,7 +257,7 @@ fn bound(ms: i64) -> u64
 }
 
 /// The stamp of a key at a moment of an order.
-fn stamp(order: u8, moment: Moment, key: SharedKey) -> Stamp
+fn stamp(order: u64, moment: Moment, key: SharedKey) -> Stamp
     ensures { result ≡ (order, moment, Some key) }
 {
     (order, moment.ms() as u64, Some(key))
@@ -233,7 +279,7 @@ fn key_in(stamp: Stamp) -> SharedKey
 }
 
 /// Whether an item that stays has a moment in an order.
-fn is_kept(kept: Option<&Item>, order: u8, moment: Moment) -> bool
+fn is_kept(kept: Option<&Item>, order: u64, moment: Moment) -> bool
     ensures { result ≡ has moment (moments_held order (option_map (λ item. item.now) kept.entry)) }
 {
     match kept {
@@ -254,13 +300,14 @@ fn has(moments: Moments, moment: Moment) -> bool
     false
 }
 
-/// The moments of an item in an order: its end in the one, its edges in the one of its service.
-fn moments(item: &Item, order: u8) -> Moments<'_>
+/// The moments of an item in an order: its end in the one, its edges in the one of its service and in that of its stop
+/// or line.
+fn moments(item: &Item, order: u64) -> Moments<'_>
     ensures { result ≡ moments_of order item.now }
 {
     if order == BY_END {
         own_ends_of(item)
-    } else if order == by_edge(item.service()) {
+    } else if order == by_edge(item.service()) || is_by_name(item, order) {
         edges_of(item)
     } else {
         Moments::none()
@@ -274,17 +321,5 @@ fn own_ends_of(item: &Item) -> Moments<'_>
     match item {
         Item::Visit(_) => Moments::none(),
         _ => ends_of(item),
-    }
-}
-
-/// The order of a service's items by their edges.
-pub(crate) fn by_edge(service: Service) -> u8
-    ensures { result ≡ by_edge service }
-{
-    match service {
-        Service::Stop => 1,
-        Service::Timetable => 2,
-        Service::Vehicle => 3,
-        Service::Situation => 4,
     }
 }

@@ -8,6 +8,7 @@ ghost use Rattle.siri_records.specs.Keyed.{InOrder, item_of, unshared, entries_v
 ghost use Rattle.siri_store.specs.Calls.{NoneDead, is_held, without, refuses, observed, IsNextToLeave, after_expiry};
 ghost use Rattle.siri_store.specs.Candidates.{candidates};
 ghost use Rattle.siri_store.specs.Held.{counted};
+ghost use Rattle.siri_topic.specs.Services.{service_asked};
 ghost use Rattle.siri_store.specs.Crossing.{crossed_entries, crossed_of};
 ghost use Rattle.siri_store.specs.CrossWalk.{to_cross};
 ghost use Rattle.siri_store.specs.First.{first_entries, first_of, looked_until, visits_for};
@@ -200,6 +201,7 @@ impl Store {
         ensures rest { self.new ≡ record self.old { reads = self.new.reads } }
         ensures risen { self.old.reads ≤ self.new.reads }
         ensures at_most { self.new.reads ≤ self.old.reads + length self.old.entries }
+        ensures asked { self.new.reads ≤ self.old.reads + length (candidates topic.now self.old.entries) }
         ensures ordered { InOrder self.old.entries }
     {
         let moment = self.moment;
@@ -213,6 +215,7 @@ impl Store {
         ensures rest { self.new ≡ record self.old { reads = self.new.reads } }
         ensures risen { self.old.reads ≤ self.new.reads }
         ensures at_most { self.new.reads ≤ self.old.reads + length self.old.entries }
+        ensures asked { self.new.reads ≤ self.old.reads + length (candidates topic.now self.old.entries) }
         ensures ordered { InOrder self.old.entries }
     {
         let moment = self.moment;
@@ -232,23 +235,23 @@ impl Store {
         self.items.crossing(service, from, to)
     }
 
-    /// All of them in one call, with their keys, shared with the store: the held items of a service that have an edge at
-    /// or after one number of milliseconds since 1970 and before another, each once, in order of the least such edge
-    /// and then of key. Each of them is a step. After want of memory nothing but the counter has changed.
+    /// In one call, with their keys, shared with the store, the held items that may be shown to a topic by their keys and
+    /// that have an edge at or after one number of milliseconds since 1970 and before another, each once, in order of the
+    /// least such edge and then of key. Each of them is a step. After want of memory nothing but the counter has changed.
     pub fn crossed(
         &mut self,
         alloc: Global,
-        service: Service,
+        topic: &Topic,
         from: i64,
         to: i64,
     ) -> Result<Vec<(SharedKey, Rc<Item>)>, OutOfMemory>
-        ensures ok { IfOk result (λ found. entries_view found.items ≡ crossed_entries service from to self.old.entries) }
-        ensures steps { OnOk result (self.new.reads ≡ counted self.old.reads (length (crossed_entries service from to self.old.entries))) }
-        ensures at_most { self.new.reads ≤ self.old.reads + length (crossed_entries service from to self.old.entries) }
+        ensures ok { IfOk result (λ found. entries_view found.items ≡ crossed_entries (service_asked topic.now) from to (candidates topic.now self.old.entries)) }
+        ensures steps { OnOk result (self.new.reads ≡ counted self.old.reads (length (crossed_entries (service_asked topic.now) from to (candidates topic.now self.old.entries)))) }
+        ensures at_most { self.new.reads ≤ self.old.reads + length (crossed_entries (service_asked topic.now) from to (candidates topic.now self.old.entries)) }
         ensures risen { self.old.reads ≤ self.new.reads }
         ensures rest { self.new ≡ record self.old { reads = self.new.reads } }
     {
-        self.items.crossed(alloc, service, from, to)
+        self.items.crossed(alloc, topic, from, to)
     }
 
     /// Lends, by entry and then key, the held visits that are shown to a topic at the store's moment; none to a topic of
@@ -268,8 +271,9 @@ impl Store {
         self.items.first(topic, moment)
     }
 
-    /// The first so many of them in one call, with their keys, shared with the store. Each visit that is looked at until
-    /// so many were shown, or none is left, is a step. After want of memory nothing but the counter has changed.
+    /// The first so many of them in one call, with their keys, shared with the store. It looks at visits of the topic's
+    /// stop alone: each that is looked at until so many were shown, or none is left, is a step. After want of memory
+    /// nothing but the counter has changed.
     pub fn first_shown(
         &mut self,
         alloc: Global,
@@ -277,8 +281,8 @@ impl Store {
         most: u64,
     ) -> Result<Vec<(SharedKey, Rc<Item>)>, OutOfMemory>
         ensures ok { IfOk result (λ found. entries_view found.items ≡ take most (first_entries topic.now self.old.moment self.old.entries)) }
-        ensures steps { OnOk result (self.new.reads ≡ counted self.old.reads (looked_until (shown_at topic.now self.old.moment) most (visits_for topic.now self.old.moment self.old.entries))) }
-        ensures at_most { self.new.reads ≤ self.old.reads + looked_until (shown_at topic.now self.old.moment) most (visits_for topic.now self.old.moment self.old.entries) }
+        ensures steps { OnOk result (self.new.reads ≡ counted self.old.reads (looked_until (shown_at topic.now self.old.moment) most (visits_for topic.now self.old.moment (candidates topic.now self.old.entries)))) }
+        ensures at_most { self.new.reads ≤ self.old.reads + looked_until (shown_at topic.now self.old.moment) most (visits_for topic.now self.old.moment (candidates topic.now self.old.entries)) }
         ensures risen { self.old.reads ≤ self.new.reads }
         ensures rest { self.new ≡ record self.old { reads = self.new.reads } }
     {

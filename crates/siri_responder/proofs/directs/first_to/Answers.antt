@@ -1,14 +1,19 @@
 use Rattle.std.proofs.lemmas.Result.{IfOk-weaker}
-use Rattle.std.proofs.Common.{◌≡◌, ◌∙◌, arith}
+use Rattle.std.proofs.Common.{◌≡◌, ◌∙◌}
 use Rattle.siri_records.specs.Keyed.{entries_view}
-use Rattle.siri_responder.proofs.FirstVisits.{first_are, first_few, first_within}
+use Rattle.siri_responder.proofs.FirstVisits.{first_are, first_asked, first_held, first_within}
 use Rattle.siri_responder.specs.Looking.{with_items}
 use Rattle.siri_responder.proofs.directs.first_to.Goals as goal
 
 pub returns-in_err-first-clause-reads : goal.returns-in_err-first-clause-reads
 returns-in_err-first-clause-reads c =
-    let few = first_few c.args.store.now.moment c.args.store.now.entries c.args.topic.now c.args.most c.held.ensures.ordered c.requires in
-    omega (arith, few, c.first_shown.ensures.at_most)
+    first_held c.args.store.now.moment c.args.store.now.entries c.args.topic.now c.args.most c.args.store.now.reads
+    c.first_shown.new.self.reads c.held.ensures.ordered c.requires c.first_shown.ensures.at_most
+
+pub returns-in_err-first-clause-asked : goal.returns-in_err-first-clause-asked
+returns-in_err-first-clause-asked c =
+    first_asked c.args.store.now.moment c.args.store.now.entries c.args.topic.now c.args.most c.args.store.now.reads
+    c.first_shown.new.self.reads c.held.ensures.ordered c.requires c.first_shown.ensures.at_most
 
 pub returns-in_err-first-clause-first : goal.returns-in_err-first-clause-first
 returns-in_err-first-clause-first c = first_within c.args.store.now.moment c.args.store.now.entries c.args.topic.now c.args.most c.args.store.now.reads
@@ -16,8 +21,13 @@ returns-in_err-first-clause-first c = first_within c.args.store.now.moment c.arg
 
 pub returns-in_err-put_all-clause-reads : goal.returns-in_err-put_all-clause-reads
 returns-in_err-put_all-clause-reads c =
-    let few = first_few c.args.store.now.moment c.args.store.now.entries c.args.topic.now c.args.most c.held.ensures.ordered c.requires in
-    omega (arith, few, c.first_shown.ensures.at_most)
+    first_held c.args.store.now.moment c.args.store.now.entries c.args.topic.now c.args.most c.args.store.now.reads
+    c.first_shown.new.self.reads c.held.ensures.ordered c.requires c.first_shown.ensures.at_most
+
+pub returns-in_err-put_all-clause-asked : goal.returns-in_err-put_all-clause-asked
+returns-in_err-put_all-clause-asked c =
+    first_asked c.args.store.now.moment c.args.store.now.entries c.args.topic.now c.args.most c.args.store.now.reads
+    c.first_shown.new.self.reads c.held.ensures.ordered c.requires c.first_shown.ensures.at_most
 
 pub returns-in_err-put_all-clause-first : goal.returns-in_err-put_all-clause-first
 returns-in_err-put_all-clause-first c = first_within c.args.store.now.moment c.args.store.now.entries c.args.topic.now c.args.most c.args.store.now.reads
@@ -25,8 +35,13 @@ returns-in_err-put_all-clause-first c = first_within c.args.store.now.moment c.a
 
 pub returns-clause-reads : goal.returns-clause-reads
 returns-clause-reads c =
-    let few = first_few c.args.store.now.moment c.args.store.now.entries c.args.topic.now c.args.most c.held.ensures.ordered c.requires in
-    omega (arith, few, c.first_shown.ensures.at_most)
+    first_held c.args.store.now.moment c.args.store.now.entries c.args.topic.now c.args.most c.args.store.now.reads
+    c.first_shown.new.self.reads c.held.ensures.ordered c.requires c.first_shown.ensures.at_most
+
+pub returns-clause-asked : goal.returns-clause-asked
+returns-clause-asked c =
+    first_asked c.args.store.now.moment c.args.store.now.entries c.args.topic.now c.args.most c.args.store.now.reads
+    c.first_shown.new.self.reads c.held.ensures.ordered c.requires c.first_shown.ensures.at_most
 
 pub returns-clause-first : goal.returns-clause-first
 returns-clause-first c = first_within c.args.store.now.moment c.args.store.now.entries c.args.topic.now c.args.most c.args.store.now.reads

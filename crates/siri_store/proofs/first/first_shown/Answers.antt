@@ -7,6 +7,7 @@ use Rattle.std.specs.declared.rc.Rc.{Rc}
 use Rattle.siri_records.specs.declared.item.Item.{Item}
 use Rattle.siri_records.specs.declared.key.Key.{Key}
 use Rattle.siri_records.specs.Keyed.{entries_view}
+use Rattle.siri_store.specs.Asked.{asked_stamps}
 use Rattle.siri_store.specs.CrossWalk.{led}
 use Rattle.siri_store.specs.First.{looked_until}
 use Rattle.siri_store.specs.Held.{counted}
@@ -19,13 +20,13 @@ returns-in_default-clause-steps c =
     let p = shown_at c.args.topic.now c.args.moment in
     let same = to_z-of_z {w = w64} {z = c.args.from} c.ranges.from in
     let z : ℤ = to_z w64 (of_z w64 c.args.from) in
-    let all = led z c.args.items.now c.args.stamps in
-    let old = led z c.args.items.now c.loop-left.stamps in
-    let new = led z c.args.items.now c.next_visit.new.stamps in
+    let all = led z c.args.items.now (asked_stamps c.args.topic.now c.args.stamps) in
+    let old = led z c.args.items.now (asked_stamps c.args.topic.now c.loop-left.stamps) in
+    let new = led z c.args.items.now (asked_stamps c.args.topic.now c.next_visit.new.stamps) in
     let left = c.loop-left.left in
     let so_far = c.loop-left.invariant in
     let some : left ≡ 0 → ⊥ = λ e. grind (arith, nat_tests, e, c.if-left-eq0.false) in
-    subst (λ from. c.next_visit.new.counter ≡ counted c.args.counter.now (looked_until p c.args.most (led from c.args.items.now c.args.stamps))) same
+    subst (λ from. c.next_visit.new.counter ≡ counted c.args.counter.now (looked_until p c.args.most (led from c.args.items.now (asked_stamps c.args.topic.now c.args.stamps)))) same
     (none_counted p c.args.most left all old c.args.counter.now c.loop-left.counter so_far.counter so_far.fewer some c.next_visit.new.counter c.in_default.ensures.counter c.in_default.ensures.lent.0)
 
 pub returns-in_default-clause-at_most : goal.returns-in_default-clause-at_most
@@ -33,13 +34,13 @@ returns-in_default-clause-at_most c =
     let p = shown_at c.args.topic.now c.args.moment in
     let same = to_z-of_z {w = w64} {z = c.args.from} c.ranges.from in
     let z : ℤ = to_z w64 (of_z w64 c.args.from) in
-    let all = led z c.args.items.now c.args.stamps in
-    let old = led z c.args.items.now c.loop-left.stamps in
-    let new = led z c.args.items.now c.next_visit.new.stamps in
+    let all = led z c.args.items.now (asked_stamps c.args.topic.now c.args.stamps) in
+    let old = led z c.args.items.now (asked_stamps c.args.topic.now c.loop-left.stamps) in
+    let new = led z c.args.items.now (asked_stamps c.args.topic.now c.next_visit.new.stamps) in
     let left = c.loop-left.left in
     let so_far = c.loop-left.invariant in
     let some : left ≡ 0 → ⊥ = λ e. grind (arith, nat_tests, e, c.if-left-eq0.false) in
-    subst (λ from. c.next_visit.new.counter ≤ c.args.counter.now + looked_until p c.args.most (led from c.args.items.now c.args.stamps)) same
+    subst (λ from. c.next_visit.new.counter ≤ c.args.counter.now + looked_until p c.args.most (led from c.args.items.now (asked_stamps c.args.topic.now c.args.stamps))) same
     (within p c.args.most left all old c.args.counter.now c.loop-left.counter so_far.counter so_far.fewer some c.next_visit.new.counter c.in_default.ensures.counter new c.in_default.ensures.looked)
 
 pub returns-in_err-shared-clause-at_most : goal.returns-in_err-shared-clause-at_most
@@ -47,13 +48,13 @@ returns-in_err-shared-clause-at_most c =
     let p = shown_at c.args.topic.now c.args.moment in
     let same = to_z-of_z {w = w64} {z = c.args.from} c.ranges.from in
     let z : ℤ = to_z w64 (of_z w64 c.args.from) in
-    let all = led z c.args.items.now c.args.stamps in
-    let old = led z c.args.items.now c.loop-left.stamps in
-    let new = led z c.args.items.now c.next_visit.new.stamps in
+    let all = led z c.args.items.now (asked_stamps c.args.topic.now c.args.stamps) in
+    let old = led z c.args.items.now (asked_stamps c.args.topic.now c.loop-left.stamps) in
+    let new = led z c.args.items.now (asked_stamps c.args.topic.now c.next_visit.new.stamps) in
     let left = c.loop-left.left in
     let so_far = c.loop-left.invariant in
     let some : left ≡ 0 → ⊥ = λ e. grind (arith, nat_tests, e, c.if-left-eq0.false) in
-    subst (λ from. c.next_visit.new.counter ≤ c.args.counter.now + looked_until p c.args.most (led from c.args.items.now c.args.stamps)) same
+    subst (λ from. c.next_visit.new.counter ≤ c.args.counter.now + looked_until p c.args.most (led from c.args.items.now (asked_stamps c.args.topic.now c.args.stamps))) same
     (within p c.args.most left all old c.args.counter.now c.loop-left.counter so_far.counter so_far.fewer some c.next_visit.new.counter c.in-Some.ensures.counter new c.in-Some.ensures.looked)
 
 pub returns-in_err-push-clause-at_most : goal.returns-in_err-push-clause-at_most
@@ -61,13 +62,13 @@ returns-in_err-push-clause-at_most c =
     let p = shown_at c.args.topic.now c.args.moment in
     let same = to_z-of_z {w = w64} {z = c.args.from} c.ranges.from in
     let z : ℤ = to_z w64 (of_z w64 c.args.from) in
-    let all = led z c.args.items.now c.args.stamps in
-    let old = led z c.args.items.now c.loop-left.stamps in
-    let new = led z c.args.items.now c.next_visit.new.stamps in
+    let all = led z c.args.items.now (asked_stamps c.args.topic.now c.args.stamps) in
+    let old = led z c.args.items.now (asked_stamps c.args.topic.now c.loop-left.stamps) in
+    let new = led z c.args.items.now (asked_stamps c.args.topic.now c.next_visit.new.stamps) in
     let left = c.loop-left.left in
     let so_far = c.loop-left.invariant in
     let some : left ≡ 0 → ⊥ = λ e. grind (arith, nat_tests, e, c.if-left-eq0.false) in
-    subst (λ from. c.next_visit.new.counter ≤ c.args.counter.now + looked_until p c.args.most (led from c.args.items.now c.args.stamps)) same
+    subst (λ from. c.next_visit.new.counter ≤ c.args.counter.now + looked_until p c.args.most (led from c.args.items.now (asked_stamps c.args.topic.now c.args.stamps))) same
     (within p c.args.most left all old c.args.counter.now c.loop-left.counter so_far.counter so_far.fewer some c.next_visit.new.counter c.in-Some.ensures.counter new c.in-Some.ensures.looked)
 
 pub loop-left-preserved : goal.loop-left-preserved
@@ -75,9 +76,9 @@ loop-left-preserved c =
     let p = shown_at c.args.topic.now c.args.moment in
     let same = to_z-of_z {w = w64} {z = c.args.from} c.ranges.from in
     let z : ℤ = to_z w64 (of_z w64 c.args.from) in
-    let all = led z c.args.items.now c.args.stamps in
-    let old = led z c.args.items.now c.loop-left.stamps in
-    let new = led z c.args.items.now c.next_visit.new.stamps in
+    let all = led z c.args.items.now (asked_stamps c.args.topic.now c.args.stamps) in
+    let old = led z c.args.items.now (asked_stamps c.args.topic.now c.loop-left.stamps) in
+    let new = led z c.args.items.now (asked_stamps c.args.topic.now c.next_visit.new.stamps) in
     let left = c.loop-left.left in
     let so_far = c.loop-left.invariant in
     let some : left ≡ 0 → ⊥ = λ e. grind (arith, nat_tests, e, c.if-left-eq0.false) in
