@@ -6,13 +6,13 @@ use Rattle.siri_topic.specs.declared.subscription.Subscription.{Subscription}
 use Rattle.siri_messages.specs.Asked.{AskedFor}
 use Rattle.siri_records.specs.Keyed.{Items}
 use Rattle.siri_change.specs.Changes as change
-use Rattle.siri_change.specs.Parts as part
+use Rattle.siri_change.specs.Parts.{led_to, load}
 use Rattle.siri_life.specs.Life.{greatest_round}
 use Rattle.siri_subs.specs.rounds.Wanted.{KeptRounds, RoundsOfChanges, WantedPart, rounds_carried, wanted_part, round_on}
 use Rattle.siri_life.specs.Slot.{begun, is_message_due}
 use Rattle.siri_subscriptions.specs.declared.looks.Opening.{Opening}
 use Rattle.siri_subscriptions.specs.Openings.{with_opening}
-use Rattle.siri_subscriptions.specs.Rounds.{looked}
+use Rattle.siri_subscriptions.specs.Rounds.{looked, next_round}
 use Rattle.siri_subscriptions.specs.Messages.{message_of, message_due}
 
 -- a round is due after the last
@@ -22,10 +22,15 @@ due wanted direct rounds = nat_lt rounds.rounds_opened greatest_round
 
 pub opens : (wanted : Subscription) (direct : Items) (rounds : RoundsOfChanges) (opening : Opening)
     → rounds.outstanding ≡ None → due wanted direct rounds ≡ true
-    → opening.target ≡ change.target wanted.slack wanted.incremental rounds.acknowledged direct
-    → opening.changes ≡ part.load rounds.acknowledged opening.target wanted.incremental
+    → led_to rounds.acknowledged opening.incremental opening.changes ≡ change.target wanted.slack wanted.incremental rounds.acknowledged direct
+    → opening.changes ≡ load rounds.acknowledged (change.target wanted.slack wanted.incremental rounds.acknowledged direct) wanted.incremental
     → (asked : AskedFor) → asked.subscription ≡ wanted → (now : ℕ) → with_opening now (Some opening) rounds ≡ looked asked direct now rounds
-opens wanted direct rounds opening level is_due target changes asked wants now = rw (wants, level, is_due, changes, target) refl
+opens wanted direct rounds opening level is_due leads changes asked wants now =
+    rw (wants, level, is_due) (λ i. begun rounds (round_on rounds.acknowledged now (leads i) (changes i)))
+
+pub due_begins : (wanted : Subscription) (direct : Items) (rounds : RoundsOfChanges) → rounds.outstanding ≡ None → due wanted direct rounds ≡ true
+    → (asked : AskedFor) → asked.subscription ≡ wanted → (now : ℕ) → begun rounds (next_round asked direct now rounds) ≡ looked asked direct now rounds
+due_begins wanted direct rounds level is_due asked wants now = rw (wants, level, is_due) refl
 
 pub stays : (wanted : Subscription) (direct : Items) (rounds : RoundsOfChanges) → rounds.outstanding ≡ None → due wanted direct rounds ≡ false
     → (asked : AskedFor) → asked.subscription ≡ wanted → (now : ℕ) → with_opening now None rounds ≡ looked asked direct now rounds
@@ -52,7 +57,8 @@ pub first_due : (producer : List ℕ) (start : ℕ) (wanted : Subscription) (num
     (opening : Opening) (part : WantedPart) (message : Message)
     → message ≡ message_of producer start wanted number part
     → Some part ≡ wanted_part (rounds_carried
-    (begun rounds (round_on rounds.acknowledged now opening.target opening.changes)))
+    (begun rounds (round_on rounds.acknowledged now
+    (led_to rounds.acknowledged opening.incremental opening.changes) opening.changes)))
     → Some message ≡ message_due producer start wanted number now (rounds_carried (with_opening now (Some opening) rounds))
 first_due producer start wanted number now rounds opening part message is wants =
     ap Some is ∙ ap (option_map (message_of producer start wanted number)) wants

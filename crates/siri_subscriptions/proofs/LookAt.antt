@@ -8,7 +8,7 @@ use Rattle.siri_records.specs.KeyLists.{KeysInOrder, with_keys}
 use Rattle.siri_records.proofs.KeyLists.{order_in_order}
 use Rattle.siri_topic.specs.declared.topics.Topic.{Topic}
 use Rattle.siri_topic.specs.Crossed.{is_crossed}
-use Rattle.siri_store.specs.Candidates.{may_be_shown}
+use Rattle.siri_store.specs.Candidates.{candidates, may_be_shown}
 use Rattle.siri_store.specs.Marked.{is_since, keys_since}
 use Rattle.siri_model.specs.Direct.{direct_to, most_of}
 use Rattle.siri_model.specs.Followed.{asked_since, bound_since, complete_set, first_visits, items_passed}
@@ -95,7 +95,7 @@ sum_with after crossed found before touched passed complete first a b c = omega 
 module _ (start found known : Known) (found_is : found ≡ record start { reads = found.reads })
     (known_is : known ≡ record start { reads = known.reads }) (row : Row KeptLife) (looked : Looked)
     (touches : found.reads ≤ start.reads + length (keys_since start.marks.log looked.number))
-    (passes : known.reads ≤ found.reads + items_passed row.wanted.topic found.held looked.moment found.moment) where
+    (passes : known.reads ≤ found.reads + items_passed row.wanted.topic (candidates row.wanted.topic found.held) looked.moment found.moment) where
   abbrev topic : Topic
   topic = row.wanted.topic
 
@@ -103,7 +103,7 @@ module _ (start found known : Known) (found_is : found ≡ record start { reads 
   since k = asked_since k.moment k.held topic (look_of k.marks looked)
 
   abbrev visits : Known → ℕ
-  visits k = if since k == 0 then 0 else first_visits k.moment k.held topic (most_of topic)
+  visits k = if since k == 0 then 0 else first_visits k.moment (candidates topic k.held) topic (most_of topic)
 
   abbrev most : ℕ
   most = start.reads + bound_since start.moment start.held row (Some (look_of start.marks looked))
@@ -111,22 +111,22 @@ module _ (start found known : Known) (found_is : found ≡ record start { reads 
   pub visits_within : (after : ℕ) → after ≤ known.reads + visits known → after ≤ most
   visits_within after within =
       sum_of after known.reads found.reads start.reads (length (keys_since start.marks.log looked.number))
-      (items_passed topic start.held looked.moment start.moment)
+      (items_passed topic (candidates topic start.held) looked.moment start.moment)
       (complete_set row (direct_to start.moment start.held topic)) (visits start)
       (subst (λ (k : Known). after ≤ k.reads + visits k) known_is within)
-      (subst (λ (k : Known). known.reads ≤ k.reads + items_passed topic k.held looked.moment k.moment) found_is passes) touches
+      (subst (λ (k : Known). known.reads ≤ k.reads + items_passed topic (candidates topic k.held) looked.moment k.moment) found_is passes) touches
 
   pub complete_within : (after : ℕ) → after ≤ known.reads + complete_set row (direct_to known.moment known.held topic) → after ≤ most
   complete_within after within =
       sum_with after known.reads found.reads start.reads (length (keys_since start.marks.log looked.number))
-      (items_passed topic start.held looked.moment start.moment)
+      (items_passed topic (candidates topic start.held) looked.moment start.moment)
       (complete_set row (direct_to start.moment start.held topic)) (visits start)
       (subst (λ (k : Known). after ≤ k.reads + complete_set row (direct_to k.moment k.held topic)) known_is within)
-      (subst (λ (k : Known). known.reads ≤ k.reads + items_passed topic k.held looked.moment k.moment) found_is passes) touches
+      (subst (λ (k : Known). known.reads ≤ k.reads + items_passed topic (candidates topic k.held) looked.moment k.moment) found_is passes) touches
 
   pub passed_within : known.reads ≤ most
   passed_within =
       sum_of known.reads known.reads found.reads start.reads (length (keys_since start.marks.log looked.number))
-      (items_passed topic start.held looked.moment start.moment)
+      (items_passed topic (candidates topic start.held) looked.moment start.moment)
       (complete_set row (direct_to start.moment start.held topic)) (visits start) (omega arith)
-      (subst (λ (k : Known). known.reads ≤ k.reads + items_passed topic k.held looked.moment k.moment) found_is passes) touches
+      (subst (λ (k : Known). known.reads ≤ k.reads + items_passed topic (candidates topic k.held) looked.moment k.moment) found_is passes) touches

@@ -16,7 +16,6 @@ use Rattle.siri_topic.specs.declared.topics.Topic.TheVariants as topic
 use Rattle.siri_topic.specs.Crossed.{is_crossed, far_end_between, far_end_passed}
 use Rattle.siri_topic.specs.Shown.{window_of}
 use Rattle.siri_change.specs.Changes.{agree_on, changes, keys_of_both, target}
-use Rattle.siri_change.specs.Parts.{load}
 use Rattle.siri_change.proofs.Leads.{none_of_both, agree_none}
 use Rattle.siri_change.proofs.Levels.{looks_by_keys, order_both}
 use Rattle.siri_store.specs.Candidates.{candidates, may_be_shown}
@@ -41,7 +40,7 @@ use Rattle.siri_subscriptions.specs.Openings.{with_opening}
 use Rattle.siri_subscriptions.specs.Rounds.{looked as looked_at}
 use Rattle.siri_subscriptions.proofs.Apart.{apart_kept, apart_opened}
 use Rattle.siri_subscriptions.proofs.ByKeys.{keys_found}
-use Rattle.siri_subscriptions.proofs.Found.{due, opens, stays}
+use Rattle.siri_subscriptions.proofs.Found.{due, due_begins, stays}
 use Rattle.siri_topic.specs.Services.{is_served}
 
 -- ---- the whole direct response
@@ -73,10 +72,8 @@ module _ (now : ℕ) (items : Items) (row : Row Course) (level : row.slot.rounds
       absurd (cc (ap (λ (r : RoundsOfChanges). r.outstanding)
       (is ∙ sym (stays row.wanted whole row.slot.rounds level h (asked_of (kept_row row)) asked_is now)) ∙ level))
   opened_case None true h is =
-      let goal = target row.wanted.slack row.wanted.incremental row.slot.rounds.acknowledged whole in
-      let opening : Opening = record { target = goal; changes = load row.slot.rounds.acknowledged goal row.wanted.incremental } in
       absurd (cc (sym level ∙ ap (λ (r : RoundsOfChanges). r.outstanding)
-      (is ∙ sym (opens row.wanted whole row.slot.rounds opening level h refl refl (asked_of (kept_row row)) asked_is now))))
+      (is ∙ sym (due_begins row.wanted whole row.slot.rounds level h (asked_of (kept_row row)) asked_is now))))
 
   pub whole_apart : (finding : Finding) → IsFound now items row finding → (keys : List Key)
       → keys ≡ cond (is_some finding.opening) [] (keys_apart row.wanted.slack row.slot.rounds.acknowledged whole)
@@ -211,13 +208,13 @@ module _ (known : Known) (topic : Topic) (looked : Looked) (limit : is_some (mos
       empty (e ∷ items) h = absurd (omega (arith, h))
 
   pub whole_bound : 1 ≤ length found + length crossed → (after : ℕ)
-      → AreWithin known.moment known.held topic known.reads after
-      → after ≤ known.reads + (if since == 0 then 0 else first_visits known.moment known.held topic (most_of topic))
+      → AreWithin known.moment (candidates topic known.held) topic known.reads after
+      → after ≤ known.reads + (if since == 0 then 0 else first_visits known.moment (candidates topic known.held) topic (most_of topic))
   whole_bound some after within =
       let touched = ap length is ∙ (found_length known.held (touched_keys known topic looked)
       ∙ length-filter (may_be_shown topic) (keys_since known.marks.log looked.number)) in
       let passed = few_crossed topic looked.moment known.moment (candidates topic known.held) limit in
       let crosses = ap length (are ∙ asked_crossed topic looked.moment known.moment known.held) in
-      counts_where_changed since (first_visits known.moment known.held topic (most_of topic)) known.reads after
+      counts_where_changed since (first_visits known.moment (candidates topic known.held) topic (most_of topic)) known.reads after
       (omega (arith, some, touched, passed, crosses))
-      (within_first known.moment known.held topic (most_of topic) refl limit known.reads after within)
+      (within_first known.moment (candidates topic known.held) topic (most_of topic) refl limit known.reads after within)

@@ -1,7 +1,7 @@
--- The round that a look opens by the keys that may have changed.
-use Rattle.std.proofs.Common.{◌≡◌, ℕ, ℤ, List, true, ap, sym, ◌∙◌}
+-- What the round carries that a look opens by the keys that may have changed.
+use Rattle.std.proofs.Common.{◌≡◌, ℕ, ℤ, List, true, sym, ◌∙◌}
 use Rattle.siri_records.specs.declared.key.Key.{Key}
-use Rattle.siri_records.specs.Keyed.{Items, InOrder, KeyChange, apply}
+use Rattle.siri_records.specs.Keyed.{Items, InOrder, KeyChange}
 use Rattle.siri_records.specs.KeyLists.{KeysInOrder}
 use Rattle.siri_topic.specs.declared.topics.Topic.{Topic}
 use Rattle.siri_change.specs.Changes as change
@@ -24,8 +24,5 @@ module _ (now : ℕ) (held : Items) (topic : Topic) (slack : ℤ) (view : Items)
   among : changes ≡ changes_among slack view direct keys
   among = is ∙ found_tell slack view held topic now keys ordered
 
-  pub leads : apply view changes ≡ change.target slack true view direct
-  leads = ap (apply view) among ∙ look.leads
-
-  pub carries : changes ≡ change.changes view (apply view changes)
-  carries = among ∙ (sym look.carries ∙ ap (change.changes view) (sym leads))
+  pub carries : changes ≡ change.changes view (change.target slack true view direct)
+  carries = among ∙ sym look.carries

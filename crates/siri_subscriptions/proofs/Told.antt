@@ -100,17 +100,24 @@ module _ (known : Known) (row : Row Course) (looked : Looked) (live : AreLive kn
     pub apart_none : Some [] ≡ apart_at known.moment known.held row
     apart_none = apart_opened known.moment known.held row level (sym due_told ∙ on)
 
-    pub found_some : (opening : Opening) → opening.target
-        ≡ change.target row.wanted.slack row.wanted.incremental view direct
-        → opening.changes ≡ part.load view opening.target row.wanted.incremental
+    abbrev goal : Items → Items
+    goal v = change.target row.wanted.slack row.wanted.incremental v direct
+
+    pub found_some : (opening : Opening) → part.led_to view opening.incremental opening.changes ≡ goal view
+        → opening.changes ≡ part.load view (goal view) row.wanted.incremental
+        → length (part.base_view view opening.incremental) + length opening.changes ≤ opening.room
         → IsFound known.moment known.held row (record { opening = Some opening; is_level = is_level })
-    found_some opening target carries = record {
+    found_some opening leads carries fits = record {
       opening =
           opens_found row.wanted direct row.slot.rounds opening level (sym due_told ∙ on)
-          (target ∙ ap (λ v. change.target row.wanted.slack row.wanted.incremental v direct) view_is)
-          (carries ∙ ap (λ v. part.load v opening.target row.wanted.incremental) view_is)
+          (ap (λ v. part.led_to v opening.incremental opening.changes) (sym view_is) ∙ (leads ∙ ap goal view_is))
+          (carries ∙ ap (λ v. part.load v (goal v) row.wanted.incremental) view_is)
           (asked_of (kept_row row)) refl known.moment;
-      can_open = record { level = level; room = subst (λ n. n < greatest_round) last_is (room on) };
+      can_open = record {
+        level = level;
+        room = subst (λ n. n < greatest_round) last_is (room on);
+        fits = subst (λ (v : Items). length (part.base_view v opening.incremental) + length opening.changes ≤ opening.room) view_is fits;
+      };
       level = rw level level_told;
     }
 

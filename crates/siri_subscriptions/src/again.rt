@@ -21,11 +21,11 @@ ghost use Rattle.siri_subscriptions.specs.Looked.{FollowsLook, look_of};
 use crate::course::{Course, Looked};
 use crate::due::Seen;
 use crate::limited::{has_limit, look_limited};
-use crate::looks::{is_round_due, whole};
+use crate::looks::{is_round_due, opening_of, whole};
 use crate::touched::{Touched, is_found, merged, others};
 use crate::{Finding, Opening};
 use siri_base::{Copies, List, Moment, OutOfMemory, Span};
-use siri_change::{Change, View, patch};
+use siri_change::{Change, View};
 use siri_records::{Item, SharedKey, near};
 use siri_responder::Responder;
 use siri_subs::Entry;
@@ -247,8 +247,8 @@ fn listed(alloc: Global, keys: BTreeSet<SharedKey>) -> Result<List<SharedKey>, O
     Ok(list)
 }
 
-/// The round that is to open, by what was found and the changes of it: with incremental updates the view with those
-/// changes, else all that is shown.
+/// The round that is to open, by what was found and the changes of it: with incremental updates these changes, else all
+/// that is shown.
 fn opening(
     alloc: Global,
     responder: &mut Responder,
@@ -263,8 +263,9 @@ fn opening(
     requires ordered { InOrder view.now }
     requires outside { AgreeOutside wanted.now.slack view.now (shown responder.old.moment responder.old.held wanted.now.topic) (keys_of found.now) }
     requires changes { changes ≡ changes_found wanted.now.slack view.now wanted.now.topic responder.old.moment found.now }
-    ensures target { IfOk result (λ opening. opening.target ≡ change.target wanted.now.slack wanted.now.incremental view.now (shown responder.old.moment responder.old.held wanted.now.topic)) }
-    ensures changes { IfOk result (λ opening. opening.changes ≡ part.load view.now opening.target wanted.now.incremental) }
+    ensures leads { IfOk result (λ opening. part.led_to view.now opening.incremental opening.changes ≡ change.target wanted.now.slack wanted.now.incremental view.now (shown responder.old.moment responder.old.held wanted.now.topic)) }
+    ensures changes { IfOk result (λ opening. opening.changes ≡ part.load view.now (change.target wanted.now.slack wanted.now.incremental view.now (shown responder.old.moment responder.old.held wanted.now.topic)) wanted.now.incremental) }
+    ensures fits { IfOk result (λ opening. length (part.base_view view.now opening.incremental) + length opening.changes ≤ opening.room) }
     ensures rest { responder.new ≡ record responder.old { reads = responder.new.reads } }
     ensures risen { responder.old.reads ≤ responder.new.reads }
     ensures reads { responder.new.reads ≤ responder.old.reads + (if not wanted.now.incremental then length (shown responder.old.moment responder.old.held wanted.now.topic) else 0) }
@@ -272,11 +273,11 @@ fn opening(
     if !wanted.incremental {
         let target = all_shown(alloc, responder, wanted, view, found)?;
         let changes = whole(alloc, &target)?;
-        return Ok(Opening { target, changes });
+        let opening = opening_of(wanted, view, changes)?;
+        return Ok(opening);
     }
-    let mut target = view.copy()?;
-    patch(&mut target, &changes)?;
-    Ok(Opening { target, changes })
+    let opening = opening_of(wanted, view, changes)?;
+    Ok(opening)
 }
 
 /// All that is shown: of a view's keys that weren't found the item is read, and of the others it was found.

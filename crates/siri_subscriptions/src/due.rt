@@ -5,6 +5,7 @@ ghost use Rattle.siri_subs.specs.Lent.{entry_of};
 ghost use Rattle.siri_subscriptions.specs.Courses.{kept_row};
 ghost use Rattle.siri_model.specs.Followed.{look_bound};
 ghost use Rattle.siri_model.specs.Rows.{is_heartbeat_due};
+ghost use Rattle.siri_store.specs.Candidates.{candidates};
 ghost use Rattle.siri_subscriptions.specs.Again.{AreTouched};
 ghost use Rattle.siri_subscriptions.specs.Due.{apart_at, course_after, IsDue, IsFound};
 ghost use Rattle.siri_subscriptions.specs.Looked.{RowFollows, followed_row};
@@ -132,7 +133,8 @@ fn look_at(
     }
 }
 
-/// Looks at a subscription for the first time: a round opens, so no key is kept apart.
+/// Looks at a subscription for the first time, at what may be shown to its topic by its key: a round opens, so no key is
+/// kept apart.
 fn look_first(
     alloc: Global,
     responder: &mut Responder,
@@ -144,7 +146,7 @@ fn look_first(
     ensures apart { IfOk result (λ seen. seen.apart ≡ apart_at responder.old.moment responder.old.held (entry_of entry.now)) }
     ensures rest { responder.new ≡ record responder.old { reads = responder.new.reads } }
     ensures risen { responder.old.reads ≤ responder.new.reads }
-    ensures bound { responder.new.reads ≤ responder.old.reads + length responder.old.held }
+    ensures bound { responder.new.reads ≤ responder.old.reads + length (candidates entry.now.wanted.now.topic responder.old.held) }
 {
     let direct = responder.direct_to(&entry.wanted.topic)?;
     let finding = look(alloc, entry.wanted, &entry.slot.rounds, View::of(direct))?;

@@ -5,6 +5,7 @@ ghost use Rattle.std.specs.Map.{keys_of};
 ghost use Rattle.siri_model.specs.Direct.{most_of};
 ghost use Rattle.siri_model.specs.Followed.{asked_since, first_visits, keys_apart};
 ghost use Rattle.siri_model.specs.Looks.{found_of};
+ghost use Rattle.siri_store.specs.Candidates.{candidates};
 ghost use Rattle.siri_responder.specs.Firsts.{AreWithin};
 ghost use Rattle.siri_subs.specs.Lent.{entry_of};
 ghost use Rattle.siri_subscriptions.specs.Again.{AreLive, crossed_since, touched_keys};
@@ -55,7 +56,7 @@ pub(crate) fn look_limited(
     ensures apart { IfOk result (λ seen. seen.apart ≡ apart_at responder.old.moment responder.old.held (entry_of entry.now)) }
     ensures rest { responder.new ≡ record responder.old { reads = responder.new.reads } }
     ensures risen { responder.old.reads ≤ responder.new.reads }
-    ensures bound { responder.new.reads ≤ responder.old.reads + (if asked_since responder.old.moment responder.old.held entry.now.wanted.now.topic (look_of responder.old.marks looked.now) == 0 then 0 else first_visits responder.old.moment responder.old.held entry.now.wanted.now.topic (most_of entry.now.wanted.now.topic)) }
+    ensures bound { responder.new.reads ≤ responder.old.reads + (if asked_since responder.old.moment responder.old.held entry.now.wanted.now.topic (look_of responder.old.marks looked.now) == 0 then 0 else first_visits responder.old.moment (candidates entry.now.wanted.now.topic responder.old.held) entry.now.wanted.now.topic (most_of entry.now.wanted.now.topic)) }
 {
     if are_none(found, crossed) {
         return look_still(alloc, responder, entry, looked);
@@ -109,7 +110,7 @@ fn look_whole(
     ensures apart { IfOk result (λ seen. seen.apart ≡ apart_at responder.old.moment responder.old.held (entry_of entry.now)) }
     ensures rest { responder.new ≡ record responder.old { reads = responder.new.reads } }
     ensures risen { responder.old.reads ≤ responder.new.reads }
-    ensures first { AreWithin responder.old.moment responder.old.held entry.now.wanted.now.topic responder.old.reads responder.new.reads }
+    ensures first { AreWithin responder.old.moment (candidates entry.now.wanted.now.topic responder.old.held) entry.now.wanted.now.topic responder.old.reads responder.new.reads }
 {
     let rounds = &entry.slot.rounds;
     let items = responder.direct_to(&entry.wanted.topic)?;

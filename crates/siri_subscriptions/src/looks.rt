@@ -1,6 +1,6 @@
 //! Whether a round is due, and what it leads to.
 
-ghost use Rattle.std.specs.Prelude.{◌≡◌, ◌<◌, ◌==◌, ◌&&◌, ◌||◌, ℕ, not, nat_lt, true, IfOk, None};
+ghost use Rattle.std.specs.Prelude.{◌≡◌, ◌+◌, ◌<◌, ◌≤◌, ◌==◌, ◌&&◌, ◌||◌, ℕ, not, nat_lt, length, true, IfOk, None};
 ghost use Rattle.siri_life.specs.Life.{greatest_round};
 ghost use Rattle.siri_messages.specs.Asked.{AskedFor};
 ghost use Rattle.siri_change.specs.Changes as change;
@@ -8,17 +8,22 @@ ghost use Rattle.siri_change.specs.Parts as part;
 ghost use Rattle.siri_subscriptions.specs.Openings.{with_opening, CanOpen};
 ghost use Rattle.siri_subscriptions.specs.Rounds.{looked, sent_if_due};
 
+use crate::again::view_is_in_order;
 use siri_base::{List, Moment, OutOfMemory};
-use siri_change::{Change, View, addition, changes, differ, target};
+use siri_change::{Change, Room, View, addition, changes, differ, target};
 use siri_subs::{GREATEST_ROUND, Rounds};
 use siri_topic::Subscription;
 use std::alloc::Global;
 
-/// A round that is to open: the view that it leads to, and by which changes.
+/// A round that is to open.
 #[derive(Drop)]
 pub struct Opening {
-    pub target: View,
+    /// Whether its changes are those of the acknowledged view, and not all of a view.
+    pub incremental: bool,
+    /// The changes by which it leads to a view.
     pub changes: List<Change>,
+    /// Room for them, once all are acknowledged.
+    pub room: Room,
 }
 
 /// What a look found.
@@ -70,16 +75,52 @@ fn round_to_open(
     acknowledged: &View,
     direct: View,
 ) -> Result<Opening, OutOfMemory>
-    ensures target { IfOk result (λ opening. opening.target ≡ change.target wanted.now.slack wanted.now.incremental acknowledged.now direct) }
-    ensures changes { IfOk result (λ opening. opening.changes ≡ part.load acknowledged.now opening.target wanted.now.incremental) }
+    ensures leads { IfOk result (λ opening. part.led_to acknowledged.now opening.incremental opening.changes ≡ change.target wanted.now.slack wanted.now.incremental acknowledged.now direct) }
+    ensures changes { IfOk result (λ opening. opening.changes ≡ part.load acknowledged.now (change.target wanted.now.slack wanted.now.incremental acknowledged.now direct) wanted.now.incremental) }
+    ensures fits { IfOk result (λ opening. length (part.base_view acknowledged.now opening.incremental) + length opening.changes ≤ opening.room) }
 {
+    view_is_in_order(acknowledged);
+    view_is_in_order(&direct);
     let target = target(acknowledged, &direct, wanted.slack, wanted.incremental)?;
-    let changes = if wanted.incremental {
-        changes(acknowledged, &target)?
+    let changes = load(alloc, wanted, acknowledged, &target)?;
+    let opening = opening_of(wanted, acknowledged, changes)?;
+    Ok(opening)
+}
+
+/// What a round to a view carries.
+fn load(
+    alloc: Global,
+    wanted: &Subscription,
+    acknowledged: &View,
+    target: &View,
+) -> Result<List<Change>, OutOfMemory>
+    ensures { IfOk result (λ list. list ≡ part.load acknowledged.now target.now wanted.now.incremental) }
+{
+    let list = if wanted.incremental {
+        changes(acknowledged, target)?
     } else {
-        whole(alloc, &target)?
+        whole(alloc, target)?
     };
-    Ok(Opening { target, changes })
+    Ok(list)
+}
+
+/// The round of changes, with room for them.
+pub(crate) fn opening_of(
+    wanted: &Subscription,
+    acknowledged: &View,
+    changes: List<Change>,
+) -> Result<Opening, OutOfMemory>
+    ensures incremental { IfOk result (λ opening. opening.incremental ≡ wanted.now.incremental) }
+    ensures changes { IfOk result (λ opening. opening.changes ≡ changes) }
+    ensures fits { IfOk result (λ opening. length (part.base_view acknowledged.now opening.incremental) + length opening.changes ≤ opening.room) }
+{
+    let incremental = wanted.incremental;
+    let room = acknowledged.room_for(incremental, changes.len())?;
+    Ok(Opening {
+        incremental,
+        changes,
+        room,
+    })
 }
 
 /// All of a view, as changes of the empty view.
@@ -104,7 +145,7 @@ pub fn move_on(rounds: &mut Rounds, now: Moment, opening: Option<Opening>)
     ensures { rounds.new ≡ sent_if_due now (with_opening now opening rounds.old) }
 {
     if let Some(opening) = opening {
-        rounds.begin(now, opening.target, opening.changes);
+        rounds.begin(now, opening.incremental, opening.changes, opening.room);
     }
     if rounds.due(now) {
         rounds.sent(now);

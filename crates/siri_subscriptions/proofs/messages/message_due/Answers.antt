@@ -1,4 +1,5 @@
 use Rattle.std.proofs.Common.{option_map, sym, ap, ◌∙◌}
+use Rattle.siri_change.specs.Parts.{led_to}
 use Rattle.siri_subs.specs.rounds.Wanted.{part_sent, rounds_carried}
 use Rattle.siri_subs.proofs.Carriage.{due_carried}
 use Rattle.siri_subscriptions.proofs.Found.{first_due, again_due}
@@ -18,7 +19,7 @@ returns-in_ok-message_of-in-Some-part c =
           let opening = w.in-Some.opening.now in
           let sent = ap (option_map part_sent) (sym c.in-Some-part.is ∙ w.part-is) in
           rw w.in-Some.is (first_due producer c.args.start wanted c.args.number c.args.now rounds opening part message
-          is (sent ∙ w.first_part.ensures.sent opening.target))
+          is (sent ∙ w.first_part.ensures.sent (led_to rounds.acknowledged opening.incremental opening.changes)))
       | in-None w ↦
           let sent = ap (option_map part_sent) (sym c.in-Some-part.is ∙ w.part-is) in
           rw w.in-None.is (again_due producer c.args.start wanted c.args.number c.args.now
