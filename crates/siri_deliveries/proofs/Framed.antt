@@ -21,7 +21,8 @@ use Rattle.siri_records.specs.declared.item.Service.TheVariants as service
 use Rattle.siri_deliveries.specs.Deliveries.{written_stop_delivery, written_timetable_delivery}
 use Rattle.siri_deliveries.specs.Deliveries.{written_vehicle_delivery, written_situation_delivery}
 use Rattle.siri_deliveries.specs.Pieces.{delivery_text, delivery_tree}
-use Rattle.siri_deliveries.specs.Frame.{GoesOn, deliveries_of, filled, filled_text, trees_of, is_of}
+use Rattle.siri_deliveries.specs.Frame.{GoesOn, deliveries_of, filled, filled_text, trees_of, is_of, without_entries}
+use Rattle.siri_deliveries.specs.Frame.{without_own_entries}
 use Rattle.siri_deliveries.specs.declared.frame.FramePiece.{FramePiece}
 use Rattle.siri_deliveries.specs.declared.frame.FramePiece.TheVariants as piece
 use Rattle.siri_deliveries.proofs.Joined.{cut_behind, cut_later, ends_list}
@@ -244,3 +245,19 @@ row_in_steps d s name ps cut first all out named begun fresh ended ts is_named i
     ++ print_from true (entries_tokens (trees_of s (drop 1 (deliveries_of s d))) ++ later)) pieces) in
     subst (λ (o : List Token). GoesOn d all o
     (ts ++ row_tokens name (array_unless_empty (trees_of s (deliveries_of s d))))) (sym end) framed
+
+-- ---- a head
+
+bare_again : (ds : List FunctionalDelivery)
+    → map without_own_entries (map without_own_entries ds) ≡ map without_own_entries ds
+bare_again [] = refl
+bare_again (x ∷ ds) = ap (λ rest. without_own_entries x ∷ rest) (bare_again ds)
+
+-- where the head has no entries itself
+pub of_bare_head : (d head : ServiceDelivery) → without_entries d ≡ head → without_entries d ≡ without_entries head
+of_bare_head d head same = (λ i. record d {
+  stop_monitoring_delivery = sym (bare_again d.stop_monitoring_delivery) i;
+  estimated_timetable_delivery = sym (bare_again d.estimated_timetable_delivery) i;
+  vehicle_monitoring_delivery = sym (bare_again d.vehicle_monitoring_delivery) i;
+  situation_exchange_delivery = sym (bare_again d.situation_exchange_delivery) i;
+}) ∙ ap without_entries same

@@ -1,5 +1,6 @@
 pub mod Apart
 pub mod AsItComes
+pub mod ChangeCounts
 pub mod ChangeTexts
 pub mod Delivered
 pub mod Framed

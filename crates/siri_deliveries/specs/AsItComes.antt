@@ -3,12 +3,30 @@ use Rattle.std.specs.Prelude.{◌≡◌, ℕ, List, [], ◌∷◌, Bool, true, f
 use Rattle.std.specs.List.{list_any}
 use Rattle.json.specs.Token.{Token}
 use Rattle.json.specs.Json.{Json, Members, object, value}
+use Rattle.json.specs.declared.error.Error.{Error as JsonError}
+use Rattle.json.specs.declared.error.Error.TheVariants as json
 use Rattle.serde_json.specs.Data.{Data}
 use Rattle.serde_json.specs.Find.{get}
 use Rattle.siri_json.specs.Shown.{data_of}
 use Rattle.siri_json.specs.Values.{member_of}
+use Rattle.siri_tables.specs.declared.refusal.TableError.{TableError}
+use Rattle.siri_tables.specs.declared.refusal.TableError.TheVariants as tables
 use Rattle.siri_tables.specs.Refusals.{Refusal}
 use Rattle.siri_tables.specs.Rules.{table, list_of, at_most, or_empty, is_null}
+use Rattle.siri_deliveries.specs.declared.incoming.NotRead.{NotRead}
+use Rattle.siri_deliveries.specs.declared.incoming.NotRead.TheVariants as unread
+
+-- ---- why nothing was read: there was no memory, or else it is refused, or of a rare form
+
+abbrev pub unread_token : JsonError → NotRead
+unread_token json.OutOfMemory = unread.OutOfMemory
+unread_token other = unread.Otherwise
+
+abbrev pub unread_table : TableError → NotRead
+unread_table tables.OutOfMemory = unread.OutOfMemory
+unread_table (tables.Refused path reason) = unread.Otherwise
+
+-- ---- what was read
 
 -- an object stood next, and its rows spell that
 abbrev pub Comes : {A : Type 0} → (Data → Result A Refusal) → ℕ → List Token → List Token → A → Type 0

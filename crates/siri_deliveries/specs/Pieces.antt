@@ -1,5 +1,5 @@
 -- The text of a functional delivery, piece by piece: what is still to come at each stage.
-use Rattle.std.specs.Prelude.{◌≡◌, ℕ, List, [], ◌∷◌, ◌++◌, filter, filter_map, not, is_some, true, Option, Some, None}
+use Rattle.std.specs.Prelude.{◌≡◌, ℕ, ◌+◌, List, [], ◌∷◌, ◌++◌, length, filter, filter_map, not, is_some, true, Option, Some, None}
 use Rattle.std.specs.Prelude.{option_map, MatchOption}
 use Rattle.std.specs.Map.{keys_of}
 use Rattle.std.specs.Borrow.{Bor}
@@ -187,3 +187,16 @@ text_at s head changes left stage.Lost = []
 -- the text that is still to come
 unfoldable pub text_left : ChangePieces → List ℕ
 text_left p = text_at p.service p.head.now p.changes.now p.left.now p.stage
+
+-- how many entries of the two lists are still to come
+abbrev pub entries_at : Service → List KeyChange → List KeyChange → Stage → ℕ
+entries_at s changes left stage.Begin =
+    length (entries_of_changes (first_list s) s changes) + length (entries_of_changes (second_list s) s changes)
+entries_at s changes left stage.First =
+    length (entries_of_changes (first_list s) s left) + length (entries_of_changes (second_list s) s changes)
+entries_at s changes left stage.Second = length (entries_of_changes (second_list s) s left)
+entries_at s changes left stage.Ended = 0
+entries_at s changes left stage.Lost = 0
+
+unfoldable pub entries_left : ChangePieces → ℕ
+entries_left p = entries_at p.service p.changes.now p.left.now p.stage

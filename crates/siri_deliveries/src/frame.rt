@@ -111,7 +111,7 @@ pub fn write_frame(
     out: &mut Output,
     head: &ServiceDelivery,
 ) -> Result<(), OutOfMemory>
-    ensures text { OnOk result ((d : ADelivery) (ts : Items Token) → without_entries d ≡ head.now → GoesOn d pieces.old out.old ts
+    ensures text { OnOk result ((d : ADelivery) (ts : Items Token) → without_entries d ≡ without_entries head.now → GoesOn d pieces.old out.old ts
         → GoesOn d pieces.new out.new (ts ++ tokens_of (written_service_delivery d))) }
     ensures there { OnOk result (list_all (is_of head.now) pieces.old ≡ true → list_all (is_of head.now) pieces.new ≡ true) }
 {

@@ -8,7 +8,8 @@ ghost use Rattle.std.specs.Prelude.{◌≡◌, Result, List, IfOk};
 ghost use Rattle.serde_json.specs.Data.{Data};
 ghost use Rattle.siri_json.specs.Shown.{shown};
 ghost use Rattle.siri_tables.specs.Refusals.{Refusal};
-ghost use Rattle.siri_deliveries.specs.AsItComes.{Comes, ListComes, PartsCome, entries};
+ghost use Rattle.siri_deliveries.specs.AsItComes.{Comes, ListComes, PartsCome, entries, unread_table, unread_token};
+ghost use Rattle.siri_deliveries.specs.declared.incoming.NotRead.TheVariants as unread;
 
 use json::{Error as JsonError, Invalid, Reader, Token};
 use siri_base::{List, OutOfMemory};
@@ -27,12 +28,16 @@ pub enum NotRead {
 }
 
 impl From<Invalid> for NotRead {
+    ghost from_gives = { λ _ given. given ≡ unread.Otherwise };
+
     fn from(_: Invalid) -> Self {
         NotRead::Otherwise
     }
 }
 
 impl From<JsonError> for NotRead {
+    ghost from_gives = { λ error given. given ≡ unread_token error };
+
     fn from(error: JsonError) -> Self {
         match error {
             JsonError::OutOfMemory => NotRead::OutOfMemory,
@@ -42,6 +47,8 @@ impl From<JsonError> for NotRead {
 }
 
 impl From<TableError> for NotRead {
+    ghost from_gives = { λ error given. given ≡ unread_table error };
+
     fn from(error: TableError) -> Self {
         match error {
             TableError::OutOfMemory => NotRead::OutOfMemory,
@@ -51,18 +58,24 @@ impl From<TableError> for NotRead {
 }
 
 impl From<OutOfMemory> for NotRead {
+    ghost from_gives = { λ _ given. given ≡ unread.OutOfMemory };
+
     fn from(_: OutOfMemory) -> Self {
         NotRead::OutOfMemory
     }
 }
 
 impl From<AllocError> for NotRead {
+    ghost from_gives = { λ _ given. given ≡ unread.OutOfMemory };
+
     fn from(_: AllocError) -> Self {
         NotRead::OutOfMemory
     }
 }
 
 impl<T: Drop> From<AllocFailed<T>> for NotRead {
+    ghost from_gives = { λ _ given. given ≡ unread.OutOfMemory };
+
     fn from(_: AllocFailed<T>) -> Self {
         NotRead::OutOfMemory
     }

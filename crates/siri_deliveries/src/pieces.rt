@@ -1,12 +1,12 @@
 //! The text of a functional delivery, piece by piece, of items that are lent or of the changes of a part. It is the text
 //! that `write_service_delivery` writes of the delivery, of which none is made.
 
-ghost use Rattle.std.specs.Prelude.{◌≡◌, ◌<◌, ◌++◌, [], ◌∷◌, List as Items, length, Some, IfOk, OnErr, IsErr, IfSome, MatchOption, option_map};
+ghost use Rattle.std.specs.Prelude.{◌≡◌, ◌<◌, ◌≤◌, ◌+◌, ◌++◌, [], ◌∷◌, List as Items, length, Some, IfOk, OnErr, IsErr, IfSome, MatchOption, option_map};
 ghost use Rattle.json.specs.Print.{print};
 ghost use Rattle.siri_json.specs.Tokens.{tokens_of};
 ghost use Rattle.siri_records.specs.declared.item.Item.{Item as AnItem};
 ghost use Rattle.siri_deliveries.specs.declared.pieces.DeliveryHead.{DeliveryHead as AHead};
-ghost use Rattle.siri_deliveries.specs.Pieces.{GivesPiece, Leads, StepsTo, change_writing, delivery_of_head, delivery_text, entries_of_changes, first_list, item_text_left, items_of_changes, removals_of_changes, second_list, second_part, text_at, text_left};
+ghost use Rattle.siri_deliveries.specs.Pieces.{GivesPiece, Leads, StepsTo, change_writing, delivery_of_head, delivery_text, entries_at, entries_left, entries_of_changes, first_list, item_text_left, items_of_changes, removals_of_changes, second_list, second_part, text_at, text_left};
 
 use crate::layout::{
     begin_items, begin_listed, end_items, end_listed, has_entry, write_after_items, write_back,
@@ -294,11 +294,13 @@ pub fn change_pieces<'a>(
 }
 
 impl<'a> ChangePieces<'a> {
-    /// The next piece, or `None` where all was written. After want of memory it is of no more use: each call says so again.
-    #[tactic(auto, unfolding(crate::specs::Pieces::text_left))]
+    /// The next piece, with the text of at most one item or removal, or `None` where all was written. After want of memory
+    /// it is of no more use: each call says so again.
+    #[tactic(auto, unfolding(crate::specs::Pieces::text_left, crate::specs::Pieces::entries_left))]
     pub fn next_piece(&mut self) -> Result<Option<Vec<u8>>, OutOfMemory>
         ensures text { IfOk result (λ piece. MatchOption piece (text_left self.old ≡ [])
             (λ text. text_left self.old ≡ text.items ++ text_left self.new)) }
+        ensures one { IfOk result (λ piece. IfSome piece (λ _. entries_left self.old ≤ 1 + entries_left self.new)) }
         ensures some { IfOk result (λ piece. IfSome piece (λ text. 0 < length text.items)) }
         ensures lost { OnErr result (self.new.stage ≡ Stage.Lost) }
         ensures stays_lost { self.old.stage ≡ Stage.Lost → IsErr result }
@@ -318,10 +320,11 @@ impl<'a> ChangePieces<'a> {
     }
 
     /// The beginning with the first entry, or all of a delivery of none.
-    #[tactic(auto, using(crate::proofs::ChangeTexts::begun, crate::proofs::ChangeTexts::begun_without, crate::proofs::ChangeTexts::front_filled, crate::proofs::Joined::longer), unfolding(crate::specs::Pieces::text_left))]
+    #[tactic(auto, using(crate::proofs::ChangeTexts::begun, crate::proofs::ChangeTexts::begun_without, crate::proofs::ChangeCounts::one_more, crate::proofs::ChangeTexts::front_filled, crate::proofs::Joined::longer), unfolding(crate::specs::Pieces::text_left, crate::specs::Pieces::entries_left))]
     fn begin(&mut self) -> Result<Vec<u8>, OutOfMemory>
         ensures text { IfOk result (λ text. text_at self.old.service self.old.head.now self.old.changes.now self.old.left.now Stage.Begin
             ≡ text.items ++ text_left self.new) }
+        ensures one { IfOk result (λ _. entries_at self.old.service self.old.changes.now self.old.left.now Stage.Begin ≤ 1 + entries_left self.new) }
         ensures some { IfOk result (λ text. 0 < length text.items) }
         ensures lost { OnErr result (self.new.stage ≡ self.old.stage) }
     {
@@ -340,10 +343,11 @@ impl<'a> ChangePieces<'a> {
     }
 
     /// A further entry of the first list, or what follows the list.
-    #[tactic(auto, using(crate::proofs::ChangeTexts::first_further, crate::proofs::ChangeTexts::first_ended, crate::proofs::ChangeTexts::end_filled, crate::proofs::Joined::longer), unfolding(crate::specs::Pieces::text_left))]
+    #[tactic(auto, using(crate::proofs::ChangeTexts::first_further, crate::proofs::ChangeTexts::first_ended, crate::proofs::ChangeCounts::one_more, crate::proofs::ChangeTexts::end_filled, crate::proofs::Joined::longer), unfolding(crate::specs::Pieces::text_left, crate::specs::Pieces::entries_left))]
     fn go_on(&mut self) -> Result<Vec<u8>, OutOfMemory>
         ensures text { IfOk result (λ text. text_at self.old.service self.old.head.now self.old.changes.now self.old.left.now Stage.First
             ≡ text.items ++ text_left self.new) }
+        ensures one { IfOk result (λ _. entries_at self.old.service self.old.changes.now self.old.left.now Stage.First ≤ 1 + entries_left self.new) }
         ensures some { IfOk result (λ text. 0 < length text.items) }
         ensures lost { OnErr result (self.new.stage ≡ self.old.stage) }
     {
@@ -361,10 +365,11 @@ impl<'a> ChangePieces<'a> {
     }
 
     /// What was written, and behind it the first entry of the second list, or the end where it has none.
-    #[tactic(auto, using(crate::proofs::ChangeTexts::second_begun, crate::proofs::ChangeTexts::second_left_out, crate::proofs::Joined::longer), unfolding(crate::specs::Pieces::text_left))]
+    #[tactic(auto, using(crate::proofs::ChangeTexts::second_begun, crate::proofs::ChangeTexts::second_left_out, crate::proofs::ChangeCounts::one_more, crate::proofs::Joined::longer), unfolding(crate::specs::Pieces::text_left, crate::specs::Pieces::entries_left))]
     fn begin_second(&mut self, out: Output) -> Result<Vec<u8>, OutOfMemory>
         ensures text { IfOk result (λ text. print (out ++ second_part self.old.service self.old.head.now self.old.changes.now)
             ≡ text.items ++ text_left self.new) }
+        ensures one { IfOk result (λ _. length (entries_of_changes (second_list self.old.service) self.old.service self.old.changes.now) ≤ 1 + entries_left self.new) }
         ensures some { IfOk result (λ text. 0 < length (print out) → 0 < length text.items) }
         ensures lost { OnErr result (self.new.stage ≡ self.old.stage) }
     {
@@ -383,10 +388,11 @@ impl<'a> ChangePieces<'a> {
     }
 
     /// A further entry of the second list, or the end.
-    #[tactic(auto, using(crate::proofs::ChangeTexts::second_further, crate::proofs::ChangeTexts::second_ended, crate::proofs::ChangeTexts::end_filled, crate::proofs::Joined::longer), unfolding(crate::specs::Pieces::text_left))]
+    #[tactic(auto, using(crate::proofs::ChangeTexts::second_further, crate::proofs::ChangeTexts::second_ended, crate::proofs::ChangeCounts::one_more, crate::proofs::ChangeTexts::end_filled, crate::proofs::Joined::longer), unfolding(crate::specs::Pieces::text_left, crate::specs::Pieces::entries_left))]
     fn go_on_with_second(&mut self) -> Result<Vec<u8>, OutOfMemory>
         ensures text { IfOk result (λ text. text_at self.old.service self.old.head.now self.old.changes.now self.old.left.now Stage.Second
             ≡ text.items ++ text_left self.new) }
+        ensures one { IfOk result (λ _. entries_at self.old.service self.old.changes.now self.old.left.now Stage.Second ≤ 1 + entries_left self.new) }
         ensures some { IfOk result (λ text. 0 < length text.items) }
         ensures lost { OnErr result (self.new.stage ≡ self.old.stage) }
     {

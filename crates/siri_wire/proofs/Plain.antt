@@ -1,8 +1,8 @@
 -- Documents that hold a ServiceDelivery in Siri, and nothing else.
-use Rattle.std.proofs.Common.{◌≡◌, ◌+◌, ◌-◌, ◌<◌, ◌≤◌, ℕ, List, [], ◌∷◌, length, Bool, false, nat_lt, Option, Some, None, Result, Ok, Err, refl, sym, ap, ◌∙◌, arith}
+use Rattle.std.proofs.Common.{◌≡◌, ◌-◌, ◌<◌, ◌≤◌, ℕ, List, [], ◌∷◌, length, false, nat_lt, Some, Result, Ok, Err, refl, ap, ◌∙◌, arith}
 use Rattle.std.specs.Prelude.{IsUtf8, IfOk}
 use Rattle.std.proofs.lemmas.Bool.{le-ltb}
-use Rattle.json.specs.Json.{Json, Members, no_members, member, object, members, value, parse_map}
+use Rattle.json.specs.Json.{Json, Members, no_members, member, object, value, parse_map}
 use Rattle.json.specs.Lex.{tokens}
 use Rattle.json.specs.Token.{Token, begin_object, end_object, key}
 use Rattle.json.proofs.Grammar.{members_end, members_more, value-begin_object}

@@ -40,6 +40,7 @@ use Rattle.siri_wire.specs.Subscriptions.{requested, subscription_request, subsc
 use Rattle.siri_wire.specs.Subscriptions.{written_subscription_request}
 use Rattle.siri_wire.specs.declared.read_subscriptions.RequestedSubscriptions.{RequestedSubscriptions}
 use Rattle.siri_wire.specs.Identifiers.{written_identifier}
+use Rattle.siri_wire.specs.Limits.{most_subscriptions}
 use Rattle.siri_wire.specs.Terminations.{Asking, asking, the_asking, termination_table, make_termination}
 use Rattle.siri_wire.specs.laws.ProperRequests.{IsProperSubscriptionRequest}
 use Rattle.siri_wire.specs.laws.SpellingRequests.{SpellsSubscription, SpellsSubscriptionRequest}
@@ -291,10 +292,10 @@ subscription_request_spelled d m e =
     let all = bind_ok (read_requested_rows r2.0 d) _ r5.0 r5.1 in
     let wants = unless_is all.0 r5.0 (requests_nothing all.0) all.2 in
     let w1 = bind_ok (row (inside non_negative_span HEARTBEAT_INTERVAL.now) SUBSCRIPTION_CONTEXT.now d) _ all.0 all.1 in
-    let w2 = bind_ok (list (table (subscription service.Stop r2.0)) 200 STOP_MONITORING_SUBSCRIPTION_REQUEST.now d) _ all.0 w1.2 in
-    let w3 = bind_ok (list (table (subscription service.Timetable r2.0)) 200 ESTIMATED_TIMETABLE_SUBSCRIPTION_REQUEST.now d) _ all.0 w2.2 in
-    let w4 = bind_ok (list (table (subscription service.Vehicle r2.0)) 200 VEHICLE_MONITORING_SUBSCRIPTION_REQUEST.now d) _ all.0 w3.2 in
-    let w5 = bind_ok (list (table (subscription service.Situation r2.0)) 200 SITUATION_EXCHANGE_SUBSCRIPTION_REQUEST.now d) _ all.0 w4.2 in
+    let w2 = bind_ok (list (table (subscription service.Stop r2.0)) most_subscriptions STOP_MONITORING_SUBSCRIPTION_REQUEST.now d) _ all.0 w1.2 in
+    let w3 = bind_ok (list (table (subscription service.Timetable r2.0)) most_subscriptions ESTIMATED_TIMETABLE_SUBSCRIPTION_REQUEST.now d) _ all.0 w2.2 in
+    let w4 = bind_ok (list (table (subscription service.Vehicle r2.0)) most_subscriptions VEHICLE_MONITORING_SUBSCRIPTION_REQUEST.now d) _ all.0 w3.2 in
+    let w5 = bind_ok (list (table (subscription service.Situation r2.0)) most_subscriptions SITUATION_EXCHANGE_SUBSCRIPTION_REQUEST.now d) _ all.0 w4.2 in
     let made : RequestedSubscriptions → SubscriptionRequest =
     λ w. make_subscription_request r2.0 r1.0 r2.0 r3.0 r4.0 w.heartbeat_interval w.stops w.timetables w.vehicles
     w.situations in

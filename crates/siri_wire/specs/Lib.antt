@@ -1,3 +1,4 @@
+pub mod Limits
 pub mod Identifiers
 pub mod Requests
 pub mod Subscribers

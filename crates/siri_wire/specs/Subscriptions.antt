@@ -31,6 +31,7 @@ use Rattle.siri_deliveries.specs.declared.names.TheConstants.{ERROR_CONDITION}
 use Rattle.siri_wire.specs.declared.read_subscriptions.RequestedSubscriptions.{RequestedSubscriptions}
 use Rattle.siri_deliveries.specs.Rows.{a_whole_span, an_error, SpellsOr, with_default, entries, optional_inside}
 use Rattle.siri_wire.specs.Identifiers.{an_identifier}
+use Rattle.siri_wire.specs.Limits.{most_subscriptions, most_statuses}
 use Rattle.siri_wire.specs.Subscribers.{the_subscriber}
 use Rattle.siri_deliveries.specs.Topics.{topic_rows, topic_writing, a_topic}
 
@@ -187,10 +188,10 @@ written_context heartbeat = object_unless_empty (with_rows no_members ((HEARTBEA
 unfoldable pub read_requested_rows : Option (List ℕ) → Data → Result RequestedSubscriptions Refusal
 read_requested_rows requestor d = do
   heartbeat_interval ← heartbeat_interval d
-  stops ← list (table (subscription service.Stop requestor)) 200 STOP_MONITORING_SUBSCRIPTION_REQUEST.now d
-  timetables ← list (table (subscription service.Timetable requestor)) 200 ESTIMATED_TIMETABLE_SUBSCRIPTION_REQUEST.now d
-  vehicles ← list (table (subscription service.Vehicle requestor)) 200 VEHICLE_MONITORING_SUBSCRIPTION_REQUEST.now d
-  situations ← list (table (subscription service.Situation requestor)) 200 SITUATION_EXCHANGE_SUBSCRIPTION_REQUEST.now d
+  stops ← list (table (subscription service.Stop requestor)) most_subscriptions STOP_MONITORING_SUBSCRIPTION_REQUEST.now d
+  timetables ← list (table (subscription service.Timetable requestor)) most_subscriptions ESTIMATED_TIMETABLE_SUBSCRIPTION_REQUEST.now d
+  vehicles ← list (table (subscription service.Vehicle requestor)) most_subscriptions VEHICLE_MONITORING_SUBSCRIPTION_REQUEST.now d
+  situations ← list (table (subscription service.Situation requestor)) most_subscriptions SITUATION_EXCHANGE_SUBSCRIPTION_REQUEST.now d
   Ok (record { heartbeat_interval = heartbeat_interval; stops = stops; timetables = timetables; vehicles = vehicles; situations = situations })
 
 abbrev pub requests_nothing : RequestedSubscriptions → Bool
@@ -221,10 +222,10 @@ subscription_request_table requestor =
     mandatory an_identifier MESSAGE_IDENTIFIER.now (λ m. m.message_identifier) ∷
     optional a_name CONSUMER_ADDRESS.now (λ m. m.consumer_address) ∷
     optional_inside a_whole_span SUBSCRIPTION_CONTEXT.now HEARTBEAT_INTERVAL.now (λ m. m.heartbeat_interval) ∷
-    entries (a_subscription service.Stop requestor) 200 STOP_MONITORING_SUBSCRIPTION_REQUEST.now (λ m. m.stop_monitoring_subscription_request) ∷
-    entries (a_subscription service.Timetable requestor) 200 ESTIMATED_TIMETABLE_SUBSCRIPTION_REQUEST.now (λ m. m.estimated_timetable_subscription_request) ∷
-    entries (a_subscription service.Vehicle requestor) 200 VEHICLE_MONITORING_SUBSCRIPTION_REQUEST.now (λ m. m.vehicle_monitoring_subscription_request) ∷
-    entries (a_subscription service.Situation requestor) 200 SITUATION_EXCHANGE_SUBSCRIPTION_REQUEST.now (λ m. m.situation_exchange_subscription_request) ∷ []
+    entries (a_subscription service.Stop requestor) most_subscriptions STOP_MONITORING_SUBSCRIPTION_REQUEST.now (λ m. m.stop_monitoring_subscription_request) ∷
+    entries (a_subscription service.Timetable requestor) most_subscriptions ESTIMATED_TIMETABLE_SUBSCRIPTION_REQUEST.now (λ m. m.estimated_timetable_subscription_request) ∷
+    entries (a_subscription service.Vehicle requestor) most_subscriptions VEHICLE_MONITORING_SUBSCRIPTION_REQUEST.now (λ m. m.vehicle_monitoring_subscription_request) ∷
+    entries (a_subscription service.Situation requestor) most_subscriptions SITUATION_EXCHANGE_SUBSCRIPTION_REQUEST.now (λ m. m.situation_exchange_subscription_request) ∷ []
 
 abbrev pub make_subscription_request : (requestor : Option (List ℕ)) → Maker (subscription_request_table requestor)
 make_subscription_request requestor =
@@ -291,7 +292,7 @@ abbrev pub subscription_response_table : Table SubscriptionResponse
 subscription_response_table =
     optional a_moment RESPONSE_TIMESTAMP.now (λ m. m.response_timestamp) ∷
     optional a_name REQUEST_MESSAGE_REF.now (λ m. m.request_message_ref) ∷
-    entries a_response_status 800 RESPONSE_STATUS.now (λ m. m.response_status) ∷ []
+    entries a_response_status most_statuses RESPONSE_STATUS.now (λ m. m.response_status) ∷ []
 
 abbrev pub make_subscription_response : Maker subscription_response_table
 make_subscription_response =

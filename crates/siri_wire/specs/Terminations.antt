@@ -16,6 +16,7 @@ use Rattle.siri_deliveries.specs.declared.names.TheConstants.{SUBSCRIBER_REF, ST
 use Rattle.siri_deliveries.specs.Rows.{an_error, with_default, entries}
 use Rattle.siri_wire.specs.Subscribers.{subscriber_or, SpellsSubscriber}
 use Rattle.siri_wire.specs.Identifiers.{written_identifier}
+use Rattle.siri_wire.specs.Limits.{most_subscriptions}
 
 -- the requestor of a request to end subscriptions, the request's number, and the subscriber, who is the requestor where no other is named
 abbrev pub Asking : Type 0
@@ -48,7 +49,7 @@ abbrev pub termination_table : Table TerminateSubscriptionRequest
 termination_table =
     optional a_moment REQUEST_TIMESTAMP.now (λ m. m.request_timestamp) ∷
     the_asking (λ m. (m.requestor_ref, m.message_identifier, m.subscriber_ref)) ∷
-    some_entries a_name 200 SUBSCRIPTION_REF.now (λ m. m.subscription_ref) ∷ []
+    some_entries a_name most_subscriptions SUBSCRIPTION_REF.now (λ m. m.subscription_ref) ∷ []
 
 abbrev pub make_termination : Maker termination_table
 make_termination =
@@ -94,7 +95,7 @@ abbrev pub termination_response_table : Table TerminateSubscriptionResponse
 termination_response_table =
     optional a_moment RESPONSE_TIMESTAMP.now (λ m. m.response_timestamp) ∷
     optional a_name REQUEST_MESSAGE_REF.now (λ m. m.request_message_ref) ∷
-    entries a_termination_status 200 TERMINATION_RESPONSE_STATUS.now (λ m. m.termination_response_status) ∷ []
+    entries a_termination_status most_subscriptions TERMINATION_RESPONSE_STATUS.now (λ m. m.termination_response_status) ∷ []
 
 abbrev pub make_termination_response : Maker termination_response_table
 make_termination_response =

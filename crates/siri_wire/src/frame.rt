@@ -14,11 +14,11 @@ use siri_messages::ServiceDelivery;
 use std::alloc::Global;
 
 /// The pieces of the document that says a ServiceDelivery: its text, and the places where its functional deliveries
-/// stand, in their order. `head` is the delivery without the items and removals of these. With the text of each
-/// functional delivery at its place they are the document's canonical text.
+/// stand, in their order. `head` is the delivery but for the items and removals of these, at which nothing looks. With the
+/// text of each functional delivery at its place they are the document's canonical text.
 #[tactic(auto, using(crate::proofs::Framed::frame_said))]
 pub fn reply_frame(alloc: Global, head: &ServiceDelivery) -> Result<List<FramePiece>, OutOfMemory>
-    ensures text { IfOk result (λ pieces. (d : ADelivery) → without_entries d ≡ head.now → filled_text d pieces ≡ canonical (message.ServiceDelivery d)) }
+    ensures text { IfOk result (λ pieces. (d : ADelivery) → without_entries d ≡ without_entries head.now → filled_text d pieces ≡ canonical (message.ServiceDelivery d)) }
     ensures there { IfOk result (λ pieces. list_all (is_of head.now) pieces ≡ true) }
 {
     let mut out = Output::new(alloc);

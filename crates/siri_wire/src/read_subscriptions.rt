@@ -4,6 +4,7 @@ ghost use Rattle.std.specs.Prelude.{◌≡◌, IsTrue, Option, unwrap_or};
 ghost use Rattle.siri_json.specs.Shown.{shown};
 ghost use Rattle.siri_tables.specs.Refusals.{Gives, is_key};
 ghost use Rattle.siri_tables.specs.Rules.{list, table};
+ghost use Rattle.siri_wire.specs.Limits.{most_subscriptions};
 ghost use Rattle.siri_wire.specs.Subscriptions.{topic_of, slack_of, is_fetched, subscription, heartbeat_interval, read_requested_rows, requests_nothing, requested, subscription_request, response_status, subscription_response};
 
 use crate::read_subscriber::subscriber_or;
@@ -141,7 +142,7 @@ fn subscriptions(
     requestor: &Option<Name>,
 ) -> Result<List<Subscription>, TableError>
     requires { IsTrue (is_key key.now) }
-    ensures { Gives result (list (table (subscription service requestor.now)) 200 key.now (shown tree.now)) }
+    ensures { Gives result (list (table (subscription service requestor.now)) most_subscriptions key.now (shown tree.now)) }
 {
     let rule = SubscriptionRule { service, requestor };
     list_in::<SubscriptionRule>(alloc, tree, key, MOST_SUBSCRIPTIONS, &rule)

@@ -28,13 +28,13 @@ counted service.Timetable d = length-map d.estimated_timetable_delivery without_
 counted service.Vehicle d = length-map d.vehicle_monitoring_delivery without_own_entries
 counted service.Situation d = length-map d.situation_exchange_delivery without_own_entries
 
-as_many : (s : Service) (d head : ServiceDelivery) → without_entries d ≡ head
+as_many : (s : Service) (d head : ServiceDelivery) → without_entries d ≡ without_entries head
     → length (deliveries_of s d) ≡ length (deliveries_of s head)
-as_many s d head same = sym (counted s d) ∙ ap (λ h. length (deliveries_of s h)) same
+as_many s d head same = sym (counted s d) ∙ ap (λ h. length (deliveries_of s h)) same ∙ counted s head
 
 -- a row that says the same of both
-same_row : (row : ServiceDelivery → List Token) (d head : ServiceDelivery) → without_entries d ≡ head
-    → row head ≡ row (without_entries d)
+same_row : (row : ServiceDelivery → List Token) (d head : ServiceDelivery) → without_entries d ≡ without_entries head
+    → row (without_entries head) ≡ row (without_entries d)
 same_row row d head same = sym (ap row same)
 
 pub returns-clause-text : goal.returns-clause-text

@@ -1,4 +1,4 @@
-use Rattle.std.proofs.Common.{◌≡◌, ◌≤◌, length, arith}
+use Rattle.std.proofs.Common.{◌≤◌, length, arith}
 use Rattle.siri_json.specs.Tree.{longest_document}
 use Rattle.siri_wire.proofs.Plain.{where_ok, message_is}
 use Rattle.siri_wire.proofs.incoming.read_delivery.Goals as goal
