@@ -7,6 +7,7 @@ ghost use Rattle.siri_shelf.specs.Shelves.{OnShelf};
 ghost use Rattle.siri_runs.specs.Calls.{outside};
 ghost use Rattle.siri_runs.specs.Enough.{HasEnough};
 ghost use Rattle.siri_keep_run.specs.Left.{KeepAnswered, KeepTrail};
+ghost use Rattle.siri_keep_run.specs.Opening.{CountsEnd};
 ghost use Rattle.siri_keep_run.specs.Runs.{EndsKeeping, EndsWholeOrByShelf, KeepRun};
 ghost use Rattle.siri_cli.specs.declared.keep.Keep.{Keep as Order};
 ghost use Rattle.siri_cli.specs.Commands.{command_of};
@@ -24,8 +25,9 @@ use std::alloc::Global;
 /// producer whose observations and subscriptions are in the file FILE, and opens no other. Any other words do what
 /// [`run`] does of them, and the shelf isn't used; no other words than these two kinds are a plain spelling of a command.
 ///
-/// Beside the statuses of `run`: `ShelfFault` only where the shelf failed, and `BadShelf` where the rows of the file aren't
-/// those of a producer of this name and an earlier start. Only `keep` uses the shelf; it reads nothing of the source.
+/// Beside the statuses of `run`: `ShelfFault` exactly where the shelf failed, which isn't called again then, and `BadShelf`
+/// where the rows of the file aren't those of a producer of this name and an earlier start. Only `keep` uses the shelf; it
+/// reads nothing of the source.
 pub fn run_all<S: Source, K: Sink, W: Wire, C: Clock, E: Keeper, B: Shelf>(
     alloc: Global,
     words: &[String],
@@ -67,6 +69,7 @@ pub fn run_all<S: Source, K: Sink, W: Wire, C: Clock, E: Keeper, B: Shelf>(
     ensures clock_fault { result ≡ Status.ClockFault → Rose (C.faults clock.old) (C.faults clock.new) }
     ensures keeper_fault { result ≡ Status.KeeperFault → Rose (E.faults keeper.old) (E.faults keeper.new) }
     ensures shelf_fault { result ≡ Status.ShelfFault → Rose (B.faults shelf.old) (B.faults shelf.new) }
+    ensures shelf_counted { CountsEnd (B.faults shelf.old) (B.faults shelf.new) result }
 {
     match read_keep(alloc, words) {
         Ok(Some(asked)) => {

@@ -35,6 +35,7 @@ use Rattle.siri_wire.specs.Canonical.{canonical}
 use Rattle.siri_deliveries.specs.Pieces.{LentItem, SaysOf, StepsTo, delivery_of_head, delivery_text, item_text_left}
 use Rattle.siri_deliveries.specs.Pieces.{items_of_changes, removals_of_changes}
 use Rattle.siri_deliveries.specs.Frame.{deliveries_of, filled, filled_text, is_of, without_entries, without_own_entries}
+use Rattle.siri_deliveries.proofs.Framed.{of_bare_head}
 use Rattle.siri_deliveries.specs.declared.pieces.DeliveryHead.{DeliveryHead}
 use Rattle.siri_deliveries.specs.declared.pieces.ItemPieces.{ItemPieces}
 use Rattle.siri_deliveries.specs.declared.pieces.ItemStage.{ItemStage}
@@ -309,7 +310,7 @@ pub frames_part : (producer : List ℕ) (start : ℕ) (lent : LentPart) (head : 
     (result : Result (List FramePiece) OutOfMemory)
     → head ≡ part_delivery producer lent.wanted.now lent.number start (bare (part_sent lent.part))
     → IfOk result
-    (λ pieces. (d : ServiceDelivery) → without_entries d ≡ head
+    (λ pieces. (d : ServiceDelivery) → without_entries d ≡ without_entries head
     → filled_text d pieces ≡ canonical (message.ServiceDelivery d))
     → IfOk result (λ pieces. list_all (is_of head) pieces ≡ true)
     → IfOk result (FramesPart producer start lent)
@@ -320,4 +321,5 @@ frames_part producer start lent head (Ok frame) is text there =
     part_filled producer wanted lent.number start part (bare part) lent.part.changes.now refl frame
     (subst (λ d. list_all (is_of d) frame ≡ true) is there)
     ∙ text (part_delivery producer wanted lent.number start part)
-    (bare_part producer wanted lent.number start part ∙ sym is)
+    (of_bare_head (part_delivery producer wanted lent.number start part) head
+    (bare_part producer wanted lent.number start part ∙ sym is))

@@ -2,6 +2,7 @@ mod Examples
 pub mod Consumes
 pub mod Lends
 pub mod LentTexts
+pub mod Looks
 pub mod Puts
 pub mod Sends
 pub mod Serves

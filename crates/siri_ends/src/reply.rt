@@ -6,8 +6,9 @@ ghost use Rattle.siri_messages.specs.declared.message.Message.TheVariants as mes
 ghost use Rattle.siri_model.specs.History.{History};
 ghost use Rattle.siri_producer.specs.Known.{StandsFor};
 ghost use Rattle.siri_subscriptions.specs.replies.Parts.{refused_supply};
-ghost use Rattle.siri_ends.specs.Responses.{producer_reply, replying};
 ghost use Rattle.siri_ends.specs.Lending.{CanBeWritten, Prepares, PreparesFor, delivering, is_direct, message_response};
+ghost use Rattle.siri_ends.specs.Looks.{FollowsAlike, LooksToReply};
+ghost use Rattle.siri_ends.specs.Responses.{message_asked, producer_reply, replying};
 ghost use Rattle.siri_ends.specs.Turns.{TakesFor};
 
 use crate::answering::{Brought, brought_by};
@@ -35,6 +36,7 @@ pub enum Reply {
 }
 
 /// Takes a message, and makes its answer.
+#[tactic(auto, using(crate::proofs::Looks::alike_taken, crate::proofs::Looks::looks_taken))]
 fn answer_message(
     alloc: Global,
     producer: &mut Producer,
@@ -44,6 +46,8 @@ fn answer_message(
     ensures response { IfOk result (λ response. (h : History) → StandsFor producer.old h → response ≡ replying (producer_reply producer.old.responder.name h message)) }
     ensures written { IfOk result (λ response. is_written response.status ≡ true) }
     ensures name { producer.new.responder.name ≡ producer.old.responder.name }
+    ensures looks { is_direct message ≡ false → LooksToReply producer.old producer.new (Some message) }
+    ensures follows { OnOk result (FollowsAlike producer.old producer.new (Some message)) }
 {
     let answer = producer.take_owned(message)?;
     let response = replying(alloc, answer.reply.as_ref());
@@ -61,6 +65,8 @@ fn make_reply(
     ensures prepares { IfOk result (λ reply. Prepares producer.old producer.new (Some message) (message_response message) reply) }
     ensures written { IfOk result CanBeWritten }
     ensures name { producer.new.responder.name ≡ producer.old.responder.name }
+    ensures looks { is_direct message ≡ false → LooksToReply producer.old producer.new (Some message) }
+    ensures follows { OnOk result (FollowsAlike producer.old producer.new (Some message)) }
 {
     let response = answer_message(alloc, producer, message)?;
     Ok(Reply::Made(Some(response)))
@@ -83,7 +89,7 @@ fn refuse_part(
 }
 
 /// A request for a part is taken. The part isn't made, where it is supplied.
-#[tactic(auto, using(crate::proofs::Lends::supplies_part, crate::proofs::Lends::supplies_none))]
+#[tactic(auto, using(crate::proofs::Lends::supplies_part, crate::proofs::Lends::supplies_none, crate::proofs::Looks::alike_taken, crate::proofs::Looks::looks_none))]
 fn reply_to_supply(
     alloc: Global,
     producer: &mut Producer,
@@ -93,6 +99,8 @@ fn reply_to_supply(
     ensures prepares { IfOk result (λ reply. Prepares producer.old producer.new (Some (message.DataSupplyRequest request.now)) (message_response (message.DataSupplyRequest request.now)) reply) }
     ensures written { IfOk result CanBeWritten }
     ensures name { producer.new.responder.name ≡ producer.old.responder.name }
+    ensures looks { LooksToReply producer.old producer.new (Some (message.DataSupplyRequest request.now)) }
+    ensures follows { OnOk result (FollowsAlike producer.old producer.new (Some (message.DataSupplyRequest request.now))) }
 {
     let subscriber = request.consumer_ref.copy()?;
     let subscription = request.extensions.subscription.copy()?;
@@ -123,7 +131,7 @@ fn is_direct(message: &Message) -> bool
 }
 
 /// What a message is to be answered. It is taken, but for a request for items whose answer is lent.
-#[tactic(auto, using(crate::proofs::Lends::directs, crate::proofs::Lends::asks_directly))]
+#[tactic(auto, using(crate::proofs::Lends::directs, crate::proofs::Lends::asks_directly, crate::proofs::Looks::alike_direct, crate::proofs::Looks::looks_none))]
 pub fn reply_to(
     alloc: Global,
     producer: &mut Producer,
@@ -132,6 +140,8 @@ pub fn reply_to(
     ensures prepares { IfOk result (λ reply. Prepares producer.old producer.new (Some message) (message_response message) reply) }
     ensures written { IfOk result CanBeWritten }
     ensures name { producer.new.responder.name ≡ producer.old.responder.name }
+    ensures looks { LooksToReply producer.old producer.new (Some message) }
+    ensures follows { OnOk result (FollowsAlike producer.old producer.new (Some message)) }
 {
     if is_direct(&message) {
         let Some(request) = message.into_service_request() else {
@@ -151,6 +161,7 @@ pub fn reply_to(
 
 /// Takes the message that a connection brings, where it brings one and it isn't answered directly, and tells what the
 /// connection is to be answered.
+#[tactic(auto, using(crate::proofs::Looks::alike_none, crate::proofs::Looks::looks_none))]
 pub(crate) fn reply_for(
     alloc: Global,
     producer: &mut Producer,
@@ -159,6 +170,8 @@ pub(crate) fn reply_for(
     ensures prepares { IfOk result (PreparesFor producer.old producer.new asked.now) }
     ensures written { IfOk result CanBeWritten }
     ensures name { producer.new.responder.name ≡ producer.old.responder.name }
+    ensures looks { LooksToReply producer.old producer.new (message_asked asked.now) }
+    ensures follows { OnOk result (FollowsAlike producer.old producer.new (message_asked asked.now)) }
 {
     match brought_by(alloc, asked)? {
         Brought::Message(message) => reply_to(alloc, producer, message),

@@ -1,12 +1,14 @@
 //! Serves a connection.
 
-ghost use Rattle.std.specs.Prelude.{◌∷◌, ◌++◌, List, [], ℕ, Option, IfOk, OnOk, OnErr, Some};
+ghost use Rattle.std.specs.Prelude.{◌≡◌, false, ◌∷◌, ◌++◌, List, [], ℕ, Option, IfOk, OnOk, OnErr, Some};
 ghost use Rattle.siri_model.specs.History.{Clock, History};
 ghost use Rattle.siri_producer.specs.Known.{SameButReads, StandsFor};
 ghost use Rattle.siri_ends.specs.declared.response.Response.{Response};
 ghost use Rattle.siri_ends.specs.Answering.{AnswersWith, StopsWriting};
 ghost use Rattle.siri_ends.specs.At.{at_of, surroundings};
-ghost use Rattle.siri_ends.specs.Lending.{CanBeWritten, IsReply};
+ghost use Rattle.siri_ends.specs.Lending.{CanBeWritten, IsReply, is_direct};
+ghost use Rattle.siri_ends.specs.Looks.{LooksHearing, LooksOnce};
+ghost use Rattle.siri_ends.specs.Responses.{message_asked};
 ghost use Rattle.siri_ends.specs.Serving.{Goes, PostsOut, ServesOne, ServesSome, acknowledging, none_posted_out, serving};
 ghost use Rattle.siri_ends.specs.Turns.{Acknowledges};
 
@@ -47,11 +49,13 @@ fn write_reply<W: Wire>(
 }
 
 /// Takes an acknowledgement and settles it, and gives what that sends.
+#[tactic(auto, using(crate::proofs::Looks::heard_settled, crate::proofs::Looks::heard_unsettled))]
 fn settle_acknowledgement(
     producer: &mut Producer,
     message: &Message,
 ) -> Result<List<Out>, OutOfMemory>
-    ensures { IfOk result (λ outs. Acknowledges producer.old producer.new (Some message.now) outs) }
+    ensures acknowledges { IfOk result (λ outs. Acknowledges producer.old producer.new (Some message.now) outs) }
+    ensures looks { is_direct message.now ≡ false → LooksOnce producer.old producer.new (Some message.now) }
 {
     producer.take(message)?;
     let outs = producer.settle()?;
@@ -65,7 +69,8 @@ fn hear_message(
     producer: &mut Producer,
     message: &Message,
 ) -> Result<List<Out>, OutOfMemory>
-    ensures { IfOk result (λ outs. Acknowledges producer.old producer.new (acknowledging message.now) outs) }
+    ensures acknowledges { IfOk result (λ outs. Acknowledges producer.old producer.new (acknowledging message.now) outs) }
+    ensures looks { LooksHearing producer.old producer.new (acknowledging message.now) }
 {
     match message {
         Message::DataReceivedAcknowledgement(_) => settle_acknowledgement(producer, message),
@@ -90,6 +95,10 @@ impl Taker<()> for Producer {
 
     ghost holds = { λ _ _ _. Unit {0} };
 
+    ghost looks_taking = { λ old asked new. LooksOnce old new (message_asked asked) };
+
+    ghost looks_hearing = { λ old _ message new. LooksHearing old new (acknowledging message) };
+
     ghost given = { λ now h. h ++ Clock now ∷ [] };
 
     ghost refuses = { λ _ _. ⊥ };
@@ -107,6 +116,7 @@ impl Taker<()> for Producer {
         Ok(())
     }
 
+    #[tactic(auto, using(crate::proofs::Looks::looks_settled, crate::proofs::Looks::looks_unsettled))]
     fn take(
         &mut self,
         alloc: Global,

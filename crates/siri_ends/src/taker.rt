@@ -1,9 +1,10 @@
 //! What is given moments, takes the messages of connections, answers them, and sends messages.
 
-ghost use Rattle.std.specs.Prelude.{◌≡◌, ℕ, Option, IfErr, IfOk, OnErr, OnOk, None, Some};
-ghost use Rattle.siri_base.specs.Causes.{HasOutsideCause};
+ghost use Rattle.std.specs.Prelude.{◌≡◌, ◌≤◌, ℕ, Option, IfErr, IfOk, OnErr, OnOk, None, Some};
 ghost use Rattle.siri_base.specs.Wires.{WireState};
 ghost use Rattle.siri_base.specs.declared.errors.OutsideError.{OutsideError as Error};
+ghost use Rattle.siri_shelf.specs.Shelves.{CountsFault};
+ghost use Rattle.siri_messages.specs.declared.message.Message.{Message as Heard};
 ghost use Rattle.siri_http.specs.declared.asked.Asked.{Asked as Question};
 ghost use Rattle.siri_http.specs.ExchangeCauses.{HasSentCause, outcome};
 ghost use Rattle.siri_ends.specs.declared.response.Response.{Response};
@@ -58,6 +59,12 @@ pub trait Taker<B> {
     /// What stands there after a turn that was the last of so many.
     ghost has_ended: { Self → ℕ → B → B → Type 0 } = { λ _ _ _ _. Unit {0} };
 
+    /// How much of what it holds it may have looked at where it took what a connection asks, whatever came of it.
+    ghost looks_taking: { Self → Question → Self → Type 0 } = { λ _ _ _. Unit {0} };
+
+    /// How much of that where it heard a message that was answered to one that it sent.
+    ghost looks_hearing: { Self → Self.Message → Heard → Self → Type 0 } = { λ _ _ _ _. Unit {0} };
+
     /// How often what stands beside it has failed; never, where that is nothing.
     ghost faults: { B → ℕ } = { λ _. 0 };
 
@@ -79,7 +86,7 @@ pub trait Taker<B> {
     /// By the state after the turn a reply is this response, or none.
     ghost is_reply: { Identity → Self.Reply → State → Option Response → Type 0 };
 
-    /// Gives it a moment. `Failed` only where the count of what stands beside it rose.
+    /// Gives it a moment. `Failed` exactly where what stands beside it failed: its count rose by one, and else not.
     fn clock(&mut self, beside: &mut B, now: Moment) -> Result<(), OutsideError>
         requires { is_ready beside.old }
         ensures ready { is_ready beside.new }
@@ -88,10 +95,11 @@ pub trait Taker<B> {
         ensures holds { OnOk result ((s : State) → stands self.old s → holds self.old beside.old s → holds self.new beside.new (given now s)) }
         ensures err { IfErr result (λ error. (s : State) → stands self.old s → refuses error s) }
         ensures may { may_leave self.old (OfMoment now) beside.old beside.new }
-        ensures cause { HasOutsideCause (faults beside.old) (faults beside.new) result };
+        ensures later { faults beside.old ≤ faults beside.new }
+        ensures counted { CountsFault (faults beside.old) (faults beside.new) result };
 
     /// Takes the message that a connection brings, where it brings one, and settles: what the connection is to be
-    /// answered, and what is to be sent then. `Failed` only where the count of what stands beside it rose.
+    /// answered, and what is to be sent then. `Failed` exactly where what stands beside it failed.
     fn take(
         &mut self,
         alloc: Global,
@@ -105,7 +113,9 @@ pub trait Taker<B> {
         ensures holds { OnOk result ((s : State) → holds self.old beside.old s → holds self.new beside.new ((manner (identity self.old)).after s asked.now)) }
         ensures may { may_leave self.old (OfConnection asked.now) beside.old beside.new }
         ensures left { OnOk result (has_left self.old asked.now beside.old beside.new) }
-        ensures cause { HasOutsideCause (faults beside.old) (faults beside.new) result };
+        ensures looks { looks_taking self.old asked.now self.new }
+        ensures later { faults beside.old ≤ faults beside.new }
+        ensures counted { CountsFault (faults beside.old) (faults beside.new) result };
 
     /// Writes what a connection is to be answered, hangs up, and counts the connection.
     fn write_reply<W: Wire>(
@@ -141,10 +151,11 @@ pub trait Taker<B> {
         message: Message,
     ) -> Result<List<Self::Message>, OutOfMemory>
         requires { IsRead message }
-        ensures { IfOk result (λ more. Hears identity stands holds manner sent.now (Some message) more self.old self.new) };
+        ensures hears { IfOk result (λ more. Hears identity stands holds manner sent.now (Some message) more self.old self.new) }
+        ensures looks { looks_hearing self.old sent.now message self.new };
 
-    /// Ends a turn, once everything was sent: the last of so many of a run. `Failed` only where the count of what stands
-    /// beside it rose.
+    /// Ends a turn, once everything was sent: the last of so many of a run. `Failed` exactly where what stands beside it
+    /// failed.
     fn end_turn(&mut self, beside: &mut B, made: u64) -> Result<(), OutsideError>
         requires { is_ready beside.old }
         ensures ready { is_ready beside.new }
@@ -153,7 +164,8 @@ pub trait Taker<B> {
         ensures holds { OnOk result ((s : State) → stands self.old s → holds self.old beside.old s → holds self.new beside.new s) }
         ensures may { may_leave self.old AfterTurn beside.old beside.new }
         ensures ended { OnOk result (has_ended self.old made beside.old beside.new) }
-        ensures cause { HasOutsideCause (faults beside.old) (faults beside.new) result };
+        ensures later { faults beside.old ≤ faults beside.new }
+        ensures counted { CountsFault (faults beside.old) (faults beside.new) result };
 
     /// Of an exchange the first steps may be none.
     ghost none_posted: { (target : Self.Target) (message : Self.Message) (wire : Option WireState) → posts target message None wire wire };

@@ -1,7 +1,7 @@
 //! A turn of an end, whichever it is.
 
-ghost use Rattle.std.specs.Prelude.{◌≡◌, OnErr, OnOk};
-ghost use Rattle.siri_base.specs.Causes.{HasOutsideCause};
+ghost use Rattle.std.specs.Prelude.{◌≡◌, ◌≤◌, OnErr, OnOk};
+ghost use Rattle.siri_shelf.specs.Shelves.{CountsFault};
 ghost use Rattle.siri_ends.specs.At.{Goes, Holding, at_of};
 ghost use Rattle.siri_ends.specs.Occasions.{OfConnection};
 ghost use Rattle.siri_ends.specs.TurnsTaken.{LeavesBeside, StopsTurn, TakesTurn};
@@ -14,7 +14,7 @@ use std::alloc::Global;
 
 /// Answers the connection that was accepted, whose request is read and asks what [`Asking`] says, and sends what comes
 /// of it. What the end leaves beside it of that is there before anything is answered. After an error the first steps of
-/// that were made. `Failed` only where the count of what stands beside the end rose.
+/// that were made. `Failed` exactly where what stands beside the end failed: its count rose by one, and else not.
 pub fn take_turn<W: Wire, A: Asking, B, T: Taker<B>>(
     alloc: Global,
     wire: &mut W,
@@ -30,7 +30,8 @@ pub fn take_turn<W: Wire, A: Asking, B, T: Taker<B>>(
     ensures err { OnErr result ((s : T.State) → T.stands taker.old s → StopsTurn A.asks (T.posts target.now) (T.manner (T.identity taker.old)) (at_of s tally.old (W.tells wire.old) (W.faults wire.old)) (W.tells wire.new)) }
     ensures leaves { LeavesBeside A.asks (T.posts target.now) (T.manner (T.identity taker.old)) (T.stands taker.old) (beside.new ≡ beside.old)
         (λ asked. T.may_leave taker.old (OfConnection asked) beside.old beside.new) (λ asked. T.has_left taker.old asked beside.old beside.new) (W.tells wire.old) (W.tells wire.new) }
-    ensures cause { HasOutsideCause (T.faults beside.old) (T.faults beside.new) result }
+    ensures later { T.faults beside.old ≤ T.faults beside.new }
+    ensures counted { CountsFault (T.faults beside.old) (T.faults beside.new) result }
 {
     let asked = read_asked::<W, A>(alloc, wire)?;
     let (reply, list) = taker.take(alloc, beside, &asked)?;

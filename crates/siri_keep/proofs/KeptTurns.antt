@@ -1,7 +1,6 @@
 -- A turn over a shelf: what it takes, what it answers, and what it sends.
 use Rattle.std.specs.Prelude.{if◌then◌else◌, IfOk, IsErrOf, IsSomeAnd, OnOk}
 use Rattle.std.proofs.Common.{◌≡◌, ◌⊎◌, ℕ, List, [], ◌∷◌, ◌++◌, Bool, true, false, Option, None, Some, Result, Ok, Err, refl, sym, ap, ◌∙◌, subst, append-nil, inl, inr}
-use Rattle.siri_base.specs.Causes.{HasOutsideCause, Rose}
 use Rattle.siri_base.specs.OutsideCalls.{WhereTold}
 use Rattle.siri_base.specs.Wires.{WireState}
 use Rattle.siri_base.specs.declared.errors.OutsideError.{OutsideError}
@@ -26,14 +25,14 @@ use Rattle.siri_ends.specs.declared.response.Response.{Response}
 use Rattle.siri_ends.specs.declared.reply.Reply.TheVariants as reply
 use Rattle.siri_ends.proofs.Lends.{turns}
 use Rattle.siri_shelf.specs.Rows.{Rows}
-use Rattle.siri_shelf.specs.Shelves.{ShelfState}
+use Rattle.siri_shelf.specs.Shelves.{CountsFault, ShelfState}
 use Rattle.siri_wire.proofs.ProperReadMessages.{document_proper}
 use Rattle.siri_wire.specs.laws.ProperMessages.{IsProper}
 use Rattle.siri_keeping.specs.Keeps.{Keeps}
 use Rattle.siri_keep.specs.declared.errors.KeepError.{KeepError}
 use Rattle.siri_keep.specs.declared.errors.KeepError.TheVariants as errors
 use Rattle.siri_keep.specs.declared.kept.Kept.{Kept}
-use Rattle.siri_keep.specs.Calls.{AddsFronts, GoesOnKept, HasKeepCause, Holds}
+use Rattle.siri_keep.specs.Calls.{AddsFronts, CountsKept, GoesOnKept, Holds}
 use Rattle.siri_keep.specs.KeptTurns.{KeepsOn, LeavesKept, outside_error}
 use Rattle.siri_keep.specs.Puts.{changes_rows, has_long_row}
 use Rattle.siri_keep.specs.Serving.{AddsTurn, GoesOnServing, KeepsWhatIsAnswered, has_long_asked, is_long_in, keeping, message_kept, row_too_long}
@@ -45,14 +44,15 @@ use Rattle.siri_keep.proofs.Told.{some_on, some_weaker, told_same, told_some, to
 
 -- ---- what ends a turn
 
-pub outside_cause : {T U : Type 0} (before now : ℕ) (e : KeepError) → HasKeepCause {T = T} before now (Err e)
-    → HasOutsideCause {T = U} before now (Err (outside_error e))
-outside_cause before now e cause = record { later = cause.later; failed = by e cause.failed }
-  where
-    by : {T U : Type 0} (e : KeepError) → (IsErrOf {T = T} (Err e) errors.ShelfFault → Rose before now)
-        → IsErrOf {T = U} (Err (outside_error e)) outside.Failed → Rose before now
-    by errors.ShelfFault failed is = failed refl
-    by other failed is = absurd (cc is)
+pub outside_counts : (before now : ℕ) (e : KeepError) → CountsKept {T = Unit {0}} before now (Err e)
+    → CountsFault {T = Unit {0}} before now (Err (outside_error e))
+outside_counts before now errors.ShelfFault counts = counts
+outside_counts before now (errors.BadRow table key) counts = counts
+outside_counts before now errors.OtherName counts = counts
+outside_counts before now (errors.OldStart kept) counts = counts
+outside_counts before now errors.Closed counts = counts
+outside_counts before now errors.RowTooLong counts = counts
+outside_counts before now errors.OutOfMemory counts = counts
 
 -- ---- what is taken
 

@@ -1,21 +1,21 @@
 //! One turn over a shelf.
 
-ghost use Rattle.std.specs.Prelude.{◌≡◌, ◌∷◌, ◌++◌, [], ℕ, List, true, false, IfOk, OnOk, OnErr, IsErrOf, IsSomeAnd, Some, Err};
-ghost use Rattle.siri_base.specs.Causes.{HasOutsideCause};
-ghost use Rattle.siri_shelf.specs.Shelves.{OnShelf};
+ghost use Rattle.std.specs.Prelude.{◌≡◌, ◌≤◌, ◌∷◌, ◌++◌, [], ℕ, List, true, false, IfOk, OnOk, OnErr, IsErrOf, IsSomeAnd, Some, Err};
+ghost use Rattle.siri_shelf.specs.Shelves.{CountsFault, OnShelf};
 ghost use Rattle.siri_http.specs.Texts.{is_written};
 ghost use Rattle.siri_model.specs.History.{Clock, History, Take};
 ghost use Rattle.siri_producer.specs.Known.{StandsFor};
 ghost use Rattle.siri_ends.specs.At.{at_of};
 ghost use Rattle.siri_ends.specs.Lending.{CanBeWritten, IsReply, Prepares, PreparesFor, message_response};
 ghost use Rattle.siri_ends.specs.Responses.{producer_reply, replying, taking};
-ghost use Rattle.siri_ends.specs.Serving.{PostsOut, none_posted_out};
+ghost use Rattle.siri_ends.specs.Looks.{LooksHearing};
+ghost use Rattle.siri_ends.specs.Serving.{PostsOut, acknowledging, none_posted_out};
 ghost use Rattle.siri_ends.specs.Turns.{Brings};
 ghost use Rattle.siri_ends.specs.declared.answering.Brought.TheVariants as brings;
 ghost use Rattle.siri_ends.specs.declared.reply.Reply.TheVariants as reply;
 ghost use Rattle.siri_wire.specs.laws.ProperMessages.{IsProper};
 ghost use Rattle.siri_keep.specs.declared.errors.KeepError.TheVariants as error;
-ghost use Rattle.siri_keep.specs.Calls.{AddsFronts, ClosesBy, GoesOnKept, HasKeepCause, Holds, StandsOn};
+ghost use Rattle.siri_keep.specs.Calls.{AddsFronts, ClosesBy, CountsKept, GoesOnKept, HasKeepCause, Holds, StandsOn};
 ghost use Rattle.siri_keep.specs.KeptTurns.{KeepsOn, LeavesKept, outside_error};
 ghost use Rattle.siri_keep.specs.Puts.{changes_rows, has_long_row};
 ghost use Rattle.siri_keep.specs.Serving.{AddsTurn, GoesOnServing, KeepsWhatIsAnswered, LeavesLiveAt, ServesKeptSome, has_long_asked, keeping, message_kept, row_too_long, steps_of};
@@ -57,7 +57,7 @@ fn outside_error(error: &KeepError) -> OutsideError
 
 impl Kept {
     /// Takes a message that changes rows, and makes its answer.
-    #[tactic(auto, using(crate::proofs::KeptTurns::outside_cause))]
+    #[tactic(auto, using(crate::proofs::KeptTurns::outside_counts))]
     fn answer_kept<B: Shelf>(
         &mut self,
         shelf: &mut B,
@@ -74,7 +74,8 @@ impl Kept {
         ensures name { OnOk result (self.new.producer.responder.name ≡ self.old.producer.responder.name) }
         ensures ok { OnOk result (OnShelf B.tells shelf.old shelf.new (λ old new. GoesOnKept self.old self.new (Take message ∷ []) old.rows new.rows)) }
         ensures trail { OnShelf B.tells shelf.old shelf.new (AddsFronts self.old (Take message ∷ [])) }
-        ensures cause { HasOutsideCause (B.faults shelf.old) (B.faults shelf.new) result }
+        ensures later { B.faults shelf.old ≤ B.faults shelf.new }
+        ensures counted { CountsFault (B.faults shelf.old) (B.faults shelf.new) result }
     {
         let answer = match self.take_short(shelf, message) {
             Ok(answer) => answer,
@@ -103,7 +104,8 @@ impl Kept {
         ensures name { OnOk result (self.new.producer.responder.name ≡ self.old.producer.responder.name) }
         ensures ok { OnOk result (OnShelf B.tells shelf.old shelf.new (λ old new. LeavesKept self.old self.new (Take message ∷ []) old.rows new.rows)) }
         ensures trail { OnShelf B.tells shelf.old shelf.new (AddsFronts self.old (Take message ∷ [])) }
-        ensures cause { HasOutsideCause (B.faults shelf.old) (B.faults shelf.new) result }
+        ensures later { B.faults shelf.old ≤ B.faults shelf.new }
+        ensures counted { CountsFault (B.faults shelf.old) (B.faults shelf.new) result }
     {
         if changes_rows(&message) {
             let response = self.answer_kept(shelf, message)?;
@@ -131,7 +133,8 @@ impl Kept {
         ensures ok { has_long_row message ≡ false → OnOk result (OnShelf B.tells shelf.old shelf.new (λ old new. LeavesKept self.old self.new (Take message ∷ []) old.rows new.rows)) }
         ensures same { has_long_row message ≡ true → shelf.new ≡ shelf.old }
         ensures trail { has_long_row message ≡ false → OnShelf B.tells shelf.old shelf.new (AddsFronts self.old (Take message ∷ [])) }
-        ensures cause { HasOutsideCause (B.faults shelf.old) (B.faults shelf.new) result }
+        ensures later { B.faults shelf.old ≤ B.faults shelf.new }
+        ensures counted { CountsFault (B.faults shelf.old) (B.faults shelf.new) result }
     {
         if has_long_row(self.alloc, &message)? {
             drop(message);
@@ -157,7 +160,8 @@ impl Kept {
         ensures name { OnOk result (self.new.producer.responder.name ≡ self.old.producer.responder.name) }
         ensures ok { OnOk result (OnShelf B.tells shelf.old shelf.new (λ old new. LeavesKept self.old self.new (taking (message_kept asked.now)) old.rows new.rows)) }
         ensures trail { OnShelf B.tells shelf.old shelf.new (AddsFronts self.old (taking (message_kept asked.now))) }
-        ensures cause { HasOutsideCause (B.faults shelf.old) (B.faults shelf.new) result }
+        ensures later { B.faults shelf.old ≤ B.faults shelf.new }
+        ensures counted { CountsFault (B.faults shelf.old) (B.faults shelf.new) result }
     {
         let _ = asked;
         self.reply_kept(shelf, message)
@@ -176,7 +180,8 @@ impl Kept {
         ensures name { OnOk result (self.new.producer.responder.name ≡ self.old.producer.responder.name) }
         ensures ok { OnOk result (OnShelf B.tells shelf.old shelf.new (λ old new. LeavesKept self.old self.new (taking (message_kept asked.now)) old.rows new.rows)) }
         ensures trail { OnShelf B.tells shelf.old shelf.new (AddsFronts self.old (taking (message_kept asked.now))) }
-        ensures cause { HasOutsideCause (B.faults shelf.old) (B.faults shelf.new) result }
+        ensures later { B.faults shelf.old ≤ B.faults shelf.new }
+        ensures counted { CountsFault (B.faults shelf.old) (B.faults shelf.new) result }
     {
         match brought_by(self.alloc, asked)? {
             Brought::Message(message) => self.reply_brought(shelf, asked, message),
@@ -211,6 +216,8 @@ impl<B: Shelf> Taker<B> for Kept {
 
     ghost has_ended = { λ kept made before after. OnShelf B.tells before after (λ old new. LeavesLiveAt kept made old.rows new.rows) };
 
+    ghost looks_hearing = { λ old _ message new. LooksHearing old.producer new.producer (acknowledging message) };
+
     ghost faults = { λ shelf. B.faults shelf };
 
     ghost given = { λ now h. h ++ Clock now ∷ [] };
@@ -225,7 +232,7 @@ impl<B: Shelf> Taker<B> for Kept {
 
     ghost is_reply = { λ name reply h response. IsReply reply name h response };
 
-    #[tactic(auto, using(crate::proofs::KeptTurns::outside_cause))]
+    #[tactic(auto, using(crate::proofs::KeptTurns::outside_counts))]
     fn clock(&mut self, shelf: &mut B, now: Moment) -> Result<(), OutsideError> {
         match self.clock(shelf, now) {
             Ok(()) => Ok(()),
@@ -278,7 +285,7 @@ impl<B: Shelf> Taker<B> for Kept {
     }
 
     /// After each 1,000 turns the rows of dead items leave.
-    #[tactic(auto, using(crate::proofs::KeptTurns::outside_cause, crate::proofs::KeptTurns::told_unwritten))]
+    #[tactic(auto, using(crate::proofs::KeptTurns::outside_counts, crate::proofs::KeptTurns::told_unwritten))]
     fn end_turn(&mut self, shelf: &mut B, made: u64) -> Result<(), OutsideError> {
         if made % TURNS_TO_CLEAN > 0 {
             return Ok(());
@@ -297,8 +304,8 @@ impl Kept {
     /// written before anything is answered. A message of which the row of an item or of a subscription would have more than
     /// 8,388,608 bytes isn't taken: it is answered 413 and `RowTooLong`, and counted as refused.
     ///
-    /// Refused as `Closed` exactly where an earlier call failed or found no memory; then nothing is done. `ShelfFault` only
-    /// where the shelf's count of faults rose.
+    /// Refused as `Closed` exactly where an earlier call failed or found no memory; then nothing is done. `ShelfFault` exactly
+    /// where the shelf failed.
     pub fn serve_one<W: Wire, B: Shelf>(
         &mut self,
         wire: &mut W,
@@ -316,6 +323,7 @@ impl Kept {
         ensures too_long { ¬ IsErrOf result error.RowTooLong }
         ensures closes { ClosesBy self.old.is_closed self.new.is_closed result }
         ensures cause { HasKeepCause (B.faults shelf.old) (B.faults shelf.new) result }
+        ensures counted { CountsKept (B.faults shelf.old) (B.faults shelf.new) result }
     {
         if self.is_closed {
             return Err(KeepError::Closed);

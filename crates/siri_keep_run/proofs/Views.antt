@@ -8,8 +8,9 @@ use Rattle.siri_model.specs.History.{Clock, History}
 use Rattle.siri_producer.specs.Known.{StandsFor}
 use Rattle.siri_subscriptions.specs.declared.outs.Out.{Out}
 use Rattle.siri_ends.specs.Lending.{CanBeWritten, IsReply}
+use Rattle.siri_ends.specs.Looks.{LooksHearing}
 use Rattle.siri_ends.specs.Responses.{taking}
-use Rattle.siri_ends.specs.Serving.{PostsOut}
+use Rattle.siri_ends.specs.Serving.{PostsOut, acknowledging}
 use Rattle.siri_ends.specs.declared.reply.Reply.{Reply}
 use Rattle.siri_ends.specs.declared.taker.Taker.{Ghosts as TakerGhosts}
 use Rattle.siri_shelf.specs.Shelves.{ShelfState}
@@ -44,6 +45,8 @@ module _ {B : Type 0} (is_open : B → Type 0) (tells : B → Option ShelfState)
         WhereTold (tells before) (tells after) (λ old new. KeepsOn kept (taking (message_kept asked)) old.rows new.rows);
     has_ended = λ kept made before after.
         WhereTold (tells before) (tells after) (λ old new. LeavesLiveAt kept made old.rows new.rows);
+    looks_taking = λ old asked new. Unit {0};
+    looks_hearing = λ old sent message new. LooksHearing old.producer new.producer (acknowledging message);
     faults = λ shelf. faults shelf;
     given = λ now h. h ++ Clock now ∷ [];
     refuses = λ why h. Unit {0};

@@ -1,27 +1,28 @@
 -- A run of `keep`, as its parts make it.
-use Rattle.std.specs.Prelude.{⊤, IsErrOf}
-use Rattle.std.proofs.Common.{◌≡◌, ℕ, zero, suc, List, [], ◌++◌, Option, None, Some, Err, refl, sym, ap, ◌∙◌, subst, append-nil, inr}
+use Rattle.std.specs.Prelude.{⊤}
+use Rattle.std.proofs.Common.{◌≡◌, ℕ, zero, suc, List, [], ◌++◌, Option, None, Some, Err, refl, sym, ap, ◌∙◌, subst, append-nil, arith}
+use Rattle.siri_base.specs.Causes.{Rose}
 use Rattle.siri_base.specs.OutsideCalls.{WhereTold}
 use Rattle.siri_base.specs.declared.status.Status.{Status}
 use Rattle.siri_base.specs.declared.status.Status.TheVariants as status
 use Rattle.siri_http.specs.Tallies.{nothing_yet}
 use Rattle.siri_http.specs.declared.tally.Tally.{Tally}
 use Rattle.siri_model.specs.History.{History}
-use Rattle.siri_shelf.specs.Shelves.{ShelfState}
+use Rattle.siri_shelf.specs.Shelves.{ShelfState, after_fault}
 use Rattle.siri_keeping.specs.Keeps.{Keeps}
 use Rattle.siri_keep.specs.declared.kept.Kept.{Kept}
 use Rattle.siri_keep.proofs.Left.{keeps_of}
 use Rattle.siri_keep.proofs.Told.{told_weaker}
-use Rattle.siri_runs.specs.Calls.{Outside}
+use Rattle.siri_runs.specs.Calls.{CountsShelf, Outside}
 use Rattle.siri_runs.specs.Errors.{status_of}
-use Rattle.siri_runs.specs.Run.{Completes, EndsBefore, EndsInTurns}
+use Rattle.siri_runs.specs.Run.{Completes}
 use Rattle.siri_runs.specs.Summaries.{summary_text}
 use Rattle.siri_runs.specs.Turns.{Running, Turns, running}
 use Rattle.siri_runs.specs.declared.network_error.NetworkError.{NetworkError}
 use Rattle.siri_runs.specs.declared.network_error.NetworkError.TheVariants as error
-use Rattle.siri_keep_run.specs.Opening.{BeginsBy, BeginsKeeping, BeginsWith, OpensKept, begun}
+use Rattle.siri_keep_run.specs.Opening.{BeginsBy, BeginsKeeping, BeginsWith, CountsEnd, CountsOpening, OpensKept, begun}
 use Rattle.siri_keep_run.specs.Runs.{keep_procedure}
-use Rattle.siri_keep_run.specs.Serving.{IsSince, Keeping, KeepsTurns, LeavesAtTurn, LeavesWhole, RestsOver, StandsOver, given, history_now, turning}
+use Rattle.siri_keep_run.specs.Serving.{IsSince, Keeping, KeepsTurns, LeavesWhole, RestsOver, StandsOver, given, history_now}
 use Rattle.siri_keep_run.proofs.Opened.{begins_over}
 use Rattle.siri_keep_run.proofs.Trails.{told_then}
 
@@ -72,7 +73,7 @@ module _ (name listen file : List ℕ) (count : ℕ) (kept : Kept) (x y : Option
   pub first_rests : (tally : Tally) → tally ≡ nothing_yet → RestsOver kept tally 0 y first_state
   first_rests tally none = record { stands = subst (λ t. StandsOver kept t 0 y first_state) (sym none) begins.3; rests = refl }
 
-  opened : BeginsKeeping name listen file x from (running first_state open_)
+  pub opened : BeginsKeeping name listen file x from (running first_state open_)
   opened = record {
     start = opens.start;
     moment = opens.moment;
@@ -104,29 +105,21 @@ module _ (name listen file : List ℕ) (count : ℕ) (kept : Kept) (x y : Option
         text_is = ap summary_text one.1.stands.tally_is;
       }
 
-  -- a turn ended it
-  pub turn_ended : (z : Option ShelfState) (e : NetworkError) (end : Status) (to : Outside) → end ≡ status_of e
-      → (fails : EndsInTurns (turning name) count e (running first_state open_) to) × LeavesAtTurn name z fails.last to
-      → EndsBefore (keep_procedure name listen file x z) count end from to
-  turn_ended z e end to is one = inr (record {
-    first = running first_state open_;
-    opens = opened;
-    error = e;
-    end_is = is;
-    fails = one.0;
-    leaves = one.1;
-  })
-
 -- ---- the shelf
 
-shelf_error : (e : NetworkError) → status.ShelfFault ≡ status_of e → e ≡ error.ShelfFault
-shelf_error error.WireFault is = absurd (cc is)
-shelf_error error.ClockFault is = absurd (cc is)
-shelf_error error.KeeperFault is = absurd (cc is)
-shelf_error error.ShelfFault is = refl
-shelf_error error.OutOfMemory is = absurd (cc is)
+counts_of : (T U : Type 0) (a b c : ℕ) (e : NetworkError) → b ≡ a → CountsShelf {T = T} b c (Err e)
+    → CountsOpening {T = U} a c (Err (status_of e))
+counts_of T U a b c error.WireFault same counts = counts ∙ same
+counts_of T U a b c error.ClockFault same counts = counts ∙ same
+counts_of T U a b c error.KeeperFault same counts = counts ∙ same
+counts_of T U a b c error.ShelfFault same counts = counts ∙ ap after_fault same
+counts_of T U a b c error.OutOfMemory same counts = counts ∙ same
 
--- a run that ends as the shelf failed was ended by that
-pub shelf_is : {T : Type 0} (e : NetworkError) (end : Status) → end ≡ status.ShelfFault → end ≡ status_of e
-    → IsErrOf {T = T} (Err e) error.ShelfFault
-shelf_is e end at is = ap Err (shelf_error e (sym at ∙ is))
+-- a turn ended the run, and none before it failed
+pub counts_turns : (T U : Type 0) (a b c : ℕ) (e : NetworkError) (end : Status) → end ≡ status_of e → b ≡ a → CountsShelf {T = T} b c (Err e)
+    → CountsOpening {T = U} a c (Err end)
+counts_turns T U a b c e end is same counts = subst (λ s. CountsOpening {T = U} a c (Err s)) (sym is) (counts_of T U a b c e same counts)
+
+-- a run that ends as the shelf failed raised its count
+pub shelf_rose : (a c : ℕ) (end : Status) → CountsEnd a c end → end ≡ status.ShelfFault → Rose a c
+shelf_rose a c end counts is = let now : c ≡ after_fault a = subst (CountsEnd a c) is counts in omega (arith, now)

@@ -112,6 +112,14 @@ abbrev pub FailsToOpen : (name listen file : List ℕ) → Status → (before af
 FailsToOpen name listen file end before after from to =
     FailsBefore listen end before after from to ⊎ FailsOverShelf name listen file end before after from to
 
+-- ---- how often the shelf failed
+
+-- The count of its faults rises by one where a run ends with 77, and nowhere else: after a fault the shelf isn't called again, and no other
+-- status hides it.
+abbrev pub CountsEnd : ℕ → ℕ → Status → Type 0
+CountsEnd before now status.ShelfFault = now ≡ after_fault before
+CountsEnd before now other = now ≡ before
+
 -- ---- inner words, cited by private functions alone
 
 -- what a call that didn't succeed ends the opening with
@@ -122,11 +130,10 @@ opening_end keep.OtherName = status.BadShelf reason.Name
 opening_end (keep.OldStart kept) = status.BadShelf (reason.Start kept)
 opening_end other = status.OutOfMemory
 
--- the count of the shelf's faults rises by one where it failed in the opening, and nowhere else: nothing is tried again, and no other
--- status hides it
+-- the same before all was served
 abbrev pub CountsOpening : {T : Type 0} → ℕ → ℕ → Result T Status → Type 0
-CountsOpening before now (Err status.ShelfFault) = now ≡ after_fault before
-CountsOpening before now other = now ≡ before
+CountsOpening before now (Ok value) = now ≡ before
+CountsOpening before now (Err end) = CountsEnd before now end
 
 -- a producer that was opened over a shelf stands for what it begins with, and the shelf is as it left it
 pub record IsOpened (name file : List ℕ) (start moment : ℕ) (kept : Kept) (before after : Option ShelfState) : Type 0 where

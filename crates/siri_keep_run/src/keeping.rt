@@ -8,6 +8,7 @@ ghost use Rattle.siri_shelf.specs.Shelves.{OnShelf};
 ghost use Rattle.siri_runs.specs.Calls.{outside};
 ghost use Rattle.siri_runs.specs.Enough.{HasEnough};
 ghost use Rattle.siri_keep_run.specs.Left.{KeepAnswered, KeepTrail};
+ghost use Rattle.siri_keep_run.specs.Opening.{CountsEnd, CountsOpening};
 ghost use Rattle.siri_keep_run.specs.Runs.{EndsKeeping, EndsWholeOrByShelf, KeepRun, keep_procedure};
 ghost use Rattle.siri_runs.specs.Run.{Completes, EndsBefore};
 ghost use Rattle.siri_runs.specs.Summaries.{summary_text};
@@ -30,10 +31,11 @@ use std::alloc::Global;
 /// so many of its turns made, with a front of the next. Where it ends, they keep each message whose connection was
 /// answered 200.
 ///
-/// `KeeperFault`, `WireFault`, `ClockFault` and `ShelfFault` only where the keeper, the wire, the clock or the shelf failed,
-/// the wire to listen or to accept; `BadShelf` where the rows aren't those of a producer of this name and an earlier
-/// start, for the reason that [`Kept::open`](siri_keep::Kept::open) gives; nothing is written then. `WriteFault` only
-/// where the sink failed, `OutOfMemory` wherever memory is asked for, otherwise `Done`.
+/// `KeeperFault`, `WireFault` and `ClockFault` only where the keeper, the wire or the clock failed, the wire to listen or to
+/// accept; `ShelfFault` exactly where the shelf failed, which isn't called again then; `BadShelf` where the rows aren't
+/// those of a producer of this name and an earlier start, for the reason that [`Kept::open`](siri_keep::Kept::open)
+/// gives; nothing is written then. `WriteFault` only where the sink failed, `OutOfMemory` wherever memory is asked for,
+/// otherwise `Done`.
 pub fn keep<K: Sink, W: Wire, C: Clock, E: Keeper, B: Shelf>(
     alloc: Global,
     name: Name,
@@ -67,6 +69,7 @@ pub fn keep<K: Sink, W: Wire, C: Clock, E: Keeper, B: Shelf>(
     ensures clock_fault { result ≡ status.ClockFault → Rose (C.faults clock.old) (C.faults clock.new) }
     ensures keeper_fault { result ≡ status.KeeperFault → Rose (E.faults keeper.old) (E.faults keeper.new) }
     ensures shelf_fault { result ≡ status.ShelfFault → Rose (B.faults shelf.old) (B.faults shelf.new) }
+    ensures shelf_counted { CountsEnd (B.faults shelf.old) (B.faults shelf.new) result }
 {
     match keep_all(
         alloc, name, address, file, count, wire, clock, keeper, shelf,
@@ -98,7 +101,7 @@ fn keep_all<W: Wire, C: Clock, E: Keeper, B: Shelf>(
     ensures err { IfErr result (λ end. EndsBefore (keep_procedure name address.now file.now (B.tells shelf.old) (B.tells shelf.new)) count end
         (outside W.Wire C.Clock E.Keeper wire.old clock.old keeper.old)
         (outside W.Wire C.Clock E.Keeper wire.new clock.new keeper.new)) }
-    ensures fault { IfErr result (λ end. end ≡ status.ShelfFault → Rose (B.faults shelf.old) (B.faults shelf.new)) }
+    ensures counted { CountsOpening (B.faults shelf.old) (B.faults shelf.new) result }
 {
     let mut kept = open(alloc, name, address, file, wire, clock, keeper, shelf)?;
     let mut tally = Tally::new();

@@ -1,8 +1,6 @@
 //! How a run opens.
 
 ghost use Rattle.std.specs.Prelude.{◌≡◌, ◌≤◌, IfErr, IfOk, OnErr, OnOk};
-ghost use Rattle.siri_base.specs.Causes.{Rose};
-ghost use Rattle.siri_base.specs.declared.status.Status.TheVariants as status;
 ghost use Rattle.siri_shelf.specs.Shelves.{OnShelf};
 ghost use Rattle.siri_runs.specs.Calls.{outside};
 ghost use Rattle.siri_keep_run.specs.Opening.{CountsOpening, EndsOpening, FailsToOpen, IsOpened, LeavesUnopened, OpensKept, opening_end};
@@ -48,8 +46,6 @@ fn open_shelf<B: Shelf>(
     ensures err { IfErr result (λ end. EndsOpening name start end (B.tells shelf.old)) }
     ensures leaves { OnErr result (OnShelf B.tells shelf.old shelf.new (LeavesUnopened name file.now start moment)) }
     ensures open { OnOk result (B.is_open shelf.new) }
-    ensures later { B.faults shelf.old ≤ B.faults shelf.new }
-    ensures fault { IfErr result (λ end. end ≡ status.ShelfFault → Rose (B.faults shelf.old) (B.faults shelf.new)) }
     ensures counted { CountsOpening (B.faults shelf.old) (B.faults shelf.new) result }
 {
     match shelf.open(file) {
@@ -81,8 +77,6 @@ pub(crate) fn open<W: Wire, C: Clock, E: Keeper, B: Shelf>(
         (outside W.Wire C.Clock E.Keeper wire.old clock.old keeper.old)
         (outside W.Wire C.Clock E.Keeper wire.new clock.new keeper.new)) }
     ensures open { OnOk result (B.is_open shelf.new) }
-    ensures later { B.faults shelf.old ≤ B.faults shelf.new }
-    ensures fault { IfErr result (λ end. end ≡ status.ShelfFault → Rose (B.faults shelf.old) (B.faults shelf.new)) }
     ensures counted { CountsOpening (B.faults shelf.old) (B.faults shelf.new) result }
 {
     let start = raise(keeper)?;

@@ -3,6 +3,7 @@ pub mod Goings
 pub mod Held
 pub mod Levels
 pub mod Named
+pub mod Counts
 pub mod Relays
 pub mod Room
 pub mod Shows

@@ -42,6 +42,7 @@ pub(crate) fn feed_view(
     ensures err { OnErr result (GoesSome producer.old producer.new (feeds_of is_level fed.old view.now)) }
     ensures unfed { OnErr result (fed.new ≡ fed.old) }
     ensures order { InOrder view.now }
+    ensures reads { producer.new.responder.reads ≡ producer.old.responder.reads }
 {
     let has_room = view.len() <= MOST_LIVE;
     let feeds = feeds_of(alloc, fed, view, is_level)?;
@@ -66,6 +67,7 @@ pub(crate) fn feed_round(
     ensures fed { OnOk result (fed.new ≡ view.now) }
     ensures err { OnErr result (GoesSome producer.old producer.new (feeds_of true fed.old view.now)) }
     ensures unfed { OnErr result (fed.new ≡ fed.old) }
+    ensures reads { producer.new.responder.reads ≡ producer.old.responder.reads }
 {
     let found = changes_at(alloc, fed, view, named)?;
     let Some(list) = found else {
@@ -90,6 +92,7 @@ pub(crate) fn feed_if_held(
     ensures fed { OnOk result (fed.new ≡ option_map_or (λ view. view.now) view.entry []) }
     ensures err { OnErr result (GoesSome producer.old producer.new (feeds_of is_level fed.old (option_map_or (λ view. view.now) view.entry []))) }
     ensures unfed { OnErr result (fed.new ≡ fed.old) }
+    ensures reads { producer.new.responder.reads ≡ producer.old.responder.reads }
 {
     match view {
         Some(view) => feed_view(alloc, producer, fed, view, is_level),
@@ -117,6 +120,7 @@ fn feeds_of(alloc: Global, fed: &View, view: &View, is_level: bool) -> Result<Fe
 fn feed_both(producer: &mut Producer, feeds: Feeds) -> Result<(), OutOfMemory>
     ensures ok { OnOk result (GoesBy producer.old producer.new (Feed (entries_of feeds.removals) ∷ Feed (entries_of feeds.items) ∷ [])) }
     ensures err { OnErr result (GoesSome producer.old producer.new (Feed (entries_of feeds.removals) ∷ Feed (entries_of feeds.items) ∷ [])) }
+    ensures reads { producer.new.responder.reads ≡ producer.old.responder.reads }
 {
     let Feeds { removals, items } = feeds;
     producer.feed_owned(removals)?;

@@ -158,6 +158,7 @@ impl Relay {
         ensures level_is_ok { self.old.level ≡ true → IsOk result }
         ensures behind { OnErr result (GoesSome self.old.producer self.new.producer (catch_up_steps self.old)) }
         ensures rest { OnErr result (self.new ≡ record self.old { producer = self.new.producer }) }
+        ensures reads { self.new.producer.responder.reads ≡ self.old.producer.responder.reads }
     {
         if self.is_level {
             return Ok(());
@@ -173,6 +174,7 @@ impl Relay {
         ensures ok { OnOk result (self.new ≡ record self.old { producer = self.new.producer; fed = view_of self.old; level = has_room (view_of self.old) }) }
         ensures behind { OnErr result (GoesSome self.old.producer self.new.producer (feeds_of is_level self.old.fed (view_of self.old))) }
         ensures rest { OnErr result (self.new ≡ record self.old { producer = self.new.producer }) }
+        ensures reads { self.new.producer.responder.reads ≡ self.old.producer.responder.reads }
     {
         let alloc = self.alloc;
         let view = upstream_view(&self.consumer, &self.upstream);
@@ -195,6 +197,7 @@ impl Relay {
         ensures ok { OnOk result (self.new ≡ record self.old { producer = self.new.producer; fed = view_of self.old; level = has_room (view_of self.old) }) }
         ensures behind { OnErr result (GoesSome self.old.producer self.new.producer (feeds_of is_level self.old.fed (view_of self.old))) }
         ensures rest { OnErr result (self.new ≡ record self.old { producer = self.new.producer }) }
+        ensures reads { self.new.producer.responder.reads ≡ self.old.producer.responder.reads }
     {
         match &named.keys {
             Some(keys) if is_level => self.feed_round(keys),
@@ -211,6 +214,7 @@ impl Relay {
         ensures ok { OnOk result (self.new ≡ record self.old { producer = self.new.producer; fed = view_of self.old; level = has_room (view_of self.old) }) }
         ensures behind { OnErr result (GoesSome self.old.producer self.new.producer (feeds_of true self.old.fed (view_of self.old))) }
         ensures rest { OnErr result (self.new ≡ record self.old { producer = self.new.producer }) }
+        ensures reads { self.new.producer.responder.reads ≡ self.old.producer.responder.reads }
     {
         let alloc = self.alloc;
         let Some(view) = upstream_view(&self.consumer, &self.upstream) else {

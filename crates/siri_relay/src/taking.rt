@@ -1,12 +1,14 @@
 //! What a relay does with a message.
 
-ghost use Rattle.std.specs.Prelude.{◌≡◌, ◌⊎◌, ◌∷◌, [], true, false, IfOk, OnOk, OnErr};
+ghost use Rattle.std.specs.Prelude.{◌≡◌, ◌≤◌, ◌⊎◌, ◌∷◌, [], true, false, IfOk, OnOk, OnErr};
 ghost use Rattle.siri_model.specs.History.{Take};
 ghost use Rattle.siri_producer.specs.Known.{AnswerFor};
+ghost use Rattle.siri_producer.specs.Reads.{ReadsFor};
 ghost use Rattle.siri_relay.specs.declared.answers.RelayAnswer.TheVariants.{Down, Up};
 ghost use Rattle.siri_relay.specs.Feeds.{has_room};
 ghost use Rattle.siri_relay.specs.Goes.{GoesBy, GoesSome};
 ghost use Rattle.siri_relay.specs.Named.{named_by};
+ghost use Rattle.siri_relay.specs.Reads.{ReadsToReply};
 ghost use Rattle.siri_relay.specs.Relaying.{applied_steps, consumer_after, is_up, take_steps, view_after, view_of};
 ghost use Rattle.siri_relay.specs.Taken.{AnswersFor};
 ghost use Rattle.siri_view.specs.Consuming.{after_message, seen_of};
@@ -24,9 +26,11 @@ impl Relay {
     /// view, its changes are fed: first the removals, then the items.
     ///
     /// After want of memory the producer was fed some of what is missing or of the changes, and the message may have
-    /// been taken by the consumer, whose replies are lost.
+    /// been taken by the consumer, whose replies are lost. The producer's counter of steps rises for a ServiceRequest alone,
+    /// by at most as many steps as items are live, for each topic.
     ///
     /// A message that is lent is copied first, so that its items can be kept; `take_owned` takes one that is handed over.
+    #[tactic(auto, using(crate::proofs::Counts::reads_none))]
     pub fn take(&mut self, message: &Message) -> Result<RelayAnswer, OutOfMemory>
         ensures producer { OnOk result (GoesBy self.old.producer self.new.producer (take_steps self.old message.now)) }
         ensures consumer { OnOk result (self.new.consumer ≡ consumer_after self.old.consumer message.now) }
@@ -36,12 +40,14 @@ impl Relay {
         ensures behind { OnErr result (GoesSome self.old.producer self.new.producer (take_steps self.old message.now)) }
         ensures same { OnErr result ((self.new.consumer ≡ self.old.consumer) ⊎ (self.new.consumer ≡ consumer_after self.old.consumer message.now)) }
         ensures upstream { self.new.upstream ≡ self.old.upstream }
+        ensures reads { ReadsToReply self.old self.new message.now }
     {
         let message = message.copy()?;
         self.take_owned(message)
     }
 
     /// As `take`, of a message that is handed over: the items of a part are kept and none is copied.
+    #[tactic(auto, using(crate::proofs::Counts::reads_none, crate::proofs::Counts::reads_down))]
     pub fn take_owned(&mut self, message: Message) -> Result<RelayAnswer, OutOfMemory>
         ensures producer { OnOk result (GoesBy self.old.producer self.new.producer (take_steps self.old message)) }
         ensures consumer { OnOk result (self.new.consumer ≡ consumer_after self.old.consumer message) }
@@ -51,6 +57,7 @@ impl Relay {
         ensures behind { OnErr result (GoesSome self.old.producer self.new.producer (take_steps self.old message)) }
         ensures same { OnErr result ((self.new.consumer ≡ self.old.consumer) ⊎ (self.new.consumer ≡ consumer_after self.old.consumer message)) }
         ensures upstream { self.new.upstream ≡ self.old.upstream }
+        ensures reads { ReadsToReply self.old self.new message }
     {
         self.catch_up()?;
         if is_up(&message) {
@@ -73,6 +80,7 @@ impl Relay {
         ensures behind { OnErr result (GoesSome self.old.producer self.new.producer (applied_steps (seen_of self.old.consumer message).outcome (view_of self.old) (view_after self.old message))) }
         ensures same { OnErr result ((self.new.consumer ≡ self.old.consumer) ⊎ (self.new.consumer ≡ after_message self.old.consumer message)) }
         ensures upstream { self.new.upstream ≡ self.old.upstream }
+        ensures reads { self.new.producer.responder.reads ≡ self.old.producer.responder.reads }
     {
         let named = named_by(self.alloc, &message)?;
         self.take_named(message, &named)
@@ -91,6 +99,7 @@ impl Relay {
         ensures behind { OnErr result (GoesSome self.old.producer self.new.producer (applied_steps (seen_of self.old.consumer message).outcome (view_of self.old) (view_after self.old message))) }
         ensures same { OnErr result ((self.new.consumer ≡ self.old.consumer) ⊎ (self.new.consumer ≡ after_message self.old.consumer message)) }
         ensures upstream { self.new.upstream ≡ self.old.upstream }
+        ensures reads { self.new.producer.responder.reads ≡ self.old.producer.responder.reads }
     {
         let seen = self.consumer.take_owned(message)?;
         if let Outcome::Applied { round: _ } = seen.outcome {
@@ -115,6 +124,8 @@ impl Relay {
         ensures ok { OnOk result (GoesBy self.old.producer self.new.producer (Take message ∷ [])) }
         ensures err { OnErr result (GoesBy self.old.producer self.new.producer []) }
         ensures rest { self.new ≡ record self.old { producer = self.new.producer } }
+        ensures risen { self.old.producer.responder.reads ≤ self.new.producer.responder.reads }
+        ensures reads { ReadsFor self.old.producer self.new.producer message }
     {
         self.producer.take_owned(message)
     }

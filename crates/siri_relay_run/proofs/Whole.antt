@@ -129,7 +129,7 @@ module _ (name listen : List ℕ) (target : List ℕ × List ℕ) (count : ℕ) 
   abbrev pub asked_state : Passing
   asked_state = counting asked.state tally
 
-  begun_so : BeginsRelaying name listen target input from (running asked_state (outside_of after clock keeper))
+  pub begun_so : BeginsRelaying name listen target input from (running asked_state (outside_of after clock keeper))
   begun_so = record {
     start = opens.start;
     wanted = opens.wanted;
@@ -152,16 +152,3 @@ module _ (name listen : List ℕ) (target : List ℕ × List ℕ) (count : ℕ) 
     leaves = tt;
     text_is = text_of last counted one.0 one.1.0 one.1.1;
   }
-
-  -- a turn ended it
-  pub turn_ended : (e : NetworkError) (end : Status) (to : Outside) → end ≡ status_of e
-      → EndsInTurns (turning (parties_of name target)) count e (running asked_state (outside_of after clock keeper)) to
-      → EndsBefore (relay_procedure name listen target input left) count end from to
-  turn_ended e end to is ends = inr (record {
-    first = running asked_state (outside_of after clock keeper);
-    opens = begun_so;
-    error = e;
-    end_is = is;
-    fails = ends;
-    leaves = tt;
-  })

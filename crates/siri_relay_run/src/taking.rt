@@ -1,12 +1,14 @@
 //! A relay as an end of the exchange.
 
-ghost use Rattle.std.specs.Prelude.{◌≡◌, ◌∷◌, List, ℕ, [], IfOk, OnOk, Option, Some};
+ghost use Rattle.std.specs.Prelude.{◌≡◌, ◌≤◌, ◌+◌, ◌∷◌, List, ℕ, [], IfOk, OnOk, Option, Some};
 ghost use Rattle.siri_model.specs.History.{History, Settle};
-ghost use Rattle.siri_producer.specs.Known.{StandsFor};
+ghost use Rattle.siri_producer.specs.Known.{Follows, StandsFor};
 ghost use Rattle.siri_producer.specs.Sends.{sends};
 ghost use Rattle.siri_relay.specs.Goes.{GoesBy};
 ghost use Rattle.siri_ends.specs.Responses.{message_asked, replying, responding};
+ghost use Rattle.siri_ends.specs.Looks.{settle_looks};
 ghost use Rattle.siri_ends.specs.Turns.{AreWritten};
+ghost use Rattle.siri_relay_run.specs.Looks.{RelayLooksHearing, RelayLooksOnce, RelayLooksToReply, steps_taken};
 ghost use Rattle.siri_relay_run.specs.Passing.{after_moment};
 ghost use Rattle.siri_relay_run.specs.Relays.{PostsGoing, Relaying, all_up, further_up, goings, heard_of, none_posted_going, relay_reply, relaying};
 ghost use Rattle.siri_relay_run.specs.Steps.{Hears, IsAcknowledging, Stands, RelayTakes, name_of};
@@ -42,7 +44,7 @@ fn answer_down(
 }
 
 /// Takes a message: what a connection that brought it is answered, and the further replies to the source.
-#[tactic(auto, using(crate::proofs::Takes::takes, crate::proofs::Takes::up_response, crate::proofs::Takes::up_further, crate::proofs::Takes::down_response, crate::proofs::Takes::down_further))]
+#[tactic(auto, using(crate::proofs::Takes::takes, crate::proofs::Takes::up_response, crate::proofs::Takes::up_further, crate::proofs::Takes::down_response, crate::proofs::Takes::down_further, crate::proofs::Looks::looks_taken))]
 fn answer_message(
     alloc: Global,
     relay: &mut Relay,
@@ -52,6 +54,8 @@ fn answer_message(
     ensures response { IfOk result (λ answered. (state : Relaying) → Stands relay.old state → answered.0 ≡ Some (replying (relay_reply (name_of relay.old) state message))) }
     ensures written { IfOk result (λ answered. AreWritten answered.0) }
     ensures further { IfOk result (λ answered. (state : Relaying) → Stands relay.old state → answered.1 ≡ further_up state (Some message)) }
+    ensures looks { RelayLooksToReply relay.old relay.new (Some message) }
+    ensures goes { OnOk result (GoesBy relay.old.producer relay.new.producer (steps_taken relay.old (Some message))) }
 {
     match relay.take_owned(message)? {
         RelayAnswer::Up(seen) => split_replies(alloc, seen.replies),
@@ -61,6 +65,7 @@ fn answer_message(
 
 /// Takes the message that a connection brings, where it brings one: what it is answered, and the further replies to the
 /// source.
+#[tactic(auto, using(siri_relay::proofs::Goings::goes_none, crate::proofs::Looks::looks_none))]
 fn reply_to(
     alloc: Global,
     relay: &mut Relay,
@@ -70,6 +75,8 @@ fn reply_to(
     ensures response { IfOk result (λ replied. (state : Relaying) → Stands relay.old state → replied.0 ≡ responding (relay_reply (name_of relay.old) state) asked.now) }
     ensures written { IfOk result (λ replied. AreWritten replied.0) }
     ensures further { IfOk result (λ replied. (state : Relaying) → Stands relay.old state → replied.1 ≡ further_up state (message_asked asked.now)) }
+    ensures looks { RelayLooksToReply relay.old relay.new (message_asked asked.now) }
+    ensures goes { OnOk result (GoesBy relay.old.producer relay.new.producer (steps_taken relay.old (message_asked asked.now))) }
 {
     match brought_by(alloc, asked)? {
         Brought::Message(message) => answer_message(alloc, relay, message),
@@ -97,13 +104,15 @@ fn settle(alloc: Global, relay: &mut Relay, up: List<Message>) -> Result<List<Go
     ensures goes { OnOk result (GoesBy relay.old.producer relay.new.producer (Settle ∷ [])) }
     ensures rest { OnOk result (relay.new ≡ record relay.old { producer = relay.new.producer }) }
     ensures list { IfOk result (λ list. (h : History) → StandsFor relay.old.producer h → list ≡ goings up (sends (name_of relay.old) h)) }
+    ensures risen { relay.old.producer.responder.reads ≤ relay.new.producer.responder.reads }
+    ensures bound { (h : History) → Follows relay.old.producer h → relay.new.producer.responder.reads ≤ relay.old.producer.responder.reads + settle_looks h }
 {
     let outs = relay.settle();
     goings(alloc, up, outs?)
 }
 
 /// Takes a message that was answered, and gives the replies to it, all of which go to the source.
-#[tactic(auto, using(crate::proofs::Takes::takes, crate::proofs::Takes::up_all, crate::proofs::Takes::down_all))]
+#[tactic(auto, using(crate::proofs::Takes::takes, crate::proofs::Takes::up_all, crate::proofs::Takes::down_all, crate::proofs::Looks::looks_taken))]
 fn take_answered(
     alloc: Global,
     relay: &mut Relay,
@@ -111,6 +120,8 @@ fn take_answered(
 ) -> Result<List<Message>, OutOfMemory>
     ensures takes { OnOk result (RelayTakes relay.old relay.new (Some message)) }
     ensures up { IfOk result (λ up. (state : Relaying) → Stands relay.old state → up ≡ all_up state message) }
+    ensures looks { RelayLooksToReply relay.old relay.new (Some message) }
+    ensures goes { OnOk result (GoesBy relay.old.producer relay.new.producer (steps_taken relay.old (Some message))) }
 {
     match relay.take_owned(message)? {
         RelayAnswer::Up(seen) => Ok(seen.replies),
@@ -122,13 +133,14 @@ fn take_answered(
 }
 
 /// Takes a message that was answered and settles it, and gives what that sends.
-#[tactic(auto, using(crate::proofs::Takes::hears))]
+#[tactic(auto, using(crate::proofs::Takes::hears, crate::proofs::Looks::looks_settled, crate::proofs::Looks::looks_unsettled))]
 fn hear_message(
     alloc: Global,
     relay: &mut Relay,
     message: Message,
 ) -> Result<List<Going>, OutOfMemory>
-    ensures { IfOk result (λ list. Hears relay.old relay.new (Some message) list) }
+    ensures hears { IfOk result (λ list. Hears relay.old relay.new (Some message) list) }
+    ensures looks { RelayLooksOnce relay.old relay.new (Some message) }
 {
     let up = take_answered(alloc, relay, message)?;
     settle(alloc, relay, up)
@@ -168,7 +180,8 @@ fn hear(
     relay: &mut Relay,
     message: Option<Message>,
 ) -> Result<List<Going>, OutOfMemory>
-    ensures { IfOk result (λ list. Hears relay.old relay.new message list) }
+    ensures hears { IfOk result (λ list. Hears relay.old relay.new message list) }
+    ensures looks { RelayLooksHearing relay.old relay.new message }
 {
     match message {
         Some(message) => hear_message(alloc, relay, message),
@@ -193,6 +206,10 @@ impl Taker<()> for RelayTaker {
 
     ghost holds = { λ _ _ _. Unit {0} };
 
+    ghost looks_taking = { λ old asked new. RelayLooksOnce old.relay new.relay (message_asked asked) };
+
+    ghost looks_hearing = { λ old sent message new. RelayLooksHearing old.relay new.relay (heard_of sent message) };
+
     ghost given = { λ now state. after_moment now state };
 
     ghost refuses = { λ _ _. Unit {0} };
@@ -210,6 +227,7 @@ impl Taker<()> for RelayTaker {
         Ok(())
     }
 
+    #[tactic(auto, using(crate::proofs::Looks::looks_settled, crate::proofs::Looks::looks_unsettled))]
     fn take(
         &mut self,
         alloc: Global,

@@ -1,5 +1,5 @@
 -- Counts of faults never fall, so a run that ends early by a fault has raised one.
-use Rattle.std.proofs.Common.{◌≡◌, ◌≤◌, ◌⊎◌, ℕ, zero, suc, List, Bool, Ok, Err, refl, sym, ap, ◌∙◌, subst, arith, inl, inr}
+use Rattle.std.proofs.Common.{◌≡◌, ◌≤◌, ◌⊎◌, ℕ, zero, suc, List, Bool, Err, refl, sym, ap, ◌∙◌, subst, arith, inl, inr}
 use Rattle.std.specs.Prelude.{IsTrue}
 use Rattle.siri_base.specs.Causes.{HasOutsideCause, Rose}
 use Rattle.siri_base.specs.OutsideCalls.{GivesMoment, RaisesNumber}
@@ -8,8 +8,9 @@ use Rattle.siri_base.specs.declared.errors.OutsideError.{OutsideError}
 use Rattle.siri_base.specs.declared.errors.OutsideError.TheVariants as outside
 use Rattle.siri_base.specs.declared.status.Status.{Status}
 use Rattle.siri_base.specs.declared.status.Status.TheVariants as status
-use Rattle.siri_runs.specs.Calls.{Fails, HasShelfCause, Outside, Told}
-use Rattle.siri_runs.specs.Errors.{clock_error, keeper_error, status_of, wire_error}
+use Rattle.siri_shelf.specs.Shelves.{CountsFault, after_fault}
+use Rattle.siri_runs.specs.Calls.{CountsShelf, Fails, Outside, Told}
+use Rattle.siri_runs.specs.Errors.{clock_error, keeper_error, shelf_error, status_of, wire_error}
 use Rattle.siri_runs.specs.Run.{EndsAtTurn, EndsInTurns, MakesTurns, Turning}
 use Rattle.siri_runs.specs.Turns.{Running, Turn, Turns}
 use Rattle.siri_runs.specs.declared.network_error.NetworkError.{NetworkError}
@@ -28,16 +29,28 @@ cause_since failure a b c first cause = record {
 
 -- ---- the count of the shelf beside an end
 
--- over calls before which it didn't fall
-pub shelf_later : {T U : Type 0} (a b c : ℕ) (e : NetworkError) → a ≤ b → HasShelfCause {T = T} b c (Err e) → HasShelfCause {T = U} a c (Err e)
-shelf_later a b c e first cause = record {
-  later = omega (arith, first, cause.later);
-  failed = λ is. let same : e ≡ error.ShelfFault = cc is in rose_since a b c first (cause.failed (ap Err same));
-}
+-- a call of a shelf that ends a run
+pub shelf_counts : (T U : Type 0) (a b c : ℕ) (why : OutsideError) → b ≡ a → CountsFault {T = T} b c (Err why)
+    → CountsShelf {T = U} a c (Err (shelf_error why))
+shelf_counts T U a b c outside.Failed same counts = counts ∙ ap after_fault same
+shelf_counts T U a b c outside.OutOfMemory same counts = counts ∙ same
 
--- where all calls went well
-pub shelf_fine : {T : Type 0} (a b : ℕ) (value : T) → a ≤ b → HasShelfCause a b (Ok value)
-shelf_fine a b value later = record { later = later; failed = λ is. absurd (cc is) }
+-- a call of the wire or of the clock does, and the shelf's count stays
+pub wire_counts : (U : Type 0) (a : ℕ) (why : OutsideError) → CountsShelf {T = U} a a (Err (wire_error why))
+wire_counts U a outside.Failed = refl
+wire_counts U a outside.OutOfMemory = refl
+
+pub clock_counts : (U : Type 0) (a : ℕ) (why : OutsideError) → CountsShelf {T = U} a a (Err (clock_error why))
+clock_counts U a outside.Failed = refl
+clock_counts U a outside.OutOfMemory = refl
+
+-- after turns of which none failed
+pub turns_count : (T U : Type 0) (a b c : ℕ) (e : NetworkError) → b ≡ a → CountsShelf {T = T} b c (Err e) → CountsShelf {T = U} a c (Err e)
+turns_count T U a b c error.WireFault same counts = counts ∙ same
+turns_count T U a b c error.ClockFault same counts = counts ∙ same
+turns_count T U a b c error.KeeperFault same counts = counts ∙ same
+turns_count T U a b c error.ShelfFault same counts = counts ∙ ap after_fault same
+turns_count T U a b c error.OutOfMemory same counts = counts ∙ same
 
 -- ---- over turns
 

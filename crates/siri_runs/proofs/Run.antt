@@ -9,7 +9,7 @@ use Rattle.siri_lines.specs.Ends.{Bytes, ReadsAll}
 use Rattle.siri_runs.specs.Calls.{Outside}
 use Rattle.siri_runs.specs.Enough.{HasEnough}
 use Rattle.siri_runs.specs.Errors.{status_of}
-use Rattle.siri_runs.specs.Run.{ByError, Procedure, EndsBefore, Only, Run}
+use Rattle.siri_runs.specs.Run.{ByError, Procedure, EndsBefore, EndsInTurns, Only, Run}
 use Rattle.siri_runs.specs.Turns.{Running}
 use Rattle.siri_runs.specs.declared.network_error.NetworkError.{NetworkError}
 use Rattle.siri_runs.proofs.Causes.{AnswersLater, CallFails, EndsBy, HasReason, Later, call_reason, turns_reason}
@@ -29,6 +29,14 @@ pub record IsSound {State : Type 0} (procedure : Procedure State) (listen : List
       → HasTurns count first.outside
   pub later : AnswersLater procedure.turning
   pub only : AnswersOnly procedure.turning
+
+-- it opened so, and a turn ended it
+pub turn_ended : {State : Type 0} (procedure : Procedure State) (count : ℕ) (from to : Outside) (first : Running State)
+    → procedure.Opens from first → (e : NetworkError) (end : Status) → end ≡ status_of e
+    → (fails : EndsInTurns procedure.turning count e first to) × procedure.LeavesInTurn fails.last to
+    → EndsBefore procedure count end from to
+turn_ended procedure count from to first opens e end is one =
+    inr (record { first = first; opens = opens; error = e; end_is = is; fails = one.0; leaves = one.1 })
 
 only_so : (own : Bool) (Ends : Type 0) → IsTrue own → Ends → Only own Ends
 only_so true Ends is ends = ends

@@ -1,10 +1,10 @@
 -- What a command says of its end, turn by turn, it says of a whole run.
 use Rattle.std.specs.Prelude.{⊤}
 use Rattle.std.proofs.Common.{◌≡◌, ◌⊎◌, ℕ, zero, suc, Ok, Err, refl, sym, ap, ◌∙◌, subst, arith, inl, inr}
-use Rattle.siri_base.specs.Causes.{HasOutsideCause, Rose}
 use Rattle.siri_base.specs.Wires.{Accepts, WireState}
 use Rattle.siri_base.specs.declared.errors.OutsideError.{OutsideError}
 use Rattle.siri_base.specs.declared.errors.OutsideError.TheVariants as outside
+use Rattle.siri_shelf.specs.Shelves.{CountsFault, after_fault}
 use Rattle.siri_http.specs.Requests.{Meaning}
 use Rattle.siri_http.specs.declared.tally.Tally.{Tally}
 use Rattle.siri_ends.specs.At.{At, at_of}
@@ -127,12 +127,12 @@ module _ {Own Beside R M G : Type 0} (of : TakerGhosts Own Beside R M G) (asks :
 -- ---- an end with nothing beside it
 
 -- where nothing beside it ever fails, memory was wanting
-never_rose : (a b : ℕ) → a ≡ 0 → b ≡ 0 → Rose a b → ⊥
-never_rose a b zero_a zero_b rose = omega (arith, zero_a, zero_b, rose)
+never_fails : (a b : ℕ) → a ≡ 0 → b ≡ 0 → b ≡ after_fault a → ⊥
+never_fails a b zero_a zero_b fails = omega (arith, zero_a, zero_b, fails)
 
-wants_memory : (why : OutsideError) (a b : ℕ) → a ≡ 0 → b ≡ 0 → HasOutsideCause {T = Unit {0}} a b (Err why) → why ≡ outside.OutOfMemory
-wants_memory outside.Failed a b zero_a zero_b cause = absurd (never_rose a b zero_a zero_b (cause.failed refl))
-wants_memory outside.OutOfMemory a b zero_a zero_b cause = refl
+wants_memory : (why : OutsideError) (a b : ℕ) → a ≡ 0 → b ≡ 0 → CountsFault {T = Unit {0}} a b (Err why) → why ≡ outside.OutOfMemory
+wants_memory outside.Failed a b zero_a zero_b counts = absurd (never_fails a b zero_a zero_b counts)
+wants_memory outside.OutOfMemory a b zero_a zero_b counts = refl
 
 -- a turn that was taken whole was taken in part
 taken_first : {State M : Type 0} (asks : Meaning) (Posts : Posting M) (manner : Manner State M) (at end : At State)
@@ -222,12 +222,12 @@ module _ {Own Beside R M G : Type 0} (of : TakerGhosts Own Beside R M G) (asks :
         not_given : IsNotGiven of within.why within.moment from last within.wire to.wire
             → FailsToGive (turning kept_of).Refuses e (running s outside_) to
         not_given none =
-            let why = wants_memory within.why (of.faults from.beside) (of.faults last) (counted.never from.beside) (counted.never last) none.cause in
+            let why = wants_memory within.why (of.faults from.beside) (of.faults last) (counted.never from.beside) (counted.never last) none.counted in
             record {
               moment = within.moment;
               accepts = subst (λ w. Call Accepts (Ok (tt {0})) outside_.wire w) (sym none.same) within.accepts;
               tells = within.tells;
-              refuses = subst (λ e. (turning kept_of).Refuses e s) (sym (memory from.beside none.cause))
+              refuses = subst (λ e. (turning kept_of).Refuses e s) (sym (memory from.beside none.counted))
                   (counted.refuses kept_of s (subst (λ y. of.refuses y (state_of s)) why (none.refuses (state_of s) so.0)));
               keeper = within.keeper;
             }
@@ -255,11 +255,11 @@ module _ {Own Beside R M G : Type 0} (of : TakerGhosts Own Beside R M G) (asks :
                 → FailsToGive (turning kept_of).Refuses e (running s outside_) to
                 ⊎ StopsAnswering (turning kept_of).given (turning kept_of).Stops e (running s outside_) to
             by (inl none) = inl (not_given none)
-            by (inr (inl some)) = inr (in_part some.later some.between some.given.keeps some.cause
+            by (inr (inl some)) = inr (in_part some.later some.between some.given.keeps some.counted
                 (some.stops (of.given within.moment (state_of s)) (some.given.stands (state_of s) so.0)))
             by (inr (inr whole)) =
                 let one = whole.takes.goes (of.given within.moment (state_of s)) (whole.given.stands (state_of s) so.0) in
-                inr (in_part whole.later whole.left whole.given.keeps whole.cause
+                inr (in_part whole.later whole.left whole.given.keeps whole.counted
                 (taken_first asks (of.posts target) (of.manner (of.identity whole.later))
                 (at_of (of.given within.moment (state_of s)) from.tally within.wire.tells within.wire.faults)
                 (at_of one.0 whole.tally to.wire.tells to.wire.faults) one.2.0))

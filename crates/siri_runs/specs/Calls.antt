@@ -1,12 +1,13 @@
 -- Calls of the outside that end a run where they fail.
-use Rattle.std.specs.Prelude.{◌≡◌, ◌≤◌, ℕ, Option, Result, Ok, Err, IsErrOf}
-use Rattle.siri_base.specs.Causes.{HasOutsideCause, Rose}
+use Rattle.std.specs.Prelude.{◌≡◌, ℕ, Option, Result, Ok, Err}
+use Rattle.siri_base.specs.Causes.{HasOutsideCause}
 use Rattle.siri_base.specs.OutsideCalls.{ClockState, KeeperState, WhereTold}
 use Rattle.siri_base.specs.Wires.{WireState}
 use Rattle.siri_base.specs.declared.outside.Clock.{Ghosts as ClockGhosts}
 use Rattle.siri_base.specs.declared.outside.Keeper.{Ghosts as KeeperGhosts}
 use Rattle.siri_base.specs.declared.wire.Wire.{Ghosts as WireGhosts}
 use Rattle.siri_base.specs.declared.errors.OutsideError.{OutsideError}
+use Rattle.siri_shelf.specs.Shelves.{after_fault}
 use Rattle.siri_runs.specs.declared.network_error.NetworkError.{NetworkError}
 use Rattle.siri_runs.specs.declared.network_error.NetworkError.TheVariants as errors
 
@@ -37,10 +38,11 @@ abbrev pub Comes : {State T : Type 0} → (State → State → Result T OutsideE
 Comes Does error_of (Ok value) old new = Call Does (Ok value) old new
 Comes Does error_of (Err error) old new = Fails Does error_of error old new
 
--- a shelf's count never falls, and it rose where the shelf failed
-pub record HasShelfCause {T : Type 0} (before now : ℕ) (result : Result T NetworkError) : Type 0 where
-  pub later : before ≤ now
-  pub failed : IsErrOf result errors.ShelfFault → Rose before now
+-- the count of the shelf's faults rises by one where it failed, and nowhere else: no call of it is made again or after that, and no
+-- other error hides it
+abbrev pub CountsShelf : {T : Type 0} → ℕ → ℕ → Result T NetworkError → Type 0
+CountsShelf before now (Err errors.ShelfFault) = now ≡ after_fault before
+CountsShelf before now other = now ≡ before
 
 -- what a run over the network is handed beside its source and sink: connections, moments, and the number of its start
 pub record Outside : Type 0 where

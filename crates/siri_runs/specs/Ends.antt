@@ -1,10 +1,10 @@
 -- The turns of a run, of an end as it is: it is given the clock's moment, it takes the turn of the connection that is there, and the
 -- turn is over. Whatever a command says of its end follows from these.
 use Rattle.std.specs.Prelude.{◌≡◌, ◌⊎◌, ◌+◌, ℕ, Ok, Err}
-use Rattle.siri_base.specs.Causes.{HasOutsideCause}
 use Rattle.siri_base.specs.OutsideCalls.{GivesMoment}
 use Rattle.siri_base.specs.Wires.{Accepts, WireState}
 use Rattle.siri_base.specs.declared.errors.OutsideError.{OutsideError}
+use Rattle.siri_shelf.specs.Shelves.{CountsFault}
 use Rattle.siri_http.specs.Requests.{Meaning}
 use Rattle.siri_http.specs.declared.tally.Tally.{Tally}
 use Rattle.siri_ends.specs.At.{At, Goes, Holding, at_of}
@@ -86,9 +86,9 @@ pub record RunsTurn {Own Beside R M G : Type 0} (of : TakerGhosts Own Beside R M
 
 -- ---- a turn that ended the run
 
--- what stands beside the end failed, so often by now, or memory was wanting
+-- what stands beside the end failed, once more by now, or memory was wanting and it didn't
 abbrev pub FailsBeside : {Own Beside R M G : Type 0} → (of : TakerGhosts Own Beside R M G) → OutsideError → (was is : Beside) → Type 0
-FailsBeside of why was is = HasOutsideCause {T = Unit {0}} (of.faults was) (of.faults is) (Err why)
+FailsBeside of why was is = CountsFault {T = Unit {0}} (of.faults was) (of.faults is) (Err why)
 
 -- it couldn't be given the moment
 pub record IsNotGiven {Own Beside R M G : Type 0} (of : TakerGhosts Own Beside R M G) (why : OutsideError) (moment : ℕ)
@@ -96,7 +96,7 @@ pub record IsNotGiven {Own Beside R M G : Type 0} (of : TakerGhosts Own Beside R
   pub same : after ≡ before
   pub refuses : (s : of.State) → of.stands from.own s → of.refuses why s
   pub may : of.may_leave from.own (OfMoment moment) from.beside last
-  pub cause : FailsBeside of why from.beside last
+  pub counted : FailsBeside of why from.beside last
 
 -- it took the turn of the connection in part
 pub record TakesSome {Own Beside R M G : Type 0} (of : TakerGhosts Own Beside R M G) (asks : Meaning) (target : G) (why : OutsideError)
@@ -107,7 +107,7 @@ pub record TakesSome {Own Beside R M G : Type 0} (of : TakerGhosts Own Beside R 
   pub stops : (s : of.State) → of.stands later s
       → StopsTurn asks (of.posts target) (of.manner (of.identity later)) (at_of s from.tally before.tells before.faults) after.tells
   pub leaves : LeavesOf of asks target later between last before after
-  pub cause : FailsBeside of why between last
+  pub counted : FailsBeside of why between last
 
 -- it took it, and couldn't end the turn
 pub record IsNotOver {Own Beside R M G : Type 0} (of : TakerGhosts Own Beside R M G) (asks : Meaning) (target : G) (why : OutsideError)
@@ -122,7 +122,7 @@ pub record IsNotOver {Own Beside R M G : Type 0} (of : TakerGhosts Own Beside R 
       (at_of taken tally after.tells after.faults) left
   pub leaves : LeavesOf of asks target later between left before after
   pub may : of.may_leave taken AfterTurn left last
-  pub cause : FailsBeside of why left last
+  pub counted : FailsBeside of why left last
 
 -- a connection was accepted, and the clock told a moment, and then a call of the end ended the run
 pub record StopsWithin {Own Beside R M G : Type 0} (of : TakerGhosts Own Beside R M G) (asks : Meaning) (target : G) (last : Beside)

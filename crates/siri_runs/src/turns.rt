@@ -2,7 +2,7 @@
 
 ghost use Rattle.std.specs.Prelude.{◌+◌, ◌-◌, ◌^◌, ◌<◌, IfErr, OnOk};
 ghost use Rattle.siri_base.specs.OutsideCalls.{KeeperState};
-ghost use Rattle.siri_runs.specs.Calls.{HasShelfCause, Told, outside_with};
+ghost use Rattle.siri_runs.specs.Calls.{CountsShelf, Told, outside_with};
 ghost use Rattle.siri_runs.specs.Ends.{RunsTurn, StopsTurns, in_run};
 ghost use Rattle.siri_runs.specs.Turns.{Turns, TurnsFail, running};
 
@@ -34,7 +34,7 @@ fn turn<A: Asking, W: Wire, C: Clock, B, T: Taker<B>>(
     ensures err { IfErr result (λ error. (keeper : Told KeeperState) → StopsTurns T.Taker A.asks target.now beside.new error
         (running (in_run taker.old beside.old tally.old made) (outside_with W.Wire C.Clock wire.old clock.old keeper))
         (outside_with W.Wire C.Clock wire.new clock.new keeper)) }
-    ensures cause { HasShelfCause (T.faults beside.old) (T.faults beside.new) result }
+    ensures counted { CountsShelf (T.faults beside.old) (T.faults beside.new) result }
 {
     accept(wire)?;
     let moment = now(clock)?;
@@ -47,8 +47,8 @@ fn turn<A: Asking, W: Wire, C: Clock, B, T: Taker<B>>(
 /// So many turns of an end, one after the other: in each a connection is accepted, the end is given the clock's moment,
 /// and it takes the turn of the connection, whose request asks what [`Asking`] says. The first call that fails ends
 /// them: `WireFault` and `ClockFault` only where the wire failed to accept or the clock failed, otherwise what a call of
-/// the end answers, `ShelfFault` only where the count of the shelf beside it rose. What stands beside the end then is as
-/// the turn before left it, or as the end leaves it of a turn that it began.
+/// the end answers, `ShelfFault` exactly where the shelf beside it failed: its count rose by one, and else not. What
+/// stands beside the end then is as the turn before left it, or as the end leaves it of a turn that it began.
 pub fn run_turns<A: Asking, W: Wire, C: Clock, B, T: Taker<B>>(
     alloc: Global,
     count: u64,
@@ -68,7 +68,7 @@ pub fn run_turns<A: Asking, W: Wire, C: Clock, B, T: Taker<B>>(
         (StopsTurns T.Taker A.asks target.now beside.new) count error
         (running (in_run taker.old beside.old tally.old 0) (outside_with W.Wire C.Clock wire.old clock.old keeper))
         (outside_with W.Wire C.Clock wire.new clock.new keeper)) }
-    ensures cause { HasShelfCause (T.faults beside.old) (T.faults beside.new) result }
+    ensures counted { CountsShelf (T.faults beside.old) (T.faults beside.new) result }
 {
     for made in 0..count {
         turn::<A, W, C, B, T>(alloc, made, target, wire, clock, taker, beside, tally)?;

@@ -5,7 +5,6 @@ use Rattle.std.specs.Io.KnownBytes.{Appends}
 use Rattle.std.proofs.KnownBytes.{Appends-trans}
 use Rattle.siri_base.specs.OutsideCalls.{ClockState, KeeperState}
 use Rattle.siri_base.specs.Wires.{WireState}
-use Rattle.siri_base.specs.declared.status.Status.{Status}
 use Rattle.siri_base.specs.declared.status.Status.TheVariants as status
 use Rattle.siri_http.specs.declared.tally.Tally.{Tally}
 use Rattle.siri_http.specs.Tallies.{nothing_yet}
@@ -15,10 +14,8 @@ use Rattle.siri_lines.specs.Ends.{AppendsFront, Bytes}
 use Rattle.siri_view.specs.Consuming.{Consuming}
 use Rattle.siri_wire.specs.declared.wanted.Wanted.{Wanted}
 use Rattle.siri_runs.specs.Calls.{Outside, Told, outside_of}
-use Rattle.siri_runs.specs.Errors.{status_of}
-use Rattle.siri_runs.specs.Run.{Completes, EndsBefore, EndsInTurns, MakesTurns}
+use Rattle.siri_runs.specs.Run.{Completes, EndsBefore, MakesTurns}
 use Rattle.siri_runs.specs.Turns.{running}
-use Rattle.siri_runs.specs.declared.network_error.NetworkError.{NetworkError}
 use Rattle.siri_runs.specs.consumers.Consumption.{ConsumerAsks, Consumption, Target, after_asking, requests, turning}
 use Rattle.siri_runs.specs.consumers.Opening.{opened}
 use Rattle.siri_runs.specs.consumers.Runs.{BeginsConsuming, consume_procedure, end_text}
@@ -81,7 +78,7 @@ module _ (name listen : List ℕ) (target : Target) (count : ℕ) (input left : 
     (opens : OpensConsumer name listen input list begun from (outside_of wire clock keeper))
     (sends : SendsUp target.0 target.1 (requests begun list) (at_of (after_asking begun list) none wire.tells wire.faults)
     (at_of consumer tally after.tells after.faults)) where
-  asked : BeginsConsuming name listen target input from (running (counting consumer tally) (outside_of after clock keeper))
+  pub asked : BeginsConsuming name listen target input from (running (counting consumer tally) (outside_of after clock keeper))
   asked = record {
     start = opens.start;
     list = list;
@@ -105,19 +102,6 @@ module _ (name listen : List ℕ) (target : Target) (count : ℕ) (input left : 
     leaves = tt;
     text_is = λ i. end_text (counting ((sym one.1.0) i) (one.1.1 i));
   }
-
-  -- a turn ended it
-  pub turn_ended : (e : NetworkError) (end : Status) (to : Outside) → end ≡ status_of e
-      → EndsInTurns (turning target) count e (running (counting consumer tally) (outside_of after clock keeper)) to
-      → EndsBefore (consume_procedure name listen target input left) count end from to
-  turn_ended e end to is ends = inr (record {
-    first = running (counting consumer tally) (outside_of after clock keeper);
-    opens = asked;
-    error = e;
-    end_is = is;
-    fails = ends;
-    leaves = tt;
-  })
 
 -- ---- what is written
 

@@ -1,16 +1,13 @@
 -- A run of `serve`, as its parts make it.
-use Rattle.std.proofs.Common.{◌≡◌, ℕ, List, refl, ap, inr}
-use Rattle.siri_base.specs.declared.status.Status.{Status}
+use Rattle.std.proofs.Common.{◌≡◌, ℕ, List, refl, ap}
 use Rattle.siri_http.specs.Requests.{Meaning}
 use Rattle.siri_http.specs.declared.tally.Tally.{Tally}
 use Rattle.siri_model.specs.History.{History}
 use Rattle.siri_producer.specs.Known.{Known, StandsFor}
 use Rattle.siri_runs.specs.Calls.{Outside}
-use Rattle.siri_runs.specs.Errors.{status_of}
-use Rattle.siri_runs.specs.Run.{Completes, EndsBefore, EndsInTurns, MakesTurns}
+use Rattle.siri_runs.specs.Run.{Completes, MakesTurns}
 use Rattle.siri_runs.specs.Summaries.{summary_text}
 use Rattle.siri_runs.specs.Turns.{running}
-use Rattle.siri_runs.specs.declared.network_error.NetworkError.{NetworkError}
 use Rattle.siri_runs.specs.producers.Opening.{BeginsServing, begun}
 use Rattle.siri_runs.specs.producers.Runs.{serve_procedure}
 use Rattle.siri_runs.specs.producers.Serving.{Serving, turning}
@@ -28,10 +25,10 @@ counting history tally = record { history = history; tally = tally }
 
 module _ (asks : Meaning) (name listen : List ℕ) (count : ℕ) (producer : Known) (from open_ : Outside)
     (opens : OpensProducer name listen producer from open_) where
-  abbrev state : Serving
+  abbrev pub state : Serving
   state = begun opens.start opens.moment
 
-  opened : BeginsServing listen from (running state open_)
+  pub opened : BeginsServing listen from (running state open_)
   opened = record { start = opens.start; moment = opens.moment; opens = opens.opens; state_is = refl }
 
   -- it opened, and every connection was served
@@ -46,15 +43,3 @@ module _ (asks : Meaning) (name listen : List ℕ) (count : ℕ) (producer : Kno
     leaves = tt;
     text_is = ap summary_text one.1.1;
   }
-
-  -- it opened, and a turn ended it
-  pub turn_ended : (e : NetworkError) (end : Status) (to : Outside) → end ≡ status_of e
-      → EndsInTurns (turning asks name) count e (running state open_) to → EndsBefore (serve_procedure asks name listen) count end from to
-  turn_ended e end to is ends = inr (record {
-    first = running state open_;
-    opens = opened;
-    error = e;
-    end_is = is;
-    fails = ends;
-    leaves = tt;
-  })

@@ -1,3 +1,4 @@
+use Rattle.siri_ends.proofs.Looks.{alike_none}
 use Rattle.siri_ends.proofs.Lends.{if_ok, prepares_message, prepares_nothing, prepares_refusal}
 use Rattle.siri_ends.proofs.reply.reply_for.Goals as goal
 
@@ -14,3 +15,17 @@ returns-in-Refused-clause-prepares c = prepares_refusal c.args.asked.now c.in-Re
 pub returns-in-Nothing-clause-prepares : goal.returns-in-Nothing-clause-prepares
 returns-in-Nothing-clause-prepares c = prepares_nothing c.args.asked.now c.args.producer.now
     (rw c.in-Nothing.is at c.in_ok-message.ensures)
+
+-- ---- what is followed
+
+pub returns-in-Message-clause-follows : goal.returns-in-Message-clause-follows
+returns-in-Message-clause-follows c =
+    let brings = rw c.in-Message.is at c.in_ok-message.ensures in rw brings.message c.reply_to.ensures.follows
+
+pub returns-in-Refused-clause-follows : goal.returns-in-Refused-clause-follows
+returns-in-Refused-clause-follows c =
+    let brings = rw c.in-Refused.is at c.in_ok-message.ensures in rw brings.message (alike_none c.args.producer.now)
+
+pub returns-in-Nothing-clause-follows : goal.returns-in-Nothing-clause-follows
+returns-in-Nothing-clause-follows c =
+    let brings = rw c.in-Nothing.is at c.in_ok-message.ensures in rw brings.message (alike_none c.args.producer.now)

@@ -3,6 +3,7 @@ use Rattle.siri_runs.proofs.Run.{clock_fault, ends_whole, keeper_fault, not_writ
 use Rattle.siri_keep_run.specs.Runs.{EndsWholeOrByShelf}
 use Rattle.siri_keep_run.proofs.LeftRun.{answered_all, answered_not, trail_all, trail_not}
 use Rattle.siri_keep_run.proofs.Sound.{apart_whole, keep_is_sound, own_whole}
+use Rattle.siri_keep_run.proofs.Whole.{shelf_rose}
 use Rattle.siri_keep_run.proofs.keeping.keep.Goals as goal
 
 pub returns-in-Err-clause-run : goal.returns-in-Err-clause-run
@@ -19,6 +20,9 @@ returns-in-Err-clause-keeper_fault g c = keeper_fault (keep_is_sound c.args.name
 
 pub returns-in-Err-clause-write_fault : goal.returns-in-Err-clause-write_fault
 returns-in-Err-clause-write_fault g c = λ is. absurd (not_write (keep_is_sound c.args.name c.args.address.now c.args.file.now _ _) _ _ _ c.in-Err.end c.in-Err.ensures.err is)
+
+pub returns-in-Err-clause-shelf_fault : goal.returns-in-Err-clause-shelf_fault
+returns-in-Err-clause-shelf_fault g c = shelf_rose _ _ c.in-Err.end c.in-Err.ensures.counted
 
 pub returns-in-Err-clause-complete : goal.returns-in-Err-clause-complete
 returns-in-Err-clause-complete g c = λ has _.

@@ -54,4 +54,5 @@ returns-in_default c =
       behind = tt;
       same = tt;
       upstream = ap (λ (r : KnownRelay). r.upstream) is;
+      reads = ap (λ (r : KnownRelay). r.producer.responder.reads) is;
     }
