@@ -1,0 +1,5 @@
+pub mod Acts
+pub mod Logged
+pub mod EndsLogged
+pub mod Joined
+pub mod Ran
