@@ -6,6 +6,7 @@
 //!     forms, system                                                forms of the outside; adapters over the system
 //!     in_memory, files, row_texts                                  shelves, and the texts of their rows
 //!     stops, over documents and rows                               a producer over a shelf that stops
+//!     long_rows, over documents                                    one that is fed what has too long a row
 //! ```
 //!
 //! A call that takes memory is proved also where its body gives up for want of it; these runs see that it doesn't where
@@ -27,6 +28,8 @@ mod forms;
 mod in_memory;
 #[cfg(test)]
 mod incoming;
+#[cfg(test)]
+mod long_rows;
 #[cfg(test)]
 mod queries;
 #[cfg(test)]

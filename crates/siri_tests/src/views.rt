@@ -1,7 +1,7 @@
 //! Views of vehicles, and the changes that lead from one to another.
 
 use siri_base::Name;
-use siri_change::{Change, View, changes, patch};
+use siri_change::{Change, View, changes};
 use siri_records::{Item, Key, SharedKey, Vehicle, VehicleJourney};
 use std::alloc::{AllocError, Global};
 use std::rc::Rc;
@@ -54,18 +54,18 @@ fn push_name(text: &mut String, key: &Key) -> Result<(), AllocError> {
     Ok(())
 }
 
-/// The first view with the changes that lead to the second.
-fn names_after_patch(alloc: Global, before: &[&str], after: &[&str]) -> Result<String, Fail> {
+/// The first view after the changes that lead to the second.
+fn names_after_changes(alloc: Global, before: &[&str], after: &[&str]) -> Result<String, Fail> {
     let mut view_before = view_of(alloc, before)?;
     let list = changes(&view_before, &view_of(alloc, after)?)?;
-    patch(&mut view_before, &list)?;
+    view_before.put_changes(list)?;
     Ok(names_in(alloc, &view_before)?)
 }
 
 #[test]
 fn changes_lead_from_one_view_to_another(rt: HostRuntime) -> Result<(), Fail> {
     assert_eq!(rt;
-        names_after_patch(rt.alloc(), &["b", "a"], &["c", "b"])?.as_str(),
+        names_after_changes(rt.alloc(), &["b", "a"], &["c", "b"])?.as_str(),
         " b c"
     );
     Ok(())
