@@ -93,17 +93,19 @@ def copy_of(file, folder):
 
 
 class Keeper:
-    """`siri keep` over one file, at one port, however often it is started. Its rows and its start number have folders of their own."""
+    """`siri keep` over one file, at one port, however often it is started, within the words of another program where there are any. Its
+    rows and its start number have folders of their own."""
 
-    def __init__(self, siri, folder, rows=None, name="AGENCY"):
+    def __init__(self, siri, folder, rows=None, name="AGENCY", within=()):
         self.siri, self.folder, self.name, self.port, self.process = os.path.abspath(siri), folder, name, free_port(), None
+        self.within = within
         rows = rows or os.path.join(folder, "rows")
         self.file = os.path.join(rows, "kept.db")
         for path in (folder, rows):
             os.makedirs(path, exist_ok=True)
 
     def words(self, count=1_000_000, name=None):
-        return [self.siri, "keep", name or self.name, "127.0.0.1:%d" % self.port, self.file, str(count)]
+        return [*self.within, self.siri, "keep", name or self.name, "127.0.0.1:%d" % self.port, self.file, str(count)]
 
     def spawn(self):
         with open(os.path.join(self.folder, "errors"), "ab") as errors:

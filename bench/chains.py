@@ -12,7 +12,7 @@ import sys
 
 RUNS = 5
 # How many visits the display shows, and how many changes are made.
-CHANGES = [(100, 4_000), (1_000, 2_000), (20_000, 100)]
+CHANGES = [(100, 4_000), (1_000, 2_000), (20_000, 2_000)]
 VISITS = 20_000
 
 

@@ -7,7 +7,14 @@ line, and asks A times for those of a stop; `make.py sorted N A` the same with v
 visit each, in which every packet is delivered in order; `make.py shared N S C` the same with subscriptions to one stop, the first, so
 that each shows each change; `make.py wide N S C` with one stop of all visits; `make.py ticks N S C` as `subscribed`, with clock lines
 that pass no departure in the place of changes; `make.py nearest N S C` with changes of the five departures of a stop that come first, and
-`make.py limited N S C` the same with MaximumStopVisits 5. It goes to standard output."""
+`make.py limited N S C` the same with MaximumStopVisits 5.
+
+A city of N visits, 40 to a stop, and S boards that show the next three departures of stops of their own with two of these N each, which
+acknowledge: `make.py unshown N S C` has C changes of a visit that none of them shows, `make.py boards N S C` changes that one shows, and
+`make.py departing N S C` clock lines at each of which a visit departs that none shows.
+
+`make.py silent N S C` has C keys, a thousand at a time, each of a visit that departs a second later, beside N visits and S subscriptions
+that never acknowledge; `make.py journeys N 0 A` N journeys of 500 lines, and A asks for one line each. It goes to standard output."""
 import json
 import sys
 
@@ -157,6 +164,100 @@ def subscribed(count, subscriptions, changes, number_of_stops=0, stops_asked=0, 
         deliver(2 * len([number for number in range(subscriptions) if number % stops_asked == change % subscriptions % stops_asked]))
 
 
+class Script:
+    """A script in which each packet is delivered as soon as it is sent, unless it is left out."""
+
+    def __init__(self):
+        self.packets = 0
+        print("start 2024-05-01T04:00:00Z")
+
+    def feed(self, visits):
+        put("feed", {"ServiceDelivery": {"StopMonitoringDelivery": [{"MonitoredStopVisit": visits}]}})
+
+    def feed_all(self, visits):
+        for first in range(0, len(visits), 100):
+            self.feed(visits[first : first + 100])
+
+    def deliver(self, packets):
+        for _ in range(packets):
+            self.packets += 1
+            print("deliver", self.packets)
+
+    def subscribe(self, number, request):
+        wanted = {"SubscriptionIdentifier": "s%d" % number, "InitialTerminationTime": "2024-05-31T00:00:00Z", "StopMonitoringRequest": request}
+        print("subscribe c%d" % (number % 16), json.dumps({"StopMonitoringSubscriptionRequest": wanted}, separators=(",", ":")))
+
+
+def departing_at(visit, moment, stop):
+    """The visit, at a stop, with a departure so many seconds after midnight in local time."""
+    visit["MonitoringRef"] = {"value": stop}
+    visit["MonitoredVehicleJourney"]["MonitoredCall"]["ExpectedDepartureTime"] = clock(moment)
+    return visit
+
+
+def city(count, boards):
+    """The script of a city until its boards are level: each visit of its own second, from 06:10 on in local time, those of boards from 20:00
+    on. It gives the visits that no board shows, and those of boards."""
+    script = Script()
+    others = count - 2 * boards
+    stops = -(-others // 40)
+    passing = [departing_at(realistic_visit(number, stops), 6 * 3600 + 600 + 2 * number, stop_name(number % stops)) for number in range(others)]
+    shown = [departing_at(realistic_visit(others + number), 20 * 3600 + number, "board-%d" % (number // 2)) for number in range(2 * boards)]
+    script.feed_all(passing + shown)
+    for board in range(boards):
+        script.subscribe(board, {"MonitoringRef": "board-%d" % board, "MaximumStopVisits": 3})
+        script.deliver(4)
+    return script, passing, shown
+
+
+def unshown(count, boards, changes):
+    script, passing, _ = city(count, boards)
+    for change in range(changes):
+        visit = passing[len(passing) - 1 - change % 1000]
+        script.feed([departing_at(visit, 18 * 3600 + change, visit["MonitoringRef"]["value"])])
+
+
+def boards(count, boards, changes):
+    script, _, shown = city(count, boards)
+    for change in range(changes):
+        visit = shown[change % len(shown)]
+        script.feed([departing_at(visit, 20 * 3600 + 1000 + change, visit["MonitoringRef"]["value"])])
+        script.deliver(2)
+
+
+def departing(count, boards, changes):
+    city(count, boards)
+    for change in range(changes):
+        print("clock", clock(6 * 3600 + 600 + 2 * change + 1))
+
+
+def silent(count, subscriptions, keys):
+    script = Script()
+    script.feed_all([departing_at(realistic_visit(number), 20 * 3600, "board-0") for number in range(count)])
+    for number in range(subscriptions):
+        script.subscribe(number, {"MonitoringRef": "board-0"})
+        script.deliver(1)
+        script.packets += 2  # the response and the first part, which stay where they are
+    for first in range(0, keys, 1000):
+        second = 6 * 3600 + first // 500
+        script.feed([departing_at(realistic_visit(count + number), second + 1, "board-1") for number in range(first, first + 1000)])
+        print("clock", clock(second + 2))
+
+
+def journeys(count, _, asks):
+    Script()
+    for first in range(0, count, 100):
+        entries = []
+        for number in range(first, first + 100):
+            reference = {"DataFrameRef": "any", "DatedVehicleJourneyRef": "J%07d" % number}
+            call = {"ExpectedDepartureTime": clock(7 * 3600 + number * 7 % (16 * 3600))}
+            entries.append({"LineRef": "L%03d" % (number % 500), "FramedVehicleJourneyRef": reference, "EstimatedCalls": {"EstimatedCall": [call]}})
+        put("feed", {"ServiceDelivery": {"EstimatedTimetableDelivery": [{"EstimatedJourneyVersionFrame": [{"EstimatedVehicleJourney": entries}]}]}})
+    for ask in range(asks):
+        lines = {"LineDirection": [{"LineRef": "L%03d" % (ask % 500)}]}
+        put("ask", {"ServiceRequest": {"EstimatedTimetableRequest": [{"Lines": lines}]}})
+
+
 def shared(count, subscriptions, changes):
     subscribed(count, subscriptions, changes, stops_asked=1)
 
@@ -177,4 +278,24 @@ def limited(count, subscriptions, changes):
     subscribed(count, subscriptions, changes, nearest=5, limit=5)
 
 
-{"lines": lines, "visits": visits, "delivery": delivery, "stops": stops, "sorted": in_order, "subscribed": subscribed, "shared": shared, "wide": wide, "ticks": ticks, "nearest": nearest, "limited": limited}[sys.argv[1]](*map(int, sys.argv[2:]))
+KINDS = {
+    "lines": lines,
+    "visits": visits,
+    "delivery": delivery,
+    "stops": stops,
+    "sorted": in_order,
+    "subscribed": subscribed,
+    "shared": shared,
+    "wide": wide,
+    "ticks": ticks,
+    "nearest": nearest,
+    "limited": limited,
+    "unshown": unshown,
+    "boards": boards,
+    "departing": departing,
+    "silent": silent,
+    "journeys": journeys,
+}
+
+if __name__ == "__main__":
+    KINDS[sys.argv[1]](*map(int, sys.argv[2:]))

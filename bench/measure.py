@@ -132,63 +132,72 @@ LOADS = [
     ("subscribed", 20_000, 20, 100, 2_000, 2),
     ("subscribed", 20_000, 200, 100, 2_000, 2),
     ("shared", 20_000, 200, 100, 20, 400),
-    ("wide", 10_000, 1, 10_000, 200, 2),
-    ("ticks", 20_000, 200, 100, 2_000, 0),
+    ("wide", 10_000, 1, 10_000, 2_000, 2),
+    ("wide", 20_000, 1, 20_000, 2_000, 2),
+    ("ticks", 20_000, 200, 100, 10_000, 0),
     ("nearest", 20_000, 1, 100, 2_000, 2),
     ("limited", 20_000, 1, 5, 2_000, 2),
+    ("unshown", 20_000, 200, 2, 10_000, 0),
+    ("boards", 20_000, 200, 2, 10_000, 2),
+    ("departing", 20_000, 200, 2, 10_000, 0),
+    ("silent", 1_000, 1, 1_000, 50_000, 0),
+    ("silent", 1_000, 1, 1_000, 200_000, 0),
+    ("journeys", 20_000, 0, 0, 1_000, 0),
 ]
 
-# Reads and writes each document of a script and of its report.
-DOCUMENTS = """
-import json, sys
-for line in sys.stdin:
-    place = line.find("{")
-    if place >= 0:
-        sys.stdout.write(json.dumps(json.loads(line[place:]), separators=(",", ":")) + "\\n")
-"""
 
-
-def subscriptions(program, folder):
+def subscriptions(program, yardstick, folder):
     """What a change of one visit takes, by the visits and the subscriptions: it is fed, settled, sent, taken, acknowledged and settled
-    again, as the difference between so many changes and none, beside python's json over the documents of the changes; and what a
-    clock line takes that passes no departure. And memory: of a visit that is shown to a subscription, which stands in the
-    producer's and in the consumer's view and in a packet, and of a packet of a change."""
+    again, as the difference between so many changes and none, beside the same script by a program that is written by hand; and what
+    clock lines, keys that soon go and asks of a line take. And memory: the peak; of a visit that is shown to a subscription, which
+    stands in the producer's and in the consumer's view and in a packet; and of a packet of a change."""
     def path(kind, visits, wanted, changes):
         return os.path.join(folder, "%s.%d.%d.%d" % (kind, visits, wanted, changes))
 
-    def with_report(script):
-        with open(script + ".documents", "wb") as both:
-            for part in (script, script + ".output"):
-                with open(part, "rb") as source:
-                    both.write(source.read())
-        return script + ".documents"
-    replay, reads_json = [program, "replay"], [sys.executable, "-S", "-c", DOCUMENTS]
-    row = "%-10s %7s %14s %8s %12s %18s %7s %20s %15s"
-    print(row % ("changes", "visits", "subscriptions", "changes", "ms a change", "ms python's json", "ratio", "bytes a shown visit", "bytes a packet"))
+    def cost(command, scripts):
+        """The milliseconds of all changes, and the peaks of each script."""
+        runs = [[run_once(command, script) for script in scripts] for _ in range(SLOW_RUNS)]
+        before, after = [min(run[place][0] for run in runs) for place in (-2, -1)]
+        return (after - before) * 1e3, [max(run[place][1] for run in runs) for place in range(len(scripts))]
+    replay, by_hand = [program, "replay"], [yardstick, "--by-hand", "replay"]
+    row = "%-10s %7s %14s %8s %12s %12s %7s %9s %12s %7s %20s %15s"
+    print(row % ("changes", "visits", "subscriptions", "changes", "us a change", "us by hand", "ratio", "peak MB", "MB by hand", "ratio",
+                 "bytes a shown visit", "bytes a packet"))
     for kind, visits, wanted, shown, changes, packets in LOADS:
         scripts = [path(kind, visits, 0, 0), path(kind, visits, wanted, 0), path(kind, visits, wanted, changes)]
-        runs = [[run_once(replay, script) for script in scripts] for _ in range(SLOW_RUNS)]
-        beside = [[run_once(reads_json, with_report(script)) for script in scripts[1:]] for _ in range(SLOW_RUNS)]
-        before, after = [min(run[place][0] for run in runs) for place in (1, 2)]
-        least, most = [min(run[place][0] for run in beside) for place in (0, 1)]
-        bare, subscribed, changed = [max(run[place][1] for run in runs) for place in range(3)]
-        ours, theirs = [(later - first) / changes * 1e3 for first, later in ((before, after), (least, most))]
+        ours, (bare, subscribed, changed) = cost(replay, scripts)
+        theirs, (_, peak) = cost(by_hand, scripts[1:])
+        same_report(replay, by_hand, scripts[-1])
         held = "%.0f" % ((subscribed - bare) * 1e6 / (wanted * shown)) if wanted * shown > 1_000 else "-"
         packet = "%.0f" % ((changed - subscribed) * 1e6 / (packets * changes)) if packets else "-"
-        ratio = "%.1f" % (ours / theirs) if packets else "-"
-        print(row % (kind, visits, wanted, changes, "%.3f" % ours, "%.3f" % theirs, ratio, held, packet))
+        times = ["%.1f" % (it / changes * 1e3) for it in (ours, theirs)] + ["%.1f" % (ours / max(theirs, 1e-3))]
+        memory = ["%.1f" % changed, "%.1f" % peak, "%.1f" % (changed / peak)]
+        print(row % (kind, visits, wanted, changes, *times, *memory, held, packet))
 
 
-def load(program, folder):
-    """`siri load`: a large random network of four subscriptions, at three sizes."""
+def same_report(replay, by_hand, script):
+    """Stops where the two write different reports."""
+    reports = []
+    for command in (replay, by_hand):
+        with open(script, "rb") as source:
+            reports.append(subprocess.run(command, stdin=source, stdout=subprocess.PIPE, check=True).stdout)
+    if reports[0] != reports[1]:
+        sys.exit("measure: of %s the program by hand writes another report" % script)
+
+
+def load(program, yardstick, folder):
+    """`siri load`: a large random network of four subscriptions, at three sizes, beside the same by hand."""
     path = os.path.join(folder, "load")
     open(path, "w").close()
-    row = "%-8s %9s %12s %9s"
-    print(row % ("load", "seconds", "us an event", "peak MB"))
+    row = "%-8s %9s %12s %9s %9s %9s %12s %7s"
+    print(row % ("load", "seconds", "us an event", "by hand", "ratio", "peak MB", "MB by hand", "ratio"))
     for count in (2_000, 5_000, 20_000):
-        runs = [run_once([program, "load", "7", str(count)], path) for _ in range(SLOW_RUNS)]
-        seconds, peak = min(run[0] for run in runs), max(run[1] for run in runs)
-        print(row % (count, "%.2f" % seconds, "%.0f" % (seconds / count * 1e6), "%.1f" % peak))
+        words = ["load", "7", str(count)]
+        runs = [[run_once(command + words, path) for command in ([program], [yardstick, "--by-hand"])] for _ in range(RUNS)]
+        seconds, theirs = [min(run[place][0] for run in runs) for place in (0, 1)]
+        peak, other = [max(run[place][1] for run in runs) for place in (0, 1)]
+        times = ("%.3f" % seconds, "%.1f" % (seconds / count * 1e6), "%.3f" % theirs, "%.1f" % (seconds / theirs))
+        print(row % (count, *times, "%.1f" % peak, "%.1f" % other, "%.1f" % (peak / other)))
 
 
 def main(crates, yardstick, folder):
@@ -201,9 +210,10 @@ def main(crates, yardstick, folder):
     print()
     producer(siri, yardstick, folder)
     print()
-    subscriptions(siri, folder)
+    subscriptions(siri, yardstick, folder)
     print()
-    load(siri, folder)
+    load(siri, yardstick, folder)
 
 
-main(*sys.argv[1:])
+if __name__ == "__main__":
+    main(*sys.argv[1:])

@@ -22,33 +22,33 @@ struct Service {
 }
 
 #[derive(Default)]
-struct Visit {
+pub(crate) struct Visit {
     recorded_at_time: Option<i64>,
-    item_identifier: Option<String>,
-    monitoring_ref: Option<String>,
-    journey: Journey,
+    pub(crate) item_identifier: Option<String>,
+    pub(crate) monitoring_ref: Option<String>,
+    pub(crate) journey: Journey,
 }
 
 #[derive(Default)]
-struct Journey {
+pub(crate) struct Journey {
     line_ref: Option<String>,
     direction_ref: Option<String>,
     data_frame_ref: Option<String>,
     dated_vehicle_journey_ref: Option<String>,
     destination_name: Option<String>,
-    delay: Option<i64>,
+    pub(crate) delay: Option<i64>,
     longitude: Option<i64>,
     latitude: Option<i64>,
-    call: Call,
+    pub(crate) call: Call,
 }
 
 #[derive(Default)]
-struct Call {
+pub(crate) struct Call {
     stop_point_name: Option<String>,
     order: Option<u64>,
     vehicle_at_stop: Option<bool>,
-    aimed_departure_time: Option<i64>,
-    expected_departure_time: Option<i64>,
+    pub(crate) aimed_departure_time: Option<i64>,
+    pub(crate) expected_departure_time: Option<i64>,
     departure_status: Option<String>,
 }
 
@@ -85,9 +85,9 @@ const STOPS: [bool; 256] = {
     stops
 };
 
-struct Reader<'a> {
-    text: &'a str,
-    at: usize,
+pub(crate) struct Reader<'a> {
+    pub(crate) text: &'a str,
+    pub(crate) at: usize,
 }
 
 fn read(text: &str) -> Option<Delivery> {
@@ -140,7 +140,7 @@ impl<'a> Reader<'a> {
         })
     }
 
-    fn visit(&mut self, visit: &mut Visit) -> Option<()> {
+    pub(crate) fn visit(&mut self, visit: &mut Visit) -> Option<()> {
         self.object(|reader, name| {
             match name {
                 "RecordedAtTime" => visit.recorded_at_time = moment(&reader.text()??)?,
@@ -219,7 +219,7 @@ impl<'a> Reader<'a> {
     }
 
     /// An object: `member` is called behind the colon of each name, and reads its value.
-    fn object(&mut self, mut member: impl FnMut(&mut Self, &str) -> Option<()>) -> Option<()> {
+    pub(crate) fn object(&mut self, mut member: impl FnMut(&mut Self, &str) -> Option<()>) -> Option<()> {
         self.byte(b'{')?;
         if self.peek()? == b'}' {
             return self.byte(b'}');
@@ -236,7 +236,7 @@ impl<'a> Reader<'a> {
     }
 
     /// A list, or a value by itself, which is its own only entry.
-    fn list(&mut self, mut entry: impl FnMut(&mut Self) -> Option<()>) -> Option<()> {
+    pub(crate) fn list(&mut self, mut entry: impl FnMut(&mut Self) -> Option<()>) -> Option<()> {
         if self.peek()? != b'[' {
             return entry(self);
         }
@@ -350,7 +350,7 @@ impl<'a> Reader<'a> {
     }
 
     /// The text of a value, as the profile reads it: a string, a number, an object's at `value`, a list's first.
-    fn text(&mut self) -> Option<Option<Cow<'a, str>>> {
+    pub(crate) fn text(&mut self) -> Option<Option<Cow<'a, str>>> {
         let mut found = None;
         match self.peek()? {
             b'"' => found = Some(self.string()?),
@@ -377,11 +377,11 @@ impl<'a> Reader<'a> {
         Some(found.filter(|text| !text.is_empty()))
     }
 
-    fn owned(&mut self) -> Option<Option<String>> {
+    pub(crate) fn owned(&mut self) -> Option<Option<String>> {
         Some(self.text()?.map(Cow::into_owned))
     }
 
-    fn flag(&mut self) -> Option<bool> {
+    pub(crate) fn flag(&mut self) -> Option<bool> {
         match self.peek()? {
             b't' => self.word("true").map(|()| true),
             b'f' => self.word("false").map(|()| false),
@@ -393,7 +393,7 @@ impl<'a> Reader<'a> {
         }
     }
 
-    fn pass_value(&mut self) -> Option<()> {
+    pub(crate) fn pass_value(&mut self) -> Option<()> {
         match self.peek()? {
             b'{' => self.object(|reader, _| reader.pass_value()),
             b'[' => self.list(|reader| reader.pass_value()),
@@ -407,7 +407,7 @@ impl<'a> Reader<'a> {
 }
 
 /// The milliseconds since 1970 of `YYYY-MM-DDThh:mm:ss`, a fraction and an offset.
-fn moment(text: &str) -> Option<Option<i64>> {
+pub(crate) fn moment(text: &str) -> Option<Option<i64>> {
     let bytes = text.as_bytes();
     let two = |at: usize| -> Option<i64> {
         match bytes.get(at..at + 2)? {
@@ -457,16 +457,18 @@ fn days_before(year: i64, month: i64) -> i64 {
     365 * year + year / 4 - year / 100 + year / 400 + in_year - 719_468
 }
 
-/// The milliseconds of `PTnHnMnS`, as the bench has them.
-fn span(text: &str) -> Option<i64> {
+/// The milliseconds of `PnDTnHnMnS`, as the bench has them.
+pub(crate) fn span(text: &str) -> Option<i64> {
     let (sign, rest) = match text.strip_prefix('-') {
         Some(rest) => (-1, rest),
         None => (1, text),
     };
     let mut total = 0;
     let mut number = None;
-    for byte in rest.strip_prefix("PT")?.bytes() {
+    for byte in rest.strip_prefix('P')?.bytes() {
         match byte {
+            b'T' => (),
+            b'D' => total += 86_400_000 * number.take()?,
             b'0'..=b'9' => number = Some(10 * number.unwrap_or(0) + i64::from(byte - b'0')),
             b'H' => total += 3_600_000 * number.take()?,
             b'M' => total += 60_000 * number.take()?,
@@ -497,8 +499,8 @@ fn decimal(text: &str) -> Option<i64> {
 
 // ---- writing
 
-struct Writer {
-    text: Vec<u8>,
+pub(crate) struct Writer {
+    pub(crate) text: Vec<u8>,
 }
 
 /// The canonical text: compact, the members in byte order of their names.
@@ -518,7 +520,7 @@ fn written(delivery: &Delivery) -> Vec<u8> {
 }
 
 impl Writer {
-    fn visit(&mut self, visit: &Visit) {
+    pub(crate) fn visit(&mut self, visit: &Visit) {
         self.string("ItemIdentifier", &visit.item_identifier);
         self.object("MonitoredVehicleJourney", |writer| writer.journey(&visit.journey));
         self.string("MonitoringRef", &visit.monitoring_ref);
@@ -545,18 +547,20 @@ impl Writer {
             writer.string("StopPointName", &call.stop_point_name);
             writer.flag("VehicleAtStop", call.vehicle_at_stop);
         });
-        self.object("VehicleLocation", |writer| {
-            writer.decimal("Latitude", journey.latitude);
-            writer.decimal("Longitude", journey.longitude);
-        });
+        if journey.latitude.is_some() || journey.longitude.is_some() {
+            self.object("VehicleLocation", |writer| {
+                writer.decimal("Latitude", journey.latitude);
+                writer.decimal("Longitude", journey.longitude);
+            });
+        }
     }
 
-    fn raw(&mut self, bytes: &[u8]) {
+    pub(crate) fn raw(&mut self, bytes: &[u8]) {
         self.text.extend_from_slice(bytes);
     }
 
     /// A member's name, behind a comma where it isn't the first.
-    fn name(&mut self, name: &str) {
+    pub(crate) fn name(&mut self, name: &str) {
         if !matches!(self.text.last(), Some(b'{' | b'[')) {
             self.text.push(b',');
         }
@@ -565,14 +569,14 @@ impl Writer {
         self.raw(b"\":");
     }
 
-    fn object(&mut self, name: &str, rows: impl FnOnce(&mut Self)) {
+    pub(crate) fn object(&mut self, name: &str, rows: impl FnOnce(&mut Self)) {
         self.name(name);
         self.text.push(b'{');
         rows(self);
         self.text.push(b'}');
     }
 
-    fn list<T>(&mut self, name: &str, entries: &[T], mut rows: impl FnMut(&mut Self, &T)) {
+    pub(crate) fn list<T>(&mut self, name: &str, entries: &[T], mut rows: impl FnMut(&mut Self, &T)) {
         if entries.is_empty() {
             return;
         }
@@ -586,7 +590,7 @@ impl Writer {
         self.text.push(b']');
     }
 
-    fn string(&mut self, name: &str, text: &Option<String>) {
+    pub(crate) fn string(&mut self, name: &str, text: &Option<String>) {
         let Some(text) = text else { return };
         self.name(name);
         self.text.push(b'"');
@@ -609,13 +613,13 @@ impl Writer {
         self.text.push(b'"');
     }
 
-    fn flag(&mut self, name: &str, flag: Option<bool>) {
+    pub(crate) fn flag(&mut self, name: &str, flag: Option<bool>) {
         let Some(flag) = flag else { return };
         self.name(name);
         self.raw(if flag { b"true" } else { b"false" });
     }
 
-    fn number(&mut self, name: &str, number: Option<u64>) {
+    pub(crate) fn number(&mut self, name: &str, number: Option<u64>) {
         let Some(number) = number else { return };
         self.name(name);
         self.digits(number);
@@ -644,7 +648,7 @@ impl Writer {
         self.raw(&buffer[..width]);
     }
 
-    fn moment(&mut self, name: &str, moment: Option<i64>) {
+    pub(crate) fn moment(&mut self, name: &str, moment: Option<i64>) {
         let Some(moment) = moment else { return };
         self.name(name);
         let (days, rest) = (moment / 86_400_000 + 719_468, (moment % 86_400_000) as u64);
@@ -673,7 +677,7 @@ impl Writer {
         self.raw(b"Z\"");
     }
 
-    fn span(&mut self, name: &str, span: Option<i64>) {
+    pub(crate) fn span(&mut self, name: &str, span: Option<i64>) {
         let Some(span) = span else { return };
         self.name(name);
         self.raw(if span < 0 { b"\"-P" } else { b"\"P" });

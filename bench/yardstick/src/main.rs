@@ -5,8 +5,10 @@
 //! monitoring point, looking at all of them. It neither sorts them nor knows which of them are current.
 //!
 //! `yardstick --by-hand convert` and `yardstick --by-hand check` are a second yardstick, which takes no library and goes over
-//! the bytes once: `by_hand`.
+//! the bytes once: `by_hand`. `yardstick --by-hand replay` and `yardstick --by-hand load SEED COUNT` are a third one, a producer and
+//! its consumers: `ends`.
 mod by_hand;
+mod ends;
 
 use std::env;
 use std::io::{self, BufRead, BufWriter, Read, Write};
@@ -15,10 +17,26 @@ use serde_json::Value;
 
 fn main() -> io::Result<()> {
     match env::args().nth(1).as_deref() {
-        Some("--by-hand") => by_hand::run(&env::args().nth(2).unwrap_or_default()),
+        Some("--by-hand") => by_hand(&env::args().skip(2).collect::<Vec<_>>()),
         Some("convert") => convert(),
         Some("replay") => replay(),
-        _ => Err(io::Error::new(io::ErrorKind::InvalidInput, "convert, replay or --by-hand")),
+        _ => Err(usage()),
+    }
+}
+
+fn usage() -> io::Error {
+    io::Error::new(io::ErrorKind::InvalidInput, "convert, replay or --by-hand")
+}
+
+fn by_hand(words: &[String]) -> io::Result<()> {
+    match words {
+        [word] if word == "replay" => ends::replay(),
+        [word] => by_hand::run(word),
+        [word, seed, count] if word == "load" => match (seed.parse(), count.parse()) {
+            (Ok(seed), Ok(count)) => writeln!(io::stdout(), "{}", ends::load(seed, count)),
+            _ => Err(usage()),
+        },
+        _ => Err(usage()),
     }
 }
 
