@@ -5,7 +5,8 @@ use Rattle.std.proofs.lemmas.List.Elements.{All-nil, All-cons, All-append}
 use Rattle.siri_base.specs.OutsideCalls.{WhereTold}
 use Rattle.siri_base.specs.Wires.{Connection, Present, Replaced, WireState, dial_called, hung_up, hung_up_after}
 use Rattle.siri_http.specs.Connections.{OnPresent, passing}
-use Rattle.siri_http.specs.Posts.{ByDial, Posts, PostsTo, dialled_of, is_due}
+use Rattle.siri_http.specs.Exchanges.{dialled_of, is_due}
+use Rattle.siri_http.specs.Posts.{ByDial, Posts, PostsTo}
 use Rattle.siri_http.specs.Requests.{Asks, Meaning}
 use Rattle.siri_http.specs.Responses.{Responded, Responds}
 use Rattle.siri_http.specs.Texts.{request_text, response_text}

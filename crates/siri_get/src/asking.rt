@@ -7,7 +7,8 @@ ghost use Rattle.siri_http.specs.Parts.{response_parts};
 ghost use Rattle.siri_http.specs.Texts.{get_text};
 ghost use Rattle.siri_http.specs.ExchangeCauses.{HasFaultCause, outcome};
 ghost use Rattle.siri_get.specs.Plans.{plan_of};
-ghost use Rattle.siri_get.specs.Exchanges.{ComesOfPlan, Gets, Hears, Talks, answered_told, refused_told_by, told_of};
+ghost use Rattle.siri_http.specs.Exchanges.{Hears, Talks};
+ghost use Rattle.siri_get.specs.Exchanges.{ComesOfPlan, Gets, answered_told, refused_told_by, told_of};
 
 use crate::plan::{Plan, line_told, plan_of};
 use siri_base::{OutOfMemory, OutsideError, Text, Wire, append, append_number};
@@ -65,7 +66,7 @@ fn told_of(
 /// faults rose.
 fn hear<W: Wire>(alloc: Global, wire: &mut W) -> Result<Option<Answer>, OutOfMemory>
     requires there { W.is_open wire.old }
-    ensures told { WhereTold (W.tells wire.old) (W.tells wire.new) (Hears (outcome result)) }
+    ensures told { WhereTold (W.tells wire.old) (W.tells wire.new) (Hears told_of None (outcome result)) }
     ensures cause { HasFaultCause (W.faults wire.old) (W.faults wire.new) None (outcome result) }
 {
     let told = told_of(alloc, read_response(alloc, wire))?;
@@ -81,7 +82,7 @@ fn talk<W: Wire>(
     target: &Text,
 ) -> Result<Option<Answer>, OutOfMemory>
     requires there { W.is_open wire.old }
-    ensures told { WhereTold (W.tells wire.old) (W.tells wire.new) (Talks (get_text producer.now.host target.now) (outcome result)) }
+    ensures told { WhereTold (W.tells wire.old) (W.tells wire.new) (Talks told_of None (get_text producer.now.host target.now) (outcome result)) }
     ensures cause { HasFaultCause (W.faults wire.old) (W.faults wire.new) None (outcome result) }
 {
     match write_get(alloc, wire, producer, target) {

@@ -14,7 +14,8 @@ use Rattle.siri_wire.specs.Canonical.{canonical}
 use Rattle.siri_wire.specs.Documents.{message_of}
 use Rattle.siri_http.specs.Connections.{OnPresent, passing}
 use Rattle.siri_http.specs.Messages.{Brings, IsRequest, UnlessMemory}
-use Rattle.siri_http.specs.Posts.{AnswersIf, ByDial, Posts, dialled_of, is_due}
+use Rattle.siri_http.specs.Exchanges.{dialled_of, is_due}
+use Rattle.siri_http.specs.Posts.{AnswersIf, ByDial, Posts}
 use Rattle.siri_http.specs.Requests.{Asks, Meaning, Request, asked_of}
 use Rattle.siri_http.specs.Responses.{Responded, Responds, is_whole}
 use Rattle.siri_http.specs.Texts.{request_text, response_text}

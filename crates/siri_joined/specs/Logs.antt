@@ -6,7 +6,8 @@ use Rattle.siri_base.specs.Wires.{Connection, Present, WireState}
 use Rattle.siri_messages.specs.declared.message.Message.{Message}
 use Rattle.siri_wire.specs.Canonical.{canonical}
 use Rattle.siri_wire.specs.declared.wanted.Wanted.{Wanted}
-use Rattle.siri_http.specs.Posts.{Posts, dialled}
+use Rattle.siri_http.specs.Exchanges.{dialled}
+use Rattle.siri_http.specs.Posts.{Posts}
 use Rattle.siri_http.specs.Requests.{Meaning}
 use Rattle.siri_http.specs.declared.tally.Tally.{Tally}
 use Rattle.siri_ends.specs.At.{At, at_of}

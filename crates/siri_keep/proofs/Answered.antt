@@ -6,7 +6,8 @@ use Rattle.siri_base.specs.OutsideCalls.{WhereTold}
 use Rattle.siri_base.specs.Wires.{Connection, Ending, HungUp, Over, Present, Replaced, WireState, dial_called, hung_up, hung_up_after, over_texts, present_text, texts, with_connection}
 use Rattle.siri_tables.specs.Refusals.{Refusal}
 use Rattle.siri_http.specs.Connections.{OnConnection, OnPresent, passing}
-use Rattle.siri_http.specs.Posts.{ByDial, Posts, dialled_of, is_due}
+use Rattle.siri_http.specs.Exchanges.{dialled_of, is_due}
+use Rattle.siri_http.specs.Posts.{ByDial, Posts}
 use Rattle.siri_http.specs.Requests.{Asks, name_of, post_alone, status_of}
 use Rattle.siri_http.specs.Responses.{Responded, Responds, WroteFront, over_after}
 use Rattle.siri_http.specs.Texts.{head_text, request_text, response_text}

@@ -1,6 +1,5 @@
 -- One write: what it makes of the rows, and what a stop may leave.
 use Rattle.std.proofs.Common.{◌≡◌, ◌⊎◌, ℕ, List, [], ◌∷◌, ◌++◌, length, Option, Result, Ok, Err, OnOk, refl, ap, sym, ◌∙◌, subst, inl, inr, append-nil}
-use Rattle.std.specs.Prelude.{take}
 use Rattle.std.specs.List.{AllByRecursion}
 use Rattle.std.proofs.Math.Seq.{take-length}
 use Rattle.siri_base.specs.OutsideCalls.{WhereTold}

@@ -1,10 +1,9 @@
 -- A turn over a shelf: what it takes, what it answers, and what it sends.
-use Rattle.std.specs.Prelude.{if◌then◌else◌, IfOk, IsErrOf, IsSomeAnd, OnOk}
+use Rattle.std.specs.Prelude.{if◌then◌else◌, IfOk, IsSomeAnd, OnOk}
 use Rattle.std.proofs.Common.{◌≡◌, ◌⊎◌, ℕ, List, [], ◌∷◌, ◌++◌, Bool, true, false, Option, None, Some, Result, Ok, Err, refl, sym, ap, ◌∙◌, subst, append-nil, inl, inr}
 use Rattle.siri_base.specs.OutsideCalls.{WhereTold}
 use Rattle.siri_base.specs.Wires.{WireState}
 use Rattle.siri_base.specs.declared.errors.OutsideError.{OutsideError}
-use Rattle.siri_base.specs.declared.errors.OutsideError.TheVariants as outside
 use Rattle.siri_http.specs.Requests.{post_alone}
 use Rattle.siri_http.specs.declared.asked.Asked.{Asked}
 use Rattle.siri_http.specs.declared.tally.Tally.{Tally}

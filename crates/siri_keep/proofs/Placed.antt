@@ -1,6 +1,6 @@
 -- Subscriptions at their places, one more each time.
 use Rattle.std.proofs.Common.{◌≡◌, ◌≤◌, ◌+◌, ℕ, zero, suc, List, [], ◌∷◌, ◌++◌, length, map, take, flat_map, None, Some, option_map, refl, sym, ap, ◌∙◌, add-one, arith, append_assoc}
-use Rattle.std.specs.List.{range_with_len, slice_get, zip}
+use Rattle.std.specs.List.{slice_get, zip}
 use Rattle.std.proofs.Math.Seq.{take-length}
 use Rattle.std.proofs.lemmas.List.Concat.{flat_map-append}
 use Rattle.std.proofs.lemmas.List.FromFn.{length-map-range_with_len, map-range_with_len_more}

@@ -5,7 +5,8 @@ use Rattle.siri_base.specs.OutsideCalls.{WhereTold}
 use Rattle.siri_base.specs.Wires.{Connection, Present, WireState, hung_up}
 use Rattle.siri_http.specs.Connections.{OnConnection}
 use Rattle.siri_http.specs.Texts.{request_text}
-use Rattle.siri_http.specs.Posts.{ByDial, Posts, PostsTo, dialled_of, is_due}
+use Rattle.siri_http.specs.Exchanges.{dialled_of, is_due}
+use Rattle.siri_http.specs.Posts.{ByDial, Posts, PostsTo}
 use Rattle.siri_http.specs.Responses.{Responded, Responds}
 use Rattle.siri_http.specs.declared.posting.Sent.{Sent}
 use Rattle.siri_runs.specs.Enough.{HasConnections}

@@ -1,6 +1,6 @@
 -- Items under their own keys, and which of them are shown.
 use Rattle.std.proofs.Common.{◌≡◌, ℕ, ◌≤◌, List, [], ◌∷◌, filter, length, take, drop, Bool, true, false, ◌&&◌, ◌||◌, refl, ap, sym, ◌∙◌}
-use Rattle.std.proofs.Common.{Option, Some, None, slice_range}
+use Rattle.std.proofs.Common.{Some, slice_range}
 use Rattle.std.specs.Cmp.{Equal-is}
 use Rattle.std.specs.List.{All, AllByRecursion}
 use Rattle.std.specs.Map.{remove_entry}

@@ -204,8 +204,8 @@ impl CountedItems {
         Crossing::over(items.entries(), &mut self.counter, stamps, from)
     }
 
-    /// Those that have an edge there of the items that may be shown to a topic by their keys, with their keys, shared with
-    /// those that are held. After want of memory nothing but the counter has changed.
+    /// Those that have an edge there of the items that may be shown to a topic by their keys, with their keys, shared
+    /// with those that are held. After want of memory nothing but the counter has changed.
     pub(crate) fn crossed(
         &mut self,
         alloc: Global,

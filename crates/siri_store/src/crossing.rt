@@ -87,9 +87,9 @@ pub(crate) fn next_crossed<'a>(
     }
 }
 
-/// In one call all entries that may be shown to a topic by their keys and whose items have an edge in a range of moments,
-/// by the stamps there. (A walk that holds stamps gives the one who lets it go no word of its counter, so the counter is
-/// lent to this one itself.)
+/// In one call all entries that may be shown to a topic by their keys and whose items have an edge in a range of
+/// moments, by the stamps there. (A walk that holds stamps gives the one who lets it go no word of its counter, so the
+/// counter is lent to this one itself.)
 pub(crate) fn crossed_entries<'a>(
     alloc: Global,
     items: &'a KeyedItems,
@@ -113,8 +113,8 @@ pub(crate) fn crossed_entries<'a>(
     Ok(found)
 }
 
-/// The key and the item of the first stamp that leads to what may be shown to a topic by its key, counted as a step, and
-/// behind it the stamps that are left.
+/// The key and the item of the first stamp that leads to what may be shown to a topic by its key, counted as a step,
+/// and behind it the stamps that are left.
 fn next_asked_crossed<'a>(
     entries: &'a KeyedItems,
     counter: &mut Counter,

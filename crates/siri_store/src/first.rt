@@ -108,8 +108,8 @@ fn next_first<'a>(
     }
 }
 
-/// The same over stamps of items of which those that may be shown to the topic by their keys all lead: each of these is a
-/// step. A visit of another stop is none, and takes no search.
+/// The same over stamps of items of which those that may be shown to the topic by their keys all lead: each of these is
+/// a step. A visit of another stop is none, and takes no search.
 fn next_visit<'a>(
     entries: &'a KeyedItems,
     counter: &mut Counter,

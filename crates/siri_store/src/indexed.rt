@@ -107,9 +107,9 @@ impl IndexedItems {
         self.stamps.between(order_asked(topic), from, to)
     }
 
-    /// Of a topic of Stop Monitoring the stamps of its stop's visits whose entry is in its window, by entry and then key;
-    /// none for a topic of another service. They are all of the order of that stop; others that share it may be among
-    /// them, which their keys tell. The window is that of the topic at a moment.
+    /// Of a topic of Stop Monitoring the stamps of its stop's visits whose entry is in its window, by entry and then
+    /// key; none for a topic of another service. They are all of the order of that stop; others that share it may be
+    /// among them, which their keys tell. The window is that of the topic at a moment.
     pub(crate) fn visits_asked(
         &self,
         topic: &Topic,

@@ -12,7 +12,7 @@
 //!     topic, range  -> crossed   ---> in one call those of them that may be shown by their keys, a step for each
 //!     topic         -> first     ---> the visits that are shown, by entry and then key
 //!                                                                  a step for each visit that is looked at
-//!     topic, how many -> first_shown ---> so many of them in one call, with a step for each visit of the topic's stop that
+//!     topic, how many -> first_shown ---> so many of them in one call, a step for each visit of the topic's stop that
 //!                                     is looked at
 //! ```
 //!

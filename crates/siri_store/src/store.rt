@@ -235,9 +235,10 @@ impl Store {
         self.items.crossing(service, from, to)
     }
 
-    /// In one call, with their keys, shared with the store, the held items that may be shown to a topic by their keys and
-    /// that have an edge at or after one number of milliseconds since 1970 and before another, each once, in order of the
-    /// least such edge and then of key. Each of them is a step. After want of memory nothing but the counter has changed.
+    /// In one call, with their keys, shared with the store, the held items that may be shown to a topic by their keys
+    /// and that have an edge at or after one number of milliseconds since 1970 and before another, each once, in order
+    /// of the least such edge and then of key. Each of them is a step. After want of memory nothing but the counter has
+    /// changed.
     pub fn crossed(
         &mut self,
         alloc: Global,

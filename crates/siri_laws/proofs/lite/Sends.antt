@@ -3,7 +3,8 @@ use Rattle.std.proofs.Common.{◌≡◌, inl, inr, ℕ, zero, suc, Bool, true, f
 use Rattle.siri_base.specs.OutsideCalls.{WhereTold}
 use Rattle.siri_base.specs.Wires.{Connection, Present, WireState}
 use Rattle.siri_http.specs.Connections.{OnPresent}
-use Rattle.siri_http.specs.Posts.{ByDial, Posts, PostsTo, Talked, dialled, dialled_of, is_due}
+use Rattle.siri_http.specs.Exchanges.{dialled, dialled_of, is_due}
+use Rattle.siri_http.specs.Posts.{ByDial, Posts, PostsTo, Talked}
 use Rattle.siri_http.specs.Responses.{WroteFront}
 use Rattle.siri_http.specs.Texts.{request_text}
 use Rattle.siri_http.specs.declared.posting.Sent.{Sent}
