@@ -1,7 +1,7 @@
 //! The command `siri`: makes the adapters over the system, does what its words say, and tells how it ended.
 //!
 //! Stands on `siri_cli`, whose `run_all` is the whole of the work, on `siri_system` for the network, the clock and the
-//! start number, on `siri_file_shelf` for the file of `keep`, and on `siri_base` and `siri_lines` for the line that tells
+//! start number, on `siri_system` for the file of `keep`, and on `siri_base` and `siri_lines` for the line that tells
 //! how a run ended. A line of the system's own words follows where the wire or the keeper failed, and one of the
 //! database's where the shelf did; where the words are no command, it is told which word is wrong, and what the command
 //! takes (`usage`, by the table of `commands`, which asks `siri_http` what an address is). Where the variable `SIRI_LOG` of
@@ -12,11 +12,11 @@ mod commands;
 mod usage;
 
 use crate::usage::write_usage;
-use siri_base::{Input, Output, Status};
+use siri_base::Status;
 use siri_cli::run_all;
-use siri_file_shelf::FileShelf;
 use siri_lines::write_status;
-use siri_system::{FileKeeper, LoggedWire, SystemClock};
+use siri_outside::{Input, Output};
+use siri_system::{FileKeeper, FileShelf, LoggedWire, SystemClock};
 use std::io::{ErrorKind, Write};
 use std::process::ExitCode;
 use std::{env, fmt};

@@ -1,10 +1,10 @@
 -- Words of `keep` that there was no memory to read.
 use Rattle.std.proofs.Common.{ℕ, List, Option, None, Some, Err, refl, inl, inr, arith}
-use Rattle.siri_base.specs.OutsideCalls.{KeeperState, RaisesNumber, WhereTold}
-use Rattle.siri_base.specs.declared.errors.OutsideError.TheVariants as outside_error
+use Rattle.siri_outside.specs.OutsideCalls.{KeeperState, RaisesNumber, WhereTold}
+use Rattle.siri_outside.specs.declared.errors.OutsideError.TheVariants as outside_error
 use Rattle.siri_base.specs.declared.status.Status.TheVariants as status
 use Rattle.siri_lines.specs.Ends.{Bytes}
-use Rattle.siri_shelf.specs.Shelves.{ShelfState}
+use Rattle.siri_outside.specs.Shelves.{ShelfState}
 use Rattle.siri_runs.specs.Calls.{Outside}
 use Rattle.siri_runs.specs.declared.network_error.NetworkError.TheVariants as error
 use Rattle.siri_keep_run.specs.Left.{KeepAnswered, KeepTrail}

@@ -1,7 +1,7 @@
 -- What `run` does of words, a fact for each clause of its contract. So another call that does it of some words can say so.
 use Rattle.std.specs.Prelude.{◌≡◌, ◌↔◌, ℕ, List, [], Option, Some, None}
-use Rattle.siri_base.specs.Causes.{Rose}
-use Rattle.siri_base.specs.MetFailures.{SinkMeets, SourceMeets, is_read_fault, is_write_fault}
+use Rattle.siri_outside.specs.Causes.{Rose}
+use Rattle.siri_outside.specs.MetFailures.{SinkMeets, SourceMeets, is_read_fault, is_write_fault}
 use Rattle.siri_http.specs.Requests.{post_alone}
 use Rattle.siri_http.specs.declared.address.Address.{Address as Target}
 use Rattle.siri_ends.specs.lite.Asking.{post_or_query}
@@ -24,13 +24,13 @@ use Rattle.siri_runs.specs.consumers.Reading.{TellsWanted}
 use Rattle.siri_runs.specs.consumers.Wanting.{event as wanted, nothing_wanted, most_wanted}
 use Rattle.siri_runs.specs.consumers.Runs.{ConsumeRun}
 use Rattle.siri_relay_run.specs.Runs.{RelayRun, TellsOne}
-use Rattle.siri_base.specs.declared.outside.Clock.{Ghosts as ClockGhosts}
-use Rattle.siri_base.specs.declared.outside.Keeper.{Ghosts as KeeperGhosts}
-use Rattle.siri_base.specs.declared.outside.Sink.{Ghosts as SinkGhosts}
-use Rattle.siri_base.specs.declared.outside.Source.{Ghosts as SourceGhosts}
+use Rattle.siri_outside.specs.declared.outside.Clock.{Ghosts as ClockGhosts}
+use Rattle.siri_outside.specs.declared.outside.Keeper.{Ghosts as KeeperGhosts}
+use Rattle.siri_outside.specs.declared.outside.Sink.{Ghosts as SinkGhosts}
+use Rattle.siri_outside.specs.declared.outside.Source.{Ghosts as SourceGhosts}
 use Rattle.siri_base.specs.declared.status.Status.{Status}
 use Rattle.siri_base.specs.declared.status.Status.TheVariants as status
-use Rattle.siri_base.specs.declared.wire.Wire.{Ghosts as WireGhosts}
+use Rattle.siri_outside.specs.declared.wire.Wire.{Ghosts as WireGhosts}
 use Rattle.siri_cli.specs.declared.command.Command.{Command}
 use Rattle.siri_cli.specs.declared.command.Command.TheVariants as command
 

@@ -1,9 +1,9 @@
 //! The top call with a shelf.
 
 ghost use Rattle.std.specs.Prelude.{◌≡◌, [], map, string_bytes, Some, None};
-ghost use Rattle.siri_base.specs.Causes.{Rose};
-ghost use Rattle.siri_base.specs.MetFailures.{SinkMeets, is_write_fault};
-ghost use Rattle.siri_shelf.specs.Shelves.{OnShelf};
+ghost use Rattle.siri_outside.specs.Causes.{Rose};
+ghost use Rattle.siri_outside.specs.MetFailures.{SinkMeets, is_write_fault};
+ghost use Rattle.siri_outside.specs.Shelves.{OnShelf};
 ghost use Rattle.siri_runs.specs.Calls.{outside};
 ghost use Rattle.siri_runs.specs.Enough.{HasEnough};
 ghost use Rattle.siri_keep_run.specs.Left.{KeepAnswered, KeepTrail};
@@ -16,9 +16,9 @@ ghost use Rattle.siri_cli.specs.RunDoes.{RunDoes};
 
 use crate::keep::{Keep, read_keep};
 use crate::running::run;
-use siri_base::{Clock, Keeper, OutOfMemory, Sink, Source, Status, Wire};
+use siri_base::{OutOfMemory, Status};
 use siri_keep_run::keep;
-use siri_shelf::Shelf;
+use siri_outside::{Clock, Keeper, Shelf, Sink, Source, Wire};
 use std::alloc::Global;
 
 /// Does what the words after the program's name say: `keep NAME LISTEN FILE COUNT` serves so many connections as a

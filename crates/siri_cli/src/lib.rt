@@ -38,7 +38,7 @@
 //!
 //! Stands on a crate for each command (`siri_replay`, `siri_document`, `siri_load`, `siri_get`, `siri_relay_run`,
 //! `siri_keep_run`; `siri_runs` for three), on `siri_ends` for what queries by GET ask, on `siri_base` for names, on
-//! `siri_http` for hosts, ports and addresses, on `siri_shelf` for what a shelf is, and on `clap`. It looks into no
+//! `siri_http` for hosts, ports and addresses, on `siri_outside` for what a shelf is, and on `clap`. It looks into no
 //! line and no document, and knows no socket and no file.
 #![tactic(auto)]
 

@@ -1,8 +1,8 @@
 //! The top call.
 
 ghost use Rattle.std.specs.Prelude.{◌≡◌, ◌↔◌, ℕ, List, [], map, string_bytes, Some, None};
-ghost use Rattle.siri_base.specs.Causes.{Rose};
-ghost use Rattle.siri_base.specs.MetFailures.{SinkMeets, SourceMeets, is_read_fault, is_write_fault};
+ghost use Rattle.siri_outside.specs.Causes.{Rose};
+ghost use Rattle.siri_outside.specs.MetFailures.{SinkMeets, SourceMeets, is_read_fault, is_write_fault};
 ghost use Rattle.siri_http.specs.Requests.{post_alone};
 ghost use Rattle.siri_http.specs.declared.address.Address.{Address as Target};
 ghost use Rattle.siri_ends.specs.lite.Asking.{post_or_query};
@@ -28,12 +28,13 @@ ghost use Rattle.siri_relay_run.specs.Runs.{RelayRun, TellsOne};
 ghost use Rattle.siri_cli.specs.Commands.{command_of};
 
 use crate::command::Command;
-use siri_base::{Clock, Keeper, OutOfMemory, Sink, Source, Status, Wire};
+use siri_base::{OutOfMemory, Status};
 use siri_document::{Check, Convert, answer_document};
 use siri_ends::PostOrQuery;
 use siri_get::get;
 use siri_http::PostAlone;
 use siri_load::load;
+use siri_outside::{Clock, Keeper, Sink, Source, Wire};
 use siri_relay_run::relay;
 use siri_replay::replay;
 use siri_runs::{consume, serve};

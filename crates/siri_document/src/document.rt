@@ -2,18 +2,19 @@
 
 ghost use Rattle.std.specs.Prelude.{◌≡◌, ◌≤◌, ◌<◌, ℕ, List, ◌++◌, length, take, IfOk, false};
 ghost use Rattle.std.specs.Io.KnownBytes.{Consumes, IsAtEnd};
-ghost use Rattle.siri_base.specs.Causes.{Rose, HasOutsideCause};
-ghost use Rattle.siri_base.specs.MetFailures.{SinkMeets, SourceMeets, has_failed, is_read_fault, is_write_fault};
+ghost use Rattle.siri_outside.specs.Causes.{Rose, HasOutsideCause};
+ghost use Rattle.siri_outside.specs.MetFailures.{SinkMeets, SourceMeets, has_failed, is_read_fault, is_write_fault};
 ghost use Rattle.siri_messages.specs.declared.message.Message.{Message as Msg};
 ghost use Rattle.siri_wire.specs.Documents.{Decodes, message_of};
 ghost use Rattle.siri_lines.specs.Ends.{ReadsAll};
 ghost use Rattle.siri_document.specs.OneDocument.{Answers, EndsDocument, IsDocument, Tells, refused_told, told_by};
 ghost use Rattle.siri_document.specs.script.Spaced.{line_feed};
 
-use siri_base::{OutOfMemory, OutsideError, Sink, Source, Status, append};
+use siri_base::{OutOfMemory, Status, append};
 use siri_json::LONGEST_DOCUMENT;
 use siri_lines::write_text;
 use siri_messages::Message;
+use siri_outside::{OutsideError, Sink, Source};
 use siri_wire::{DecodeError, Refusal, decode};
 use std::alloc::Global;
 use std::marker::Model;

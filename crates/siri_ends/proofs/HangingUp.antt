@@ -2,8 +2,8 @@
 use Rattle.std.specs.Prelude.{option_map, option_to_list}
 use Rattle.std.proofs.Common.{◌≡◌, ℕ, zero, suc, Bool, true, false, List, [], ◌∷◌, ◌++◌, Option, None, Some, refl, sym, ap, ◌∙◌, subst, append-nil, append_assoc}
 use Rattle.std.proofs.lemmas.List.Elements.{All-nil, All-cons, All-append}
-use Rattle.siri_base.specs.OutsideCalls.{WhereTold}
-use Rattle.siri_base.specs.Wires.{Connection, Present, Replaced, WireState, dial_called, hung_up, hung_up_after}
+use Rattle.siri_outside.specs.OutsideCalls.{WhereTold}
+use Rattle.siri_outside.specs.Wires.{Connection, Present, Replaced, WireState, dial_called, hung_up, hung_up_after}
 use Rattle.siri_http.specs.Connections.{OnPresent, passing}
 use Rattle.siri_http.specs.Exchanges.{dialled_of, is_due}
 use Rattle.siri_http.specs.Posts.{ByDial, Posts, PostsTo}

@@ -7,7 +7,7 @@ use Rattle.siri_base.specs.declared.errors.OutOfMemory.{OutOfMemory}
 use Rattle.siri_http.specs.Messages.{UnlessMemory, is_memory}
 use Rattle.siri_http.specs.declared.errors.HttpError.{HttpError}
 use Rattle.siri_http.specs.declared.errors.HttpError.TheVariants as http
-use Rattle.siri_base.specs.Wires.{WireState}
+use Rattle.siri_outside.specs.Wires.{WireState}
 use Rattle.siri_http.specs.Responses.{WroteFront}
 use Rattle.siri_http.specs.Texts.{head_text, response_text}
 use Rattle.siri_http.proofs.Connections.{on_same}

@@ -3,8 +3,8 @@ use Rattle.std.proofs.Common.{◌≡◌, ◌≤◌, ◌+◌, ℕ, Bool, true, fa
 use Rattle.std.proofs.Common.{length, take, drop, take-append-drop, length-drop, length-take-le, refl, sym, ap, ap₂, ◌∙◌, subst, arith}
 use Rattle.std.specs.Prelude.{nat_le}
 use Rattle.std.proofs.lemmas.Bool.{leb-true}
-use Rattle.siri_base.specs.Failures.{Passes}
-use Rattle.siri_base.specs.Wires.{Connection, Present, WireState, hung_up_after}
+use Rattle.siri_outside.specs.Failures.{Passes}
+use Rattle.siri_outside.specs.Wires.{Connection, Present, WireState, hung_up_after}
 use Rattle.siri_http.specs.declared.errors.HttpError.{HttpError}
 use Rattle.siri_http.specs.Connections.{cut_of, passing, readable}
 use Rattle.siri_http.specs.Heads.{full_lines, head_text}

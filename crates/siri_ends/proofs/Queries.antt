@@ -1,6 +1,6 @@
 -- A query is read as the POST of its document.
 use Rattle.std.proofs.Common.{◌∷◌, [], ◌++◌, Some, None, Ok, codes, refl, sym, ap, ◌∙◌}
-use Rattle.siri_base.specs.Wires.{hung_up_after}
+use Rattle.siri_outside.specs.Wires.{hung_up_after}
 use Rattle.siri_ends.specs.lite.Replacing.{IsAnsweredAlike, IsReadAsItsPost}
 use Rattle.siri_ends.proofs.Paths.{asks_its_document}
 use Rattle.siri_ends.proofs.Posts.{answered_alike, post_is_read, read}

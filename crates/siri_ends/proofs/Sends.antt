@@ -2,7 +2,7 @@
 use Rattle.std.proofs.Common.{◌≡◌, ℕ, zero, suc, List, [], ◌∷◌, ◌++◌, length, drop, Option, None, Some, refl, sym, ap, ◌∙◌}
 use Rattle.std.proofs.Common.{subst, inl, inr, arith, Result, Ok, Err}
 use Rattle.std.specs.Prelude.{OnErr}
-use Rattle.siri_base.specs.Wires.{WireState}
+use Rattle.siri_outside.specs.Wires.{WireState}
 use Rattle.siri_http.specs.Tallies.{with_unsent}
 use Rattle.siri_http.specs.declared.posting.Sent.{Sent}
 use Rattle.siri_ends.specs.At.{At, Goes, HoldingAny, stood_for}

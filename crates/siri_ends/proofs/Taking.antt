@@ -1,6 +1,6 @@
 -- A turn: a connection is answered, and what comes of it is sent.
 use Rattle.std.proofs.Common.{◌≡◌, ◌⊎◌, ℕ, List, Option, None, Some, refl, sym, ◌∙◌, subst, inl, inr}
-use Rattle.siri_base.specs.Wires.{WireState}
+use Rattle.siri_outside.specs.Wires.{WireState}
 use Rattle.siri_http.specs.Connections.{OnConnection}
 use Rattle.siri_http.specs.ExchangeCauses.{HasAskedCause}
 use Rattle.siri_http.specs.Requests.{Asks, Meaning, StopsAsking, WholeRequest}

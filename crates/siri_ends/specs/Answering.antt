@@ -1,7 +1,7 @@
 -- A connection that is answered, whichever end does it (RFC 9112).
 use Rattle.std.specs.Prelude.{◌≡◌, ◌⊎◌, ◌≤◌, Bool, Option, None, Some, if◌then◌else◌}
-use Rattle.siri_base.specs.OutsideCalls.{WhereTold}
-use Rattle.siri_base.specs.Wires.{WireState, hung_up}
+use Rattle.siri_outside.specs.OutsideCalls.{WhereTold}
+use Rattle.siri_outside.specs.Wires.{WireState, hung_up}
 use Rattle.siri_http.specs.Connections.{OnConnection}
 use Rattle.siri_http.specs.Texts.{response_text}
 use Rattle.siri_http.specs.ExchangeCauses.{HasAskedCause, HasResponseCause}

@@ -1,6 +1,6 @@
 -- An end at a moment of its run.
 use Rattle.std.specs.Prelude.{◌≡◌, ℕ, Option}
-use Rattle.siri_base.specs.Wires.{WireState}
+use Rattle.siri_outside.specs.Wires.{WireState}
 use Rattle.siri_http.specs.declared.tally.Tally.{Tally}
 
 -- its state, what was counted, what the wire tells, where it does, and how often it failed

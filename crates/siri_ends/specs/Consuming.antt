@@ -1,8 +1,8 @@
 -- A consumer as an end of the exchange (EN 15531-2, deliveries, notifications and their acknowledgements).
 use Rattle.std.specs.Prelude.{ℕ, List, [], ◌∷◌, Option, None, Some}
 use Rattle.std.proofs.Common.{refl, inl}
-use Rattle.siri_base.specs.Wires.{WireState}
-use Rattle.siri_base.specs.OutsideCalls.{WhereTold}
+use Rattle.siri_outside.specs.Wires.{WireState}
+use Rattle.siri_outside.specs.OutsideCalls.{WhereTold}
 use Rattle.siri_http.specs.Posts.{PostsTo}
 use Rattle.siri_http.specs.Requests.{post_alone}
 use Rattle.siri_http.specs.Texts.{request_text}

@@ -1,6 +1,6 @@
 -- What the calls of an end do in a turn, whatever state it stands for.
 use Rattle.std.specs.Prelude.{◌≡◌, ◌⊎◌, List, Option, None, Some}
-use Rattle.siri_base.specs.Wires.{WireState}
+use Rattle.siri_outside.specs.Wires.{WireState}
 use Rattle.siri_messages.specs.declared.message.Message.{Message}
 use Rattle.siri_http.specs.ExchangeCauses.{HasSentCause}
 use Rattle.siri_http.specs.declared.asked.Asked.{Asked}

@@ -1,8 +1,8 @@
 -- When a connection is hung up (RFC 9112, section 9.6), as a wire tells it that tells what it holds.
 use Rattle.std.specs.Prelude.{◌≡◌, ◌++◌, ◌∷◌, List, ℕ, None, Some}
 use Rattle.std.specs.List.{All}
-use Rattle.siri_base.specs.OutsideCalls.{WhereTold}
-use Rattle.siri_base.specs.Wires.{HungUp, Over, Present, WireState, hung_up_after}
+use Rattle.siri_outside.specs.OutsideCalls.{WhereTold}
+use Rattle.siri_outside.specs.Wires.{HungUp, Over, Present, WireState, hung_up_after}
 use Rattle.siri_ends.specs.At.{At}
 
 -- a connection that is over was hung up: none took its place before

@@ -1,6 +1,6 @@
 -- Messages that are sent one after the other, where what is answered to one may bring further ones (EN 15531-2).
 use Rattle.std.specs.Prelude.{◌≡◌, ◌⊎◌, ℕ, zero, suc, List, [], ◌∷◌, ◌++◌, length, Option, None, Some}
-use Rattle.siri_base.specs.Wires.{WireState}
+use Rattle.siri_outside.specs.Wires.{WireState}
 use Rattle.siri_http.specs.ExchangeCauses.{HasSentCause}
 use Rattle.siri_http.specs.Tallies.{with_unsent}
 use Rattle.siri_http.specs.declared.posting.Sent.{Sent}

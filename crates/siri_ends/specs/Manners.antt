@@ -1,7 +1,7 @@
 -- How an end of the exchange takes part in it, by the state that it stands for (EN 15531-2 for what is said, RFC 9112 for
 -- how).
 use Rattle.std.specs.Prelude.{◌≡◌, ℕ, List, [], Option, None, Some, Ok}
-use Rattle.siri_base.specs.Wires.{WireState}
+use Rattle.siri_outside.specs.Wires.{WireState}
 use Rattle.siri_messages.specs.declared.message.Message.{Message}
 use Rattle.siri_wire.specs.Documents.{message_of}
 use Rattle.siri_http.specs.declared.asked.Asked.{Asked}

@@ -1,8 +1,8 @@
 -- A producer as an end of the exchange (EN 15531-2, requests, deliveries, notifications and their acknowledgements).
 use Rattle.std.specs.Prelude.{List, ℕ, [], ◌++◌, Option, None, Some}
 use Rattle.std.proofs.Common.{refl, inl}
-use Rattle.siri_base.specs.Wires.{WireState}
-use Rattle.siri_base.specs.OutsideCalls.{WhereTold}
+use Rattle.siri_outside.specs.Wires.{WireState}
+use Rattle.siri_outside.specs.OutsideCalls.{WhereTold}
 use Rattle.siri_http.specs.Addresses.{address_of}
 use Rattle.siri_http.specs.Posts.{Posts}
 use Rattle.siri_http.specs.Requests.{Meaning}

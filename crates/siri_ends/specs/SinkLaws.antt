@@ -1,8 +1,8 @@
 -- Texts that are put one after the other.
 use Rattle.std.proofs.Common.{◌≤◌, ℕ, Bool, List, [], ◌++◌, Option, Result, Ok, Err, refl, sym, ap}
 use Rattle.std.proofs.Common.{◌∙◌, subst, append-nil, append_assoc, length-append, arith}
-use Rattle.siri_base.specs.Causes.{Rose}
-use Rattle.siri_base.specs.Wires.{WireState}
+use Rattle.siri_outside.specs.Causes.{Rose}
+use Rattle.siri_outside.specs.Wires.{WireState}
 use Rattle.siri_http.specs.declared.errors.HttpError.{HttpError}
 use Rattle.siri_http.specs.declared.errors.HttpError.TheVariants as http
 use Rattle.siri_ends.specs.Sinks.{Gathers, Measures, WritesText}

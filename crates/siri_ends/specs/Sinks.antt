@@ -1,6 +1,6 @@
 -- Where the text of a body goes.
 use Rattle.std.specs.Prelude.{◌≡◌, ◌+◌, ◌++◌, ℕ, Bool, true, List, length, Option, Result, Ok, Err, IfSome, ⊤}
-use Rattle.siri_base.specs.Wires.{WireState}
+use Rattle.siri_outside.specs.Wires.{WireState}
 use Rattle.siri_http.specs.declared.errors.HttpError.{HttpError}
 use Rattle.siri_http.specs.Connections.{OnConnection}
 use Rattle.siri_http.specs.HttpCauses.{HasWriteCause}

@@ -1,6 +1,6 @@
 -- A turn of an end: a connection is answered, and then messages are sent.
 use Rattle.std.specs.Prelude.{◌≡◌, ◌⊎◌, Option, Some}
-use Rattle.siri_base.specs.Wires.{WireState}
+use Rattle.siri_outside.specs.Wires.{WireState}
 use Rattle.siri_http.specs.Connections.{OnConnection}
 use Rattle.siri_http.specs.Requests.{Asks, Meaning}
 use Rattle.siri_http.specs.declared.asked.Asked.{Asked}

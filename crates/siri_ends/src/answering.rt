@@ -1,7 +1,7 @@
 //! Answers an accepted connection, whichever end does it.
 
 ghost use Rattle.std.specs.Prelude.{◌≡◌, ℕ, List, Option, true, false, IfErr, IfOk, IsErr, IsErrOf, OnOk, OnErr, Some};
-ghost use Rattle.siri_base.specs.Wires.{WireState};
+ghost use Rattle.siri_outside.specs.Wires.{WireState};
 ghost use Rattle.siri_http.specs.declared.errors.HttpError.TheVariants as http;
 ghost use Rattle.siri_http.specs.HttpCauses.{EndsWrite};
 ghost use Rattle.siri_http.specs.Texts.{is_written, response_text};
@@ -14,9 +14,10 @@ ghost use Rattle.siri_ends.specs.Turns as turn;
 ghost use Rattle.siri_ends.specs.Turns.{AreWritten, BringsDocument};
 
 use crate::response::{Response, refuse_document, refuse_request};
-use siri_base::{OutOfMemory, Wire};
+use siri_base::OutOfMemory;
 use siri_http::{Asked, HttpError, Tally, end_response, respond};
 use siri_messages::Message;
+use siri_outside::Wire;
 use siri_wire::{DecodeError, decode};
 use std::alloc::Global;
 

@@ -8,8 +8,9 @@ ghost use Rattle.siri_ends.specs.EndCalls.{Hears, SendsNext, StopsAt};
 ghost use Rattle.siri_ends.specs.InTurn.{FirstSends, SendsAll};
 
 use crate::taker::Taker;
-use siri_base::{List, OutOfMemory, Wire};
+use siri_base::{List, OutOfMemory};
 use siri_http::{Sent, Tally};
+use siri_outside::Wire;
 use siri_wire::{DecodeError, decode};
 use std::alloc::Global;
 use std::collections::VecDeque;

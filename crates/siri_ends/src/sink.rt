@@ -7,8 +7,9 @@ ghost use Rattle.siri_http.specs.HttpCauses.{EndsWrite};
 ghost use Rattle.siri_ends.specs.Sinks.{Gathers, Measures};
 ghost use Rattle.siri_ends.specs.SinkLaws as law;
 
-use siri_base::{OutOfMemory, Wire, append};
+use siri_base::{OutOfMemory, append};
 use siri_http::{HttpError, write_piece};
+use siri_outside::Wire;
 use std::alloc::Global;
 
 /// How many bytes are gathered at least before they are written: a write is a call of the system, and a piece is short.

@@ -1,9 +1,9 @@
 //! What is given moments, takes the messages of connections, answers them, and sends messages.
 
 ghost use Rattle.std.specs.Prelude.{◌≡◌, ◌≤◌, ℕ, Option, IfErr, IfOk, OnErr, OnOk, None, Some};
-ghost use Rattle.siri_base.specs.Wires.{WireState};
-ghost use Rattle.siri_base.specs.declared.errors.OutsideError.{OutsideError as Error};
-ghost use Rattle.siri_shelf.specs.Shelves.{CountsFault};
+ghost use Rattle.siri_outside.specs.Wires.{WireState};
+ghost use Rattle.siri_outside.specs.declared.errors.OutsideError.{OutsideError as Error};
+ghost use Rattle.siri_outside.specs.Shelves.{CountsFault};
 ghost use Rattle.siri_messages.specs.declared.message.Message.{Message as Heard};
 ghost use Rattle.siri_http.specs.declared.asked.Asked.{Asked as Question};
 ghost use Rattle.siri_http.specs.ExchangeCauses.{HasSentCause, outcome};
@@ -14,9 +14,10 @@ ghost use Rattle.siri_ends.specs.EndCalls.{Hears, Turned};
 ghost use Rattle.siri_ends.specs.Manners.{IsRead, Manner, Posting};
 ghost use Rattle.siri_ends.specs.Occasions.{AfterTurn, Occasion, OfConnection, OfMoment};
 
-use siri_base::{List, Moment, OutOfMemory, OutsideError, Wire};
+use siri_base::{List, Moment, OutOfMemory};
 use siri_http::{Asked, Sent, Tally};
 use siri_messages::Message;
+use siri_outside::{OutsideError, Wire};
 use std::alloc::Global;
 
 /// An end of the exchange, as a run of it sees it, and each turn of the run. What stands beside it, a shelf or nothing,

@@ -1,15 +1,16 @@
 //! A turn of an end, whichever it is.
 
 ghost use Rattle.std.specs.Prelude.{◌≡◌, ◌≤◌, OnErr, OnOk};
-ghost use Rattle.siri_shelf.specs.Shelves.{CountsFault};
+ghost use Rattle.siri_outside.specs.Shelves.{CountsFault};
 ghost use Rattle.siri_ends.specs.At.{Goes, Holding, at_of};
 ghost use Rattle.siri_ends.specs.Occasions.{OfConnection};
 ghost use Rattle.siri_ends.specs.TurnsTaken.{LeavesBeside, StopsTurn, TakesTurn};
 
 use crate::sending::send_all;
 use crate::taker::Taker;
-use siri_base::{OutOfMemory, OutsideError, Wire};
+use siri_base::OutOfMemory;
 use siri_http::{Asking, Tally, read_asked};
+use siri_outside::{OutsideError, Wire};
 use std::alloc::Global;
 
 /// Answers the connection that was accepted, whose request is read and asks what [`Asking`] says, and sends what comes

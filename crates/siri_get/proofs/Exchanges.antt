@@ -1,6 +1,6 @@
 -- What comes of a plan where there was no memory.
 use Rattle.std.proofs.Common.{None, Some, Option, refl, inl}
-use Rattle.siri_base.specs.Wires.{WireState}
+use Rattle.siri_outside.specs.Wires.{WireState}
 use Rattle.siri_get.specs.declared.plan.Plan.{Plan}
 use Rattle.siri_get.specs.declared.plan.Plan.TheVariants as plan
 use Rattle.siri_get.specs.Exchanges.{ComesOfPlan}

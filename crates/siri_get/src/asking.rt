@@ -1,7 +1,7 @@
 //! Asks a target, and reads what is answered.
 
 ghost use Rattle.std.specs.Prelude.{◌≡◌, Some, None, IfOk};
-ghost use Rattle.siri_base.specs.OutsideCalls.{WhereTold};
+ghost use Rattle.siri_outside.specs.OutsideCalls.{WhereTold};
 ghost use Rattle.siri_wire.specs.Documents.{message_of};
 ghost use Rattle.siri_http.specs.Parts.{response_parts};
 ghost use Rattle.siri_http.specs.Texts.{get_text};
@@ -11,9 +11,10 @@ ghost use Rattle.siri_http.specs.Exchanges.{Hears, Talks};
 ghost use Rattle.siri_get.specs.Exchanges.{ComesOfPlan, Gets, answered_told, refused_told_by, told_of};
 
 use crate::plan::{Plan, line_told, plan_of};
-use siri_base::{OutOfMemory, OutsideError, Text, Wire, append, append_number};
+use siri_base::{OutOfMemory, Text, append, append_number};
 use siri_document::Answer;
 use siri_http::{Address, HttpError, HttpResponse, read_response, write_get};
+use siri_outside::{OutsideError, Wire};
 use std::alloc::Global;
 
 /// What is told of a response: its body, where its status is 200; else its status.

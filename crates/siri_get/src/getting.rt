@@ -1,15 +1,16 @@
 //! The command `get`, from bytes to bytes.
 
 ghost use Rattle.std.specs.Prelude.{◌≡◌};
-ghost use Rattle.siri_base.specs.Causes.{Rose};
-ghost use Rattle.siri_base.specs.MetFailures.{SinkMeets, SourceMeets, is_read_fault, is_write_fault};
+ghost use Rattle.siri_outside.specs.Causes.{Rose};
+ghost use Rattle.siri_outside.specs.MetFailures.{SinkMeets, SourceMeets, is_read_fault, is_write_fault};
 ghost use Rattle.siri_lines.specs.Ends.{ReadsAll};
 ghost use Rattle.siri_get.specs.Runs.{EndsGet, GetRun};
 
 use crate::asking::ask;
-use siri_base::{OutOfMemory, OutsideError, Sink, Source, Status, Wire};
+use siri_base::{OutOfMemory, Status};
 use siri_document::read_document;
 use siri_http::Address;
+use siri_outside::{OutsideError, Sink, Source, Wire};
 use std::alloc::Global;
 
 /// Reads one document, asks it of a producer's host as a query by GET, and writes the body of the response and a line

@@ -4,7 +4,7 @@ use Rattle.std.proofs.Common.{refl, sym, ap, ◌∙◌, subst, arith, length-dro
 use Rattle.std.specs.Prelude.{⊤, MatchBool, nat_le, cond}
 use Rattle.std.proofs.lemmas.Bool.{le-leb, leb-true}
 use Rattle.std.proofs.lemmas.List.{drop-take, length-take, take-take}
-use Rattle.siri_base.specs.Wires.{Connection}
+use Rattle.siri_outside.specs.Wires.{Connection}
 use Rattle.siri_http.specs.declared.errors.HttpError.{HttpError}
 use Rattle.siri_http.specs.declared.errors.HttpError.TheVariants as http
 use Rattle.siri_http.specs.Connections.{readable, cut_by, cut_of}

@@ -4,16 +4,16 @@ use Rattle.std.proofs.Common.{Err, length, take, drop, refl, sym, ap, ◌∙◌,
 use Rattle.std.proofs.lemmas.Bool.{le-leb, lt-leb, leb-true, leb-false}
 use Rattle.std.specs.Prelude.{nat_le}
 use Rattle.std.proofs.Math.Seq.{take-append-add, take-add}
-use Rattle.siri_base.specs.Failures.{Passes}
-use Rattle.siri_base.specs.MetFailures.{Meets}
-use Rattle.siri_base.specs.OutsideCalls.{WhereTold}
-use Rattle.siri_base.specs.Wires.{Present, WireState, Reads, TakesBytes}
+use Rattle.siri_outside.specs.Failures.{Passes}
+use Rattle.siri_outside.specs.MetFailures.{Meets}
+use Rattle.siri_outside.specs.OutsideCalls.{WhereTold}
+use Rattle.siri_outside.specs.Wires.{Present, WireState, Reads, TakesBytes}
 use Rattle.siri_http.specs.declared.errors.HttpError.{HttpError}
 use Rattle.siri_http.specs.declared.errors.HttpError.TheVariants as http
 use Rattle.siri_http.specs.Connections.{passing, readable, cut_by, cut_of, OnConnection}
 use Rattle.siri_http.specs.Messages.{is_read_fault}
 use Rattle.siri_http.specs.inner.Reading.{TakesInput, Stops}
-use Rattle.siri_base.proofs.MetFailures.{passes_none, passes_more, passes_failing}
+use Rattle.siri_outside.proofs.MetFailures.{passes_none, passes_more, passes_failing}
 
 -- ---- what is told
 

@@ -5,21 +5,21 @@ use Rattle.std.proofs.Common.{length-drop, length-take-le, inl, inr, ◌⊎◌}
 use Rattle.std.specs.Prelude.{⊤, min, max, MatchBool, nat_le, nat_lt, cond, slice_range}
 use Rattle.std.proofs.lemmas.Bool.{le-leb, lt-leb, cases_lt, false≢true}
 use Rattle.std.proofs.lemmas.List.{take_all, take_at, take-append-le, drop-append-le}
-use Rattle.siri_base.specs.Wires.{Connection, Present, WireState}
+use Rattle.siri_outside.specs.Wires.{Connection, Present, WireState}
 use Rattle.siri_http.specs.declared.errors.HttpError.{HttpError}
 use Rattle.siri_http.specs.declared.errors.HttpError.TheVariants as http
 use Rattle.siri_http.specs.declared.scan.HeadText.{HeadText}
 use Rattle.siri_http.specs.declared.scan.Scan.{Scan}
 use Rattle.siri_http.specs.Heads.{head_text}
 use Rattle.siri_http.specs.inner.Scanning.{head_from, fresh}
-use Rattle.siri_base.specs.Failures.{Passes}
-use Rattle.siri_base.specs.MetFailures.{Meets}
+use Rattle.siri_outside.specs.Failures.{Passes}
+use Rattle.siri_outside.specs.MetFailures.{Meets}
 use Rattle.siri_http.specs.Connections.{readable, cut_of, OnConnection}
 use Rattle.siri_http.specs.Messages.{Head, IsHead, text_says, body_in, told_with, message, message_by, message_after, Brings, ReadsMessage}
 use Rattle.siri_http.specs.Messages.{Decides, IfCut, is_memory, is_cut, is_read_fault, end_by, message_end}
 use Rattle.siri_http.specs.inner.Faults.{is_fault}
 use Rattle.siri_http.specs.inner.Reading.{TakesInput, Stops, HasHead, HasNoHead, SaysSo, LacksBody, HasBody}
-use Rattle.siri_base.proofs.MetFailures.{passes_none}
+use Rattle.siri_outside.proofs.MetFailures.{passes_none}
 use Rattle.siri_http.proofs.Lines.{cut_text}
 use Rattle.siri_http.proofs.HeadTexts.{head_at, head_full, head_len, no_head_short, no_head_long}
 use Rattle.siri_http.proofs.Alone.{cut_known, message_is, alone}

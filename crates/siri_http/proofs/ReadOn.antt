@@ -1,6 +1,6 @@
 -- A read that begins behind a whole message breaks `ReadsMessage`, where a failure is named there: so no body with such a read is proved.
 use Rattle.std.proofs.Common.{◌≡◌, ℕ, ◌-◌, List, [], ◌∷◌, length, ap, ◌∙◌, arith, sym}
-use Rattle.siri_base.specs.Failures.{Passes}
+use Rattle.siri_outside.specs.Failures.{Passes}
 
 no_longer : (n : ℕ) (l : List ℕ) → ¬ (l ≡ n ∷ l)
 no_longer n l e = omega (arith, ap length e)

@@ -5,16 +5,16 @@ use Rattle.std.specs.Prelude.{codes}
 use Rattle.std.specs.Fmt.{decimal}
 use Rattle.std.proofs.lemmas.List.{length-take-le, take_at}
 use Rattle.http.specs.StatusCode.{code_digits}
-use Rattle.siri_base.specs.declared.errors.OutsideError.{OutsideError}
-use Rattle.siri_base.specs.declared.errors.OutsideError.TheVariants as outside
-use Rattle.siri_base.specs.Failures.{Passes}
-use Rattle.siri_base.specs.OutsideCalls.{WhereTold}
-use Rattle.siri_base.specs.Wires.{Present, WireState, Writes, PutsBytes}
+use Rattle.siri_outside.specs.declared.errors.OutsideError.{OutsideError}
+use Rattle.siri_outside.specs.declared.errors.OutsideError.TheVariants as outside
+use Rattle.siri_outside.specs.Failures.{Passes}
+use Rattle.siri_outside.specs.OutsideCalls.{WhereTold}
+use Rattle.siri_outside.specs.Wires.{Present, WireState, Writes, PutsBytes}
 use Rattle.siri_http.specs.declared.errors.HttpError.{HttpError}
 use Rattle.siri_http.specs.declared.errors.HttpError.TheVariants as http
 use Rattle.siri_http.specs.Connections.{OnConnection}
 use Rattle.siri_http.specs.Texts.{IsCut, Puts, PutsText, closing, head_end, head_text, request_begin, request_text, phrase_of, type_of}
-use Rattle.siri_base.proofs.MetFailures.{passes_none, passes_more}
+use Rattle.siri_outside.proofs.MetFailures.{passes_none, passes_more}
 use Rattle.siri_http.proofs.Connections.{on_map, on_then, on_same, told_map}
 
 -- the text but for this rest was written

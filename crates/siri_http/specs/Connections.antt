@@ -1,7 +1,7 @@
 -- What a connection brings, as far as it can be read, and what is done with it.
 use Rattle.std.specs.Prelude.{◌≡◌, ℕ, nat_le, List, [], ◌∷◌, length, take, Option, if◌then◌else◌}
-use Rattle.siri_base.specs.OutsideCalls.{WhereTold}
-use Rattle.siri_base.specs.Wires.{Connection, Present, WireState}
+use Rattle.siri_outside.specs.OutsideCalls.{WhereTold}
+use Rattle.siri_outside.specs.Wires.{Connection, Present, WireState}
 use Rattle.siri_http.specs.declared.errors.HttpError.{HttpError}
 use Rattle.siri_http.specs.declared.errors.HttpError.TheVariants as http
 

@@ -1,6 +1,6 @@
 -- What calls answer, and when they may answer that the wire failed.
 use Rattle.std.specs.Prelude.{◌≡◌, ℕ, ◌≤◌, Bool, false, Option, None, Some, Result, Ok, Err}
-use Rattle.siri_base.specs.Causes.{Rose}
+use Rattle.siri_outside.specs.Causes.{Rose}
 use Rattle.siri_http.specs.declared.asked.Asked.{Asked}
 use Rattle.siri_http.specs.declared.asked.Asked.TheVariants as asked
 use Rattle.siri_http.specs.declared.posting.Sent.{Sent}

@@ -1,6 +1,6 @@
 -- An exchange over a connection that is dialled: a request goes out, and something is told of its response (RFC 9112).
 use Rattle.std.specs.Prelude.{◌≡◌, ◌⊎◌, ⊤, ℕ, Bool, true, false, ◌==◌, List, [], ◌∷◌, Option, None, Some, Result}
-use Rattle.siri_base.specs.Wires.{Connection, Present, WireState, dial_called, with_connection}
+use Rattle.siri_outside.specs.Wires.{Connection, Present, WireState, dial_called, with_connection}
 use Rattle.siri_http.specs.declared.errors.HttpError.{HttpError}
 use Rattle.siri_http.specs.Connections.{OnPresent}
 use Rattle.siri_http.specs.Messages.{IsResponse, Brings}

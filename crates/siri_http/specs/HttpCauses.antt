@@ -1,6 +1,6 @@
 -- When a read or a write may answer that the wire failed.
 use Rattle.std.specs.Prelude.{ℕ, ◌≤◌, Result, IsErrOf, ⊤}
-use Rattle.siri_base.specs.Causes.{Rose}
+use Rattle.siri_outside.specs.Causes.{Rose}
 use Rattle.siri_http.specs.declared.errors.HttpError.{HttpError}
 use Rattle.siri_http.specs.declared.errors.HttpError.TheVariants as http
 

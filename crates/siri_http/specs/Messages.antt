@@ -3,8 +3,8 @@ use Rattle.std.specs.Prelude.{◌≡◌, ⊤, ℕ, ◌+◌, ◌≤◌, max, Bool
 use Rattle.std.specs.Prelude.{map, bytes_eq, codes, Option, None, Some, Result, Ok, Err, if◌then◌else◌}
 use Rattle.httparse.specs.Grammar.{RequestHead, ReadsRequest, ResponseHead, ReadsResponse, status_code}
 use Rattle.httparse.specs.Spans.{name_and_value}
-use Rattle.siri_base.specs.MetFailures.{Meets}
-use Rattle.siri_base.specs.Wires.{Connection, Present}
+use Rattle.siri_outside.specs.MetFailures.{Meets}
+use Rattle.siri_outside.specs.Wires.{Connection, Present}
 use Rattle.siri_http.specs.declared.errors.HttpError.{HttpError}
 use Rattle.siri_http.specs.declared.errors.HttpError.TheVariants as http
 use Rattle.siri_http.specs.Heads.{head_text, full_lines}

@@ -1,6 +1,6 @@
 -- A request that is sent, and what is answered (RFC 9112).
 use Rattle.std.specs.Prelude.{◌≡◌, ℕ, Bool, true, false, ◌==◌, List, Option, None, Some, Ok, Err}
-use Rattle.siri_base.specs.Wires.{Connection, Present, WireState}
+use Rattle.siri_outside.specs.Wires.{Connection, Present, WireState}
 use Rattle.siri_http.specs.declared.errors.HttpError.{HttpError}
 use Rattle.siri_http.specs.declared.errors.HttpError.TheVariants as http
 use Rattle.siri_http.specs.Texts.{request_text}

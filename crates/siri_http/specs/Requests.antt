@@ -1,6 +1,6 @@
 -- What an accepted connection asks (RFC 9112).
 use Rattle.std.specs.Prelude.{◌≡◌, ◌⊎◌, ℕ, Bool, true, false, List, codes, Option, None, Some, Result, Ok, Err}
-use Rattle.siri_base.specs.Wires.{Present, WireState}
+use Rattle.siri_outside.specs.Wires.{Present, WireState}
 use Rattle.siri_http.specs.Connections.{OnConnection}
 use Rattle.siri_http.specs.declared.errors.HttpError.{HttpError}
 use Rattle.siri_http.specs.declared.errors.HttpError.TheVariants as http

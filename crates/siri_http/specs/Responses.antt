@@ -1,6 +1,6 @@
 -- What is written to a connection, as far as it takes it, and then the connection is over.
 use Rattle.std.specs.Prelude.{◌≡◌, ⊤, Bool, true, nat_le, ℕ, List, [], ◌∷◌, ◌++◌, length, Option, None, Some}
-use Rattle.siri_base.specs.Wires.{Present, WireState, hung_up_after}
+use Rattle.siri_outside.specs.Wires.{Present, WireState, hung_up_after}
 use Rattle.siri_http.specs.Connections.{OnPresent, passing}
 
 -- a text passes whole before the next failure

@@ -3,8 +3,8 @@ use Rattle.std.specs.Prelude.{◌≡◌, ℕ, ◌<◌, Bool, true, false, List, 
 use Rattle.std.specs.List.{list_any}
 use Rattle.std.specs.Fmt.{decimal}
 use Rattle.http.specs.StatusCode.{code_digits, reason_phrase}
-use Rattle.siri_base.specs.Failures.{Passes}
-use Rattle.siri_base.specs.Wires.{Present}
+use Rattle.siri_outside.specs.Failures.{Passes}
+use Rattle.siri_outside.specs.Wires.{Present}
 use Rattle.siri_http.specs.declared.errors.HttpError.{HttpError}
 use Rattle.siri_http.specs.declared.errors.HttpError.TheVariants as http
 

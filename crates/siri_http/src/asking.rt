@@ -8,7 +8,8 @@ ghost use Rattle.siri_http.specs.ExchangeCauses.{HasAskedCause, outcome};
 
 use crate::asked::{Asked, BadRequest, unasked};
 use crate::request::{HttpRequest, read_request};
-use siri_base::{OutOfMemory, Wire};
+use siri_base::OutOfMemory;
+use siri_outside::Wire;
 use std::alloc::Global;
 
 /// What requests ask that are read whole: a POST alone, or others, too. One that isn't read whole asks what [`unasked`]

@@ -7,7 +7,7 @@ ghost use Rattle.siri_http.specs.inner.Reading.{TakesInput, Stops, HasHead, HasN
 
 use crate::HttpError;
 use crate::scan::{HeadText, Scan};
-use siri_base::Wire;
+use siri_outside::Wire;
 
 /// The most bytes that a head may have.
 pub(crate) const LONGEST_HEAD: usize = 16_384;

@@ -8,7 +8,8 @@ ghost use Rattle.siri_http.specs.inner.Reading.{TakesInput, Stops, HasHead, HasN
 use crate::HttpError;
 use crate::connection::{LONGEST_HEAD, fill, find_head};
 use crate::scan::HeadText;
-use siri_base::{OutOfMemory, Wire, append};
+use siri_base::{OutOfMemory, append};
+use siri_outside::Wire;
 use std::alloc::Global;
 
 /// The bytes that came, with the head text at their front.

@@ -1,7 +1,7 @@
 //! Sends a request, and reads what is answered.
 
 ghost use Rattle.std.specs.Prelude.{◌≡◌};
-ghost use Rattle.siri_base.specs.OutsideCalls.{WhereTold};
+ghost use Rattle.siri_outside.specs.OutsideCalls.{WhereTold};
 ghost use Rattle.siri_http.specs.Addresses.{address_of};
 ghost use Rattle.siri_http.specs.Parts.{response_parts};
 ghost use Rattle.siri_http.specs.Texts.{request_text};
@@ -12,7 +12,8 @@ use crate::address::{Address, AddressError, read_address};
 use crate::errors::HttpError;
 use crate::response::{HttpResponse, read_response};
 use crate::writing::write_request;
-use siri_base::{List, Name, OutOfMemory, OutsideError, Wire};
+use siri_base::{List, Name, OutOfMemory};
+use siri_outside::{OutsideError, Wire};
 use std::alloc::Global;
 
 /// What became of a request that was sent.

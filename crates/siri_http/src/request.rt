@@ -16,7 +16,8 @@ use crate::HttpError;
 use crate::fields::{MOST_FIELDS, body_length};
 use crate::front::{read_body, read_head};
 use httparse::{EMPTY_HEADER, Header, Request, Status};
-use siri_base::{List, OutOfMemory, Text, TextError, Wire};
+use siri_base::{List, OutOfMemory, Text, TextError};
+use siri_outside::Wire;
 use std::alloc::Global;
 
 /// A request, as it was read.

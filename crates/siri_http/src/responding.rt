@@ -1,8 +1,8 @@
 //! Answers a request.
 
 ghost use Rattle.std.specs.Prelude.{◌≡◌, true, ℕ, List, Option, IfErr, IsErr, IsErrOf};
-ghost use Rattle.siri_base.specs.OutsideCalls.{WhereTold};
-ghost use Rattle.siri_base.specs.Wires.{WireState};
+ghost use Rattle.siri_outside.specs.OutsideCalls.{WhereTold};
+ghost use Rattle.siri_outside.specs.Wires.{WireState};
 ghost use Rattle.siri_http.specs.declared.errors.HttpError.TheVariants as http;
 ghost use Rattle.siri_http.specs.Connections.{OnConnection};
 ghost use Rattle.siri_http.specs.HttpCauses.{EndsWrite, HasWriteCause};
@@ -12,7 +12,8 @@ ghost use Rattle.siri_http.specs.ExchangeCauses.{HasResponseCause, outcome};
 
 use crate::errors::HttpError;
 use crate::writing::write_response;
-use siri_base::{OutOfMemory, Wire};
+use siri_base::OutOfMemory;
+use siri_outside::Wire;
 use std::alloc::Global;
 
 /// Writes a response to the connection that is there, with a JSON body or a plain one, and hangs up. It answers whether

@@ -14,7 +14,8 @@ use crate::HttpError;
 use crate::fields::{MOST_FIELDS, body_length};
 use crate::front::{read_body, read_head};
 use httparse::{EMPTY_HEADER, Response, Status};
-use siri_base::{List, Wire};
+use siri_base::List;
+use siri_outside::Wire;
 use std::alloc::Global;
 
 /// A response, as it was read.

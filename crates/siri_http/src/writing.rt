@@ -7,7 +7,8 @@ ghost use Rattle.siri_http.specs.Texts.{PutsText, closing, get_text, head_end, h
 
 use crate::{Address, HttpError};
 use http::StatusCode;
-use siri_base::{Name, OutOfMemory, OutsideError, Text, Wire, append, append_number};
+use siri_base::{Name, OutOfMemory, Text, append, append_number};
+use siri_outside::{OutsideError, Wire};
 use std::alloc::Global;
 
 /// Writes a piece of a body, all of it, in as many calls as it takes. It takes no memory of its own. `WriteFault` comes

@@ -4,9 +4,9 @@ use Rattle.std.proofs.Common.{◌≡◌, ◌⊎◌, inl, inr, ℕ, zero, suc, Bo
 use Rattle.std.proofs.Common.{Result, Ok, Err, refl, sym, ap, ◌∙◌, subst, append-nil, append_assoc}
 use Rattle.std.specs.Prelude.{fold, All, Contains, slice_get, option_map, option_to_list}
 use Rattle.std.proofs.lemmas.List.Elements.{All-nil, All-cons, All-append, All-weaker, Contains-append_left, Contains-append_right, Contains-push}
-use Rattle.siri_base.specs.OutsideCalls.{WhereTold}
-use Rattle.siri_base.specs.Wires.{Accepts, Connection, Over, Present, Replaced, TakesComing, WireState, accept_called, dial_called, hung_up}
-use Rattle.siri_base.specs.Wires.{hung_up_after, with_connection}
+use Rattle.siri_outside.specs.OutsideCalls.{WhereTold}
+use Rattle.siri_outside.specs.Wires.{Accepts, Connection, Over, Present, Replaced, TakesComing, WireState, accept_called, dial_called, hung_up}
+use Rattle.siri_outside.specs.Wires.{hung_up_after, with_connection}
 use Rattle.siri_life.proofs.Lists.{get_end, get_front}
 use Rattle.siri_tables.specs.Refusals.{Refusal}
 use Rattle.siri_messages.specs.declared.message.Message.{Message}

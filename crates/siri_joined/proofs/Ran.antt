@@ -1,6 +1,6 @@
 -- Each run that began, over a wire that tells what it holds, has a log.
 use Rattle.std.proofs.Common.{◌≡◌, ℕ, List, Some, refl}
-use Rattle.siri_base.specs.Wires.{WireState}
+use Rattle.siri_outside.specs.Wires.{WireState}
 use Rattle.siri_base.specs.declared.status.Status.{Status}
 use Rattle.siri_http.specs.Requests.{Meaning}
 use Rattle.siri_lines.specs.Ends.{Bytes}

@@ -3,7 +3,7 @@
 use Rattle.std.specs.Prelude.{◌≡◌, ⊤, ℕ, suc, Bool, true, false, ◌==◌, ◌&&◌, not, List, [], ◌∷◌, ◌++◌, map, Option, None, Some}
 use Rattle.std.specs.Prelude.{option_map, option_and_then, slice_get, if◌then◌else◌}
 use Rattle.std.specs.List.{AllByRecursion, list_any}
-use Rattle.siri_base.specs.Wires.{Connection, Over}
+use Rattle.siri_outside.specs.Wires.{Connection, Over}
 use Rattle.siri_topic.specs.Agreement.{same_name}
 use Rattle.siri_change.specs.Parts.{Carried}
 use Rattle.siri_messages.specs.Asked.{AskedFor}

@@ -1,8 +1,8 @@
 -- What a running end did, in order (EN 15531-2 for what is said, RFC 9112 for how): its log, by the turns that it made and the messages
 -- that it sent in each.
 use Rattle.std.specs.Prelude.{ℕ, zero, suc, Bool, true, false, List, [], ◌∷◌, ◌++◌, length, Option, None, Some}
-use Rattle.siri_base.specs.OutsideCalls.{WhereTold}
-use Rattle.siri_base.specs.Wires.{Connection, Present, WireState}
+use Rattle.siri_outside.specs.OutsideCalls.{WhereTold}
+use Rattle.siri_outside.specs.Wires.{Connection, Present, WireState}
 use Rattle.siri_messages.specs.declared.message.Message.{Message}
 use Rattle.siri_wire.specs.Canonical.{canonical}
 use Rattle.siri_wire.specs.declared.wanted.Wanted.{Wanted}

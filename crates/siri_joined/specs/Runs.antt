@@ -1,6 +1,6 @@
 -- Runs of `serve`, `lite` and `consume` as runs of an end that has a log, as far as each made its turns.
 use Rattle.std.specs.Prelude.{◌≡◌, ℕ, List, Some}
-use Rattle.siri_base.specs.Wires.{WireState}
+use Rattle.siri_outside.specs.Wires.{WireState}
 use Rattle.siri_http.specs.Requests.{Meaning}
 use Rattle.siri_lines.specs.Ends.{Bytes}
 use Rattle.siri_runs.specs.Calls.{Outside}

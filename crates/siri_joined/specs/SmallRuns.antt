@@ -1,6 +1,6 @@
 -- Small runs of two ends that are joined, of any messages: what both did, which connection is which, and an order.
 use Rattle.std.specs.Prelude.{ℕ, false, List, [], ◌∷◌, ◌++◌, take}
-use Rattle.siri_base.specs.Wires.{hung_up_after, unfailing}
+use Rattle.siri_outside.specs.Wires.{hung_up_after, unfailing}
 use Rattle.siri_messages.specs.declared.message.Message.{Message}
 use Rattle.siri_wire.specs.Canonical.{canonical}
 use Rattle.siri_http.specs.Texts.{request_text, response_text}

@@ -1,7 +1,7 @@
 -- What is so of a log: each message that was taken is what its connection brought, and each that was said is what was written to its
 -- connection, or begins with it (RFC 9112).
 use Rattle.std.specs.Prelude.{◌≡◌, ◌⊎◌, ⊤, ℕ, Bool, false, true, List, [], ◌++◌, All, Contains, Option, Some, Ok, slice_get}
-use Rattle.siri_base.specs.Wires.{Connection, Over, WireState}
+use Rattle.siri_outside.specs.Wires.{Connection, Over, WireState}
 use Rattle.siri_messages.specs.declared.message.Message.{Message}
 use Rattle.siri_wire.specs.Canonical.{canonical}
 use Rattle.siri_http.specs.Messages.{Brings, IsRequest}

@@ -11,7 +11,7 @@
 //! A log is told of the turns that a run made, whatever became of it after them.
 
 ghost use Rattle.std.specs.Prelude.{◌≡◌, ℕ, List, Some};
-ghost use Rattle.siri_base.specs.Wires.{WireState};
+ghost use Rattle.siri_outside.specs.Wires.{WireState};
 ghost use Rattle.siri_http.specs.Requests.{Meaning, post_alone};
 ghost use Rattle.siri_joined.specs.Ends.{consumer_of, history_of, of_consume, of_serve};
 ghost use Rattle.siri_joined.specs.Truth.{IsTrue};

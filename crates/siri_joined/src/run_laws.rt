@@ -2,7 +2,7 @@
 //! function that does nothing when it is called.
 
 ghost use Rattle.std.specs.Prelude.{◌≡◌, ℕ, List, Some};
-ghost use Rattle.siri_base.specs.Wires.{WireState};
+ghost use Rattle.siri_outside.specs.Wires.{WireState};
 ghost use Rattle.siri_base.specs.declared.status.Status.{Status};
 ghost use Rattle.siri_http.specs.Requests.{Meaning};
 ghost use Rattle.siri_joined.specs.Joined.{Ran};

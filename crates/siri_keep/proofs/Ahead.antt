@@ -11,10 +11,10 @@ use Rattle.std.specs.declared.cmp.Ordering.TheVariants.{Less, Equal, Greater}
 use Rattle.std.proofs.lemmas.Bool.{and_from, and_left, and_parts, and_right, cases_eq, eq-eqb, eqb-true, ne_eqb}
 use Rattle.std.proofs.lemmas.Cmp.{nat_list_cmp_total, ranked, tied_itself}
 use Rattle.std.proofs.lemmas.List.Folds.{find-append}
-use Rattle.siri_shelf.specs.declared.rows.Row.{Row}
-use Rattle.siri_shelf.specs.declared.rows.StoredRow.{StoredRow}
-use Rattle.siri_shelf.specs.Rows.{InOrder, RowPlace, Rows, is_above, is_next, next_row, place_cmp, place_of, row_of}
-use Rattle.siri_shelf.proofs.Order.{AreBefore, AreBehind}
+use Rattle.siri_outside.specs.declared.rows.Row.{Row}
+use Rattle.siri_outside.specs.declared.rows.StoredRow.{StoredRow}
+use Rattle.siri_outside.specs.Rows.{InOrder, RowPlace, Rows, is_above, is_next, next_row, place_cmp, place_of, row_of}
+use Rattle.siri_outside.proofs.Order.{AreBefore, AreBehind}
 use Rattle.siri_keep.specs.RowByRow.{IsComing, IsPassed}
 use Rattle.siri_keep.proofs.Alls.{all_weaker}
 

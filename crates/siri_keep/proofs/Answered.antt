@@ -1,9 +1,10 @@
 -- What is written to a connection, and that its message was kept where it is answered with status 200.
 use Rattle.std.specs.Prelude.{if◌then◌else◌, codes, slice_get, option_map, option_to_list}
-use Rattle.std.proofs.Common.{◌≡◌, ◌+◌, ◌/◌, ℕ, zero, suc, List, [], ◌∷◌, ◌++◌, length, map, take, drop, Bool, true, false, Option, None, Some, Result, Ok, Err, refl, sym, ap, ap₂, ◌∙◌, subst, append-nil, append_assoc, inl, inr, arith}
+use Rattle.std.proofs.Common.{◌≡◌, ◌+◌, ◌/◌, ℕ, zero, suc, List, [], ◌∷◌, ◌++◌, length, map, take, drop, Bool, true, false, Option, None, Some, Result, Ok, Err, refl, sym, ap, ap₂, ◌∙◌}
+use Rattle.std.proofs.Common.{subst, append-nil, append_assoc, inl, inr, arith}
 use Rattle.std.proofs.lemmas.List.{length-map, map-append}
-use Rattle.siri_base.specs.OutsideCalls.{WhereTold}
-use Rattle.siri_base.specs.Wires.{Connection, Ending, HungUp, Over, Present, Replaced, WireState, dial_called, hung_up, hung_up_after, over_texts, present_text, texts, with_connection}
+use Rattle.siri_outside.specs.OutsideCalls.{WhereTold}
+use Rattle.siri_outside.specs.Wires.{Connection, Ending, HungUp, Over, Present, Replaced, WireState, dial_called, hung_up, hung_up_after, over_texts, present_text, texts, with_connection}
 use Rattle.siri_tables.specs.Refusals.{Refusal}
 use Rattle.siri_http.specs.Connections.{OnConnection, OnPresent, passing}
 use Rattle.siri_http.specs.Exchanges.{dialled_of, is_due}
@@ -29,7 +30,7 @@ use Rattle.siri_ends.specs.Responses.{message_asked, message_in, producer_reply,
 use Rattle.siri_ends.specs.Serving.{PostsOut, target_of}
 use Rattle.siri_ends.specs.TurnsTaken.{AnswersSome}
 use Rattle.siri_ends.specs.declared.response.Response.{Response}
-use Rattle.siri_shelf.specs.Shelves.{ShelfState}
+use Rattle.siri_outside.specs.Shelves.{ShelfState}
 use Rattle.siri_keeping.specs.Keeps.{Keeps}
 use Rattle.siri_keep.specs.declared.kept.Kept.{Kept}
 use Rattle.siri_keep.specs.Calls.{AddsFronts, Holds}

@@ -25,10 +25,11 @@ use Rattle.siri_row_texts.specs.declared.moments.Began.{Began}
 use Rattle.siri_row_texts.specs.Reading.{first_asked, if_holds, is_asked, is_request, request_of_row}
 use Rattle.siri_wire.specs.Documents.{message_of}
 use Rattle.std.specs.Result.{result_ok}
-use Rattle.siri_shelf.specs.declared.rows.StoredRow.{StoredRow}
-use Rattle.siri_shelf.specs.Rows.{InOrder, Rows, of_table, place_cmp, place_of, text_at}
+use Rattle.siri_outside.specs.declared.rows.StoredRow.{StoredRow}
+use Rattle.siri_outside.specs.Rows.{InOrder, Rows, of_table, place_cmp, place_of, text_at}
 use Rattle.siri_keeping.specs.Keeping.{is_place, most_rows}
-use Rattle.siri_keeping.specs.Opening.{are_same, began_in, exceeds, is_any, is_bad, is_bad_beginning, is_bad_item, is_bad_request, is_live_at, is_live_in, is_of_same, item_in, renewal_in, renewal_of_request, request_in, subscription_in, up_to}
+use Rattle.siri_keeping.specs.Opening.{are_same, began_in, exceeds, is_any, is_bad, is_bad_beginning, is_bad_item, is_bad_request, is_live_at, is_live_in, is_of_same, item_in, renewal_in}
+use Rattle.siri_keeping.specs.Opening.{renewal_of_request, request_in, subscription_in, up_to}
 use Rattle.siri_keep.specs.declared.opening.KeptRequest.{KeptRequest}
 use Rattle.siri_keep.specs.declared.rows_read.RowsRead.{RowsRead}
 use Rattle.siri_keep.specs.RowByRow.{HasRead, asks_again, has_place, has_room, renewal_at, request_at, request_under_key, under_key}

@@ -1,5 +1,6 @@
 -- What the first of all rows says, and what all of them come to.
-use Rattle.std.proofs.Common.{◌≡◌, ◌⊎◌, ◌<◌, ℕ, ◌+◌, List, [], ◌∷◌, ◌++◌, length, map, find, Bool, true, false, cond, ◌||◌, not, Option, None, Some, Ok, Err, refl, sym, ap, ◌∙◌, subst, inl, inr, arith, append-nil, append_assoc}
+use Rattle.std.proofs.Common.{◌≡◌, ◌⊎◌, ◌<◌, ℕ, ◌+◌, List, [], ◌∷◌, ◌++◌, length, map, find, Bool, true, false, cond, ◌||◌, not, Option, None, Some, Ok, Err, refl, sym, ap, ◌∙◌, subst, inl}
+use Rattle.std.proofs.Common.{inr, arith, append-nil, append_assoc}
 use Rattle.std.specs.Prelude.{◌==◌, is_none, ok_or, option_map, if◌then◌else◌}
 use Rattle.std.specs.List.{AllByRecursion as All, filter_map}
 use Rattle.std.specs.Option.{option_and_then, option_or}
@@ -14,9 +15,9 @@ use Rattle.siri_records.specs.declared.item.Item.{Item}
 use Rattle.siri_model.specs.History.{Observed, entries_of}
 use Rattle.siri_row_texts.specs.declared.moments.Began.{Began}
 use Rattle.siri_row_texts.specs.Reading.{began_of_row}
-use Rattle.siri_shelf.specs.declared.rows.Row.{Row}
-use Rattle.siri_shelf.specs.declared.rows.StoredRow.{StoredRow}
-use Rattle.siri_shelf.specs.Rows.{HasByteTables, InOrder, RowPlace, Rows, is_next, next_row, of_table, place_cmp, place_of, row_of, text_at}
+use Rattle.siri_outside.specs.declared.rows.Row.{Row}
+use Rattle.siri_outside.specs.declared.rows.StoredRow.{StoredRow}
+use Rattle.siri_outside.specs.Rows.{HasByteTables, InOrder, RowPlace, Rows, is_next, next_row, of_table, place_cmp, place_of, row_of, text_at}
 use Rattle.siri_keeping.specs.Opening.{SaysKept, Nothing, WhatIsKept, began_in, by_service, is_bad, kept_in, live_items, renewal_in, request_in, said, said_unless}
 use Rattle.siri_keeping.proofs.Found.{place_exact}
 use Rattle.siri_keep.specs.declared.by_service.ByService.{ByService}
@@ -24,7 +25,8 @@ use Rattle.siri_keep.specs.declared.opening.KeptRequest.{KeptRequest}
 use Rattle.siri_keep.specs.declared.rows_read.RowsRead.{RowsRead}
 use Rattle.siri_keep.specs.Walking.{IsRead}
 use Rattle.siri_keep.specs.RowByRow.{HasRead, IsComing, IsPassed, Reached, SeesMore, Taken, TellsLive, first_began, live_delivery, request_under_key, taken, under_key, whole_of}
-use Rattle.siri_keep.proofs.Ahead.{IsAhead, IsFirst, all_always, all_rows, coming_after, coming_next, find_ahead, find_here, find_none, less_parts, next_ahead, order_behind, passed_next, passed_with, those_behind}
+use Rattle.siri_keep.proofs.Ahead.{IsAhead, IsFirst, all_always, all_rows, coming_after, coming_next, find_ahead, find_here, find_none, less_parts, next_ahead, order_behind, passed_next}
+use Rattle.siri_keep.proofs.Ahead.{passed_with, those_behind}
 use Rattle.siri_keep.proofs.Alls.{all_weaker}
 use Rattle.siri_keep.proofs.BadRows.{kind}
 use Rattle.siri_keep.proofs.TakenRows.{StepsTo, steps_to}

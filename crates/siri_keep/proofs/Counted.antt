@@ -13,8 +13,8 @@ use Rattle.std.proofs.lemmas.Cmp.{nat_list_cmp_total}
 use Rattle.std.proofs.lemmas.List.Elements.{All-contains}
 use Rattle.siri_records.specs.declared.item.Item.{Item}
 use Rattle.siri_records.specs.Ends.{is_dead}
-use Rattle.siri_shelf.specs.declared.rows.StoredRow.{StoredRow}
-use Rattle.siri_shelf.specs.Rows.{InOrder, Rows, of_table, place_cmp, place_of}
+use Rattle.siri_outside.specs.declared.rows.StoredRow.{StoredRow}
+use Rattle.siri_outside.specs.Rows.{InOrder, Rows, of_table, place_cmp, place_of}
 use Rattle.siri_row_texts.specs.declared.moments.Began.{Began}
 use Rattle.siri_keeping.specs.Keeping.{most_rows}
 use Rattle.siri_keeping.specs.Opening.{WhatIsKept, began_in, exceeds, is_any, is_live_at, is_live_in, item_in}

@@ -1,9 +1,9 @@
 -- A turn over a shelf: what it takes, what it answers, and what it sends.
 use Rattle.std.specs.Prelude.{if◌then◌else◌, IfOk, IsSomeAnd, OnOk}
 use Rattle.std.proofs.Common.{◌≡◌, ◌⊎◌, ℕ, List, [], ◌∷◌, ◌++◌, Bool, true, false, Option, None, Some, Result, Ok, Err, refl, sym, ap, ◌∙◌, subst, append-nil, inl, inr}
-use Rattle.siri_base.specs.OutsideCalls.{WhereTold}
-use Rattle.siri_base.specs.Wires.{WireState}
-use Rattle.siri_base.specs.declared.errors.OutsideError.{OutsideError}
+use Rattle.siri_outside.specs.OutsideCalls.{WhereTold}
+use Rattle.siri_outside.specs.Wires.{WireState}
+use Rattle.siri_outside.specs.declared.errors.OutsideError.{OutsideError}
 use Rattle.siri_http.specs.Requests.{post_alone}
 use Rattle.siri_http.specs.declared.asked.Asked.{Asked}
 use Rattle.siri_http.specs.declared.tally.Tally.{Tally}
@@ -23,8 +23,8 @@ use Rattle.siri_ends.specs.declared.reply.Reply.{Reply}
 use Rattle.siri_ends.specs.declared.response.Response.{Response}
 use Rattle.siri_ends.specs.declared.reply.Reply.TheVariants as reply
 use Rattle.siri_ends.proofs.Lends.{turns}
-use Rattle.siri_shelf.specs.Rows.{Rows}
-use Rattle.siri_shelf.specs.Shelves.{CountsFault, ShelfState}
+use Rattle.siri_outside.specs.Rows.{Rows}
+use Rattle.siri_outside.specs.Shelves.{CountsFault, ShelfState}
 use Rattle.siri_wire.proofs.ProperReadMessages.{document_proper}
 use Rattle.siri_wire.specs.laws.ProperMessages.{IsProper}
 use Rattle.siri_keeping.specs.Keeps.{Keeps}

@@ -5,7 +5,7 @@ use Rattle.siri_subs.specs.declared.entry.Row.{Row}
 use Rattle.siri_model.specs.Held.{held_of}
 use Rattle.siri_model.specs.History.{History, current, now_of, start_of}
 use Rattle.siri_model.specs.Rows.{KeptLife}
-use Rattle.siri_shelf.specs.Rows.{Rows}
+use Rattle.siri_outside.specs.Rows.{Rows}
 use Rattle.siri_keeping.specs.Keeps.{Keeps, KeepsThese}
 use Rattle.siri_keep.specs.declared.kept.Kept.{Kept}
 use Rattle.siri_keep.specs.Calls.{Holds}

@@ -27,8 +27,8 @@ use Rattle.siri_model.proofs.InOrder.{current_in_order, in_order_all}
 use Rattle.siri_producer.proofs.Stands.{fed_all}
 use Rattle.siri_producer.specs.Known.{GoesOn, Known, SameButReads, StandsFor}
 use Rattle.siri_responder.specs.Known as responder
-use Rattle.siri_shelf.specs.declared.rows.Put.{Put}
-use Rattle.siri_shelf.specs.Rows.{Rows, with_puts}
+use Rattle.siri_outside.specs.declared.rows.Put.{Put}
+use Rattle.siri_outside.specs.Rows.{Rows, with_puts}
 use Rattle.siri_wire.specs.laws.ProperMessages.{IsProper}
 use Rattle.siri_keeping.specs.Keeping.{Covers, HasItems, IsProperKey, change_to, changes_to, live_after, live_of, moment_put, most_rows, places_to, put_to, puts_to, subscription_puts}
 use Rattle.siri_keeping.specs.Keeps.{KeepsThese}

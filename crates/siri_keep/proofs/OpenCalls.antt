@@ -1,10 +1,10 @@
 -- What opening comes to, of what is read first and written last.
 use Rattle.std.proofs.Common.{◌≡◌, ℕ, List, Option, None, Some, Result, Ok, Err, sym, ap, subst}
-use Rattle.siri_base.specs.OutsideCalls.{WhereTold}
+use Rattle.siri_outside.specs.OutsideCalls.{WhereTold}
 use Rattle.siri_model.specs.History.{History}
-use Rattle.siri_shelf.specs.declared.rows.Put.{Put}
-use Rattle.siri_shelf.specs.Rows.{Rows, with_puts}
-use Rattle.siri_shelf.specs.Shelves.{ShelfState}
+use Rattle.siri_outside.specs.declared.rows.Put.{Put}
+use Rattle.siri_outside.specs.Rows.{Rows, with_puts}
+use Rattle.siri_outside.specs.Shelves.{ShelfState}
 use Rattle.siri_keeping.specs.Keeps.{Keeps}
 use Rattle.siri_keeping.specs.Opening.{Said, reopened, said}
 use Rattle.siri_keep.specs.declared.errors.KeepError.{KeepError}

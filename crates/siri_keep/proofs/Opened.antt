@@ -8,7 +8,7 @@ use Rattle.siri_tables.specs.Proper.{IsNumber}
 use Rattle.siri_model.specs.Held.{Held, held_of}
 use Rattle.siri_model.specs.History.{History}
 use Rattle.siri_producer.specs.Known.{Known, StandsFor}
-use Rattle.siri_shelf.specs.Rows.{Rows, text_at, with_puts}
+use Rattle.siri_outside.specs.Rows.{Rows, text_at, with_puts}
 use Rattle.siri_row_texts.specs.ItemRows.{moment_row}
 use Rattle.siri_row_texts.specs.Reading.{began_of_row}
 use Rattle.siri_keeping.specs.Keeping.{Covers, HasItems, moment_put, places_to, subscription_puts, most_rows}

@@ -8,7 +8,7 @@ use Rattle.siri_subs.specs.declared.entry.Row.{Row}
 use Rattle.siri_model.specs.Held.{Held, held_of}
 use Rattle.siri_model.specs.Rows.{KeptLife}
 use Rattle.siri_row_texts.specs.SubscriptionRows.{place_text}
-use Rattle.siri_shelf.specs.declared.rows.Put.{Put}
+use Rattle.siri_outside.specs.declared.rows.Put.{Put}
 use Rattle.siri_keeping.specs.Keeping.{kept_at, places_to}
 
 places_more : (n : ℕ) → places_to (n + 1) ≡ places_to n ++ place_text (n + 1) ∷ []

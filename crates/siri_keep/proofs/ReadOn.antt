@@ -4,9 +4,9 @@ use Rattle.std.specs.Prelude.{is_some}
 use Rattle.std.specs.declared.alloc.Global.{Global}
 use Rattle.std.proofs.lemmas.Bool.{cases_lt}
 use Rattle.siri_row_texts.specs.declared.moments.Began.{Began}
-use Rattle.siri_shelf.specs.declared.rows.Row.{Row}
-use Rattle.siri_shelf.specs.Rows.{Rows, next_row}
-use Rattle.siri_shelf.specs.Shelves.{ShelfState}
+use Rattle.siri_outside.specs.declared.rows.Row.{Row}
+use Rattle.siri_outside.specs.Rows.{Rows, next_row}
+use Rattle.siri_outside.specs.Shelves.{ShelfState}
 use Rattle.siri_keeping.specs.Opening.{Nothing, said}
 use Rattle.siri_keep.specs.declared.errors.KeepError.{KeepError}
 use Rattle.siri_keep.specs.declared.errors.KeepError.TheVariants as errors

@@ -20,9 +20,9 @@ use Rattle.siri_model.specs.History.{Clock, Feed, History, Observed, Start, Stat
 use Rattle.siri_model.specs.Lives.{table_of}
 use Rattle.siri_model.specs.Rows.{KeptLife, rows_after, rows_of}
 use Rattle.siri_producer.specs.Known.{GoesOn, Known, StandsFor}
-use Rattle.siri_shelf.specs.declared.rows.StoredRow.{StoredRow}
-use Rattle.siri_shelf.specs.Rows.{InOrder as RowsInOrder, Rows, of_table, text_at}
-use Rattle.siri_shelf.proofs.Order.{order_kept}
+use Rattle.siri_outside.specs.declared.rows.StoredRow.{StoredRow}
+use Rattle.siri_outside.specs.Rows.{InOrder as RowsInOrder, Rows, of_table, text_at}
+use Rattle.siri_outside.proofs.Order.{order_kept}
 use Rattle.siri_row_texts.specs.ItemRows.{key_text}
 use Rattle.siri_row_texts.specs.Reading.{item_of_row}
 use Rattle.siri_keeping.specs.Keeping.{Covers, IsProperKey, most_rows}
@@ -39,7 +39,8 @@ use Rattle.siri_keep.proofs.Counted.{are_items, few_live_items, few_rows}
 use Rattle.siri_keep.proofs.Fed.{all_appended}
 use Rattle.siri_keep.proofs.Messages.{Reads, ReadsRow}
 use Rattle.siri_keep.proofs.Opened.{Fits, opens_over}
-use Rattle.siri_keep.proofs.SaidItems.{AreApart, ReadItem, all_read, all_served, apart_in_order, covers_own, each_text, fed_again, few_kept, item_row, kept_in_order, kept_of, kept_reads, key_of_text, rows_of_items}
+use Rattle.siri_keep.proofs.SaidItems.{AreApart, ReadItem, all_read, all_served, apart_in_order, covers_own, each_text, fed_again, few_kept, item_row, kept_in_order, kept_of, kept_reads}
+use Rattle.siri_keep.proofs.SaidItems.{key_of_text, rows_of_items}
 use Rattle.siri_keep.proofs.SaidRequests.{CanBeTaken, opened_reads, opened_state, renewals_ask, requests_ask, stands_again}
 use Rattle.siri_keep.proofs.SaidRows.{Says, good_at, listed_renewals, listed_requests, no_more_tables, none_say, one_moment, says, some_text}
 use Rattle.siri_keep.proofs.Written.{covers_clocked, dead_stays}

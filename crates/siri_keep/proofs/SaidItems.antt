@@ -25,9 +25,9 @@ use Rattle.siri_items.specs.Proper.{IsProper}
 use Rattle.siri_model.specs.History.{Observed, after_entry}
 use Rattle.siri_model.proofs.Entries.{sorted_inserted}
 use Rattle.siri_model.proofs.InOrder.{none_in_order}
-use Rattle.siri_shelf.specs.declared.rows.StoredRow.{StoredRow}
-use Rattle.siri_shelf.specs.Rows.{InOrder as RowsInOrder, RowPlace, Rows, of_table, place_cmp, place_of, text_at}
-use Rattle.siri_shelf.proofs.Order.{place_total}
+use Rattle.siri_outside.specs.declared.rows.StoredRow.{StoredRow}
+use Rattle.siri_outside.specs.Rows.{InOrder as RowsInOrder, RowPlace, Rows, of_table, place_cmp, place_of, text_at}
+use Rattle.siri_outside.proofs.Order.{place_total}
 use Rattle.siri_row_texts.specs.ItemRows.{item_text, key_text}
 use Rattle.siri_row_texts.specs.Reading.{item_of_row}
 use Rattle.siri_row_texts.proofs.Rows.{read_row_says}

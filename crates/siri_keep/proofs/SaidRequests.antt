@@ -1,5 +1,6 @@
 -- The requests of tables 2 and 3, and what taking them again leaves.
-use Rattle.std.proofs.Common.{◌≡◌, ◌≤◌, ◌<◌, ℕ, ◌+◌, ℤ, max, List, [], ◌∷◌, ◌++◌, length, map, fold, take, get_or, Bool, true, false, ◌||◌, Option, None, Some, Result, Ok, Err, refl, sym, ap, ◌∙◌, subst, append_assoc, append-nil}
+use Rattle.std.proofs.Common.{◌≡◌, ◌≤◌, ◌<◌, ℕ, ◌+◌, ℤ, max, List, [], ◌∷◌, ◌++◌, length, map, fold, take, get_or, Bool, true, false, ◌||◌, Option, None, Some, Result, Ok, Err, refl, sym}
+use Rattle.std.proofs.Common.{ap, ◌∙◌, subst, append_assoc, append-nil}
 use Rattle.std.specs.Prelude.{if◌then◌else◌, nat_lt, slice_get}
 use Rattle.std.specs.List.{AllByRecursion as All, Contains, filter_map, list_any}
 use Rattle.std.specs.Option.{option_and_then}
@@ -29,7 +30,7 @@ use Rattle.siri_model.specs.Lives.{table_of}
 use Rattle.siri_model.specs.Rows.{rows_after, rows_of}
 use Rattle.siri_model.proofs.Histories.{rows_go_on}
 use Rattle.siri_producer.specs.Known.{GoesOn, Known, StandsFor}
-use Rattle.siri_shelf.specs.Rows.{Rows, of_table, text_at}
+use Rattle.siri_outside.specs.Rows.{Rows, of_table, text_at}
 use Rattle.siri_row_texts.specs.Reading.{first_asked, first_of_four, if_holds, is_asked, is_renewal, is_request, renewal_of_row, request_of_row}
 use Rattle.siri_row_texts.specs.SubscriptionRows.{asks_for, interval_of, request_of, request_text}
 use Rattle.siri_row_texts.proofs.Asked.{each_alone}

@@ -8,8 +8,8 @@ use Rattle.std.proofs.lemmas.Bool.{eqb-true, or_parts}
 use Rattle.std.proofs.lemmas.Bool.Decides.{nat_tests}
 use Rattle.std.proofs.lemmas.List.Elements.{All-contains}
 use Rattle.std.proofs.lemmas.Option.{same_Some}
-use Rattle.siri_shelf.specs.declared.rows.StoredRow.{StoredRow}
-use Rattle.siri_shelf.specs.Rows.{RowPlace, Rows, of_table, place_cmp, place_of, text_at}
+use Rattle.siri_outside.specs.declared.rows.StoredRow.{StoredRow}
+use Rattle.siri_outside.specs.Rows.{RowPlace, Rows, of_table, place_cmp, place_of, text_at}
 use Rattle.siri_row_texts.specs.declared.moments.Began.{Began}
 use Rattle.siri_row_texts.specs.Reading.{began_of_row, request_of_row}
 use Rattle.siri_keeping.specs.Opening.{SaysKept, Nothing, Said, WhatIsKept, began_in, is_bad, is_bad_beginning, is_bad_item, is_bad_request, kept_in, renewal_in, renewal_of_request, said, said_unless}

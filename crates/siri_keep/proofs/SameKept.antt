@@ -14,7 +14,7 @@ use Rattle.siri_http.specs.declared.asked.Asked.{Asked}
 use Rattle.siri_http.specs.declared.asked.Asked.TheVariants as asked
 use Rattle.siri_ends.specs.Responses.{message_asked, message_in, turn_steps}
 use Rattle.siri_ends.specs.Serving.{acknowledging, after_acknowledging}
-use Rattle.siri_shelf.specs.Rows.{Rows}
+use Rattle.siri_outside.specs.Rows.{Rows}
 use Rattle.siri_wire.specs.Documents.{message_of}
 use Rattle.siri_wire.specs.laws.ProperMessages.{IsProper}
 use Rattle.siri_wire.proofs.ProperReadMessages.{document_proper}

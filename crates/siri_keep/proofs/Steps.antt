@@ -9,7 +9,7 @@ use Rattle.siri_model.specs.Rows.{KeptLife, rows_after, settled_row}
 use Rattle.siri_model.proofs.Histories.{rows_go_on}
 use Rattle.siri_model.proofs.InOrder.{more_steps}
 use Rattle.siri_producer.specs.Known.{Known, GoesOn, SameButReads, StandsFor}
-use Rattle.siri_shelf.specs.Rows.{Rows}
+use Rattle.siri_outside.specs.Rows.{Rows}
 use Rattle.siri_keeping.specs.Keeps.{IsProperStep, Keeps}
 use Rattle.siri_keep.specs.declared.kept.Kept.{Kept}
 use Rattle.siri_keep.specs.Calls.{GoesOnKept, Holds, Left}

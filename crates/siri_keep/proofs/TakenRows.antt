@@ -1,5 +1,6 @@
 -- What rows come to with one more.
-use Rattle.std.proofs.Common.{◌≡◌, ◌⊎◌, ◌<◌, ◌≤◌, ℕ, ◌+◌, List, [], ◌∷◌, ◌++◌, length, map, find, Bool, true, false, cond, ◌||◌, not, Option, None, Some, refl, sym, ap, ◌∙◌, subst, inl, inr, arith, append-nil}
+use Rattle.std.proofs.Common.{◌≡◌, ◌⊎◌, ◌<◌, ◌≤◌, ℕ, ◌+◌, List, [], ◌∷◌, ◌++◌, length, map, find, Bool, true, false, cond, ◌||◌, not, Option, None, Some, refl, sym, ap, ◌∙◌, subst, inl}
+use Rattle.std.proofs.Common.{inr, arith, append-nil}
 use Rattle.std.specs.Prelude.{◌==◌, is_none, option_map, if◌then◌else◌}
 use Rattle.std.specs.List.{AllByRecursion as All, filter, filter_map}
 use Rattle.std.specs.Option.{option_and_then, option_or}
@@ -19,13 +20,14 @@ use Rattle.siri_records.specs.Keyed.{after_change, apply, with_item}
 use Rattle.siri_records.specs.Keys.{key_of}
 use Rattle.siri_messages.specs.declared.message.Message.{Message}
 use Rattle.siri_row_texts.specs.Reading.{began_of_row, item_of_row, request_of_row}
-use Rattle.siri_shelf.specs.declared.rows.StoredRow.{StoredRow}
-use Rattle.siri_shelf.specs.Rows.{InOrder, Rows, of_table, place_cmp, place_of, row_of}
+use Rattle.siri_outside.specs.declared.rows.StoredRow.{StoredRow}
+use Rattle.siri_outside.specs.Rows.{InOrder, Rows, of_table, place_cmp, place_of, row_of}
 use Rattle.siri_keeping.specs.Opening.{is_bad, is_bad_beginning, is_bad_item, is_bad_request, is_live_at, is_told_by, item_in, renewal_in, request_in}
 use Rattle.siri_keep.specs.declared.by_service.ByService.{ByService}
 use Rattle.siri_keep.specs.declared.opening.KeptRequest.{KeptRequest}
 use Rattle.siri_keep.specs.declared.rows_read.RowsRead.{RowsRead}
-use Rattle.siri_keep.specs.RowByRow.{HasRead, Taken, TellsLive, all_of, has_place, has_room, if_place, if_room, not_dead_at, renewal_at, request_under_key, taken, under_key, with_kept, with_one, with_renewal, with_request}
+use Rattle.siri_keep.specs.RowByRow.{HasRead, Taken, TellsLive, all_of, has_place, has_room, if_place, if_room, not_dead_at, renewal_at, request_under_key, taken, under_key, with_kept}
+use Rattle.siri_keep.specs.RowByRow.{with_one, with_renewal, with_request}
 use Rattle.siri_keep.proofs.Ahead.{all_rows, less_parts, table_le, those_before, those_behind}
 use Rattle.siri_keep.proofs.BadRows.{bad_item, bad_no_item, bad_no_request, bad_renewal, bad_request, kind, live_of, renewal_is}
 

@@ -1,7 +1,7 @@
 -- What is told of a shelf.
 use Rattle.std.specs.Prelude.{IsSomeAnd}
 use Rattle.std.proofs.Common.{Option, None, Some, Result, Ok, Err, OnOk}
-use Rattle.siri_base.specs.OutsideCalls.{WhereTold}
+use Rattle.siri_outside.specs.OutsideCalls.{WhereTold}
 
 pub told_same : {S : Type 0} (P : S → S → Type 0) (x : Option S) → ((s : S) → P s s) → WhereTold x x P
 told_same P None f = tt

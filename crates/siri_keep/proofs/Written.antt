@@ -11,7 +11,7 @@ use Rattle.siri_records.specs.Ends.{end_of, is_closed, is_dead}
 use Rattle.siri_records.specs.Keyed.{InOrder, Items, apply, item_of, living}
 use Rattle.siri_change.proofs.Leads.{order_applied}
 use Rattle.siri_model.specs.Held.{Held}
-use Rattle.siri_shelf.specs.Rows.{RowPlace, Rows, text_at, with_put, with_puts}
+use Rattle.siri_outside.specs.Rows.{RowPlace, Rows, text_at, with_put, with_puts}
 use Rattle.siri_row_texts.specs.ItemRows.{moment_row}
 use Rattle.siri_row_texts.specs.SubscriptionRows.{renewal_text, request_text}
 use Rattle.siri_row_texts.specs.Reading.{began_of_row}

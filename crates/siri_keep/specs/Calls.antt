@@ -1,13 +1,13 @@
 -- What the calls of a producer over a shelf do.
 use Rattle.std.specs.Prelude.{◌≡◌, ◌≢◌, ◌<◌, ◌≤◌, ⊤, ℕ, List, ◌++◌, map, take, Bool, true, false, Result, Ok, Err, IsErrOf}
 use Rattle.std.specs.List.{AllByRecursion}
-use Rattle.siri_base.specs.Causes.{Rose}
+use Rattle.siri_outside.specs.Causes.{Rose}
 use Rattle.siri_records.specs.Keyed.{living}
 use Rattle.siri_model.specs.Held.{held_of}
 use Rattle.siri_model.specs.History.{History, current, now_of}
 use Rattle.siri_producer.specs.Known.{Known, StandsFor}
-use Rattle.siri_shelf.specs.Rows.{Rows}
-use Rattle.siri_shelf.specs.Shelves.{ShelfState, after_fault}
+use Rattle.siri_outside.specs.Rows.{Rows}
+use Rattle.siri_outside.specs.Shelves.{ShelfState, after_fault}
 use Rattle.siri_keeping.specs.Keeping.{AddsOnly, HasItems}
 use Rattle.siri_keeping.specs.Keeps.{IsProperStep, Keeps, KeepsThese}
 use Rattle.siri_keeping.specs.Opening.{SaysKept, Nothing, Said, WhatIsKept, reopened, said}

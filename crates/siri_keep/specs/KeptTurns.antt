@@ -1,10 +1,10 @@
 -- Inner words: cited by private functions alone.
 -- What a part of a turn over a shelf does.
 use Rattle.std.specs.Prelude.{◌++◌}
-use Rattle.siri_base.specs.declared.errors.OutsideError.{OutsideError}
-use Rattle.siri_base.specs.declared.errors.OutsideError.TheVariants as outside
+use Rattle.siri_outside.specs.declared.errors.OutsideError.{OutsideError}
+use Rattle.siri_outside.specs.declared.errors.OutsideError.TheVariants as outside
 use Rattle.siri_model.specs.History.{History}
-use Rattle.siri_shelf.specs.Rows.{Rows}
+use Rattle.siri_outside.specs.Rows.{Rows}
 use Rattle.siri_keeping.specs.Keeps.{Keeps}
 use Rattle.siri_keep.specs.declared.errors.KeepError.{KeepError}
 use Rattle.siri_keep.specs.declared.errors.KeepError.TheVariants as errors

@@ -9,9 +9,9 @@ use Rattle.siri_records.specs.Keyed.{Items, apply}
 use Rattle.siri_tables.specs.Proper.{IsNumber}
 use Rattle.siri_row_texts.specs.ItemRows.{moment_row}
 use Rattle.siri_row_texts.specs.Reading.{began_of_row}
-use Rattle.siri_shelf.specs.declared.rows.Put.{Put}
-use Rattle.siri_shelf.specs.Rows.{Rows, with_puts}
-use Rattle.siri_shelf.specs.Shelves.{ShelfState}
+use Rattle.siri_outside.specs.declared.rows.Put.{Put}
+use Rattle.siri_outside.specs.Rows.{Rows, with_puts}
+use Rattle.siri_outside.specs.Shelves.{ShelfState}
 use Rattle.siri_keeping.specs.Keeping.{AddsOnly, changes_to, moment_put, places_to, puts_to, subscription_puts}
 use Rattle.siri_keeping.specs.Opening.{SaysKept, Said, WhatIsKept, reopened, said}
 use Rattle.siri_subs.specs.Table.{most_subscriptions}

@@ -1,7 +1,7 @@
 -- One turn of a producer over a shelf, as an end of the exchange (EN 15531-2 for what is said, RFC 9112 for how).
 use Rattle.std.specs.Prelude.{◌≡◌, ◌⊎◌, ◌*◌, ℕ, List, [], ◌∷◌, ◌++◌, length, slice_get, codes, Bool, false, if◌then◌else◌, Option, None, Some}
-use Rattle.siri_base.specs.OutsideCalls.{WhereTold}
-use Rattle.siri_base.specs.Wires.{Present, WireState, texts}
+use Rattle.siri_outside.specs.OutsideCalls.{WhereTold}
+use Rattle.siri_outside.specs.Wires.{Present, WireState, texts}
 use Rattle.siri_http.specs.Connections.{OnConnection}
 use Rattle.siri_http.specs.Requests.{Asks, post_alone}
 use Rattle.siri_http.specs.declared.asked.Asked.{Asked}
@@ -17,8 +17,8 @@ use Rattle.siri_ends.specs.Responses.{message_asked, refusing, response_to, taki
 use Rattle.siri_ends.specs.Serving.{PostsOut, serving}
 use Rattle.siri_ends.specs.TurnsTaken.{StopsTurn, TakesTurn}
 use Rattle.siri_ends.specs.declared.response.Response.{Response}
-use Rattle.siri_shelf.specs.Rows.{Rows}
-use Rattle.siri_shelf.specs.Shelves.{ShelfState}
+use Rattle.siri_outside.specs.Rows.{Rows}
+use Rattle.siri_outside.specs.Shelves.{ShelfState}
 use Rattle.siri_keeping.specs.Keeps.{Keeps}
 use Rattle.siri_keep.specs.declared.kept.Kept.{Kept}
 use Rattle.siri_keep.specs.Calls.{AddsFronts, Holds, LeavesLive}

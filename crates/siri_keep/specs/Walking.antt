@@ -3,7 +3,7 @@ use Rattle.std.specs.Prelude.{◌≡◌, ⊤, [], map, Option, None, Some, Resul
 use Rattle.siri_records.specs.Keyed.{apply}
 use Rattle.siri_records.specs.Keys.{key_of}
 use Rattle.siri_model.specs.History.{Observed, entries_of}
-use Rattle.siri_shelf.specs.Rows.{InOrder, Rows, of_table}
+use Rattle.siri_outside.specs.Rows.{InOrder, Rows, of_table}
 use Rattle.siri_keeping.specs.Opening.{SaysKept, Nothing, WhatIsKept, by_service, live_items, said}
 use Rattle.siri_keep.specs.declared.errors.KeepError.{KeepError}
 use Rattle.siri_keep.specs.declared.errors.KeepError.TheVariants as errors

@@ -3,7 +3,8 @@
 ghost use Rattle.std.specs.Prelude.{◌≡◌};
 ghost use Rattle.siri_keep.specs.declared.errors.KeepError.TheVariants as error;
 
-use siri_base::{List, OutOfMemory, OutsideError};
+use siri_base::{List, OutOfMemory};
+use siri_outside::OutsideError;
 
 /// Why a call of a producer over a shelf was refused.
 #[derive(Debug)]

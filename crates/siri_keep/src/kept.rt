@@ -1,12 +1,12 @@
 //! A producer over a shelf.
 
 ghost use Rattle.std.specs.Prelude.{◌≡◌, ◌≤◌, ◌+◌, ◌∷◌, [], false, true, IfOk, OnOk, OnErr, IsErrOf};
-ghost use Rattle.siri_shelf.specs.Shelves.{OnShelf};
+ghost use Rattle.siri_outside.specs.Shelves.{OnShelf};
 ghost use Rattle.siri_records.specs.Keyed.{living};
 ghost use Rattle.siri_model.specs.Followed.{followed_of, look_bounds};
 ghost use Rattle.siri_model.specs.History.{Clock, History, Settle, Take, current, now_of};
 ghost use Rattle.siri_producer.specs.Known.{AnswerFor, Follows, SameButReads, SendsFor};
-ghost use Rattle.siri_shelf.specs.Rows.{Rows};
+ghost use Rattle.siri_outside.specs.Rows.{Rows};
 ghost use Rattle.siri_wire.specs.laws.ProperMessages.{IsProper};
 ghost use Rattle.siri_keep.specs.declared.errors.KeepError.TheVariants as error;
 ghost use Rattle.siri_keep.specs.Calls.{AddsFronts, ClosesBy, CountsKept, GoesOnKept, HasKeepCause, LeavesLive, RefusesRow, StandsOn, StaysUnless};
@@ -18,9 +18,9 @@ use crate::rows::short_copy;
 use crate::writing::write_all;
 use siri_base::{List, Moment, OutOfMemory};
 use siri_messages::Message;
+use siri_outside::{Put, Shelf};
 use siri_producer::{Answer, Out, Producer};
 use siri_records::KeyedItems;
-use siri_shelf::{Put, Shelf};
 use std::alloc::Global;
 
 /// A producer over a shelf, which knows the rows that are there: each call of it is handed the shelf as the call before

@@ -1,7 +1,7 @@
 //! What a shelf keeps, read when it is opened: row by row, table by table.
 
 ghost use Rattle.std.specs.Prelude.{◌≡◌, ◌+◌, [], None, IfOk};
-ghost use Rattle.siri_shelf.specs.Shelves.{key_after, OnShelf};
+ghost use Rattle.siri_outside.specs.Shelves.{key_after, OnShelf};
 ghost use Rattle.siri_keep.specs.declared.errors.KeepError.TheVariants as error;
 ghost use Rattle.siri_keep.specs.Calls.{CountsKept, HasKeepCause};
 ghost use Rattle.siri_keep.specs.Walking.{SaysAll};
@@ -9,11 +9,11 @@ ghost use Rattle.siri_keep.specs.RowByRow.{Begins, GivesNext, IsFirstBad, NeverB
 
 use crate::KeepError;
 use crate::rows_read::RowsRead;
-use siri_base::{Copies, List, OutOfMemory, OutsideError};
+use siri_base::{Copies, List, OutOfMemory};
 use siri_messages::{Message, ServiceDelivery};
+use siri_outside::{OutsideError, Row, Shelf};
 use siri_records::KeyedItems;
 use siri_row_texts::{Began, began_of_row};
-use siri_shelf::{Row, Shelf};
 use std::alloc::Global;
 
 /// What the rows of table 1 say: all items, and a delivery of those that aren't dead at the kept moment, service by

@@ -2,9 +2,9 @@
 
 ghost use Rattle.std.specs.Prelude.{◌≡◌, ◌≤◌, [], ◌∷◌, map, Ok, IfErr, IfOk, IsErrOf, OnOk};
 ghost use Rattle.siri_base.specs.Numbers.{greatest_number};
-ghost use Rattle.siri_shelf.specs.Shelves.{OnShelf};
+ghost use Rattle.siri_outside.specs.Shelves.{OnShelf};
 ghost use Rattle.siri_model.specs.History.{Start, Take};
-ghost use Rattle.siri_shelf.specs.Rows.{Rows};
+ghost use Rattle.siri_outside.specs.Rows.{Rows};
 ghost use Rattle.siri_keep.specs.declared.errors.KeepError.TheVariants as error;
 ghost use Rattle.siri_keep.specs.Calls.{AddsReopened, CountsKept, HasKeepCause, IsBegun, RefusesToOpen, Reopens, StaysUnless};
 ghost use Rattle.siri_keep.specs.Planning.{Begins, GoesOnBy, Opens, OpensRead, PlansOpening};
@@ -15,9 +15,9 @@ use crate::writing::write_all;
 use crate::{KeepError, Kept};
 use siri_base::{Copies, List, Moment, Name, OutOfMemory};
 use siri_messages::Message;
+use siri_outside::{Put, Shelf};
 use siri_producer::Producer;
 use siri_records::KeyedItems;
-use siri_shelf::{Put, Shelf};
 use std::alloc::Global;
 
 /// A producer over a shelf, and what is to be written of it.

@@ -11,10 +11,10 @@ use crate::opening::{KeptItems, KeptRequest, WhatIsRead};
 use crate::plans::MOST_ROWS;
 use siri_base::{Copies, List, OutOfMemory};
 use siri_messages::Message;
+use siri_outside::Row;
 use siri_producer::{MOST_LIVE, MOST_SUBSCRIPTIONS};
 use siri_records::{Item, KeyedItems, SharedKey, dead};
 use siri_row_texts::{Began, item_of_row, request_of_row};
-use siri_shelf::Row;
 use std::alloc::Global;
 use std::rc::Rc;
 

@@ -1,7 +1,7 @@
 //! One turn over a shelf.
 
 ghost use Rattle.std.specs.Prelude.{◌≡◌, ◌≤◌, ◌∷◌, ◌++◌, [], ℕ, List, true, false, IfOk, OnOk, OnErr, IsErrOf, IsSomeAnd, Some, Err};
-ghost use Rattle.siri_shelf.specs.Shelves.{CountsFault, OnShelf};
+ghost use Rattle.siri_outside.specs.Shelves.{CountsFault, OnShelf};
 ghost use Rattle.siri_http.specs.Texts.{is_written};
 ghost use Rattle.siri_model.specs.History.{Clock, History, Take};
 ghost use Rattle.siri_producer.specs.Known.{StandsFor};
@@ -22,14 +22,14 @@ ghost use Rattle.siri_keep.specs.Serving.{AddsTurn, GoesOnServing, KeepsWhatIsAn
 
 use crate::rows::{changes_rows, has_long_row};
 use crate::{KeepError, Kept};
-use siri_base::{List, Moment, OutOfMemory, OutsideError, Wire, append};
+use siri_base::{List, Moment, OutOfMemory, append};
 use siri_ends::{
     Brought, Reply, Response, Taker, brought_by, refusing, reply_to, replying, take_turn,
 };
 use siri_http::{Asked, PostAlone, Sent, Tally};
 use siri_messages::Message;
+use siri_outside::{OutsideError, Shelf, Wire};
 use siri_producer::{Out, Producer};
-use siri_shelf::Shelf;
 use std::alloc::Global;
 
 /// After how many turns dead items leave the shelf.

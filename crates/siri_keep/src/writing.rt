@@ -1,14 +1,14 @@
 //! One write.
 
 ghost use Rattle.std.specs.Prelude.{false, is_err, IsErrOf};
-ghost use Rattle.siri_shelf.specs.Shelves.{OnShelf};
+ghost use Rattle.siri_outside.specs.Shelves.{OnShelf};
 ghost use Rattle.siri_keep.specs.declared.errors.KeepError.TheVariants as error;
 ghost use Rattle.siri_keep.specs.Calls.{ClosesBy, CountsKept, HasKeepCause};
 ghost use Rattle.siri_keep.specs.Planning.{WritesAll};
 
 use crate::KeepError;
-use siri_base::{List, OutsideError};
-use siri_shelf::{Put, Shelf};
+use siri_base::List;
+use siri_outside::{OutsideError, Put, Shelf};
 
 /// Writes puts, all of them or none. The shelf isn't called where there are none.
 pub(crate) fn write_all<B: Shelf>(shelf: &mut B, puts: &List<Put>) -> Result<(), KeepError>

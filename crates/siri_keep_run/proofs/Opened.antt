@@ -1,15 +1,15 @@
 -- A shelf that was opened, or wasn't.
 use Rattle.std.specs.List.{AllByRecursion as All}
 use Rattle.std.proofs.Common.{◌≡◌, ◌⊎◌, ℕ, List, ◌++◌, Option, None, Some, Ok, Err, refl, sym, ap, ◌∙◌, subst, append-nil, inl, inr}
-use Rattle.siri_base.specs.OutsideCalls.{WhereTold}
-use Rattle.siri_base.specs.declared.errors.OutsideError.{OutsideError}
-use Rattle.siri_base.specs.declared.errors.OutsideError.TheVariants as outside
+use Rattle.siri_outside.specs.OutsideCalls.{WhereTold}
+use Rattle.siri_outside.specs.declared.errors.OutsideError.{OutsideError}
+use Rattle.siri_outside.specs.declared.errors.OutsideError.TheVariants as outside
 use Rattle.siri_base.specs.declared.status.Status.{Status}
 use Rattle.siri_http.specs.Tallies.{nothing_yet}
 use Rattle.siri_model.specs.History.{History}
 use Rattle.siri_producer.specs.Known.{StandsFor}
-use Rattle.siri_shelf.specs.Rows.{Rows}
-use Rattle.siri_shelf.specs.Shelves.{Opens, ShelfState, after_fault}
+use Rattle.siri_outside.specs.Rows.{Rows}
+use Rattle.siri_outside.specs.Shelves.{Opens, ShelfState, after_fault}
 use Rattle.siri_keeping.specs.Keeps.{Keeps}
 use Rattle.siri_keeping.specs.Opening.{Said, reopened, said}
 use Rattle.siri_keep.specs.Calls.{AddsReopened, CountsKept, Holds, IsBegun, IsEarlier, RefusesToOpen, Reopens}

@@ -1,10 +1,10 @@
 -- A producer over a shelf, as the end of a run.
 use Rattle.std.specs.Prelude.{IsSomeAnd}
 use Rattle.std.proofs.Common.{◌≡◌, ◌+◌, ◌⊎◌, ℕ, List, [], ◌∷◌, ◌++◌, Option, None, Some, refl, sym, ◌∙◌, subst, append-nil, append_assoc, inl, inr}
-use Rattle.siri_base.specs.OutsideCalls.{WhereTold}
-use Rattle.siri_base.specs.Wires.{WireState}
-use Rattle.siri_base.specs.declared.errors.OutsideError.{OutsideError}
-use Rattle.siri_base.specs.declared.errors.OutsideError.TheVariants as outside
+use Rattle.siri_outside.specs.OutsideCalls.{WhereTold}
+use Rattle.siri_outside.specs.Wires.{WireState}
+use Rattle.siri_outside.specs.declared.errors.OutsideError.{OutsideError}
+use Rattle.siri_outside.specs.declared.errors.OutsideError.TheVariants as outside
 use Rattle.siri_http.specs.Connections.{OnConnection}
 use Rattle.siri_http.specs.Requests.{Asks, post_alone}
 use Rattle.siri_http.specs.Tallies.{nothing_yet}
@@ -14,8 +14,8 @@ use Rattle.siri_model.specs.History.{Clock, History}
 use Rattle.siri_producer.specs.Known.{StandsFor}
 use Rattle.siri_ends.specs.At.{at_of}
 use Rattle.siri_ends.specs.Responses.{taking}
-use Rattle.siri_shelf.specs.Rows.{Rows}
-use Rattle.siri_shelf.specs.Shelves.{ShelfState}
+use Rattle.siri_outside.specs.Rows.{Rows}
+use Rattle.siri_outside.specs.Shelves.{ShelfState}
 use Rattle.siri_keeping.specs.Keeping.{AddsOnly}
 use Rattle.siri_keeping.specs.Keeps.{Keeps}
 use Rattle.siri_keep.specs.Calls.{AddsFronts, Holds, KeepsFront}

@@ -4,7 +4,7 @@ use Rattle.siri_base.specs.declared.status.Status.{Status}
 use Rattle.siri_base.specs.declared.status.Status.TheVariants as status
 use Rattle.siri_http.specs.Requests.{post_alone}
 use Rattle.siri_ends.specs.Serving.{PostsOut, target_of}
-use Rattle.siri_shelf.specs.Shelves.{ShelfState}
+use Rattle.siri_outside.specs.Shelves.{ShelfState}
 use Rattle.siri_keep.specs.Serving.{keeping}
 use Rattle.siri_runs.specs.Calls.{Outside}
 use Rattle.siri_runs.specs.Errors.{status_of}

@@ -1,8 +1,8 @@
 -- What a run of `keep` says of its end, turn by turn.
 use Rattle.std.specs.Prelude.{IsSomeAnd}
 use Rattle.std.proofs.Common.{◌≡◌, ◌⊎◌, ◌+◌, ℕ, List, [], ◌∷◌, ◌++◌, Option, Ok, sym, ap, ◌∙◌, subst, inl, inr}
-use Rattle.siri_base.specs.OutsideCalls.{WhereTold}
-use Rattle.siri_base.specs.Wires.{Accepts, WireState}
+use Rattle.siri_outside.specs.OutsideCalls.{WhereTold}
+use Rattle.siri_outside.specs.Wires.{Accepts, WireState}
 use Rattle.siri_http.specs.Requests.{post_alone}
 use Rattle.siri_model.specs.History.{Clock, History}
 use Rattle.siri_producer.specs.Known.{StandsFor}
@@ -13,7 +13,7 @@ use Rattle.siri_ends.specs.Responses.{taking}
 use Rattle.siri_ends.specs.Serving.{PostsOut, acknowledging}
 use Rattle.siri_ends.specs.declared.reply.Reply.{Reply}
 use Rattle.siri_ends.specs.declared.taker.Taker.{Ghosts as TakerGhosts}
-use Rattle.siri_shelf.specs.Shelves.{ShelfState}
+use Rattle.siri_outside.specs.Shelves.{ShelfState}
 use Rattle.siri_keep.specs.Calls.{AddsFronts, Holds}
 use Rattle.siri_keep.specs.KeptTurns.{KeepsOn}
 use Rattle.siri_keep.specs.Serving.{LeavesLiveAt, ServesKept, ServesKeptSome, keeping, message_kept, steps_of}

@@ -1,14 +1,14 @@
 -- A run of `keep`, as its parts make it.
 use Rattle.std.specs.Prelude.{⊤}
 use Rattle.std.proofs.Common.{◌≡◌, ℕ, zero, suc, List, [], ◌++◌, Option, None, Some, Err, refl, sym, ap, ◌∙◌, subst, append-nil, arith}
-use Rattle.siri_base.specs.Causes.{Rose}
-use Rattle.siri_base.specs.OutsideCalls.{WhereTold}
+use Rattle.siri_outside.specs.Causes.{Rose}
+use Rattle.siri_outside.specs.OutsideCalls.{WhereTold}
 use Rattle.siri_base.specs.declared.status.Status.{Status}
 use Rattle.siri_base.specs.declared.status.Status.TheVariants as status
 use Rattle.siri_http.specs.Tallies.{nothing_yet}
 use Rattle.siri_http.specs.declared.tally.Tally.{Tally}
 use Rattle.siri_model.specs.History.{History}
-use Rattle.siri_shelf.specs.Shelves.{ShelfState, after_fault}
+use Rattle.siri_outside.specs.Shelves.{ShelfState, after_fault}
 use Rattle.siri_keeping.specs.Keeps.{Keeps}
 use Rattle.siri_keep.specs.declared.kept.Kept.{Kept}
 use Rattle.siri_keep.proofs.Left.{keeps_of}

@@ -1,12 +1,12 @@
 -- What a run of `keep` leaves on a shelf that tells its rows, at every moment and at whatever status.
 use Rattle.std.specs.Prelude.{◌≡◌, ◌⊎◌, ◌≤◌, ℕ, List, [], ◌∷◌, ◌++◌, Option, Some, Ok}
 use Rattle.std.specs.List.{AllByRecursion}
-use Rattle.siri_base.specs.OutsideCalls.{ClockState, GivesMoment}
-use Rattle.siri_base.specs.Wires.{Accepts, WireState}
+use Rattle.siri_outside.specs.OutsideCalls.{ClockState, GivesMoment}
+use Rattle.siri_outside.specs.Wires.{Accepts, WireState}
 use Rattle.siri_base.specs.declared.status.Status.{Status}
 use Rattle.siri_model.specs.History.{History}
-use Rattle.siri_shelf.specs.Rows.{Rows}
-use Rattle.siri_shelf.specs.Shelves.{ShelfState, open_called}
+use Rattle.siri_outside.specs.Rows.{Rows}
+use Rattle.siri_outside.specs.Shelves.{ShelfState, open_called}
 use Rattle.siri_keeping.specs.Keeps.{Keeps}
 use Rattle.siri_keep.specs.Serving.{AnswersOk, KeepsAnswered}
 use Rattle.siri_runs.specs.Calls.{Call, Outside, Told}

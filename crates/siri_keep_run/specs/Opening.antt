@@ -2,15 +2,15 @@
 -- file are read, which say what it begins with.
 use Rattle.std.specs.Prelude.{◌≡◌, ◌≢◌, ◌⊎◌, ⊤, ◌≤◌, ℕ, List, [], ◌∷◌, ◌++◌, Option, None, Some, Result, Ok, Err}
 use Rattle.std.specs.List.{AllByRecursion}
-use Rattle.siri_base.specs.OutsideCalls.{WhereTold}
+use Rattle.siri_outside.specs.OutsideCalls.{WhereTold}
 use Rattle.siri_base.specs.declared.reason.ShelfReason.{ShelfReason}
 use Rattle.siri_base.specs.declared.reason.ShelfReason.TheVariants as reason
 use Rattle.siri_base.specs.declared.status.Status.{Status}
 use Rattle.siri_base.specs.declared.status.Status.TheVariants as status
 use Rattle.siri_http.specs.Tallies.{nothing_yet}
 use Rattle.siri_model.specs.History.{History}
-use Rattle.siri_shelf.specs.Rows.{Rows}
-use Rattle.siri_shelf.specs.Shelves.{ShelfState, after_fault, open_called}
+use Rattle.siri_outside.specs.Rows.{Rows}
+use Rattle.siri_outside.specs.Shelves.{ShelfState, after_fault, open_called}
 use Rattle.siri_keeping.specs.Keeps.{Keeps}
 use Rattle.siri_keeping.specs.Opening.{SaysKept, Said, WhatIsKept, reopened, said}
 use Rattle.siri_keep.specs.Calls.{Holds, IsBegun, IsEarlier}

@@ -1,11 +1,11 @@
 -- A run of `keep`, whole: a run of `serve` that begins with the history which the rows of the shelf make, in the place of its start
 -- alone, and leaves its own on the shelf.
 use Rattle.std.specs.Prelude.{◌≡◌, ℕ, List, Bool, true, false, Option, Some}
-use Rattle.siri_base.specs.OutsideCalls.{WhereTold}
+use Rattle.siri_outside.specs.OutsideCalls.{WhereTold}
 use Rattle.siri_base.specs.declared.status.Status.{Status}
 use Rattle.siri_base.specs.declared.status.Status.TheVariants as status
 use Rattle.siri_lines.specs.Ends.{Bytes}
-use Rattle.siri_shelf.specs.Shelves.{ShelfState}
+use Rattle.siri_outside.specs.Shelves.{ShelfState}
 use Rattle.siri_keeping.specs.Keeps.{Keeps}
 use Rattle.siri_runs.specs.Calls.{Outside}
 use Rattle.siri_runs.specs.Run.{Procedure, Run}

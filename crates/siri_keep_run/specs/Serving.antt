@@ -1,7 +1,7 @@
 -- A producer over a shelf that serves connections (EN 15531-2 for what is said, RFC 9112 for how).
 use Rattle.std.specs.Prelude.{◌≡◌, ◌⊎◌, ◌+◌, ◌*◌, ℕ, List, [], ◌∷◌, ◌++◌, Option, Some}
-use Rattle.siri_base.specs.OutsideCalls.{WhereTold}
-use Rattle.siri_base.specs.Wires.{WireState}
+use Rattle.siri_outside.specs.OutsideCalls.{WhereTold}
+use Rattle.siri_outside.specs.Wires.{WireState}
 use Rattle.siri_http.specs.Connections.{OnConnection}
 use Rattle.siri_http.specs.Requests.{Asks, post_alone}
 use Rattle.siri_http.specs.declared.asked.Asked.{Asked}
@@ -10,8 +10,8 @@ use Rattle.siri_model.specs.History.{Clock, History}
 use Rattle.siri_producer.specs.Known.{StandsFor}
 use Rattle.siri_ends.specs.At.{At, at_of}
 use Rattle.siri_ends.specs.Responses.{taking}
-use Rattle.siri_shelf.specs.Rows.{Rows}
-use Rattle.siri_shelf.specs.Shelves.{ShelfState}
+use Rattle.siri_outside.specs.Rows.{Rows}
+use Rattle.siri_outside.specs.Shelves.{ShelfState}
 use Rattle.siri_keeping.specs.Keeping.{AddsOnly}
 use Rattle.siri_keeping.specs.Keeps.{Keeps}
 use Rattle.siri_keep.specs.Calls.{HasLiveAlone, Holds, KeepsFront}

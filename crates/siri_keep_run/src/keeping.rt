@@ -1,10 +1,10 @@
 //! The command `keep`.
 
 ghost use Rattle.std.specs.Prelude.{◌≡◌, IfErr, IfOk, Some, []};
-ghost use Rattle.siri_base.specs.Causes.{Rose};
-ghost use Rattle.siri_base.specs.MetFailures.{SinkMeets, is_write_fault};
+ghost use Rattle.siri_outside.specs.Causes.{Rose};
+ghost use Rattle.siri_outside.specs.MetFailures.{SinkMeets, is_write_fault};
 ghost use Rattle.siri_base.specs.declared.status.Status.TheVariants as status;
-ghost use Rattle.siri_shelf.specs.Shelves.{OnShelf};
+ghost use Rattle.siri_outside.specs.Shelves.{OnShelf};
 ghost use Rattle.siri_runs.specs.Calls.{outside};
 ghost use Rattle.siri_runs.specs.Enough.{HasEnough};
 ghost use Rattle.siri_keep_run.specs.Left.{KeepAnswered, KeepTrail};
@@ -14,11 +14,11 @@ ghost use Rattle.siri_runs.specs.Run.{Completes, EndsBefore};
 ghost use Rattle.siri_runs.specs.Summaries.{summary_text};
 
 use crate::opening::open;
-use siri_base::{Clock, Keeper, Name, OutsideError, Sink, Status, Wire};
+use siri_base::{Name, Status};
 use siri_http::{PostAlone, Tally};
 use siri_keep::Kept;
+use siri_outside::{Clock, Keeper, OutsideError, Shelf, Sink, Wire};
 use siri_runs::{run_turns, write_summary};
-use siri_shelf::Shelf;
 use std::alloc::Global;
 
 /// A producer of this name over the shelf of a file, for so many connections at `HOST:PORT`: it raises the number of its

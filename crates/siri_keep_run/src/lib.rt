@@ -17,7 +17,7 @@
 //! that the run is one of some history, and which faults end it. Two clauses say at whatever status what is left on the
 //! shelf: at each moment of the run (`keep_trail`), and of what was answered at its end (`keep_answered`).
 //!
-//! Stands on `siri_keep` for the producer and its turn, on `siri_runs` for the parts of a run, and on `siri_shelf`,
+//! Stands on `siri_keep` for the producer and its turn, on `siri_runs` for the parts of a run, and on `siri_outside`,
 //! `siri_base` and `siri_http` for what these speak of. It knows no file.
 #![tactic(auto)]
 

@@ -1,14 +1,14 @@
 //! How a run opens.
 
 ghost use Rattle.std.specs.Prelude.{◌≡◌, ◌≤◌, IfErr, IfOk, OnErr, OnOk};
-ghost use Rattle.siri_shelf.specs.Shelves.{OnShelf};
+ghost use Rattle.siri_outside.specs.Shelves.{OnShelf};
 ghost use Rattle.siri_runs.specs.Calls.{outside};
 ghost use Rattle.siri_keep_run.specs.Opening.{CountsOpening, EndsOpening, FailsToOpen, IsOpened, LeavesUnopened, OpensKept, opening_end};
 
-use siri_base::{Clock, Keeper, Moment, Name, OutsideError, ShelfReason, Status, Wire};
+use siri_base::{Moment, Name, ShelfReason, Status};
 use siri_keep::{KeepError, Kept};
+use siri_outside::{Clock, Keeper, OutsideError, Shelf, Wire};
 use siri_runs::{listen, now, raise};
-use siri_shelf::Shelf;
 use std::alloc::Global;
 
 /// What a shelf whose rows aren't opened ends a run with.

@@ -88,7 +88,8 @@ latest_found P k [] held all some = cc some
 latest_found P k (i ∷ es) held all some =
     found_at (λ o more. latest_found P k es o all.1 more) (is_eq (key_cmp k (key_of i))) (has k es) refl refl some
   where
-    found_at : ((o : Option Item) → has k es ≡ true → IsFound k P (latest k o es)) → (b c : Bool) → is_eq (key_cmp k (key_of i)) ≡ b → has k es ≡ c → (b || c) ≡ true → IsFound k P (latest k (cond b (Some i) held) es)
+    found_at : ((o : Option Item) → has k es ≡ true → IsFound k P (latest k o es)) → (b c : Bool) → is_eq (key_cmp k (key_of i)) ≡ b → has k es ≡ c → (b || c) ≡ true
+        → IsFound k P (latest k (cond b (Some i) held) es)
     found_at rest b true is more some = rest (cond b (Some i) held) more
     found_at rest true false is none some = record {
       item = i;

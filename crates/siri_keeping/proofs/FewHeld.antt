@@ -1,5 +1,6 @@
 -- A producer holds at most 200 subscriptions, whatever its history.
-use Rattle.std.proofs.Common.{◌≡◌, ◌≤◌, ℕ, suc, ◌+◌, max, List, [], ◌∷◌, ◌++◌, length, map, Bool, true, false, not, cond, nat_le, Option, Some, None, Ok, Err, refl, sym, ap, subst, arith, append_assoc, append-nil}
+use Rattle.std.proofs.Common.{◌≡◌, ◌≤◌, ℕ, suc, ◌+◌, max, List, [], ◌∷◌, ◌++◌, length, map, Bool, true, false, not, cond, nat_le, Option, Some, None, Ok, Err, refl, sym, ap, subst, arith}
+use Rattle.std.proofs.Common.{append_assoc, append-nil}
 use Rattle.std.specs.Prelude.{◌==◌, nat_lt, option_map, find}
 use Rattle.std.proofs.lemmas.Bool.{leb-false}
 use Rattle.std.proofs.lemmas.List.{length-map}
@@ -14,7 +15,8 @@ use Rattle.siri_subs.specs.declared.errors.AcceptError.TheVariants as refused_as
 use Rattle.siri_subs.specs.Table.{accepted, after, answer_of, ended, is_ended_by, is_of, is_terminated, most_subscriptions, number_of, put, without}
 use Rattle.siri_model.specs.History.{History, State, Step, Start, Clock, Feed, Take, Settle, state_of}
 use Rattle.siri_model.specs.Lives.{mark_of, table_of}
-use Rattle.siri_model.specs.Rows.{KeptLife, acknowledged_row, new_row, renewed_row, rows_acknowledged, rows_after, rows_asked, rows_ended, rows_of, rows_supplied, rows_taken, settled_row, supplied_row, with_row_of}
+use Rattle.siri_model.specs.Rows.{KeptLife, acknowledged_row, new_row, renewed_row, rows_acknowledged, rows_after, rows_asked, rows_ended, rows_of, rows_supplied, rows_taken, settled_row}
+use Rattle.siri_model.specs.Rows.{supplied_row, with_row_of}
 use Rattle.siri_model.proofs.Histories.{rows_go_on}
 use Rattle.siri_keeping.proofs.Feeding.{few_passing}
 
@@ -60,7 +62,8 @@ module _ (row : Row KeptLife) (rows : Rows) (few : AreFew rows) where
       put_few : AreFew (put row rows)
       put_few = omega (arith, same_long row rows n is, few)
 
-      by : (over same less : Bool) → AreFew (after (cond same (Ok accepted_as.Again) (cond over (Err refused_as.PastTermination) (cond less (Err (refused_as.Superseded n)) (Ok accepted_as.Renewed)))) row rows)
+      by : (over same less : Bool) → AreFew (after (cond same (Ok accepted_as.Again) (cond over (Err refused_as.PastTermination)
+          (cond less (Err (refused_as.Superseded n)) (Ok accepted_as.Renewed)))) row rows)
       by over true less = few
       by true false less = few
       by false false true = few

@@ -8,10 +8,10 @@ use Rattle.std.specs.FinMap.{nat_cmp-IsAntisymmetric, slice_cmp-IsAntisymmetric}
 use Rattle.std.specs.Ordering.{nat_cmp, is_eq, is_lt, is_gt, ordering_then}
 use Rattle.std.specs.declared.cmp.Ordering.{Ordering}
 use Rattle.std.specs.declared.cmp.Ordering.TheVariants.{Less, Equal, Greater}
-use Rattle.siri_shelf.specs.declared.rows.Put.{Put}
-use Rattle.siri_shelf.specs.declared.rows.StoredRow.{StoredRow}
-use Rattle.siri_shelf.specs.Rows.{RowPlace, Rows, place_cmp, place_of, text_at, is_before, is_behind, placed, placed_by, with_put}
-use Rattle.siri_shelf.proofs.Order.{place_total}
+use Rattle.siri_outside.specs.declared.rows.Put.{Put}
+use Rattle.siri_outside.specs.declared.rows.StoredRow.{StoredRow}
+use Rattle.siri_outside.specs.Rows.{RowPlace, Rows, place_cmp, place_of, text_at, is_before, is_behind, placed, placed_by, with_put}
+use Rattle.siri_outside.proofs.Order.{place_total}
 
 -- ---- places
 

@@ -6,8 +6,8 @@ use Rattle.std.specs.List.{AllByRecursion as All}
 use Rattle.std.specs.Cmp.{tied_itself}
 use Rattle.std.specs.Ordering.{is_eq}
 use Rattle.std.proofs.lemmas.Map.Entries.{option_filter}
-use Rattle.siri_base.specs.declared.errors.OutsideError.{OutsideError}
-use Rattle.siri_base.specs.declared.errors.OutsideError.TheVariants as outside
+use Rattle.siri_outside.specs.declared.errors.OutsideError.{OutsideError}
+use Rattle.siri_outside.specs.declared.errors.OutsideError.TheVariants as outside
 use Rattle.siri_records.specs.declared.item.Item.{Item}
 use Rattle.siri_records.specs.declared.key.Key.{Key}
 use Rattle.siri_records.specs.Ends.{is_dead}
@@ -20,10 +20,10 @@ use Rattle.siri_model.specs.Last.{after_one, entry_key, is_of}
 use Rattle.siri_model.proofs.Current.{entry_leaves, lookup_inserted, lookup_removed}
 use Rattle.siri_model.proofs.Entries.{sorted_inserted, sorted_removed}
 use Rattle.siri_model.proofs.InOrder.{in_order_after, in_order_all}
-use Rattle.siri_shelf.specs.declared.rows.Put.{Put}
-use Rattle.siri_shelf.specs.Rows.{RowPlace, Rows, place_cmp, text_at, with_put, with_puts}
-use Rattle.siri_shelf.proofs.Order.{place_total}
-use Rattle.siri_shelf.specs.Shelves.{ShelfState, Writes}
+use Rattle.siri_outside.specs.declared.rows.Put.{Put}
+use Rattle.siri_outside.specs.Rows.{RowPlace, Rows, place_cmp, text_at, with_put, with_puts}
+use Rattle.siri_outside.proofs.Order.{place_total}
+use Rattle.siri_outside.specs.Shelves.{ShelfState, Writes}
 use Rattle.siri_row_texts.specs.ItemRows.{item_text, key_text}
 use Rattle.siri_row_texts.proofs.Rows.{one_text_one_key}
 use Rattle.siri_keeping.specs.Keeping.{AddsOnly, Covers, HasItems, IsProperKey, change_to, changes_to, live_after}

@@ -1,6 +1,7 @@
 -- The producer that is opened over rows which keep a history: what it shows and what it holds, at any moment, are what the
 -- producer of that history would show and hold then.
-use Rattle.std.proofs.Common.{◌≡◌, ◌≤◌, ℕ, max, List, [], ◌∷◌, ◌++◌, length, map, fold, cond, Bool, true, false, not, Option, None, Some, Ok, Err, Result, refl, ap, sym, ◌∙◌, subst, arith, append_assoc, append-nil}
+use Rattle.std.proofs.Common.{◌≡◌, ◌≤◌, ℕ, max, List, [], ◌∷◌, ◌++◌, length, map, fold, cond, Bool, true, false, not, Option, None, Some, Ok, Err, Result, refl, ap, sym, ◌∙◌, subst, arith}
+use Rattle.std.proofs.Common.{append_assoc, append-nil}
 use Rattle.std.specs.Prelude.{◌==◌}
 use Rattle.std.specs.List.{AllByRecursion as All, cons_option, filter_map}
 use Rattle.std.proofs.Math.Nat.{max_comm}
@@ -27,7 +28,7 @@ use Rattle.siri_model.proofs.InOrder.{current_in_order, live_later, more_steps}
 use Rattle.siri_model.proofs.Lawful.{direct_live}
 use Rattle.siri_row_texts.specs.declared.moments.Began.{Began}
 use Rattle.siri_row_texts.specs.SubscriptionRows.{renewal_of}
-use Rattle.siri_shelf.specs.Rows.{InOrder, RowPlace, Rows}
+use Rattle.siri_outside.specs.Rows.{InOrder, RowPlace, Rows}
 use Rattle.siri_tables.proofs.TableLaws.{all_joined}
 use Rattle.siri_keeping.specs.Keeps.{Keeps}
 use Rattle.siri_keeping.specs.Opening.{SaysKept, Nothing, Said, WhatIsKept, by_service, kept_in, live_items, reopened, said}

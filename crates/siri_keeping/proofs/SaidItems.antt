@@ -24,9 +24,9 @@ use Rattle.siri_records.specs.Keyed.{InOrder as InOrderOfKey, Items, item_of, li
 use Rattle.siri_records.specs.Keys.{key_of}
 use Rattle.siri_records.specs.Order.{key_cmp, key_cmp_total}
 use Rattle.siri_records.proofs.KeyLists.{one_key}
-use Rattle.siri_shelf.specs.declared.rows.StoredRow.{StoredRow}
-use Rattle.siri_shelf.specs.Rows.{InOrder, RowPlace, Rows, of_table, place_cmp, place_of, text_at}
-use Rattle.siri_shelf.proofs.Order.{order_kept, place_total}
+use Rattle.siri_outside.specs.declared.rows.StoredRow.{StoredRow}
+use Rattle.siri_outside.specs.Rows.{InOrder, RowPlace, Rows, of_table, place_cmp, place_of, text_at}
+use Rattle.siri_outside.proofs.Order.{order_kept, place_total}
 use Rattle.siri_row_texts.specs.ItemRows.{item_text, key_text}
 use Rattle.siri_row_texts.specs.Reading.{item_of_row}
 use Rattle.siri_tables.proofs.TableLaws.{all_joined}
@@ -98,7 +98,8 @@ module _ (found : Items) where
   in_found [] all q some = cc some
   in_found (row ∷ rows) all q some = by (in_found rows all.1 q) (is_eq (key_cmp q (key_of all.0.item))) refl some
     where
-      by : (list_any (eq_by_cmp key_cmp q) (keys_in rows all.1) ≡ true → IsSome (item_of found q)) → (b : Bool) → is_eq (key_cmp q (key_of all.0.item)) ≡ b → (b || list_any (eq_by_cmp key_cmp q) (keys_in rows all.1)) ≡ true → IsSome (item_of found q)
+      by : (list_any (eq_by_cmp key_cmp q) (keys_in rows all.1) ≡ true → IsSome (item_of found q)) → (b : Bool) → is_eq (key_cmp q (key_of all.0.item)) ≡ b
+          → (b || list_any (eq_by_cmp key_cmp q) (keys_in rows all.1)) ≡ true → IsSome (item_of found q)
       by later true tied e = subst IsSome (sym (ap (item_of found) (one_key q (key_of all.0.item) tied) ∙ all.0.under)) refl
       by later false apart e = later e
 

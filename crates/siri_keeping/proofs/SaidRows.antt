@@ -1,5 +1,6 @@
 -- What rows in order say that keep a producer's history: none of them is bad.
-use Rattle.std.proofs.Common.{◌≡◌, ◌≤◌, ◌<◌, ℕ, suc, List, [], ◌∷◌, ◌++◌, length, map, filter, cond, Bool, true, false, ◌&&◌, ◌||◌, not, Option, None, Some, Ok, Err, Result, refl, ap, sym, ◌∙◌, subst, inl, inr, arith}
+use Rattle.std.proofs.Common.{◌≡◌, ◌≤◌, ◌<◌, ℕ, suc, List, [], ◌∷◌, ◌++◌, length, map, filter, cond, Bool, true, false, ◌&&◌, ◌||◌, not, Option, None, Some, Ok, Err, Result, refl, ap, sym}
+use Rattle.std.proofs.Common.{◌∙◌, subst, inl, inr, arith}
 use Rattle.std.specs.Prelude.{◌==◌, IsSome, find, is_none, ok_or, option_map, if◌then◌else◌}
 use Rattle.std.specs.Cmp.Lexicographic.{slice_cmp}
 use Rattle.std.specs.List.{AllByRecursion as All, AllZip, Contains, cons_option, filter_map}
@@ -18,9 +19,9 @@ use Rattle.siri_subs.specs.Table.{EachOnce, is_held, is_of, most_subscriptions}
 use Rattle.siri_subs.proofs.Once.{held_like}
 use Rattle.siri_model.specs.Held.{Held, held_of}
 use Rattle.siri_model.specs.Rows.{KeptLife}
-use Rattle.siri_shelf.specs.declared.rows.StoredRow.{StoredRow}
-use Rattle.siri_shelf.specs.Rows.{InOrder, RowPlace, Rows, of_table, text_at}
-use Rattle.siri_shelf.proofs.Order.{order_kept}
+use Rattle.siri_outside.specs.declared.rows.StoredRow.{StoredRow}
+use Rattle.siri_outside.specs.Rows.{InOrder, RowPlace, Rows, of_table, text_at}
+use Rattle.siri_outside.proofs.Order.{order_kept}
 use Rattle.siri_row_texts.specs.declared.moments.Began.{Began}
 use Rattle.siri_row_texts.specs.ItemRows.{moment_row}
 use Rattle.siri_row_texts.specs.SubscriptionRows.{renewal_of, renewal_text, request_of, request_text}
@@ -28,7 +29,8 @@ use Rattle.siri_row_texts.specs.Reading.{began_of_row, renewal_of_row, request_o
 use Rattle.siri_wire.proofs.MessageValues.{all_map}
 use Rattle.siri_keeping.specs.Keeping.{is_place, most_rows}
 use Rattle.siri_keeping.specs.Keeps.{KeepsThese}
-use Rattle.siri_keeping.specs.Opening.{SaysKept, Said, are_same, began_in, exceeds, is_any, is_bad, is_bad_beginning, is_bad_item, is_bad_request, is_live_at, is_live_in, is_of_same, item_in, kept_in, renewal_in, renewal_of_request, request_in, said, said_unless, subscription_in, up_to}
+use Rattle.siri_keeping.specs.Opening.{SaysKept, Said, are_same, began_in, exceeds, is_any, is_bad, is_bad_beginning, is_bad_item, is_bad_request, is_live_at, is_live_in, is_of_same}
+use Rattle.siri_keeping.specs.Opening.{item_in, kept_in, renewal_in, renewal_of_request, request_in, said, said_unless, subscription_in, up_to}
 use Rattle.siri_keeping.proofs.Feeding.{few_passing}
 use Rattle.siri_keeping.proofs.SaidItems.{IsItemRow, few_items, few_live_rows, item_row}
 use Rattle.siri_keeping.proofs.TableRows.{IsIn, IsThere, all_in, all_passing, all_there, entries_at, is_in, pair_of, placed, table_is}

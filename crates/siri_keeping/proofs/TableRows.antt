@@ -13,9 +13,9 @@ use Rattle.std.specs.declared.cmp.Ordering.{Ordering}
 use Rattle.std.specs.declared.cmp.Ordering.TheVariants.{Less, Equal, Greater}
 use Rattle.std.proofs.lemmas.Bool.{eqb-false, eqb-true}
 use Rattle.std.proofs.lemmas.Cmp.{eq_by_cmp_equiv, nat_cmp_total, nat_list_cmp_total}
-use Rattle.siri_shelf.specs.declared.rows.StoredRow.{StoredRow}
-use Rattle.siri_shelf.specs.Rows.{InOrder, Rows, of_table, place_cmp, place_of, text_at}
-use Rattle.siri_shelf.proofs.Order.{order_kept, place_total}
+use Rattle.siri_outside.specs.declared.rows.StoredRow.{StoredRow}
+use Rattle.siri_outside.specs.Rows.{InOrder, Rows, of_table, place_cmp, place_of, text_at}
+use Rattle.siri_outside.proofs.Order.{order_kept, place_total}
 use Rattle.siri_wire.proofs.MessageValues.{all_map}
 use Rattle.siri_keeping.proofs.Found.{tied_is}
 use Rattle.siri_keeping.proofs.SameItems.{same_entries}

@@ -8,9 +8,9 @@ use Rattle.std.specs.List.Sorted.{IsStrictlySortedBy}
 use Rattle.std.specs.Ordering.{is_eq, nat_cmp}
 use Rattle.std.specs.declared.cmp.Ordering.TheVariants.{Less}
 use Rattle.std.proofs.lemmas.Cmp.{nat_list_cmp_total}
-use Rattle.siri_shelf.specs.declared.rows.Put.{Put}
-use Rattle.siri_shelf.specs.Rows.{RowPlace, Rows, place_cmp, text_at, with_put, with_puts}
-use Rattle.siri_shelf.proofs.Order.{place_total}
+use Rattle.siri_outside.specs.declared.rows.Put.{Put}
+use Rattle.siri_outside.specs.Rows.{RowPlace, Rows, place_cmp, text_at, with_put, with_puts}
+use Rattle.siri_outside.proofs.Order.{place_total}
 use Rattle.siri_keeping.proofs.Found.{place_exact, text_elsewhere, text_there, tied_is}
 
 -- ---- places

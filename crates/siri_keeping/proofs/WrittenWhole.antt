@@ -9,8 +9,8 @@ use Rattle.siri_model.specs.Held.{Held}
 use Rattle.siri_row_texts.specs.ItemRows.{moment_row}
 use Rattle.siri_row_texts.specs.SubscriptionRows.{place_text, renewal_text, request_text}
 use Rattle.siri_row_texts.proofs.PlaceOrder.{place_digits, places_ascend, twenty}
-use Rattle.siri_shelf.specs.declared.rows.Put.{Put}
-use Rattle.siri_shelf.specs.Rows.{RowPlace, Rows, text_at, with_put, with_puts}
+use Rattle.siri_outside.specs.declared.rows.Put.{Put}
+use Rattle.siri_outside.specs.Rows.{RowPlace, Rows, text_at, with_put, with_puts}
 use Rattle.siri_keeping.specs.Keeping.{is_place, kept_at, moment_put, places_to, removed_at, subscription_puts}
 use Rattle.siri_keeping.specs.Keeps.{HasSubscriptions}
 use Rattle.siri_keeping.proofs.Found.{text_elsewhere, text_there}

@@ -12,9 +12,9 @@ use Rattle.siri_model.specs.History.{Entry, after_entry}
 use Rattle.siri_model.specs.Held.{Held}
 use Rattle.siri_row_texts.specs.ItemRows.{item_text, key_text, moment_row}
 use Rattle.siri_row_texts.specs.SubscriptionRows.{place_text, renewal_text, request_text}
-use Rattle.siri_shelf.specs.declared.rows.Put.{Put}
-use Rattle.siri_shelf.specs.Rows.{Rows, text_at}
-use Rattle.siri_shelf.specs.Shelves.{ShelfState}
+use Rattle.siri_outside.specs.declared.rows.Put.{Put}
+use Rattle.siri_outside.specs.Rows.{Rows, text_at}
+use Rattle.siri_outside.specs.Shelves.{ShelfState}
 
 -- the most items that have rows, dead ones among them
 abbrev pub most_rows : ℕ

@@ -15,7 +15,7 @@ use Rattle.siri_model.specs.Lives.{table_of}
 use Rattle.siri_row_texts.specs.ItemRows.{item_text, key_text, moment_row}
 use Rattle.siri_row_texts.specs.SubscriptionRows.{renewal_of, renewal_text, request_of, request_text}
 use Rattle.siri_row_texts.specs.Reading.{began_of_row, item_of_row, renewal_of_row, request_of_row}
-use Rattle.siri_shelf.specs.Rows.{Rows, text_at}
+use Rattle.siri_outside.specs.Rows.{Rows, text_at}
 use Rattle.siri_keeping.specs.Keeping.{Covers, HasItems, IsProperKey, is_place, most_rows}
 
 -- ---- proper steps: each message and each item of them is one that a document can spell

@@ -19,8 +19,8 @@ use Rattle.siri_messages.specs.declared.message.Message.TheVariants as message
 use Rattle.siri_model.specs.History.{Observed, Start, Clock, Feed, Take, History}
 use Rattle.siri_row_texts.specs.declared.moments.Began.{Began}
 use Rattle.siri_row_texts.specs.Reading.{began_of_row, first_asked, item_of_row, renewal_of_row, request_of_row}
-use Rattle.siri_shelf.specs.declared.rows.StoredRow.{StoredRow}
-use Rattle.siri_shelf.specs.Rows.{RowPlace, Rows, of_table, place_of, text_at}
+use Rattle.siri_outside.specs.declared.rows.StoredRow.{StoredRow}
+use Rattle.siri_outside.specs.Rows.{RowPlace, Rows, of_table, place_of, text_at}
 use Rattle.siri_keeping.specs.Keeping.{is_place, most_rows}
 
 -- ---- what a row says

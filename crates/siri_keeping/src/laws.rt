@@ -2,16 +2,16 @@
 
 ghost use Rattle.std.specs.Prelude.{◌≡◌, ◌≢◌, ◌≤◌, ◌∷◌, [], ℕ, List, length, map, IsSome, Some, Result};
 ghost use Rattle.std.specs.List.{AllByRecursion};
-ghost use Rattle.siri_base.specs.declared.errors.OutsideError.{OutsideError};
+ghost use Rattle.siri_outside.specs.declared.errors.OutsideError.{OutsideError};
 ghost use Rattle.siri_records.specs.declared.item.Item.{Item};
 ghost use Rattle.siri_records.specs.declared.key.Key.{Key};
 ghost use Rattle.siri_records.specs.Keys.{key_of};
 ghost use Rattle.siri_records.specs.Keyed.{InOrder, Items, apply, item_of};
 ghost use Rattle.siri_model.specs.History.{Entry};
 ghost use Rattle.siri_model.specs.Last.{entry_key};
-ghost use Rattle.siri_shelf.specs.Rows.{Rows, text_at, with_puts};
-ghost use Rattle.siri_shelf.specs.declared.rows.Put.{Put};
-ghost use Rattle.siri_shelf.specs.Shelves.{ShelfState, Writes};
+ghost use Rattle.siri_outside.specs.Rows.{Rows, text_at, with_puts};
+ghost use Rattle.siri_outside.specs.declared.rows.Put.{Put};
+ghost use Rattle.siri_outside.specs.Shelves.{ShelfState, Writes};
 ghost use Rattle.siri_model.specs.Held.{Held};
 ghost use Rattle.siri_topic.specs.declared.subscription.Subscription.{Subscription};
 ghost use Rattle.siri_messages.specs.declared.message.Message.{Message};

@@ -6,7 +6,7 @@ ghost use Rattle.siri_model.specs.Direct.{direct_to};
 ghost use Rattle.siri_model.specs.Held.{helds_of};
 ghost use Rattle.siri_model.specs.History.{Clock, History, current, now_of, start_of};
 ghost use Rattle.siri_model.specs.Lives.{table_of};
-ghost use Rattle.siri_shelf.specs.Rows.{InOrder, Rows};
+ghost use Rattle.siri_outside.specs.Rows.{InOrder, Rows};
 ghost use Rattle.siri_keeping.specs.Keeps.{Keeps};
 ghost use Rattle.siri_keeping.specs.Opening.{SaysKept, Said, WhatIsKept, reopened, said};
 

@@ -4,13 +4,13 @@ use Rattle.std.proofs.Common.{subst, arith, length-append}
 use Rattle.std.specs.Io.{ReadsAtMost, WritesAtMost}
 use Rattle.std.specs.Io.KnownBytes.{ReadConsumes, WriteAppends, Appends, Consumes, Keeps}
 use Rattle.std.proofs.lemmas.List.{length-take}
-use Rattle.siri_base.proofs.MetFailures.{passes_none, passes_more, passes_failing}
-use Rattle.siri_base.specs.Failures.{Passes, ReadMeets, WriteMeets}
-use Rattle.siri_base.specs.MetFailures.{Meets, Takes, Puts, SourceMeets, SinkMeets, has_failed, is_write_fault}
-use Rattle.siri_base.specs.OutsideCalls.{WhereTold}
-use Rattle.siri_base.specs.declared.errors.Failed.{Failed}
-use Rattle.siri_base.specs.declared.errors.OutsideError.{OutsideError}
-use Rattle.siri_base.specs.declared.errors.OutsideError.TheVariants as outside
+use Rattle.siri_outside.proofs.MetFailures.{passes_none, passes_more, passes_failing}
+use Rattle.siri_outside.specs.Failures.{Passes, ReadMeets, WriteMeets}
+use Rattle.siri_outside.specs.MetFailures.{Meets, Takes, Puts, SourceMeets, SinkMeets, has_failed, is_write_fault}
+use Rattle.siri_outside.specs.OutsideCalls.{WhereTold}
+use Rattle.siri_outside.specs.declared.errors.Failed.{Failed}
+use Rattle.siri_outside.specs.declared.errors.OutsideError.{OutsideError}
+use Rattle.siri_outside.specs.declared.errors.OutsideError.TheVariants as outside
 use Rattle.siri_lines.specs.Brings.{has_failed_to_write}
 use Rattle.siri_lines.specs.Ends.{Bytes}
 use Rattle.siri_lines.specs.Stops.{sink_stop, status_of}

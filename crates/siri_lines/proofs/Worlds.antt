@@ -4,7 +4,7 @@ use Rattle.std.specs.Io.KnownBytes.{Consumes, Keeps, IsAtEnd}
 use Rattle.std.specs.Prelude.{IfErr}
 use Rattle.std.proofs.KnownBytes.{Consumes-kept, Consumes-nil}
 use Rattle.std.specs.Str.Lines.{strip_carriage_return}
-use Rattle.siri_base.specs.MetFailures.{is_read_fault}
+use Rattle.siri_outside.specs.MetFailures.{is_read_fault}
 use Rattle.siri_base.specs.declared.status.Status.{Status}
 use Rattle.siri_base.specs.declared.status.Status.TheVariants as status
 use Rattle.siri_lines.specs.declared.reader.Reader.{Reader}

@@ -1,7 +1,7 @@
 -- What one line brings.
 use Rattle.std.specs.Prelude.{◌≡◌, ℕ, ◌≤◌, List, [], Bool, true, false, Result, Ok, Err, IsErrOf}
 use Rattle.std.specs.Io.KnownBytes.{Appends, Keeps}
-use Rattle.siri_base.specs.Causes.{Rose}
+use Rattle.siri_outside.specs.Causes.{Rose}
 use Rattle.siri_base.specs.declared.status.Status.{Status}
 use Rattle.siri_base.specs.declared.status.Status.TheVariants as status
 use Rattle.siri_lines.specs.declared.stop.Stop.{Stop}

@@ -1,11 +1,11 @@
 //! What takes lines.
 
 ghost use Rattle.siri_lines.specs.RunResult.{Events};
-ghost use Rattle.siri_base.specs.MetFailures.{SinkMeets};
+ghost use Rattle.siri_outside.specs.MetFailures.{SinkMeets};
 ghost use Rattle.siri_lines.specs.Brings.{Brings, StopCause, has_failed_to_write};
 
 use crate::Stop;
-use siri_base::Sink;
+use siri_outside::Sink;
 
 /// What takes lines, one after the other.
 pub trait LineTaker {

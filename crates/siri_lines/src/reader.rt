@@ -2,7 +2,7 @@
 
 ghost use Rattle.std.specs.Prelude.{◌≡◌, ◌≤◌, ◌<◌, ◌+◌, ◌∷◌, ◌++◌, [], length, take, OnOk, IfErr, IsErrOf};
 ghost use Rattle.std.specs.Str.Lines.{strip_carriage_return};
-ghost use Rattle.siri_base.specs.MetFailures.{SinkMeets, is_write_fault};
+ghost use Rattle.siri_outside.specs.MetFailures.{SinkMeets, is_write_fault};
 ghost use Rattle.siri_lines.specs.RunResult.{verdict};
 ghost use Rattle.siri_lines.specs.Ends.{HasNoBreak};
 ghost use Rattle.siri_lines.specs.declared.stop.Stop.TheVariants as stop;
@@ -12,7 +12,8 @@ ghost use Rattle.siri_lines.specs.inner.Standing.{EndCause, HasNoRoom, InEachWor
 
 use crate::{LineTaker, Stop};
 use memchr::memchr;
-use siri_base::{Sink, Status};
+use siri_base::Status;
+use siri_outside::Sink;
 use std::alloc::Global;
 
 /// The most bytes that a line may have, its end left out.

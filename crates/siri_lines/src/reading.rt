@@ -1,8 +1,8 @@
 //! Reads all lines of a source.
 
 ghost use Rattle.std.specs.Prelude.{◌≡◌, ◌≤◌, ◌<◌, length};
-ghost use Rattle.siri_base.specs.Causes.{Rose};
-ghost use Rattle.siri_base.specs.MetFailures.{SinkMeets, SourceMeets, is_read_fault, is_write_fault};
+ghost use Rattle.siri_outside.specs.Causes.{Rose};
+ghost use Rattle.siri_outside.specs.MetFailures.{SinkMeets, SourceMeets, is_read_fault, is_write_fault};
 ghost use Rattle.siri_lines.specs.RunResult.{verdict};
 ghost use Rattle.siri_lines.specs.Ends.{ReadsAll};
 ghost use Rattle.siri_lines.specs.Pieces.{ReadsNoFurther};
@@ -12,7 +12,8 @@ ghost use Rattle.siri_lines.specs.Stops.{EndsReading};
 
 use crate::LineTaker;
 use crate::reader::Reader;
-use siri_base::{Sink, Source, Status};
+use siri_base::Status;
+use siri_outside::{Sink, Source};
 use std::alloc::Global;
 
 /// How many bytes are asked of the source at once.

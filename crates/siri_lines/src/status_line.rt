@@ -2,13 +2,14 @@
 
 ghost use Rattle.std.specs.Prelude.{◌≡◌, IfOk, OnErr, OnOk};
 ghost use Rattle.std.specs.Io.KnownBytes.{Appends};
-ghost use Rattle.siri_base.specs.Causes.{HasOutsideCause};
-ghost use Rattle.siri_base.specs.MetFailures.{SinkMeets, has_failed};
+ghost use Rattle.siri_outside.specs.Causes.{HasOutsideCause};
+ghost use Rattle.siri_outside.specs.MetFailures.{SinkMeets, has_failed};
 ghost use Rattle.siri_lines.specs.Ends.{AppendsFront};
 ghost use Rattle.siri_lines.specs.StatusLines.{status_line};
 
 use crate::write_text;
-use siri_base::{OutOfMemory, OutsideError, Sink, Status};
+use siri_base::{OutOfMemory, Status};
+use siri_outside::{OutsideError, Sink};
 use std::alloc::Global;
 
 /// Writes the line that tells how a run ended: its status's text and a line feed, and nothing where it has no text.

@@ -4,7 +4,8 @@ ghost use Rattle.std.specs.Prelude.{◌≡◌};
 ghost use Rattle.siri_lines.specs.Stops.{sink_stop, status_of};
 ghost use Rattle.siri_lines.specs.declared.stop.Stop.TheVariants.{OutOfMemory};
 
-use siri_base::{OutOfMemory, OutsideError, ScriptReason, Status};
+use siri_base::{OutOfMemory, ScriptReason, Status};
+use siri_outside::OutsideError;
 
 /// Why lines are read no further: the statuses that a line may end a run with.
 #[derive(Debug, Drop)]

@@ -2,11 +2,11 @@
 
 ghost use Rattle.std.specs.Prelude.{OnOk, OnErr};
 ghost use Rattle.std.specs.Io.KnownBytes.{Appends};
-ghost use Rattle.siri_base.specs.Causes.{HasOutsideCause};
-ghost use Rattle.siri_base.specs.MetFailures.{SinkMeets, has_failed};
+ghost use Rattle.siri_outside.specs.Causes.{HasOutsideCause};
+ghost use Rattle.siri_outside.specs.MetFailures.{SinkMeets, has_failed};
 ghost use Rattle.siri_lines.specs.Ends.{AppendsFront};
 
-use siri_base::{OutsideError, Sink};
+use siri_outside::{OutsideError, Sink};
 
 /// Writes the whole text, in as many calls as it takes. Nothing is written after a failure.
 pub fn write_text<K: Sink>(sink: &mut K, text: &[u8]) -> Result<(), OutsideError>

@@ -1,15 +1,16 @@
 //! The command `load`.
 
 ghost use Rattle.std.specs.Prelude.{◌≡◌};
-ghost use Rattle.siri_base.specs.Causes.{Rose};
-ghost use Rattle.siri_base.specs.MetFailures.{SinkMeets, is_write_fault};
+ghost use Rattle.siri_outside.specs.Causes.{Rose};
+ghost use Rattle.siri_outside.specs.MetFailures.{SinkMeets, is_write_fault};
 ghost use Rattle.siri_load.specs.Load.{load_text};
 ghost use Rattle.siri_load.specs.Runs.{Writes, EndsLoad};
 
 use crate::stop::Stop;
 use crate::totals::summary;
-use siri_base::{OutsideError, Sink, Status};
+use siri_base::Status;
 use siri_lines::write_text;
+use siri_outside::{OutsideError, Sink};
 use std::alloc::Global;
 
 /// Plays the load of two numbers, its seed and how many events there are, and writes `load SEED COUNT lines L packets P

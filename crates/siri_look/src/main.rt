@@ -10,9 +10,10 @@ ghost use Rattle.siri_lines.specs.Reports.{Reports};
 ghost use Rattle.siri_replay.specs.Report.{report};
 ghost use Rattle.siri_replay.specs.Views.{ReportsViews};
 
-use siri_base::{Input, Output, Sink, Source, Status};
+use siri_base::Status;
 use siri_document::{Check, Convert, answer_document};
 use siri_lines::write_status;
+use siri_outside::{Input, Output, Sink, Source};
 use siri_replay::replay;
 use std::alloc::Global;
 use std::env;

@@ -111,7 +111,8 @@ apart_differs slack view direct q on =
 target_agrees : (slack : ℤ) (incremental : Bool) (view direct : Items) (q : Key)
     → agree_on (is_near slack) (target slack incremental view direct) direct q ≡ true
 target_agrees slack incremental view direct q =
-    agree_case (is_near slack) (target slack incremental view direct) direct q (is_among q (keys_of_both (target slack incremental view direct) direct)) refl (target_meets slack incremental view direct)
+    agree_case (is_near slack) (target slack incremental view direct) direct q (is_among q (keys_of_both (target slack incremental view direct) direct)) refl
+    (target_meets slack incremental view direct)
 
 -- the view that the consumer is led to once a round has opened, where one opens
 looked_case : (b : Bool) (now : ℕ) (held : Items) (row : Row KeptLife) → opens (direct_to now held row.wanted.topic) row ≡ b
@@ -121,7 +122,8 @@ looked_case : (b : Bool) (now : ℕ) (held : Items) (row : Row KeptLife) → ope
 looked_case true now held row h level q out = rw h (target_agrees row.wanted.slack row.wanted.incremental row.slot.rounds.acknowledged (direct_to now held row.wanted.topic) q)
 looked_case false now held row h level q out =
     let direct = direct_to now held row.wanted.topic in
-    let apart : is_among q (keys_apart row.wanted.slack row.slot.rounds.acknowledged direct) ≡ false = sym (ap (λ b. is_among q (cond b [] (keys_apart row.wanted.slack row.slot.rounds.acknowledged direct))) h) ∙ out in
+    let apart : is_among q (keys_apart row.wanted.slack row.slot.rounds.acknowledged direct) ≡ false
+    = sym (ap (λ b. is_among q (cond b [] (keys_apart row.wanted.slack row.slot.rounds.acknowledged direct))) h) ∙ out in
     let goal : goal_of (looked (asked_of row) direct now row.slot.rounds) ≡ row.slot.rounds.acknowledged = rw h (ap (goal_by row.slot.rounds.acknowledged) level) in
     ap (λ (view : Items). agree_on (is_near row.wanted.slack) view direct q) goal ∙ together row.wanted.slack row.slot.rounds.acknowledged direct q apart
 
@@ -134,7 +136,8 @@ differs_case true now held row h level q on =
     absurd (cc (sym (ap (λ b. is_among q (cond b [] (keys_apart row.wanted.slack row.slot.rounds.acknowledged direct))) h) ∙ on))
 differs_case false now held row h level q on =
     let direct = direct_to now held row.wanted.topic in
-    let apart : is_among q (keys_apart row.wanted.slack row.slot.rounds.acknowledged direct) ≡ true = sym (ap (λ b. is_among q (cond b [] (keys_apart row.wanted.slack row.slot.rounds.acknowledged direct))) h) ∙ on in
+    let apart : is_among q (keys_apart row.wanted.slack row.slot.rounds.acknowledged direct) ≡ true
+    = sym (ap (λ b. is_among q (cond b [] (keys_apart row.wanted.slack row.slot.rounds.acknowledged direct))) h) ∙ on in
     let goal : goal_of (looked (asked_of row) direct now row.slot.rounds) ≡ row.slot.rounds.acknowledged = rw h (ap (goal_by row.slot.rounds.acknowledged) level) in
     ap (λ (view : Items). agree_on (is_near row.wanted.slack) view direct q) goal ∙ apart_differs row.wanted.slack row.slot.rounds.acknowledged direct q apart
 
@@ -146,10 +149,12 @@ look_follows now held row s own level = record {
   earlier = omega arith;
   untouched = λ key out. refl;
   agrees = λ key out.
-      ap (λ (view : Items). agree_on (is_near row.wanted.slack) view (direct_to now held row.wanted.topic) key) (due_goal (looked (asked_of row) (direct_to now held row.wanted.topic) now row.slot.rounds) now)
+      ap (λ (view : Items). agree_on (is_near row.wanted.slack) view (direct_to now held row.wanted.topic) key)
+      (due_goal (looked (asked_of row) (direct_to now held row.wanted.topic) now row.slot.rounds) now)
       ∙ looked_case (opens (direct_to now held row.wanted.topic) row) now held row refl level key out;
   differs = λ key on.
-      ap (λ (view : Items). agree_on (is_near row.wanted.slack) view (direct_to now held row.wanted.topic) key) (due_goal (looked (asked_of row) (direct_to now held row.wanted.topic) now row.slot.rounds) now)
+      ap (λ (view : Items). agree_on (is_near row.wanted.slack) view (direct_to now held row.wanted.topic) key)
+      (due_goal (looked (asked_of row) (direct_to now held row.wanted.topic) now row.slot.rounds) now)
       ∙ differs_case (opens (direct_to now held row.wanted.topic) row) now held row refl level key on;
 }
 

@@ -1,5 +1,6 @@
 -- The two facts hold of each subscription of a history that was looked at.
-use Rattle.std.proofs.Common.{◌≡◌, ◌⊎◌, ℕ, ℤ, zero, suc, ◌≤◌, ◌==◌, nat_lt, max, List, [], ◌∷◌, length, map, filter, fold, Bool, true, false, cond, not, ◌&&◌, ◌||◌, Option, Some, None, inl, inr, refl, sym, ap, ◌∙◌, subst, arith}
+use Rattle.std.proofs.Common.{◌≡◌, ◌⊎◌, ℕ, ℤ, zero, suc, ◌≤◌, ◌==◌, nat_lt, max, List, [], ◌∷◌, length, map, filter, fold, Bool, true, false, cond, not, ◌&&◌, ◌||◌, Option, Some, None, inl}
+use Rattle.std.proofs.Common.{inr, refl, sym, ap, ◌∙◌, subst, arith}
 use Rattle.std.specs.Prelude.{option_map}
 use Rattle.std.specs.List.{list_all}
 use Rattle.std.proofs.lemmas.Bool.{ltb-false}

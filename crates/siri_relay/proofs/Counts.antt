@@ -1,10 +1,9 @@
 -- How far the counter of a relay's producer rises.
 use Rattle.std.proofs.Common.{◌≡◌, ◌≤◌, ◌+◌, ℕ, ◌++◌, length, ap, subst, arith}
 use Rattle.std.specs.Prelude.{◌*◌}
-use Rattle.siri_records.specs.Keyed.{living}
 use Rattle.siri_messages.specs.declared.message.Message.{Message}
 use Rattle.siri_messages.specs.declared.message.Message.TheVariants as message
-use Rattle.siri_model.specs.History.{History, current, now_of}
+use Rattle.siri_model.specs.History.{History}
 use Rattle.siri_responder.specs.Topics.{topics_in}
 use Rattle.siri_producer.specs.Known.{StandsFor}
 use Rattle.siri_producer.specs.Reads.{ReadsFor}

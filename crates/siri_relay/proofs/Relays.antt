@@ -21,7 +21,8 @@ use Rattle.siri_relay.specs.Goes.{GoesBy, GoesSome}
 use Rattle.siri_relay.specs.Relaying.{KnownRelay, is_up, view_in}
 use Rattle.siri_relay.specs.Standing.{HoldsAmong, HoldsView, IsOwn, IsRelay}
 use Rattle.siri_relay.proofs.Goings.{goes_counted, goes_one}
-use Rattle.siri_relay.proofs.Held.{SameHeld, Stands, clocked_among, clocked_view, fed_among, fed_view, fed_within, none_same, same_among, same_view, settled_same, started_none, still_stands, taken_same}
+use Rattle.siri_relay.proofs.Held.{SameHeld, Stands, clocked_among, clocked_view, fed_among, fed_view, fed_within, none_same, same_among, same_view, settled_same, started_none}
+use Rattle.siri_relay.proofs.Held.{still_stands, taken_same}
 use Rattle.siri_relay.proofs.ViewKept.{AppliesNothing, nothing_held, opened_view, own_after, own_none, view_stays}
 
 -- a relay of these parts

@@ -1,7 +1,7 @@
 -- What a relay does with a message, by whatever it stands for.
 use Rattle.std.proofs.Common.{◌≡◌, ℕ, Bool, false, List, [], ◌∷◌, ◌++◌, Option, None, Some, Result, Ok, Err, OnOk, refl, sym, ap, ◌∙◌, subst}
 use Rattle.std.specs.Prelude.{if◌then◌else◌}
-use Rattle.siri_base.specs.Wires.{WireState}
+use Rattle.siri_outside.specs.Wires.{WireState}
 use Rattle.siri_http.specs.declared.tally.Tally.{Tally}
 use Rattle.siri_http.specs.declared.asked.Asked.{Asked}
 use Rattle.siri_messages.specs.declared.message.Message.{Message}

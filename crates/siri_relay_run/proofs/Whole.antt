@@ -1,8 +1,7 @@
 -- A run of `relay`, as its parts make it.
 use Rattle.std.proofs.Common.{◌≡◌, ℕ, List, [], ◌∷◌, ◌++◌, Option, refl, sym, ap, ◌∙◌, subst, inl, inr}
-use Rattle.siri_base.specs.OutsideCalls.{ClockState, KeeperState}
-use Rattle.siri_base.specs.Wires.{WireState}
-use Rattle.siri_base.specs.declared.status.Status.{Status}
+use Rattle.siri_outside.specs.OutsideCalls.{ClockState, KeeperState}
+use Rattle.siri_outside.specs.Wires.{WireState}
 use Rattle.siri_base.specs.declared.status.Status.TheVariants as status
 use Rattle.siri_http.specs.declared.tally.Tally.{Tally}
 use Rattle.siri_http.specs.Tallies.{nothing_yet}
@@ -13,12 +12,10 @@ use Rattle.siri_messages.specs.declared.message.Message.{Message}
 use Rattle.siri_relay.specs.Relaying.{KnownRelay, UpperSide}
 use Rattle.siri_wire.specs.declared.wanted.Wanted.{Wanted}
 use Rattle.siri_runs.specs.Calls.{Outside, Told, outside_of}
-use Rattle.siri_runs.specs.Errors.{status_of}
-use Rattle.siri_runs.specs.Run.{Completes, EndsBefore, EndsInTurns, MakesTurns}
+use Rattle.siri_runs.specs.Run.{Completes, EndsBefore, MakesTurns}
 use Rattle.siri_runs.specs.Summaries.{summary_text}
 use Rattle.siri_runs.specs.Turns.{running}
 use Rattle.siri_runs.specs.consumers.Views.{views_text}
-use Rattle.siri_runs.specs.declared.network_error.NetworkError.{NetworkError}
 use Rattle.siri_relay_run.specs.Made.{OpensRelay, SendsFirst, SendsFirstSome}
 use Rattle.siri_relay_run.specs.Opening.{begun}
 use Rattle.siri_relay_run.specs.Passing.{RelayAsks, Passing, turning}

@@ -1,6 +1,6 @@
 -- Inner words: cited by private functions alone. What a part of a run does, with the relay as it is.
 use Rattle.std.specs.Prelude.{◌≡◌, ◌⊎◌, ℕ, List, [], ◌∷◌, Option}
-use Rattle.siri_base.specs.Wires.{WireState}
+use Rattle.siri_outside.specs.Wires.{WireState}
 use Rattle.siri_base.specs.declared.reason.ScriptReason.TheVariants as reason
 use Rattle.siri_base.specs.declared.status.Status.{Status}
 use Rattle.siri_base.specs.declared.status.Status.TheVariants as status

@@ -1,8 +1,8 @@
 -- How a run of `relay` opens: the number of its start is raised, its one line is read, it listens, and the clock tells its first
 -- moment.
 use Rattle.std.specs.Prelude.{◌≡◌, ◌⊎◌, ◌*◌, ℕ, List, [], ◌∷◌, Some, Ok, true}
-use Rattle.siri_base.specs.OutsideCalls.{GivesMoment, RaisesNumber}
-use Rattle.siri_base.specs.Wires.{Listens}
+use Rattle.siri_outside.specs.OutsideCalls.{GivesMoment, RaisesNumber}
+use Rattle.siri_outside.specs.Wires.{Listens}
 use Rattle.siri_base.specs.declared.reason.ScriptReason.TheVariants as reason
 use Rattle.siri_base.specs.declared.status.Status.{Status}
 use Rattle.siri_base.specs.declared.status.Status.TheVariants as status

@@ -1,6 +1,6 @@
 -- A relay that answers connections (EN 15531-2 for what is said, RFC 9112 for how).
 use Rattle.std.specs.Prelude.{◌≡◌, ℕ, List, ◌++◌}
-use Rattle.siri_base.specs.Wires.{WireState}
+use Rattle.siri_outside.specs.Wires.{WireState}
 use Rattle.siri_http.specs.Tallies.{nothing_yet}
 use Rattle.siri_http.specs.declared.tally.Tally.{Tally}
 use Rattle.siri_relay.specs.Relaying.{moment_steps, upper_clocked}

@@ -1,8 +1,8 @@
 //! How a run opens.
 
 ghost use Rattle.std.specs.Prelude.{◌≡◌, ◌≤◌, ◌*◌, length, IfErr, IfOk, OnOk};
-ghost use Rattle.siri_base.specs.Causes.{Rose};
-ghost use Rattle.siri_base.specs.MetFailures.{SourceMeets};
+ghost use Rattle.siri_outside.specs.Causes.{Rose};
+ghost use Rattle.siri_outside.specs.MetFailures.{SourceMeets};
 ghost use Rattle.siri_lines.specs.Ends.{ReadsAll};
 ghost use Rattle.siri_lines.specs.Pieces.{ReadsNoFurther};
 ghost use Rattle.siri_lines.specs.RunResult.{verdict};
@@ -13,8 +13,9 @@ ghost use Rattle.siri_relay_run.specs.Made.{Begins, EndsAtLines, OpensRelay};
 ghost use Rattle.siri_relay_run.specs.Opening.{FailsToOpen, WantsOne};
 
 use crate::taking::RelayTaker;
-use siri_base::{Clock, Keeper, Moment, Name, OutOfMemory, ScriptReason, Source, Status, Wire};
+use siri_base::{Moment, Name, OutOfMemory, ScriptReason, Status};
 use siri_messages::Message;
+use siri_outside::{Clock, Keeper, Source, Wire};
 use siri_relay::{OpenError, Relay};
 use siri_runs::{listen, now, own_address, raise, read_wanted};
 use siri_view::AskError;

@@ -2,8 +2,8 @@
 
 ghost use Rattle.std.specs.Prelude.{◌≡◌, ◌≤◌, ◌++◌, length, IfErr, IfOk, OnErr, OnOk, Some, []};
 ghost use Rattle.std.specs.Io.KnownBytes.{Appends};
-ghost use Rattle.siri_base.specs.Causes.{HasOutsideCause, Rose};
-ghost use Rattle.siri_base.specs.MetFailures.{SinkMeets, SourceMeets, has_failed, is_read_fault, is_write_fault};
+ghost use Rattle.siri_outside.specs.Causes.{HasOutsideCause, Rose};
+ghost use Rattle.siri_outside.specs.MetFailures.{SinkMeets, SourceMeets, has_failed, is_read_fault, is_write_fault};
 ghost use Rattle.siri_ends.specs.At.{at_of};
 ghost use Rattle.siri_lines.specs.Ends.{AppendsFront, ReadsAll};
 ghost use Rattle.siri_lines.specs.Pieces.{ReadsNoFurther};
@@ -21,10 +21,11 @@ ghost use Rattle.siri_relay_run.specs.Runs.{EndsRelaying, RelayRun, TellsOne, re
 use crate::going::Going;
 use crate::opening::{OpenedRelay, open};
 use crate::taking::RelayTaker;
-use siri_base::{Clock, Keeper, List, Name, OutOfMemory, OutsideError, Sink, Source, Status, Wire};
+use siri_base::{List, Name, OutOfMemory, Status};
 use siri_ends::{Tally, send_all};
 use siri_http::{Address, PostAlone};
 use siri_messages::Message;
+use siri_outside::{Clock, Keeper, OutsideError, Sink, Source, Wire};
 use siri_runs::{run_turns, write_summary, write_views};
 use std::alloc::Global;
 

@@ -14,10 +14,11 @@ ghost use Rattle.siri_relay_run.specs.Relays.{PostsGoing, Relaying, all_up, furt
 ghost use Rattle.siri_relay_run.specs.Steps.{Hears, IsAcknowledging, Stands, RelayTakes, name_of};
 
 use crate::going::Going;
-use siri_base::{List, Moment, OutOfMemory, OutsideError, Wire};
+use siri_base::{List, Moment, OutOfMemory};
 use siri_ends::{Brought, Response, Taker, brought_by, finish, replying, split_replies};
 use siri_http::{Address, Asked, Sent, Tally};
 use siri_messages::Message;
+use siri_outside::{OutsideError, Wire};
 use siri_producer::{Answer, Out, Producer};
 use siri_relay::{Relay, RelayAnswer};
 use siri_view::Consumer;

@@ -1,7 +1,6 @@
 -- A script that is taken line by line.
 use Rattle.std.proofs.Common.{[]}
 use Rattle.siri_base.specs.declared.status.Status.{Status}
-use Rattle.siri_base.specs.declared.status.Status.TheVariants as status
 use Rattle.siri_lines.specs.Ends.{Bytes}
 use Rattle.siri_lines.specs.Reports.{Reports, report_of}
 use Rattle.siri_lines.specs.RunResult.{verdict}

@@ -2,8 +2,8 @@
 
 ghost use Rattle.std.specs.Prelude.{◌≡◌, ◌++◌, IfOk, OnOk, OnErr};
 ghost use Rattle.std.specs.Io.KnownBytes.{Appends};
-ghost use Rattle.siri_base.specs.Causes.{HasOutsideCause};
-ghost use Rattle.siri_base.specs.MetFailures.{SinkMeets, has_failed};
+ghost use Rattle.siri_outside.specs.Causes.{HasOutsideCause};
+ghost use Rattle.siri_outside.specs.MetFailures.{SinkMeets, has_failed};
 ghost use Rattle.siri_lines.specs.Ends.{AppendsFront};
 ghost use Rattle.siri_world_model.specs.Lines as line;
 ghost use Rattle.siri_world_model.specs.Lines.{told_line, told_lines};
@@ -11,9 +11,10 @@ ghost use Rattle.siri_replay.specs.ReportLines.{ask_text, line_text, lines_text,
 ghost use Rattle.siri_document.specs.script.Spaced.{line_feed, spaced};
 
 use crate::words_said::{append_fed, append_said};
-use siri_base::{Name, OutOfMemory, OutsideError, Sink, append};
+use siri_base::{Name, OutOfMemory, append};
 use siri_document::{append_count, append_word, item_line, view_line, write_whole};
 use siri_lines::write_text;
+use siri_outside::{OutsideError, Sink};
 use siri_producer::Fed;
 use siri_view::{AskError, Held};
 use siri_wire::encode;

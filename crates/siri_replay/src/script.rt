@@ -2,15 +2,16 @@
 
 ghost use Rattle.std.specs.Prelude.{◌≡◌, [], ◌||◌, IfOk, Err};
 ghost use Rattle.siri_lines.specs.Brings.{Brings, StopCause, has_failed_to_write};
-ghost use Rattle.siri_base.specs.MetFailures.{SinkMeets};
+ghost use Rattle.siri_outside.specs.MetFailures.{SinkMeets};
 ghost use Rattle.siri_world_model.specs.Told.{is_start, told, world_after};
 ghost use Rattle.siri_replay.specs.Report.{World as Happened, by_told, event};
 ghost use Rattle.siri_replay.specs.inner.Standing.{Fits};
 
 use crate::report_line::write_lines;
 use crate::saying::line_said;
-use siri_base::{OutOfMemory, Sink};
+use siri_base::OutOfMemory;
 use siri_lines::{LineTaker, Stop};
+use siri_outside::Sink;
 use siri_world::{Event, StepError, World};
 use std::alloc::Global;
 

@@ -3,7 +3,7 @@
 use crate::given::table_of;
 use crate::members::{Members, has_only};
 use anyhow::{Context, Result};
-use siri_shelf::StoredRow;
+use siri_outside::StoredRow;
 use std::alloc::Global;
 
 /// A fact: what it is about, and what it says.

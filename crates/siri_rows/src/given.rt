@@ -2,8 +2,8 @@
 
 use crate::members::{Members, has_only, number_of, numbers_in};
 use anyhow::{Context, Result, anyhow, bail};
-use siri_base::{FailingConnection, List, Moment};
-use siri_shelf::Put;
+use siri_base::{List, Moment};
+use siri_outside::{FailingConnection, Put};
 use siri_time::read_moment;
 use std::alloc::Global;
 use toml::{Table, Value};

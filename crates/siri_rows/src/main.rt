@@ -46,7 +46,7 @@
 //!
 //! Exits with 0, with 1 where a row differs, with 2 where the files can't be read as rows.
 //!
-//! Stands on `siri_cli` for the call that is run, on `siri_base` and `siri_shelf` for the outside in memory, on
+//! Stands on `siri_cli` for the call that is run, on `siri_base` and `siri_outside` for the outside in memory, on
 //! `siri_time` for moments, and on `toml`.
 #![tactic(auto)]
 

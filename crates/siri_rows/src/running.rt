@@ -4,12 +4,12 @@ use crate::facts::{Facts, shelf_held};
 use crate::given::{Connection, Given};
 use crate::members::Members;
 use anyhow::{Result, bail};
-use siri_base::{
-    FailingCalls, FailingClock, FailingConnection, FailingKeeper, FailingSink, FailingSource,
-    FailingWire, List, Name, OutOfMemory, OutsideError, Source, Status,
-};
+use siri_base::{List, Name, OutOfMemory, Status};
 use siri_cli::run_all;
-use siri_shelf::{InMemoryShelf, Put, Shelf};
+use siri_outside::{
+    FailingCalls, FailingClock, FailingConnection, FailingKeeper, FailingSink, FailingSource,
+    FailingWire, InMemoryShelf, OutsideError, Put, Shelf, Source,
+};
 use std::alloc::Global;
 
 /// What comes of a row by a command of these words.

@@ -1,14 +1,14 @@
 -- Counts of faults never fall, so a run that ends early by a fault has raised one.
 use Rattle.std.proofs.Common.{◌≡◌, ◌≤◌, ◌⊎◌, ℕ, zero, suc, List, Bool, Err, refl, sym, ap, ◌∙◌, subst, arith, inl, inr}
 use Rattle.std.specs.Prelude.{IsTrue}
-use Rattle.siri_base.specs.Causes.{HasOutsideCause, Rose}
-use Rattle.siri_base.specs.OutsideCalls.{GivesMoment, RaisesNumber}
-use Rattle.siri_base.specs.Wires.{Listens, WireState}
-use Rattle.siri_base.specs.declared.errors.OutsideError.{OutsideError}
-use Rattle.siri_base.specs.declared.errors.OutsideError.TheVariants as outside
+use Rattle.siri_outside.specs.Causes.{HasOutsideCause, Rose}
+use Rattle.siri_outside.specs.OutsideCalls.{GivesMoment, RaisesNumber}
+use Rattle.siri_outside.specs.Wires.{Listens, WireState}
+use Rattle.siri_outside.specs.declared.errors.OutsideError.{OutsideError}
+use Rattle.siri_outside.specs.declared.errors.OutsideError.TheVariants as outside
 use Rattle.siri_base.specs.declared.status.Status.{Status}
 use Rattle.siri_base.specs.declared.status.Status.TheVariants as status
-use Rattle.siri_shelf.specs.Shelves.{CountsFault, after_fault}
+use Rattle.siri_outside.specs.Shelves.{CountsFault, after_fault}
 use Rattle.siri_runs.specs.Calls.{CountsShelf, Fails, Outside, Told}
 use Rattle.siri_runs.specs.Errors.{clock_error, keeper_error, shelf_error, status_of, wire_error}
 use Rattle.siri_runs.specs.Run.{EndsAtTurn, EndsInTurns, MakesTurns, Turning}

@@ -3,11 +3,11 @@ use Rattle.std.proofs.Common.{◌≡◌, ◌≤◌, ◌+◌, ◌-◌, ◌⊎◌,
 use Rattle.std.proofs.Common.{refl, sym, ap, ◌∙◌, subst, arith, inl, inr}
 use Rattle.std.specs.Prelude.{IsSome, IsSomeAnd, if◌then◌else◌, nat_eq}
 use Rattle.std.proofs.lemmas.Bool.{eqb-true}
-use Rattle.siri_base.specs.Failures.{IsDue, after_call}
-use Rattle.siri_base.specs.OutsideCalls.{ClockState, GivesMoment, KeeperState, RaisesNumber, WhereTold}
-use Rattle.siri_base.specs.Wires.{Accepts, Connection, Listens, TakesComing, WireState, accept_called}
-use Rattle.siri_base.specs.declared.errors.OutsideError.{OutsideError}
-use Rattle.siri_base.specs.declared.errors.OutsideError.TheVariants as outside
+use Rattle.siri_outside.specs.Failures.{IsDue, after_call}
+use Rattle.siri_outside.specs.OutsideCalls.{ClockState, GivesMoment, KeeperState, RaisesNumber, WhereTold}
+use Rattle.siri_outside.specs.Wires.{Accepts, Connection, Listens, TakesComing, WireState, accept_called}
+use Rattle.siri_outside.specs.declared.errors.OutsideError.{OutsideError}
+use Rattle.siri_outside.specs.declared.errors.OutsideError.TheVariants as outside
 use Rattle.siri_runs.specs.Calls.{Call, Fails, Outside, Told}
 use Rattle.siri_runs.specs.Enough.{HasConnections, HasEnough, HasMoments, HasNumber, NoneFails}
 use Rattle.siri_runs.specs.Errors.{clock_error, keeper_error, wire_error}

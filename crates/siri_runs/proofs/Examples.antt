@@ -1,6 +1,6 @@
 -- Small outsides, so that the definition of what is enough is tried: failures that are named for a later call don't count.
 use Rattle.std.proofs.Common.{ℕ, List, [], ◌∷◌, None, Some, arith}
-use Rattle.siri_base.specs.Wires.{WireState, unfailing}
+use Rattle.siri_outside.specs.Wires.{WireState, unfailing}
 use Rattle.siri_runs.specs.Calls.{Outside, outside_of, told_by}
 use Rattle.siri_runs.specs.Enough.{HasEnough}
 

@@ -1,8 +1,8 @@
 -- What is read of a connection, written to it, and sent over others takes none of the connections that are still to come.
 use Rattle.std.proofs.Common.{◌≡◌, ℕ, Bool, true, false, List, [], ◌∷◌, Option, None, Some, refl, sym, subst}
 use Rattle.std.specs.Prelude.{IsSome, IsSomeAnd}
-use Rattle.siri_base.specs.OutsideCalls.{WhereTold}
-use Rattle.siri_base.specs.Wires.{Connection, Present, WireState, hung_up}
+use Rattle.siri_outside.specs.OutsideCalls.{WhereTold}
+use Rattle.siri_outside.specs.Wires.{Connection, Present, WireState, hung_up}
 use Rattle.siri_http.specs.Connections.{OnConnection}
 use Rattle.siri_http.specs.Texts.{request_text}
 use Rattle.siri_http.specs.Exchanges.{dialled_of, is_due}

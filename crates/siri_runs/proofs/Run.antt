@@ -1,8 +1,8 @@
 -- A run, whole, of whichever command: what is said of it follows from what is known of the command's procedure.
 use Rattle.std.proofs.Common.{◌≡◌, ◌⊎◌, ℕ, List, Bool, true, false, refl, sym, ap, ◌∙◌, subst, inl, inr}
 use Rattle.std.specs.Prelude.{IsTrue}
-use Rattle.siri_base.specs.Causes.{Rose}
-use Rattle.siri_base.specs.MetFailures.{is_write_fault}
+use Rattle.siri_outside.specs.Causes.{Rose}
+use Rattle.siri_outside.specs.MetFailures.{is_write_fault}
 use Rattle.siri_base.specs.declared.status.Status.{Status}
 use Rattle.siri_base.specs.declared.status.Status.TheVariants as status
 use Rattle.siri_lines.specs.Ends.{Bytes, ReadsAll}

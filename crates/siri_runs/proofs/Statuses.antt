@@ -1,6 +1,6 @@
 -- What a status says of a run: whether a source or a sink ended it, and whether its work was done.
 use Rattle.std.proofs.Common.{◌≡◌, [], None, Some, true, false, refl, subst}
-use Rattle.siri_base.specs.MetFailures.{SourceMeets, is_read_fault, is_write_fault}
+use Rattle.siri_outside.specs.MetFailures.{SourceMeets, is_read_fault, is_write_fault}
 use Rattle.siri_base.specs.declared.status.Status.{Status}
 use Rattle.siri_base.specs.declared.status.Status.TheVariants as status
 use Rattle.siri_lines.specs.Ends.{Bytes, ReadsAll}

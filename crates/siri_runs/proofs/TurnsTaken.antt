@@ -1,7 +1,7 @@
 -- A turn of an end, whichever it is: the wire's count never falls, and none of the connections that are still to come is taken.
 use Rattle.std.proofs.Common.{◌≤◌, ℕ, zero, suc, List, [], ◌∷◌, ◌++◌, Option, None, Some, ap, sym, subst, arith}
 use Rattle.std.specs.Prelude.{IsSomeAnd}
-use Rattle.siri_base.specs.Wires.{WireState}
+use Rattle.siri_outside.specs.Wires.{WireState}
 use Rattle.siri_http.specs.Requests.{Asks, Meaning}
 use Rattle.siri_http.specs.Texts.{response_text}
 use Rattle.siri_http.specs.declared.posting.Sent.{Sent}

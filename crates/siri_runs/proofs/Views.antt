@@ -1,10 +1,10 @@
 -- What a command says of its end, turn by turn, it says of a whole run.
 use Rattle.std.specs.Prelude.{⊤}
 use Rattle.std.proofs.Common.{◌≡◌, ◌⊎◌, ℕ, zero, suc, Ok, Err, refl, sym, ap, ◌∙◌, subst, arith, inl, inr}
-use Rattle.siri_base.specs.Wires.{Accepts, WireState}
-use Rattle.siri_base.specs.declared.errors.OutsideError.{OutsideError}
-use Rattle.siri_base.specs.declared.errors.OutsideError.TheVariants as outside
-use Rattle.siri_shelf.specs.Shelves.{CountsFault, after_fault}
+use Rattle.siri_outside.specs.Wires.{Accepts, WireState}
+use Rattle.siri_outside.specs.declared.errors.OutsideError.{OutsideError}
+use Rattle.siri_outside.specs.declared.errors.OutsideError.TheVariants as outside
+use Rattle.siri_outside.specs.Shelves.{CountsFault, after_fault}
 use Rattle.siri_http.specs.Requests.{Meaning}
 use Rattle.siri_http.specs.declared.tally.Tally.{Tally}
 use Rattle.siri_ends.specs.At.{At, at_of}

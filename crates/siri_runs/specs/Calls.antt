@@ -1,13 +1,13 @@
 -- Calls of the outside that end a run where they fail.
 use Rattle.std.specs.Prelude.{◌≡◌, ℕ, Option, Result, Ok, Err}
-use Rattle.siri_base.specs.Causes.{HasOutsideCause}
-use Rattle.siri_base.specs.OutsideCalls.{ClockState, KeeperState, WhereTold}
-use Rattle.siri_base.specs.Wires.{WireState}
-use Rattle.siri_base.specs.declared.outside.Clock.{Ghosts as ClockGhosts}
-use Rattle.siri_base.specs.declared.outside.Keeper.{Ghosts as KeeperGhosts}
-use Rattle.siri_base.specs.declared.wire.Wire.{Ghosts as WireGhosts}
-use Rattle.siri_base.specs.declared.errors.OutsideError.{OutsideError}
-use Rattle.siri_shelf.specs.Shelves.{after_fault}
+use Rattle.siri_outside.specs.Causes.{HasOutsideCause}
+use Rattle.siri_outside.specs.OutsideCalls.{ClockState, KeeperState, WhereTold}
+use Rattle.siri_outside.specs.Wires.{WireState}
+use Rattle.siri_outside.specs.declared.outside.Clock.{Ghosts as ClockGhosts}
+use Rattle.siri_outside.specs.declared.outside.Keeper.{Ghosts as KeeperGhosts}
+use Rattle.siri_outside.specs.declared.wire.Wire.{Ghosts as WireGhosts}
+use Rattle.siri_outside.specs.declared.errors.OutsideError.{OutsideError}
+use Rattle.siri_outside.specs.Shelves.{after_fault}
 use Rattle.siri_runs.specs.declared.network_error.NetworkError.{NetworkError}
 use Rattle.siri_runs.specs.declared.network_error.NetworkError.TheVariants as errors
 

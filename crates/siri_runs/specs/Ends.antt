@@ -1,10 +1,10 @@
 -- The turns of a run, of an end as it is: it is given the clock's moment, it takes the turn of the connection that is there, and the
 -- turn is over. Whatever a command says of its end follows from these.
 use Rattle.std.specs.Prelude.{◌≡◌, ◌⊎◌, ◌+◌, ℕ, Ok, Err}
-use Rattle.siri_base.specs.OutsideCalls.{GivesMoment}
-use Rattle.siri_base.specs.Wires.{Accepts, WireState}
-use Rattle.siri_base.specs.declared.errors.OutsideError.{OutsideError}
-use Rattle.siri_shelf.specs.Shelves.{CountsFault}
+use Rattle.siri_outside.specs.OutsideCalls.{GivesMoment}
+use Rattle.siri_outside.specs.Wires.{Accepts, WireState}
+use Rattle.siri_outside.specs.declared.errors.OutsideError.{OutsideError}
+use Rattle.siri_outside.specs.Shelves.{CountsFault}
 use Rattle.siri_http.specs.Requests.{Meaning}
 use Rattle.siri_http.specs.declared.tally.Tally.{Tally}
 use Rattle.siri_ends.specs.At.{At, Goes, Holding, at_of}

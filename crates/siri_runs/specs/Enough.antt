@@ -1,8 +1,8 @@
 -- What an outside that tells what it holds has to have, for a run over the network to do its work whole. Nothing is asked of what
 -- its connections bring, of their failures, or of what is dialled.
 use Rattle.std.specs.Prelude.{ℕ, ◌+◌, ◌<◌, ◌≤◌, List, [], ◌∷◌, length, ⊤, IsSomeAnd}
-use Rattle.siri_base.specs.OutsideCalls.{ClockState, KeeperState}
-use Rattle.siri_base.specs.Wires.{WireState}
+use Rattle.siri_outside.specs.OutsideCalls.{ClockState, KeeperState}
+use Rattle.siri_outside.specs.Wires.{WireState}
 use Rattle.siri_base.specs.declared.status.Status.{Status}
 use Rattle.siri_base.specs.declared.status.Status.TheVariants as status
 use Rattle.siri_runs.specs.Calls.{Outside}

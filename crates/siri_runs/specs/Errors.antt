@@ -1,6 +1,6 @@
 -- Why a run over the network ends before its connections are served, and the status that it ends with.
-use Rattle.siri_base.specs.declared.errors.OutsideError.{OutsideError}
-use Rattle.siri_base.specs.declared.errors.OutsideError.TheVariants as outside
+use Rattle.siri_outside.specs.declared.errors.OutsideError.{OutsideError}
+use Rattle.siri_outside.specs.declared.errors.OutsideError.TheVariants as outside
 use Rattle.siri_base.specs.declared.status.Status.{Status}
 use Rattle.siri_base.specs.declared.status.Status.TheVariants as status
 use Rattle.siri_runs.specs.declared.network_error.NetworkError.{NetworkError}

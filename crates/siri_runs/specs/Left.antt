@@ -1,7 +1,7 @@
 -- What stands beside an end after a turn that ended the run.
 use Rattle.std.specs.Prelude.{◌⊎◌, ℕ, Ok}
-use Rattle.siri_base.specs.OutsideCalls.{GivesMoment}
-use Rattle.siri_base.specs.Wires.{Accepts, WireState}
+use Rattle.siri_outside.specs.OutsideCalls.{GivesMoment}
+use Rattle.siri_outside.specs.Wires.{Accepts, WireState}
 use Rattle.siri_runs.specs.Calls.{Call, Outside, Told}
 use Rattle.siri_runs.specs.Turns.{FailsToAccept, FailsToTell, Running}
 use Rattle.siri_runs.specs.declared.network_error.NetworkError.{NetworkError}

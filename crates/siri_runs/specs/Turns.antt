@@ -1,8 +1,8 @@
 -- The turns of a run over the network, of whichever end: a connection is accepted, the clock tells a moment, and the connection is
 -- answered.
 use Rattle.std.specs.Prelude.{◌≡◌, ◌⊎◌, ℕ, zero, suc, ◌<◌, Ok}
-use Rattle.siri_base.specs.OutsideCalls.{GivesMoment}
-use Rattle.siri_base.specs.Wires.{Accepts, WireState}
+use Rattle.siri_outside.specs.OutsideCalls.{GivesMoment}
+use Rattle.siri_outside.specs.Wires.{Accepts, WireState}
 use Rattle.siri_runs.specs.Calls.{Call, Fails, Outside, Told}
 use Rattle.siri_runs.specs.Errors.{clock_error, wire_error}
 use Rattle.siri_runs.specs.declared.network_error.NetworkError.{NetworkError}

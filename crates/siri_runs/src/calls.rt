@@ -1,14 +1,15 @@
 //! The calls of the outside that end a run where they fail.
 
 ghost use Rattle.std.specs.Prelude.{◌≤◌, IfOk, IsErrOf, OnOk};
-ghost use Rattle.siri_base.specs.OutsideCalls.{GivesMoment, RaisesNumber};
-ghost use Rattle.siri_base.specs.Wires.{Accepts, Listens};
+ghost use Rattle.siri_outside.specs.OutsideCalls.{GivesMoment, RaisesNumber};
+ghost use Rattle.siri_outside.specs.Wires.{Accepts, Listens};
 ghost use Rattle.siri_runs.specs.Calls.{Comes, told_by};
 ghost use Rattle.siri_runs.specs.Errors.{clock_error, keeper_error, wire_error};
 ghost use Rattle.siri_runs.specs.declared.network_error.NetworkError.TheVariants as error;
 
 use crate::NetworkError;
-use siri_base::{Clock, Keeper, Moment, Name, Wire};
+use siri_base::{Moment, Name};
+use siri_outside::{Clock, Keeper, Wire};
 
 /// The next start number, from 1 to 99,999,999,999. `KeeperFault` only where the keeper's count of faults rose.
 pub fn raise<E: Keeper>(keeper: &mut E) -> Result<u64, NetworkError>

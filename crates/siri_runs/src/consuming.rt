@@ -2,8 +2,8 @@
 
 ghost use Rattle.std.specs.Prelude.{◌≡◌, ◌≤◌, length, IfErr, IfOk, OnErr, OnOk, Some, []};
 ghost use Rattle.std.specs.Io.KnownBytes.{Appends};
-ghost use Rattle.siri_base.specs.Causes.{HasOutsideCause, Rose};
-ghost use Rattle.siri_base.specs.MetFailures.{SinkMeets, SourceMeets, has_failed, is_read_fault, is_write_fault};
+ghost use Rattle.siri_outside.specs.Causes.{HasOutsideCause, Rose};
+ghost use Rattle.siri_outside.specs.MetFailures.{SinkMeets, SourceMeets, has_failed, is_read_fault, is_write_fault};
 ghost use Rattle.siri_lines.specs.Ends.{AppendsFront, ReadsAll};
 ghost use Rattle.siri_lines.specs.Pieces.{ReadsNoFurther};
 ghost use Rattle.siri_lines.specs.RunResult.{verdict};
@@ -26,9 +26,10 @@ use asking::ask_all;
 pub use opening::own_address;
 use opening::{OpenedConsumer, open};
 pub use reading::read_wanted;
-use siri_base::{Clock, Keeper, Name, OutOfMemory, OutsideError, Sink, Source, Status, Wire};
+use siri_base::{Name, OutOfMemory, Status};
 use siri_ends::Tally;
 use siri_http::{Address, PostAlone};
+use siri_outside::{Clock, Keeper, OutsideError, Sink, Source, Wire};
 use siri_view::Consumer;
 use std::alloc::Global;
 pub use views::write_views;

@@ -4,7 +4,8 @@ ghost use Rattle.std.specs.Prelude.{◌≡◌, ◌≢◌};
 ghost use Rattle.siri_runs.specs.Errors.{keeper_error, shelf_error, status_of, wire_error};
 ghost use Rattle.siri_runs.specs.declared.network_error.NetworkError.TheVariants as variant;
 
-use siri_base::{OutOfMemory, OutsideError, Status};
+use siri_base::{OutOfMemory, Status};
+use siri_outside::OutsideError;
 
 /// Why a run over the network ends before its connections are served.
 #[derive(Clone, Copy, Debug, PartialEq, Eq)]

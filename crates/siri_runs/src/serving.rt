@@ -1,8 +1,8 @@
 //! The commands `serve` and `lite`.
 
 ghost use Rattle.std.specs.Prelude.{◌≡◌, IfErr, IfOk, Some, []};
-ghost use Rattle.siri_base.specs.Causes.{Rose};
-ghost use Rattle.siri_base.specs.MetFailures.{SinkMeets, is_write_fault};
+ghost use Rattle.siri_outside.specs.Causes.{Rose};
+ghost use Rattle.siri_outside.specs.MetFailures.{SinkMeets, is_write_fault};
 ghost use Rattle.siri_runs.specs.Calls.{outside};
 ghost use Rattle.siri_runs.specs.Enough.{EndsWhole, HasEnough};
 ghost use Rattle.siri_runs.specs.Run.{Completes, EndsBefore};
@@ -14,8 +14,9 @@ mod opening;
 use crate::summary::write_summary;
 use crate::turns::run_turns;
 use opening::open;
-use siri_base::{Clock, Keeper, Name, OutsideError, Sink, Status, Wire};
+use siri_base::{Name, Status};
 use siri_http::{Asking, Tally};
+use siri_outside::{Clock, Keeper, OutsideError, Sink, Wire};
 use siri_producer::Producer;
 use std::alloc::Global;
 

@@ -1,15 +1,16 @@
 //! The line that a run over the network ends with.
 
 ghost use Rattle.std.specs.Prelude.{◌≡◌, ◌++◌, IfOk, OnErr, OnOk};
-ghost use Rattle.siri_base.specs.Causes.{HasOutsideCause};
-ghost use Rattle.siri_base.specs.MetFailures.{SinkMeets, has_failed};
+ghost use Rattle.siri_outside.specs.Causes.{HasOutsideCause};
+ghost use Rattle.siri_outside.specs.MetFailures.{SinkMeets, has_failed};
 ghost use Rattle.std.specs.Io.KnownBytes.{Appends};
 ghost use Rattle.siri_lines.specs.Ends.{AppendsFront};
 ghost use Rattle.siri_runs.specs.Summaries.{counted_text, summary_text};
 
-use siri_base::{OutOfMemory, OutsideError, Sink, append, append_number};
+use siri_base::{OutOfMemory, append, append_number};
 use siri_http::Tally;
 use siri_lines::write_text;
+use siri_outside::{OutsideError, Sink};
 use std::alloc::Global;
 
 /// Writes `served N refused R dropped D unsent U` and a line feed.

@@ -1,16 +1,16 @@
 //! The turns of a run, of whichever end.
 
 ghost use Rattle.std.specs.Prelude.{◌+◌, ◌-◌, ◌^◌, ◌<◌, IfErr, OnOk};
-ghost use Rattle.siri_base.specs.OutsideCalls.{KeeperState};
+ghost use Rattle.siri_outside.specs.OutsideCalls.{KeeperState};
 ghost use Rattle.siri_runs.specs.Calls.{CountsShelf, Told, outside_with};
 ghost use Rattle.siri_runs.specs.Ends.{RunsTurn, StopsTurns, in_run};
 ghost use Rattle.siri_runs.specs.Turns.{Turns, TurnsFail, running};
 
 use crate::NetworkError;
 use crate::calls::{accept, now};
-use siri_base::{Clock, Wire};
 use siri_ends::{Taker, take_turn};
 use siri_http::{Asking, Tally};
+use siri_outside::{Clock, Wire};
 use std::alloc::Global;
 
 /// Accepts a connection, gives the end a moment, and lets it take the turn of the connection, after so many

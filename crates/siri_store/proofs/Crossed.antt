@@ -292,7 +292,8 @@ first_edge from to i = option_map_or (λ edge. edge) (least_edge from to i) 0
 pub service_moments : (s : Service) (i : Item) → moments_of (by_edge s) i ≡ cond (is_of s i) (edges_of i) []
 service_moments s i = ap (λ b. cond (nat_eq (by_edge s) by_end) (listed (own_end_of i)) (cond (nat_eq (by_edge s) (by_edge (service_of i)) || b) (edges_of i) [])) (unnamed_edge s i) ∙ by s i
   where
-    by : (s : Service) (i : Item) → cond (nat_eq (by_edge s) by_end) (listed (own_end_of i)) (cond (nat_eq (by_edge s) (by_edge (service_of i)) || false) (edges_of i) []) ≡ cond (is_of s i) (edges_of i) []
+    by : (s : Service) (i : Item) → cond (nat_eq (by_edge s) by_end) (listed (own_end_of i)) (cond (nat_eq (by_edge s) (by_edge (service_of i)) || false) (edges_of i) [])
+        ≡ cond (is_of s i) (edges_of i) []
     by service.Stop (item.Visit v) = refl
     by service.Stop (item.Journey j) = refl
     by service.Stop (item.Vehicle v) = refl

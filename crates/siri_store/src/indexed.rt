@@ -1,6 +1,6 @@
 //! The current items in order of key, with the order of their ends and those of their edges.
 
-ghost use Rattle.std.specs.Prelude.{◌≡◌, [], length, is_some, option_map, true, IfOk, IfSome, IfNone, OnOk, OnErr};
+ghost use Rattle.std.specs.Prelude.{◌≡◌, [], is_some, option_map, true, IfOk, IfSome, IfNone, OnOk, OnErr};
 ghost use Rattle.std.specs.Map.{lookup, remove_entry};
 ghost use Rattle.std.specs.BTreeMap.{insert_entry, is_at};
 ghost use Rattle.siri_records.specs.Keyed.{InOrder, item_of};

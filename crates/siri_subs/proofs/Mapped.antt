@@ -93,11 +93,13 @@ module _ {E F : Type 0} (slot_of : E → F) where
       ap (λ b. cond b (without s i (with_mapped_slots slot_of table)) (with_mapped_slots slot_of table))
       (is_ended_mapped number s i table) ∙ ended_case (is_ended_by number s i table) s i table
 
-  pub renumbered_mapped : (n b : ℕ) (s i : List ℕ) (slot : E) (table : List (Row E)) → renumbered n b s i (slot_of slot) (with_mapped_slots slot_of table) ≡ with_mapped_slots slot_of (renumbered n b s i slot table)
+  pub renumbered_mapped : (n b : ℕ) (s i : List ℕ) (slot : E) (table : List (Row E)) → renumbered n b s i (slot_of slot) (with_mapped_slots slot_of table)
+      ≡ with_mapped_slots slot_of (renumbered n b s i slot table)
   renumbered_mapped n b s i slot [] = refl
   renumbered_mapped n b s i slot (h ∷ table) = λ j. renumbered_case (is_of s i h && is_renumbered_by n b h) h j ∷ renumbered_mapped n b s i slot table j
     where
-      renumbered_case : (c : Bool) (h : Row E) → cond c (record (mapped_row slot_of h) { number = n; slot = slot_of slot }) (mapped_row slot_of h) ≡ mapped_row slot_of (cond c (record h { number = n; slot = slot }) h)
+      renumbered_case : (c : Bool) (h : Row E) → cond c (record (mapped_row slot_of h) { number = n; slot = slot_of slot }) (mapped_row slot_of h)
+          ≡ mapped_row slot_of (cond c (record h { number = n; slot = slot }) h)
       renumbered_case true h = refl
       renumbered_case false h = refl
 

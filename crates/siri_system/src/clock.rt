@@ -2,7 +2,8 @@
 
 ghost use Rattle.std.specs.Prelude.{None, ◌≡◌};
 
-use siri_base::{Clock, Failed, Moment};
+use siri_base::Moment;
+use siri_outside::{Clock, Failed};
 use std::time::SystemTime;
 
 /// The system's clock. It fails before 1970, after the year 9999, and where the system does.

@@ -2,7 +2,7 @@
 
 ghost use Rattle.std.specs.Prelude.{◌≡◌, ◌≤◌, None, IfOk};
 
-use siri_base::{Keeper, OutsideError};
+use siri_outside::{Keeper, OutsideError};
 use std::fs::File;
 use std::io::{ErrorKind, Write};
 use std::{fs, io};

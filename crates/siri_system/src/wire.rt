@@ -1,12 +1,13 @@
 //! Connections over TCP.
 
 ghost use Rattle.std.specs.Prelude.{◌≡◌, ◌≤◌, None, IsSome};
-ghost use Rattle.siri_base.specs.Causes.{Rose};
+ghost use Rattle.siri_outside.specs.Causes.{Rose};
 
 use crate::beside::{Beside, is_left_alone};
 use crate::connection::{Connection, Whose};
 use crate::gone::Change;
-use siri_base::{Failed, Name, OutsideError, Wire};
+use siri_base::Name;
+use siri_outside::{Failed, OutsideError, Wire};
 use std::io;
 use std::io::ErrorKind;
 use std::net::SocketAddr;

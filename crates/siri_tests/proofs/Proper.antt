@@ -1,5 +1,5 @@
 -- What is read of a document is proper.
-use Rattle.std.proofs.Common.{◌≡◌, ℕ, List, Ok, Err, Result}
+use Rattle.std.proofs.Common.{◌≡◌, ℕ, List, Ok}
 use Rattle.siri_messages.specs.declared.message.Message.{Message}
 use Rattle.siri_wire.specs.Documents.{message_of}
 use Rattle.siri_wire.specs.laws.ProperMessages.{IsProper}

@@ -6,7 +6,7 @@ ghost use Rattle.siri_wire.specs.laws.ProperMessages.{IsProper};
 use siri_base::{List, Moment, Name, OutOfMemory};
 use siri_keep::{KeepError, Kept};
 use siri_messages::Message;
-use siri_shelf::{Put, Shelf};
+use siri_outside::{Put, Shelf};
 use siri_wire::decode;
 use std::alloc::Global;
 use std::test::Fail;

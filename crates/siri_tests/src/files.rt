@@ -1,9 +1,9 @@
 //! A shelf in a file.
 
 use crate::rows::{FIRST, SECOND, are_told, puts};
-use siri_base::{List, Name, OutOfMemory, OutsideError};
-use siri_file_shelf::FileShelf;
-use siri_shelf::{Put, Shelf};
+use siri_base::{List, Name, OutOfMemory};
+use siri_outside::{OutsideError, Put, Shelf};
+use siri_system::FileShelf;
 use std::alloc::Global;
 use std::test::Fail;
 

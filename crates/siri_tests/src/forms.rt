@@ -3,10 +3,9 @@
 
 ghost use Rattle.std.specs.Prelude.{Some, []};
 
-use siri_base::{
-    Failed, InMemoryClock, InMemoryKeeper, InMemorySink, InMemoryWire, Moment, Name, Source, Status,
-};
+use siri_base::{Moment, Name, Status};
 use siri_http::PostAlone;
+use siri_outside::{Failed, InMemoryClock, InMemoryKeeper, InMemorySink, InMemoryWire, Source};
 use siri_replay::replay;
 use siri_runs::serve;
 use std::alloc::Global;

@@ -2,7 +2,7 @@
 
 use crate::rows::{FIRST, SECOND, are_told, puts};
 use siri_base::Name;
-use siri_shelf::{InMemoryShelf, Shelf};
+use siri_outside::{InMemoryShelf, Shelf};
 use std::test::Fail;
 
 #[test]

@@ -3,7 +3,7 @@
 use crate::documents::{EIGHT, at, open_kept, put_rows, read};
 use siri_base::List;
 use siri_keep::{KeepError, Kept};
-use siri_shelf::{InMemoryShelf, Shelf};
+use siri_outside::{InMemoryShelf, Shelf};
 use std::alloc::{AllocError, Global};
 use std::test::Fail;
 

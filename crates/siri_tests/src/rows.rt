@@ -1,7 +1,7 @@
 //! Rows that a producer keeps, written to a shelf and told by it.
 
-use siri_base::{List, OutOfMemory, OutsideError};
-use siri_shelf::{Put, Row, Shelf};
+use siri_base::{List, OutOfMemory};
+use siri_outside::{OutsideError, Put, Row, Shelf};
 use std::alloc::Global;
 
 /// A table, a key, and the text that is put there; without a text the row goes.

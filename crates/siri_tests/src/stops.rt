@@ -7,7 +7,7 @@ use crate::documents::{
 use siri_base::{List, OutOfMemory};
 use siri_keep::Kept;
 use siri_messages::Message;
-use siri_shelf::{InMemoryShelf, Put, Shelf, StoredRow};
+use siri_outside::{InMemoryShelf, Put, Shelf, StoredRow};
 use siri_wire::encode;
 use std::alloc::Global;
 use std::test::Fail;

@@ -1,7 +1,8 @@
 //! The adapters over TCP, the system's clock and the file of the start number.
 
-use siri_base::{Clock, Keeper, Moment, Name, Wire};
+use siri_base::{Moment, Name};
 use siri_ends::{PostAlone, Tally, serve_one};
+use siri_outside::{Clock, Keeper, Wire};
 use siri_producer::Producer;
 use siri_system::{FileKeeper, SystemClock, TcpWire};
 use std::fs;

@@ -2,13 +2,14 @@
 
 ghost use Rattle.std.specs.Prelude.{◌++◌, OnOk, OnErr};
 ghost use Rattle.std.specs.Io.KnownBytes.{Appends};
-ghost use Rattle.siri_base.specs.Causes.{HasOutsideCause};
-ghost use Rattle.siri_base.specs.MetFailures.{SinkMeets, has_failed};
+ghost use Rattle.siri_outside.specs.Causes.{HasOutsideCause};
+ghost use Rattle.siri_outside.specs.MetFailures.{SinkMeets, has_failed};
 ghost use Rattle.siri_lines.specs.Ends.{AppendsFront};
 ghost use Rattle.siri_document.specs.script.Spaced.{line_feed};
 
-use siri_base::{OutsideError, Sink, append};
+use siri_base::append;
 use siri_lines::write_text;
+use siri_outside::{OutsideError, Sink};
 
 /// Writes a text and a line feed.
 #[tactic(auto, using(siri_lines::proofs::Meeting::sink_none))]

@@ -1,6 +1,6 @@
 -- What a query is for a run: the POST of its document, by a connection in the place of its own.
 use Rattle.std.specs.Prelude.{◌≡◌, ℕ, Bool, List, [], codes, Some, Ok}
-use Rattle.siri_base.specs.Wires.{Connection, Present, WireState, hung_up}
+use Rattle.siri_outside.specs.Wires.{Connection, Present, WireState, hung_up}
 use Rattle.siri_http.specs.Messages.{Brings, IsRequest, ReadsMessage}
 use Rattle.siri_http.specs.Requests.{Asks, post_alone}
 use Rattle.siri_http.specs.Responses.{Responds}

@@ -1,9 +1,9 @@
 -- Inner words: how far a message was read.
 use Rattle.std.specs.Prelude.{◌≡◌, ⊤, ℕ, ◌-◌, ◌≤◌, ◌<◌, false, MatchBool, nat_le, nat_lt, List, [], ◌++◌, length, take, Option, None, Some}
 use Rattle.std.specs.Prelude.{Result, if◌then◌else◌}
-use Rattle.siri_base.specs.Failures.{Passes}
-use Rattle.siri_base.specs.MetFailures.{Meets}
-use Rattle.siri_base.specs.Wires.{Present}
+use Rattle.siri_outside.specs.Failures.{Passes}
+use Rattle.siri_outside.specs.MetFailures.{Meets}
+use Rattle.siri_outside.specs.Wires.{Present}
 use Rattle.siri_http.specs.declared.errors.HttpError.{HttpError}
 use Rattle.siri_http.specs.declared.errors.HttpError.TheVariants as http
 use Rattle.siri_http.specs.declared.scan.HeadText.{HeadText}

@@ -1,5 +1,6 @@
 -- A request that is written as a first line and fields: it is read as that.
-use Rattle.std.proofs.Common.{◌≡◌, ◌≤◌, ◌+◌, ℕ, true, false, cond, List, [], ◌∷◌, ◌++◌, Some, Ok, Err, length, take, drop, map, All, codes, refl, sym, ap, ◌∙◌, subst, arith, append_assoc, append-nil, length-append, take_at, drop_at, le-leb, le-ltb}
+use Rattle.std.proofs.Common.{◌≡◌, ◌≤◌, ◌+◌, ℕ, true, false, cond, List, [], ◌∷◌, ◌++◌, Some, Ok, Err, length, take, drop, map, All, codes, refl, sym, ap, ◌∙◌, subst, arith, append_assoc}
+use Rattle.std.proofs.Common.{append-nil, length-append, take_at, drop_at, le-leb, le-ltb}
 use Rattle.std.specs.Prelude.{⊤, MatchBool, nat_le, nat_lt}
 use Rattle.std.specs.Char.{is_ascii_graphic}
 use Rattle.std.specs.List.{flat_map, list_all}

@@ -1,6 +1,6 @@
 -- A connection is accepted and answered as the one in its place is.
 use Rattle.std.proofs.Common.{◌≡◌, ◌++◌, ℕ, suc, Bool, List, [], ◌∷◌, Option, None, Some, option_map, option_to_list, sym, ap, ap₂, ◌∙◌, subst}
-use Rattle.siri_base.specs.Wires.{Connection, Present, TakesComing, WireState, accept_called, hung_up, hung_up_after}
+use Rattle.siri_outside.specs.Wires.{Connection, Present, TakesComing, WireState, accept_called, hung_up, hung_up_after}
 use Rattle.siri_http.specs.Connections.{OnPresent, passing}
 use Rattle.siri_http.specs.Requests.{Asks, Meaning}
 use Rattle.siri_http.specs.Responses.{Responded, Responds, is_whole}

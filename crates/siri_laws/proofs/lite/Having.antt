@@ -1,5 +1,6 @@
 -- There are connections in the places of others.
-use Rattle.std.proofs.Common.{◌≡◌, ◌≤◌, ◌+◌, inl, inr, ℕ, Bool, true, false, cond, List, [], ◌∷◌, ◌++◌, Option, None, Some, Ok, Err, Result, option_map, take, length, codes, refl, sym, ap, ◌∙◌, subst, arith, length-append, length-take, length-drop, is_some}
+use Rattle.std.proofs.Common.{◌≡◌, ◌≤◌, ◌+◌, inl, inr, ℕ, Bool, true, false, cond, List, [], ◌∷◌, ◌++◌, Option, None, Some, Ok, Err, Result, option_map, take, length, codes, refl, sym, ap}
+use Rattle.std.proofs.Common.{◌∙◌, subst, arith, length-append, length-take, length-drop, is_some}
 use Rattle.std.specs.Prelude.{⊤, MatchBool, ◌==◌, bytes_eq, nat_lt, unwrap_or}
 use Rattle.std.specs.List.{position_or_len}
 use Rattle.std.proofs.lemmas.Bool.{false≢true}
@@ -7,7 +8,7 @@ use Rattle.std.proofs.lemmas.Slice.Eq.{bytes_eq-Decides}
 use Rattle.httparse.specs.Grammar.{RequestHead, ReadsRequest, print_blank, print_end, print_section, print_version}
 use Rattle.httparse.proofs.GrammarLemmas.{print_request-append}
 use Rattle.serde_json.specs.Written.{compact_text}
-use Rattle.siri_base.specs.Wires.{Connection}
+use Rattle.siri_outside.specs.Wires.{Connection}
 use Rattle.siri_records.specs.declared.item.Service.{Service}
 use Rattle.siri_http.specs.declared.errors.HttpError.{HttpError}
 use Rattle.siri_http.specs.declared.errors.HttpError.TheVariants as http

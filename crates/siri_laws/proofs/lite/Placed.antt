@@ -4,7 +4,7 @@ use Rattle.std.specs.Prelude.{⊤, MatchBool, bytes_eq, nat_eq}
 use Rattle.std.specs.List.{starts_with}
 use Rattle.std.proofs.lemmas.Bool.{and_parts, false≢true}
 use Rattle.std.proofs.lemmas.Slice.Eq.{bytes_eq-Decides}
-use Rattle.siri_base.specs.Wires.{Connection, Present}
+use Rattle.siri_outside.specs.Wires.{Connection, Present}
 use Rattle.siri_http.specs.declared.errors.HttpError.{HttpError}
 use Rattle.siri_http.specs.declared.errors.HttpError.TheVariants as http
 use Rattle.siri_http.specs.declared.asked.Asked.{Asked}

@@ -1,8 +1,8 @@
 -- A whole run, by another meaning over the connections in the places of those that it accepts.
 use Rattle.std.proofs.Common.{◌≡◌, ◌+◌, inl, inr, ℕ, List, Some, Ok, Err, sym, ap, subst, arith}
-use Rattle.siri_base.specs.Wires.{Connection, Listens, WireState}
-use Rattle.siri_base.specs.declared.errors.OutsideError.{OutsideError}
-use Rattle.siri_base.specs.declared.errors.OutsideError.TheVariants as outside
+use Rattle.siri_outside.specs.Wires.{Connection, Listens, WireState}
+use Rattle.siri_outside.specs.declared.errors.OutsideError.{OutsideError}
+use Rattle.siri_outside.specs.declared.errors.OutsideError.TheVariants as outside
 use Rattle.siri_base.specs.declared.status.Status.{Status}
 use Rattle.siri_base.specs.declared.status.Status.TheVariants as status
 use Rattle.siri_http.specs.Requests.{Meaning, post_alone}

@@ -1,7 +1,7 @@
 -- What is sent over connections that are dialled is the same, whichever connections are to come; and none of these is taken.
 use Rattle.std.proofs.Common.{◌≡◌, inl, inr, ℕ, zero, suc, Bool, true, false, List, [], ◌∷◌, Option, None, Some, refl, sym, ap, ◌∙◌, subst}
-use Rattle.siri_base.specs.OutsideCalls.{WhereTold}
-use Rattle.siri_base.specs.Wires.{Connection, Present, WireState}
+use Rattle.siri_outside.specs.OutsideCalls.{WhereTold}
+use Rattle.siri_outside.specs.Wires.{Connection, Present, WireState}
 use Rattle.siri_http.specs.Connections.{OnPresent}
 use Rattle.siri_http.specs.Exchanges.{dialled, dialled_of, is_due}
 use Rattle.siri_http.specs.Posts.{ByDial, Posts, PostsTo, Talked}

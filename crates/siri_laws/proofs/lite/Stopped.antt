@@ -1,8 +1,8 @@
 -- Where memory was wanting in a turn, a turn of the connection in its place may stop alike.
 use Rattle.std.proofs.Common.{◌≡◌, ◌-◌, ◌⊎◌, ◌++◌, inl, inr, ℕ, List, [], ◌∷◌, Option, None, Some, Err, option_map, option_to_list, refl, sym, ap, ◌∙◌, arith}
-use Rattle.siri_base.specs.Failures.{Passes}
-use Rattle.siri_base.specs.OutsideCalls.{WhereTold}
-use Rattle.siri_base.specs.Wires.{Connection, Present, WireState, over_texts}
+use Rattle.siri_outside.specs.Failures.{Passes}
+use Rattle.siri_outside.specs.OutsideCalls.{WhereTold}
+use Rattle.siri_outside.specs.Wires.{Connection, Present, WireState, over_texts}
 use Rattle.siri_http.specs.declared.errors.HttpError.TheVariants as http
 use Rattle.siri_http.specs.Connections.{OnConnection, OnPresent}
 use Rattle.siri_http.specs.Requests.{Asks, Meaning}

@@ -1,7 +1,7 @@
 -- What is told, and goes on to be told.
 use Rattle.std.proofs.Common.{◌≡◌, ◌++◌, ◌∷◌, [], List, Option, None, Some, option_map, option_to_list, refl, sym, ap, ◌∙◌, subst, subst₂}
-use Rattle.siri_base.specs.OutsideCalls.{WhereTold}
-use Rattle.siri_base.specs.Wires.{Connection, Present, WireState, over_texts}
+use Rattle.siri_outside.specs.OutsideCalls.{WhereTold}
+use Rattle.siri_outside.specs.Wires.{Connection, Present, WireState, over_texts}
 use Rattle.siri_laws.specs.lite.Served.{AreAlike, swapped, with_coming}
 
 told_some : {S : Type 0} (Does : S → S → Type 0) (old : S) (now : Option S) → WhereTold (Some old) now Does

@@ -1,9 +1,9 @@
 -- A run's turns are the turns of one over the connections in the places of those that it accepts.
 use Rattle.std.proofs.Common.{◌≡◌, ◌+◌, ◌-◌, ◌⊎◌, inl, inr, ℕ, zero, suc, List, [], ◌∷◌, Some, Ok, Err, refl, sym, ap, ◌∙◌, subst, arith}
-use Rattle.siri_base.specs.OutsideCalls.{WhereTold}
-use Rattle.siri_base.specs.Wires.{Accepts, Connection, WireState}
-use Rattle.siri_base.specs.declared.errors.OutsideError.{OutsideError}
-use Rattle.siri_base.specs.declared.errors.OutsideError.TheVariants as outside
+use Rattle.siri_outside.specs.OutsideCalls.{WhereTold}
+use Rattle.siri_outside.specs.Wires.{Accepts, Connection, WireState}
+use Rattle.siri_outside.specs.declared.errors.OutsideError.{OutsideError}
+use Rattle.siri_outside.specs.declared.errors.OutsideError.TheVariants as outside
 use Rattle.siri_http.specs.Requests.{Meaning}
 use Rattle.siri_model.specs.History.{History}
 use Rattle.siri_ends.specs.At.{At}

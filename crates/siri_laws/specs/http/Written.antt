@@ -2,7 +2,7 @@
 use Rattle.std.specs.Prelude.{◌≡◌, ◌≤◌, ℕ, true, List, [], ◌++◌, length, codes, Some, Ok}
 use Rattle.std.specs.Char.{is_ascii_graphic}
 use Rattle.std.specs.List.{list_all}
-use Rattle.siri_base.specs.Wires.{Connection}
+use Rattle.siri_outside.specs.Wires.{Connection}
 use Rattle.siri_http.specs.Addresses.{address_of}
 use Rattle.siri_http.specs.Bodies.{longest_body}
 use Rattle.siri_http.specs.Messages.{Brings, IsRequest}

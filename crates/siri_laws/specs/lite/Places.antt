@@ -1,6 +1,6 @@
 -- Connections in the places of those that bring queries (RFC 9112).
 use Rattle.std.specs.Prelude.{◌≡◌, ◌≤◌, ◌⊎◌, ℕ, zero, suc, true, List, [], ◌∷◌, length, codes, None, Some, Ok}
-use Rattle.siri_base.specs.Wires.{Connection}
+use Rattle.siri_outside.specs.Wires.{Connection}
 use Rattle.siri_http.specs.Bodies.{longest_body}
 use Rattle.siri_http.specs.Messages.{Brings, IsRequest}
 use Rattle.siri_http.specs.Requests.{Request}

@@ -1,7 +1,7 @@
 -- Runs over connections in the places of others.
 use Rattle.std.specs.Prelude.{◌≡◌, ℕ, List, Option, Some, option_map, if◌then◌else◌}
-use Rattle.siri_base.specs.OutsideCalls.{WhereTold}
-use Rattle.siri_base.specs.Wires.{Connection, WireState, texts}
+use Rattle.siri_outside.specs.OutsideCalls.{WhereTold}
+use Rattle.siri_outside.specs.Wires.{Connection, WireState, texts}
 use Rattle.siri_base.specs.declared.status.Status.{Status}
 use Rattle.siri_http.specs.Requests.{Meaning, post_alone}
 use Rattle.siri_http.specs.declared.asked.Asked.TheVariants as asked

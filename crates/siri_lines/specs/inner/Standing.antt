@@ -1,6 +1,6 @@
 -- Inner words: the worlds that a taker of lines stands for.
 use Rattle.std.specs.Prelude.{◌≡◌, ℕ, ◌+◌, ◌-◌, ◌*◌, ◌≤◌, ◌<◌, List, ◌++◌, length}
-use Rattle.siri_base.specs.Causes.{Rose}
+use Rattle.siri_outside.specs.Causes.{Rose}
 use Rattle.siri_base.specs.declared.status.Status.{Status}
 use Rattle.siri_base.specs.declared.status.Status.TheVariants as status
 use Rattle.siri_lines.specs.declared.reader.Reader.{Reader}

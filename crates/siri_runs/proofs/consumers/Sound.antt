@@ -3,7 +3,7 @@ use Rattle.std.proofs.Common.{◌≡◌, ◌⊎◌, ℕ, List, Option, None, Som
 use Rattle.std.specs.Prelude.{IsSomeAnd, is_ok}
 use Rattle.siri_base.specs.declared.status.Status.{Status}
 use Rattle.siri_base.specs.declared.status.Status.TheVariants as status
-use Rattle.siri_base.specs.Wires.{WireState}
+use Rattle.siri_outside.specs.Wires.{WireState}
 use Rattle.siri_http.specs.Requests.{post_alone}
 use Rattle.siri_http.specs.Texts.{request_text}
 use Rattle.siri_http.specs.declared.posting.Sent.{Sent}

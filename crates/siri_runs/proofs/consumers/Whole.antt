@@ -3,8 +3,8 @@ use Rattle.std.proofs.Common.{◌≡◌, ◌⊎◌, ℕ, List, ◌++◌, refl, s
 use Rattle.std.specs.Prelude.{OnErr}
 use Rattle.std.specs.Io.KnownBytes.{Appends}
 use Rattle.std.proofs.KnownBytes.{Appends-trans}
-use Rattle.siri_base.specs.OutsideCalls.{ClockState, KeeperState}
-use Rattle.siri_base.specs.Wires.{WireState}
+use Rattle.siri_outside.specs.OutsideCalls.{ClockState, KeeperState}
+use Rattle.siri_outside.specs.Wires.{WireState}
 use Rattle.siri_base.specs.declared.status.Status.TheVariants as status
 use Rattle.siri_http.specs.declared.tally.Tally.{Tally}
 use Rattle.siri_http.specs.Tallies.{nothing_yet}

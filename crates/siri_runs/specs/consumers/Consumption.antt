@@ -1,6 +1,6 @@
 -- A consumer that answers connections (EN 15531-2 for what is said, RFC 9112 for how).
 use Rattle.std.specs.Prelude.{◌≡◌, ◌⊎◌, ℕ, List, [], ◌∷◌, map}
-use Rattle.siri_base.specs.Wires.{WireState}
+use Rattle.siri_outside.specs.Wires.{WireState}
 use Rattle.siri_http.specs.Tallies.{nothing_yet}
 use Rattle.siri_http.specs.declared.tally.Tally.{Tally}
 use Rattle.siri_messages.specs.declared.message.Message.{Message}

@@ -1,8 +1,8 @@
 -- How a run of `consume` opens: the number of its start is raised, its lines are read, the clock tells its first moment, and it
 -- listens.
 use Rattle.std.specs.Prelude.{◌≡◌, ◌⊎◌, ◌*◌, ℕ, List, [], ◌++◌, codes, Some, Ok}
-use Rattle.siri_base.specs.OutsideCalls.{GivesMoment, RaisesNumber}
-use Rattle.siri_base.specs.Wires.{Listens}
+use Rattle.siri_outside.specs.OutsideCalls.{GivesMoment, RaisesNumber}
+use Rattle.siri_outside.specs.Wires.{Listens}
 use Rattle.siri_base.specs.declared.status.Status.{Status}
 use Rattle.siri_base.specs.declared.status.Status.TheVariants as status
 use Rattle.siri_lines.specs.Ends.{Bytes}

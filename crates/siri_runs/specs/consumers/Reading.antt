@@ -1,6 +1,6 @@
 -- What the reading of a source gives.
 use Rattle.std.specs.Prelude.{◌≡◌, ℕ, List, ◌++◌, Bool, true, false, None, Some, Result, Ok, Err, IsOk, IsSomeAnd}
-use Rattle.siri_base.specs.MetFailures.{is_read_fault}
+use Rattle.siri_outside.specs.MetFailures.{is_read_fault}
 use Rattle.siri_base.specs.declared.status.Status.{Status}
 use Rattle.siri_base.specs.declared.status.Status.TheVariants as status
 use Rattle.siri_life.specs.Named.{Name}

@@ -1,7 +1,7 @@
 -- How a run of `serve` or `lite` opens: the number of its start is raised, it listens, and the clock tells its first moment.
 use Rattle.std.specs.Prelude.{◌≡◌, ◌⊎◌, ℕ, List, [], ◌∷◌, Ok}
-use Rattle.siri_base.specs.OutsideCalls.{GivesMoment, RaisesNumber}
-use Rattle.siri_base.specs.Wires.{Listens}
+use Rattle.siri_outside.specs.OutsideCalls.{GivesMoment, RaisesNumber}
+use Rattle.siri_outside.specs.Wires.{Listens}
 use Rattle.siri_http.specs.Tallies.{nothing_yet}
 use Rattle.siri_model.specs.History.{Start}
 use Rattle.siri_runs.specs.Calls.{Call, Fails, Outside}

@@ -1,6 +1,6 @@
 -- A producer that serves connections (EN 15531-2 for what is said, RFC 9112 for how).
 use Rattle.std.specs.Prelude.{ℕ, List, [], ◌∷◌, ◌++◌}
-use Rattle.siri_base.specs.Wires.{WireState}
+use Rattle.siri_outside.specs.Wires.{WireState}
 use Rattle.siri_http.specs.Requests.{Meaning}
 use Rattle.siri_http.specs.declared.tally.Tally.{Tally}
 use Rattle.siri_model.specs.History.{Clock, History}

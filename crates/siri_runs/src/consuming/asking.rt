@@ -7,10 +7,11 @@ ghost use Rattle.siri_runs.specs.Calls.{told_by};
 ghost use Rattle.siri_runs.specs.consumers.inner.Steps.{MayAsk};
 ghost use Rattle.siri_runs.specs.consumers.Consumption.{after_asking, requests, subscriptions};
 
-use siri_base::{Copies, List, OutOfMemory, Wire};
+use siri_base::{Copies, List, OutOfMemory};
 use siri_ends::{Tally, send_up};
 use siri_http::Address;
 use siri_messages::Message;
+use siri_outside::Wire;
 use siri_topic::Subscription;
 use siri_view::{AskError, Consumer};
 use siri_wire::Wanted;

@@ -1,8 +1,8 @@
 //! How a run opens.
 
 ghost use Rattle.std.specs.Prelude.{◌≡◌, ◌≤◌, ◌*◌, length, IfErr, IfOk, OnOk};
-ghost use Rattle.siri_base.specs.Causes.{Rose};
-ghost use Rattle.siri_base.specs.MetFailures.{SourceMeets};
+ghost use Rattle.siri_outside.specs.Causes.{Rose};
+ghost use Rattle.siri_outside.specs.MetFailures.{SourceMeets};
 ghost use Rattle.siri_runs.specs.consumers.Reading.{has_failed_to_read};
 ghost use Rattle.siri_lines.specs.Pieces.{ReadsNoFurther};
 ghost use Rattle.siri_lines.specs.RunResult.{verdict};
@@ -14,7 +14,8 @@ ghost use Rattle.siri_runs.specs.consumers.inner.Steps.{MayAsk, OpensConsumer};
 
 use crate::calls::{listen, now, raise};
 use crate::consuming::reading::read_wanted;
-use siri_base::{Clock, Keeper, List, Moment, Name, OutOfMemory, Source, Status, Wire};
+use siri_base::{List, Moment, Name, OutOfMemory, Status};
+use siri_outside::{Clock, Keeper, Source, Wire};
 use siri_view::Consumer;
 use siri_wire::Wanted;
 use std::alloc::Global;

@@ -1,8 +1,8 @@
 //! Reads what a consumer is to ask for.
 
 ghost use Rattle.std.specs.Prelude.{◌≤◌, length, IfOk, IfErr, IsErrOf};
-ghost use Rattle.siri_base.specs.Causes.{Rose};
-ghost use Rattle.siri_base.specs.MetFailures.{SourceMeets};
+ghost use Rattle.siri_outside.specs.Causes.{Rose};
+ghost use Rattle.siri_outside.specs.MetFailures.{SourceMeets};
 ghost use Rattle.siri_lines.specs.Ends.{ReadsAll};
 ghost use Rattle.siri_lines.specs.Pieces.{ReadsNoFurther};
 ghost use Rattle.siri_lines.specs.RunResult.{verdict};
@@ -10,8 +10,9 @@ ghost use Rattle.siri_runs.specs.consumers.Wanting.{event, nothing_wanted};
 ghost use Rattle.siri_runs.specs.consumers.Reading.{EndsReading, StopsAt, Wants, has_failed_to_read};
 
 use crate::consuming::wanted_lines::WantedLines;
-use siri_base::{InMemorySink, List, Name, Source, Status};
+use siri_base::{List, Name, Status};
 use siri_lines::read_lines;
+use siri_outside::{InMemorySink, Source};
 use siri_wire::Wanted;
 use std::alloc::Global;
 

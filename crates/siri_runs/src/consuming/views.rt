@@ -2,17 +2,18 @@
 
 ghost use Rattle.std.specs.Prelude.{◌≡◌, ◌++◌, length, option_map, slice_get, OnOk, OnErr};
 ghost use Rattle.std.specs.Io.KnownBytes.{Appends};
-ghost use Rattle.siri_base.specs.Causes.{HasOutsideCause};
-ghost use Rattle.siri_base.specs.MetFailures.{SinkMeets, has_failed};
+ghost use Rattle.siri_outside.specs.Causes.{HasOutsideCause};
+ghost use Rattle.siri_outside.specs.MetFailures.{SinkMeets, has_failed};
 ghost use Rattle.siri_lines.specs.Ends.{AppendsFront};
 ghost use Rattle.siri_document.specs.script.Spaced.{line_feed};
 ghost use Rattle.siri_document.specs.script.ViewLines.{view_line};
 ghost use Rattle.siri_runs.specs.consumers.Views.{items_text, views_text};
 ghost use Rattle.siri_runs.specs.consumers.inner.Shown.{shown};
 
-use siri_base::{Name, OutsideError, Sink};
+use siri_base::Name;
 use siri_change::View;
 use siri_document::{item_line, view_line, write_whole};
+use siri_outside::{OutsideError, Sink};
 use siri_view::{Consumer, Held};
 use std::alloc::Global;
 

@@ -5,9 +5,10 @@ ghost use Rattle.siri_document.specs.script.Reads.{Reads};
 ghost use Rattle.siri_runs.specs.consumers.Wanting.{Asking, event, line_said};
 ghost use Rattle.siri_runs.specs.consumers.inner.Standing.{Fits};
 
-use siri_base::{List, Name, ScriptReason, Sink};
+use siri_base::{List, Name, ScriptReason};
 use siri_document::{LineError, is_skipped, is_text, wanted_said};
 use siri_lines::{LineTaker, Stop};
+use siri_outside::Sink;
 use siri_wire::Wanted;
 use std::alloc::Global;
 

@@ -7,7 +7,8 @@ ghost use Rattle.siri_runs.specs.producers.Steps.{OpensProducer};
 
 use crate::NetworkError;
 use crate::calls::{listen, now, raise};
-use siri_base::{Clock, Keeper, Name, Wire};
+use siri_base::Name;
+use siri_outside::{Clock, Keeper, Wire};
 use siri_producer::Producer;
 use std::alloc::Global;
 

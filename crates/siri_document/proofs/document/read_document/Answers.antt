@@ -1,7 +1,7 @@
 use Rattle.std.proofs.Common.{ℕ, Err, arith, ap, ◌∙◌, length, take, false}
 use Rattle.std.proofs.lemmas.Result.{err_from_is_err_and}
 use Rattle.std.proofs.KnownBytes.{Consumes-trans}
-use Rattle.siri_base.specs.MetFailures.{has_failed}
+use Rattle.siri_outside.specs.MetFailures.{has_failed}
 use Rattle.siri_lines.proofs.Meeting.{source_more}
 use Rattle.siri_document.proofs.OneDocument.{lent_whole, kept_length, grown_length}
 use Rattle.siri_document.proofs.document.read_document.Goals as goal

@@ -1,5 +1,5 @@
 use Rattle.std.proofs.Common.{◌-◌, ◌≤◌, ◌<◌, length, false}
-use Rattle.siri_base.specs.MetFailures.{SourceMeets}
+use Rattle.siri_outside.specs.MetFailures.{SourceMeets}
 use Rattle.std.specs.Io.KnownBytes.{Consumes}
 use Rattle.siri_document.proofs.document.read_document.Given as goal
 

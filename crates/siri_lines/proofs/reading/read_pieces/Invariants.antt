@@ -1,5 +1,5 @@
 use Rattle.std.proofs.Common.{◌≡◌, ◌≤◌, ◌<◌, length, false}
-use Rattle.siri_base.specs.MetFailures.{SinkMeets, SourceMeets}
+use Rattle.siri_outside.specs.MetFailures.{SinkMeets, SourceMeets}
 use Rattle.siri_lines.specs.RunResult.{verdict}
 use Rattle.siri_lines.specs.inner.Standing.{IsWithin, room}
 use Rattle.siri_lines.proofs.Worlds.{ReadsOn}

@@ -1,6 +1,6 @@
 use Rattle.std.proofs.Common.{arith, false, Ok, Err}
 use Rattle.std.proofs.lemmas.Result.{err_from_is_err_and}
-use Rattle.siri_base.specs.MetFailures.{has_failed}
+use Rattle.siri_outside.specs.MetFailures.{has_failed}
 use Rattle.siri_lines.proofs.Meeting.{sink_none, sink_more, sink_write}
 use Rattle.siri_lines.proofs.Written.{wrote_none, wrote_more}
 use Rattle.siri_lines.proofs.writing.write_text.Goals as goal

@@ -1,5 +1,5 @@
 use Rattle.std.proofs.Common.{◌≤◌, length, false}
-use Rattle.siri_base.specs.MetFailures.{SinkMeets}
+use Rattle.siri_outside.specs.MetFailures.{SinkMeets}
 use Rattle.siri_lines.proofs.Written.{Wrote}
 use Rattle.siri_lines.proofs.writing.write_text.Given as goal
 

@@ -1,5 +1,5 @@
 use Rattle.std.proofs.Common.{◌≤◌, take, false}
-use Rattle.siri_base.specs.MetFailures.{SinkMeets}
+use Rattle.siri_outside.specs.MetFailures.{SinkMeets}
 use Rattle.std.specs.Io.KnownBytes.{Appends}
 use Rattle.siri_world_model.specs.Lines.{told_lines}
 use Rattle.siri_replay.specs.ReportLines.{lines_text}

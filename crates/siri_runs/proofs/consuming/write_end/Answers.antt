@@ -1,4 +1,4 @@
-use Rattle.siri_base.specs.MetFailures.{has_failed}
+use Rattle.siri_outside.specs.MetFailures.{has_failed}
 use Rattle.siri_lines.proofs.Meeting.{sink_more}
 use Rattle.siri_runs.proofs.consumers.Whole.{front_after, front_of, on_err, on_err_with}
 use Rattle.siri_runs.proofs.consuming.write_end.Goals as goal

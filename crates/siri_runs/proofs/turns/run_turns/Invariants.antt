@@ -1,5 +1,5 @@
 use Rattle.std.specs.Prelude.{◌≡◌}
-use Rattle.siri_base.specs.OutsideCalls.{KeeperState}
+use Rattle.siri_outside.specs.OutsideCalls.{KeeperState}
 use Rattle.siri_runs.specs.Calls.{Told, outside_with}
 use Rattle.siri_runs.specs.Ends.{RunsTurn, in_run}
 use Rattle.siri_runs.specs.Turns.{Turns, running}

@@ -94,7 +94,9 @@ loop-left-preserved c =
       found = one_found found (entries_view c.push.new.self.items) (shown_entries c.args.topic.now c.args.moment old)
           (shown_entries c.args.topic.now c.args.moment new)
           (take c.args.most (shown_entries c.args.topic.now c.args.moment all)) e left some one c.in-Some.ensures.lent so_far.found;
-      counter = more_counted p c.args.most left all old c.args.counter.now c.loop-left.counter so_far.counter so_far.fewer some c.next_visit.new.counter c.in-Some.ensures.counter new c.in-Some.ensures.looked;
-      fewer = still_fewer p c.args.most left all old c.args.counter.now c.loop-left.counter so_far.counter so_far.fewer some c.next_visit.new.counter c.in-Some.ensures.counter new c.in-Some.ensures.looked;
+      counter = more_counted p c.args.most left all old c.args.counter.now c.loop-left.counter so_far.counter so_far.fewer some c.next_visit.new.counter c.in-Some.ensures.counter new
+          c.in-Some.ensures.looked;
+      fewer = still_fewer p c.args.most left all old c.args.counter.now c.loop-left.counter so_far.counter so_far.fewer some c.next_visit.new.counter c.in-Some.ensures.counter new
+          c.in-Some.ensures.looked;
       leads = c.in-Some.ensures.leads;
     }

@@ -1,4 +1,4 @@
-use Rattle.std.proofs.Common.{◌≡◌, ◌∷◌, [], List, ap, ◌∙◌, arith, rules}
+use Rattle.std.proofs.Common.{◌≡◌, ◌∷◌, [], List, ap, ◌∙◌, arith}
 use Rattle.json.specs.Token.{begin_object, end_object, key}
 use Rattle.siri_deliveries.specs.declared.names.TheConstants.{SIRI, SERVICE_DELIVERY}
 use Rattle.siri_wire.proofs.Plain.{document_with, says, root_is}

@@ -1,5 +1,5 @@
 use Rattle.std.proofs.Common.{◌≤◌, take, false}
-use Rattle.siri_base.specs.MetFailures.{SinkMeets}
+use Rattle.siri_outside.specs.MetFailures.{SinkMeets}
 use Rattle.std.specs.Io.KnownBytes.{Appends}
 use Rattle.siri_runs.specs.consumers.Views.{items_text}
 use Rattle.siri_runs.proofs.consuming.views.write_items.Given as goal

@@ -1,6 +1,6 @@
 use Rattle.std.proofs.Common.{◌++◌, length}
 use Rattle.std.proofs.KnownBytes.{Appends-trans}
-use Rattle.siri_base.specs.MetFailures.{has_failed}
+use Rattle.siri_outside.specs.MetFailures.{has_failed}
 use Rattle.siri_lines.proofs.Meeting.{sink_more}
 use Rattle.siri_lines.proofs.Written.{front_longer, front_more}
 use Rattle.siri_document.specs.script.Spaced.{line_feed}

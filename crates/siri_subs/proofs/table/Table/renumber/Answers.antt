@@ -31,7 +31,8 @@ returns-then-renews-clause-table g c =
     let items = c.self.inside.entries.items in
     let first = found (is_of s i) items c.in-Some.place (rw c.self.view_is (sym c.place_of.ensures.place ∙ c.in-Some.is)) in
     let there : with_numbered c.args.self.now c.in-Some.place c.args.number c.args.slot ≡ renumbered c.args.number c.args.base c.args.subscriber.now c.args.identifier.now c.args.slot c.args.self.now =
-    rw (← c.self.view_is) (numbered_there s i c.args.number c.args.base c.args.slot items c.in-Some.place c.index-entry.result.now c.self.invariant.once first c.index-entry.ensures (sym c.is_renumbered_by-renews.ensures ∙ c.if-renews.true)) in
+    rw (← c.self.view_is) (numbered_there s i c.args.number c.args.base c.args.slot items c.in-Some.place c.index-entry.result.now c.self.invariant.once first c.index-entry.ensures
+    (sym c.is_renumbered_by-renews.ensures ∙ c.if-renews.true)) in
     c.write_at.ensures.table ∙ there
 
 pub returns-else-renews-clause-answer : goal.returns-else-renews-clause-answer
@@ -48,7 +49,8 @@ returns-else-renews-clause-table g c =
     let i = c.args.identifier.now in
     let items = c.self.inside.entries.items in
     let first = found (is_of s i) items c.in-Some.place (rw c.self.view_is (sym c.place_of.ensures.place ∙ c.in-Some.is)) in
-    rw (← c.self.view_is) (unnumbered_there s i c.args.number c.args.base c.args.slot items c.in-Some.place c.index-entry.result.now c.self.invariant.once first c.index-entry.ensures (sym c.is_renumbered_by-renews.ensures ∙ c.if-renews.false))
+    rw (← c.self.view_is) (unnumbered_there s i c.args.number c.args.base c.args.slot items c.in-Some.place c.index-entry.result.now c.self.invariant.once first c.index-entry.ensures
+    (sym c.is_renumbered_by-renews.ensures ∙ c.if-renews.false))
 
 pub returns-in_default-clause-renewed : goal.returns-in_default-clause-renewed
 returns-in_default-clause-renewed g c = renewed_where c.args.number c.args.base _ _ (returns-in_default-clause-answer g c)

@@ -1,4 +1,3 @@
-use Rattle.std.proofs.Common.{arith}
 use Rattle.siri_view.specs.Marks.{mark_by}
 use Rattle.siri_view.proofs.Taken.{applied_to}
 use Rattle.siri_view.proofs.subscribed.Subscribed.apply.Goals as goal

@@ -1,0 +1,4 @@
+pub mod MetFailures
+mod Lines
+pub mod Parts
+pub mod Order

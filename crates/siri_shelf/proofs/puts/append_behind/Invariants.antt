@@ -1,9 +1,0 @@
-use Rattle.std.proofs.Common.{◌≡◌, ◌++◌, drop}
-use Rattle.std.specs.List.{filter}
-use Rattle.siri_shelf.specs.Rows.{is_behind}
-use Rattle.siri_shelf.proofs.puts.append_behind.Given as goal
-
--- those so far, and those of the rows from here on, are all
-abbrev pub invariant-loop-row : goal.invariant-loop-row
-invariant-loop-row l =
-    l.into.items ++ filter (is_behind l.put) (drop l.row-index l.rows) ≡ l.fn.into.items ++ filter (is_behind l.put) l.rows
