@@ -1,11 +1,11 @@
 //! The command `siri`: makes the adapters over the system, does what its words say, and tells how it ended.
 //!
-//! Stands on `siri_cli`, whose `run_all` is the whole of the work, on `siri_system` for the network, the clock and the
-//! start number, on `siri_system` for the file of `keep`, and on `siri_base` and `siri_lines` for the line that tells
-//! how a run ended. A line of the system's own words follows where the wire or the keeper failed, and one of the
-//! database's where the shelf did; where the words are no command, it is told which word is wrong, and what the command
-//! takes (`usage`, by the table of `commands`, which asks `siri_http` what an address is). Where the variable `SIRI_LOG` of
-//! the environment is `1`, each connection that ends has a line on standard error.
+//! Stands on `siri_cli`, whose `run_all` is the whole of the work, on `siri_system` for the network, the clock, the start
+//! number and the file of `keep`, on `siri_outside` for standard input and output, and on `siri_base` and `siri_lines` for
+//! the line that tells how a run ended. A line of the system's own words follows where the wire or the keeper failed, and
+//! one of the database's where the shelf did; where the words are no command, it is told which word is wrong, and what the
+//! command takes (`usage`, by the table of `commands`, which asks `siri_http` what an address is). Where the variable
+//! `SIRI_LOG` of the environment is `1`, each connection that ends has a line on standard error.
 #![tactic(auto)]
 
 mod commands;

@@ -20,7 +20,7 @@
 //! a head is a head is the word of `httparse`. Reasons to refuse a message are [`HttpError`]'s, in its order. [`Tally`]
 //! has the four counts that the ends of a run rise by.
 //!
-//! Stands on `siri_base` for the wire, on `httparse` for heads and on `http` for the phrases of statuses. It knows no
+//! Stands on `siri_outside` for the wire, on `httparse` for heads and on `http` for the phrases of statuses. It knows no
 //! document, keeps no connection open, reads no Transfer-Encoding and waits no bounded time.
 #![tactic(auto)]
 

@@ -18,8 +18,8 @@
 //! Rows are read through `Shelf::next` alone, table by table. No row is guessed at: one that this crate wouldn't have
 //! written, byte by byte, is told as bad.
 //!
-//! Stands on `siri_producer`, on `siri_row_texts` for the texts of rows, on `siri_outside`, and on `siri_http` and `siri_ends`
-//! for a connection and for what is sent. It accepts no connection, and opens no file.
+//! Stands on `siri_producer`, on `siri_row_texts` for the texts of rows, on `siri_outside`, and on `siri_http` and
+//! `siri_ends` for a connection and for what is sent. It accepts no connection, and opens no file.
 #![tactic(auto)]
 
 mod by_service;

@@ -6,8 +6,8 @@
 //! Rows that keep a history say it again. Who is opened over them is a producer with a greater start, which is fed the kept
 //! items and takes the kept requests: it shows and holds what the other would at that moment.
 //!
-//! Stands on `siri_base`, `siri_records`, `siri_outside`, `siri_row_texts`, `siri_model` and their laws. It has definitions and
-//! laws alone.
+//! Stands on `siri_base`, `siri_records`, `siri_outside`, `siri_row_texts`, `siri_model` and their laws. It has
+//! definitions and laws alone.
 #![tactic(auto)]
 
 mod held_laws;

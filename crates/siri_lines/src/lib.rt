@@ -16,7 +16,7 @@
 //!
 //! The line that tells how a run ended is written here, too.
 //!
-//! Stands on `siri_base` and `memchr`. It never looks into a line.
+//! Stands on `siri_outside` and `memchr`. It never looks into a line.
 #![tactic(auto)]
 
 mod line_taker;
