@@ -9,7 +9,7 @@ use std::alloc::{AllocError, Global};
 use std::test::Fail;
 
 /// A row: a ServiceDelivery, and of each service how many items were read, or why nothing was read as it came.
-static DELIVERIES: [(&str, &str); 10] = [
+static DELIVERIES: [(&str, &str); 12] = [
     ("{}", "0 0 0 0"),
     (
         concat!(
@@ -57,7 +57,12 @@ static DELIVERIES: [(&str, &str); 10] = [
         ),
         "0 0 0 0",
     ),
+    (r#"[]"#, "Otherwise"),
     (r#"{"VehicleMonitoringDelivery":[null]}"#, "Otherwise"),
+    (
+        r#"{"VehicleMonitoringDelivery":[{"VehicleActivity":[null]}]}"#,
+        "Otherwise",
+    ),
     (r#"{"VehicleMonitoringDelivery":{}}"#, "Otherwise"),
     (r#"{"Status":"perhaps"}"#, "Otherwise"),
     (r#"{"Status":true"#, "Otherwise"),

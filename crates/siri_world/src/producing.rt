@@ -1,7 +1,8 @@
 //! What the producer does in an event.
 
-ghost use Rattle.std.specs.Prelude.{◌≡◌, [], ◌∷◌, ◌++◌, IfOk, OnOk};
+ghost use Rattle.std.specs.Prelude.{◌≡◌, ◌≤◌, ◌+◌, ◌*◌, [], ◌∷◌, ◌++◌, length, IfOk, OnOk};
 ghost use Rattle.siri_model.specs.History.{History, Clock, Feed, Take, Settle, entries_of};
+ghost use Rattle.siri_responder.specs.Topics.{topics_in};
 ghost use Rattle.siri_producer.specs.Answers.{answer_to};
 ghost use Rattle.siri_producer.specs.Known.{GoesOn};
 ghost use Rattle.siri_world_model.specs.Lines.{told_lines};
@@ -61,6 +62,7 @@ pub(crate) fn ask(
     ensures answer { IfOk result (λ happened. (h : History) → Serves producer.old h → told_lines happened.lines ≡ answer_line h request.now ∷ []) }
     ensures sends { IfOk result (λ happened. happened.packets ≡ []) }
     ensures rest { (h : History) → Serves producer.old h → Serves producer.new h }
+    ensures reads { producer.new.responder.reads ≤ producer.old.responder.reads + length producer.old.responder.held * topics_in request.now }
 {
     let response = producer.direct(request)?;
     told(alloc, Line::Answer(Message::ServiceDelivery(response)))
