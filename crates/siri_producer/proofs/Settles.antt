@@ -1,5 +1,5 @@
 -- What a settle makes of a producer, and what it sends.
-use Rattle.std.proofs.Common.{◌≡◌, ℕ, ◌+◌, ◌<◌, ◌≤◌, List, [], ◌∷◌, ◌++◌, length, slice_get, take, map, inl, inr, Bool, true, cond, Option, None, Some, refl, sym, ap, ◌∙◌, subst, arith}
+use Rattle.std.proofs.Common.{◌≡◌, ℕ, ◌+◌, ◌<◌, ◌≤◌, List, [], ◌∷◌, ◌++◌, length, slice_get, take, map, filter, inl, inr, Bool, true, cond, Option, None, Some, refl, sym, ap, ◌∙◌, subst, arith}
 use Rattle.std.specs.Prelude.{option_map}
 use Rattle.std.specs.List.{All}
 use Rattle.std.proofs.lemmas.List.Elements.{All-nil, All-cons, All-head, All-tail}
@@ -10,7 +10,7 @@ use Rattle.siri_records.specs.Keyed.{Items, KeyChange, living}
 use Rattle.siri_life.specs.Life.{Outstanding}
 use Rattle.siri_subs.specs.declared.entry.Row.{Row}
 use Rattle.siri_subs.specs.Mapped.{mapped_row}
-use Rattle.siri_store.specs.Marked.{Marked, SameFrom, keys_since}
+use Rattle.siri_store.specs.Marked.{Marked, SameFrom, is_since, keys_since}
 use Rattle.siri_subs.specs.rounds.Wanted.{outstanding_carried}
 use Rattle.siri_model.specs.Followed.{Followed, followed_after, followed_of, followed_settled, keys_apart, life_row, look_at, look_bounds, look_by, opens}
 use Rattle.siri_model.specs.History.{Settle, History, State, now_of, current, state_of}
@@ -30,9 +30,10 @@ use Rattle.siri_subscriptions.specs.Sends.{table_sends}
 use Rattle.siri_subscriptions.specs.Settled.{look_now, looked_by, settled_row}
 use Rattle.siri_subscriptions.proofs.Carriage.{settled_carried}
 use Rattle.siri_producer.specs.Known.{Known, StandsFor, Follows, GoesOn, SendsFor}
+use Rattle.siri_producer.specs.Forgets.{Forgets, number_by, numbers_after, oldest_of}
 use Rattle.siri_producer.specs.Oldest.{older, oldest_look}
 use Rattle.siri_producer.specs.Sends.{at_of, sends}
-use Rattle.siri_producer.specs.Standing.{IsNumbered, AreNumbered, IsProducer, known_of}
+use Rattle.siri_producer.specs.Standing.{IsNumbered, AreNumbered, IsProducer, known_of, number_of, numbers_in}
 use Rattle.siri_producer.proofs.Follows.{bounds_are, goes}
 use Rattle.siri_producer.proofs.Stands.{goes_on, knows_settled, rows_settled_live, settled_live, table_sends_live, went}
 
@@ -58,6 +59,11 @@ older_from most row rows = λ looked is.
     subst (λ o. oldest_look (older most row.slot.looked) rows ≤ older most o) is
     (oldest_below (older most row.slot.looked) rows) in
     omega (arith, below)
+
+-- the least of the numbers
+oldest_numbers : (most : ℕ) (rows : List (Row Course)) → oldest_look most rows ≡ oldest_of most (numbers_in rows)
+oldest_numbers most [] = refl
+oldest_numbers most (row ∷ rows) = oldest_numbers (older most row.slot.looked) rows
 
 -- of one row more
 pub oldest_next : (most place oldest new : ℕ) (table : List (Row Course)) (row : Row Course)
@@ -174,6 +180,20 @@ numbers_settled now items number next le (row ∷ rows) numbered =
     (number_settled now items number next le row (All-head (IsNumbered number) row rows numbered))
     (numbers_settled now items number next le rows (All-tail (IsNumbered number) row rows numbered))
 
+-- the numbers of the looks after it
+number_now : (now : ℕ) (items : Items) (next : ℕ) (row : Row Course)
+    → (o : Option (Outstanding Items (List KeyChange)))
+    → option_map number_of (looked_by o row.slot.looked (look_now now items next row))
+    ≡ number_by (option_map outstanding_carried o) (option_map number_of row.slot.looked) next
+number_now now items next row None = refl
+number_now now items next row (Some outstanding) = refl
+
+numbers_now : (now : ℕ) (items : Items) (next : ℕ) (rows : List (Row Course))
+    → numbers_in (map (settled_row now items next) rows) ≡ numbers_after next (kept_rows rows) (numbers_in rows)
+numbers_now now items next [] = refl
+numbers_now now items next (row ∷ rows) = λ i.
+    number_now now items next row row.slot.rounds.outstanding i ∷ numbers_now now items next rows i
+
 -- ---- the producer after it
 
 -- neither the counter nor the marks matter
@@ -192,14 +212,16 @@ rows_of_settle state rows = refl
 pub record IsTurned (known new : responder.Known) (oldest : ℕ) : Type 0 where
   pub rest : new ≡ record known { reads = new.reads; marks = new.marks }
   pub number : new.marks.number ≡ known.marks.number + 1
+  pub log : new.marks.log ≡ filter (is_since oldest) known.marks.log
   pub same : SameFrom oldest known.marks new.marks
   pub fresh : keys_since new.marks.log new.marks.number ≡ []
 
 -- it looked, and then it turned
 pub is_turned : (known mid new : responder.Known) (oldest : ℕ) → mid ≡ record known { reads = mid.reads }
     → new ≡ record mid { marks = new.marks } → new.marks.number ≡ mid.marks.number + 1
-    → SameFrom oldest mid.marks new.marks → keys_since new.marks.log new.marks.number ≡ [] → IsTurned known new oldest
-is_turned known mid new oldest looked turns number same fresh =
+    → new.marks.log ≡ filter (is_since oldest) mid.marks.log → SameFrom oldest mid.marks new.marks
+    → keys_since new.marks.log new.marks.number ≡ [] → IsTurned known new oldest
+is_turned known mid new oldest looked turns number log same fresh =
     let marks : mid.marks ≡ known.marks = ap (λ (k : responder.Known). k.marks) looked in
     let reads : mid.reads ≡ new.reads = sym (ap (λ (k : responder.Known). k.reads) turns) in
     record {
@@ -208,6 +230,7 @@ is_turned known mid new oldest looked turns number same fresh =
           ∙ ap (λ (k : responder.Known). record k { marks = new.marks }) looked
           ∙ ap (λ n. record known { reads = n; marks = new.marks }) reads;
       number = number ∙ ap (λ (m : Marked). m.number + 1) marks;
+      log = log ∙ ap (λ (m : Marked). filter (is_since oldest) m.log) marks;
       same = subst (λ (m : Marked). SameFrom oldest m new.marks) marks same;
       fresh = fresh;
     }
@@ -248,6 +271,21 @@ module _ (known new : responder.Known) (rows after : List (Row Course)) (settled
 
   pub goes_settled : GoesOn (known_of known rows settled) (known_of new after true) Settle
   goes_settled = goes known new rows after settled true Settle stands_settled followed_after_settle
+
+  -- what it forgets
+  forgets_settled : most ≡ known.marks.number + 1 → Forgets (known_of known rows settled) (known_of new after true)
+  forgets_settled next = record {
+    number = turned.number;
+    numbers = ap numbers_in is ∙ numbers_now known.moment known.held (known.marks.number + 1) rows;
+    log =
+        turned.log
+        ∙ ap (λ oldest. filter (is_since oldest) known.marks.log) (oldest_numbers most after
+        ∙ ap (λ most. oldest_of most (numbers_in after)) next);
+  }
+
+  pub forgets_seen : most ≡ known.marks.number + 1 → (old : Known) → known_of known rows settled ≡ old
+      → Forgets old (known_of new after true)
+  forgets_seen next old view = subst (λ (k : Known). Forgets k (known_of new after true)) view (forgets_settled next)
 
   pub is_settled : IsProducer known rows settled → KnowLevels known.moment known.held after → IsProducer new after true
   is_settled was levels = record {

@@ -19,12 +19,13 @@ use Rattle.siri_producer.specs.declared.answers.Answer.{Answer}
 use Rattle.siri_producer.specs.Answers.{answer_to, is_feed}
 use Rattle.siri_producer.specs.Sends.{sends}
 
--- what its responder knows, the rows of its subscriptions in order of first acceptance, the last look at each of them in
--- the same order, and whether it settled last
+-- what its responder knows, the rows of its subscriptions in order of first acceptance, in the same order the last look at
+-- each of them and the number under which keys were marked from then on, and whether it settled last
 pub record Known : Type 0 where
   pub responder : responder.Known
   pub table : List (Row KeptLife)
   pub looks : List (Option Look)
+  pub numbers : List (Option ℕ)
   pub is_settled : Bool
 
 -- a producer stands for a history where its responder does, its rows are those of the history's lives, and it knows whether

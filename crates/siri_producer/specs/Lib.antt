@@ -3,6 +3,7 @@ pub mod Answers
 pub mod Sends
 pub mod Standing
 pub mod Quiet
+pub mod Forgets
 pub mod Oldest
 pub mod Reads
 pub mod Lent

@@ -14,15 +14,23 @@ use Rattle.siri_model.specs.History.{History}
 use Rattle.siri_responder.specs.Known as responder
 use Rattle.siri_producer.specs.Known.{Known, Follows}
 
+abbrev pub number_of : Looked → ℕ
+number_of looked = looked.number
+
 -- the last look at each row of a table, by the marks
 abbrev pub looks_in : Marked → List (Row Course) → List (Option Look)
 looks_in marks rows = map (λ row. option_map (look_of marks) row.slot.looked) rows
+
+-- the number of each of them
+abbrev pub numbers_in : List (Row Course) → List (Option ℕ)
+numbers_in rows = map (λ row. option_map number_of row.slot.looked) rows
 
 abbrev pub known_of : responder.Known → List (Row Course) → Bool → Known
 known_of responder rows is_settled = record {
   responder = responder;
   table = kept_rows rows;
   looks = looks_in responder.marks rows;
+  numbers = numbers_in rows;
   is_settled = is_settled;
 }
 

@@ -5,6 +5,7 @@ ghost use Rattle.siri_responder.specs.Topics.{topics_in};
 ghost use Rattle.siri_model.specs.Followed.{followed_of, look_bounds};
 ghost use Rattle.siri_model.specs.History.{History, Start, Clock, Feed, Take, Settle, current, entries_of, now_of};
 ghost use Rattle.siri_model.specs.Lives.{quiet_number};
+ghost use Rattle.siri_producer.specs.Forgets.{Forgets};
 ghost use Rattle.siri_producer.specs.Quiet.{is_quiet};
 ghost use Rattle.siri_producer.specs.Known.{StandsFor, Follows, GoesOn, TookSome, CountsFor, ResponseFor, AnswerFor, RefusedAt, SameButReads, SendsFor};
 ghost use Rattle.siri_producer.specs.Oldest.{oldest_look};
@@ -46,11 +47,11 @@ impl Drop for Producer {
 impl Model for Producer {
     ghost use Rattle.siri_subscriptions.specs.Courses.{kept_rows};
     ghost use Rattle.siri_producer.specs.Known.{Known};
-    ghost use Rattle.siri_producer.specs.Standing.{IsProducer, looks_in};
+    ghost use Rattle.siri_producer.specs.Standing.{IsProducer, looks_in, numbers_in};
 
     ghost Value = { Known };
 
-    ghost view = { λ p. record { responder = p.responder; table = kept_rows p.table; looks = looks_in p.responder.marks p.table; is_settled = p.is_settled } };
+    ghost view = { λ p. record { responder = p.responder; table = kept_rows p.table; looks = looks_in p.responder.marks p.table; numbers = numbers_in p.table; is_settled = p.is_settled } };
 
     ghost invariant = { λ p. IsProducer p.responder p.table p.is_settled };
 }
@@ -177,11 +178,12 @@ impl Producer {
     /// changes, so after want of memory nothing but the counter of steps did. That rises, also then, by at most the sum
     /// of what each subscription may look at: nothing while a round is outstanding, all held items at its first look,
     /// and then the keys that were touched since its last look, the items of which an end of its window passed an edge
-    /// since then, and the target of a complete set. After the greatest number of settles, 2^64 - 1, it always answers
-    /// `OutOfMemory`.
+    /// since then, and the target of a complete set. It keeps no mark of a key that was touched before the oldest of the
+    /// last looks. After the greatest number of settles, 2^64 - 1, it always answers `OutOfMemory`.
     pub fn settle(&mut self) -> Result<List<Out>, OutOfMemory>
         ensures ok { OnOk result (GoesOn self.old self.new Settle) }
         ensures sends { IfOk result (SendsFor self.old) }
+        ensures forgets { OnOk result (Forgets self.old self.new) }
         ensures err { OnErr result (SameButReads self.old self.new) }
         ensures name { self.new.responder.name ≡ self.old.responder.name }
         ensures risen { self.old.responder.reads ≤ self.new.responder.reads }

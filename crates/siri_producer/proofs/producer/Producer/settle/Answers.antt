@@ -1,5 +1,5 @@
-use Rattle.std.proofs.Common.{◌+◌, ◌≤◌, true, sym, ap, subst, arith}
-use Rattle.siri_store.specs.Marked.{SameFrom}
+use Rattle.std.proofs.Common.{◌+◌, ◌≤◌, ◌∙◌, filter, true, sym, ap, subst, arith}
+use Rattle.siri_store.specs.Marked.{SameFrom, is_since}
 use Rattle.siri_model.specs.Followed.{look_bounds}
 use Rattle.siri_model.specs.History.{Settle}
 use Rattle.siri_responder.specs.Known as responder
@@ -8,7 +8,7 @@ use Rattle.siri_producer.specs.Known.{Known, GoesOn, SendsFor}
 use Rattle.siri_producer.specs.Oldest.{oldest_look}
 use Rattle.siri_producer.specs.Standing.{known_of}
 use Rattle.siri_producer.proofs.Follows.{all_follow}
-use Rattle.siri_producer.proofs.Settles.{bound_seen, goes_settled, is_settled, is_turned, sends_settled}
+use Rattle.siri_producer.proofs.Settles.{bound_seen, forgets_seen, goes_settled, is_settled, is_turned, sends_settled}
 use Rattle.siri_producer.proofs.producer.Producer.settle.Goals as goal
 
 pub settle-requires : goal.settle-requires
@@ -29,10 +29,11 @@ invariant_of-self-2 c =
     let inside = c.self.inside in
     let most = c.number-number.result + 1 in
     let oldest = oldest_look most c.settle.new.table in
+    let log = c.turn.ensures.log ∙ ap (λ n. filter (is_since n) c.settle.new.responder.marks.log) c.oldest_look.ensures in
     let same = subst (λ n. SameFrom n c.settle.new.responder.marks c.turn.new.self.marks) c.oldest_look.ensures c.turn.ensures.same in
     is_settled inside.responder c.turn.new.self inside.table c.settle.new.table inside.is_settled most
     (is_turned inside.responder c.settle.new.responder c.turn.new.self oldest c.settle.ensures.rest c.turn.ensures.rest
-    c.turn.ensures.number same c.turn.ensures.fresh)
+    c.turn.ensures.number log same c.turn.ensures.fresh)
     c.in_ok-outs.ensures.table c.self.invariant c.in_ok-outs.ensures.levels
 
 pub returns-clause-ok : goal.returns-clause-ok
@@ -40,11 +41,12 @@ returns-clause-ok c =
     let inside = c.self.inside in
     let most = c.number-number.result + 1 in
     let oldest = oldest_look most c.settle.new.table in
+    let log = c.turn.ensures.log ∙ ap (λ n. filter (is_since n) c.settle.new.responder.marks.log) c.oldest_look.ensures in
     let same = subst (λ n. SameFrom n c.settle.new.responder.marks c.turn.new.self.marks) c.oldest_look.ensures c.turn.ensures.same in
     subst (λ (k : Known). GoesOn k (known_of c.turn.new.self c.settle.new.table true) Settle) c.self.view_is
     (goes_settled inside.responder c.turn.new.self inside.table c.settle.new.table inside.is_settled most
     (is_turned inside.responder c.settle.new.responder c.turn.new.self oldest c.settle.ensures.rest c.turn.ensures.rest
-    c.turn.ensures.number same c.turn.ensures.fresh)
+    c.turn.ensures.number log same c.turn.ensures.fresh)
     c.in_ok-outs.ensures.table)
 
 pub returns-clause-sends : goal.returns-clause-sends
@@ -52,6 +54,18 @@ returns-clause-sends c =
     let inside = c.self.inside in
     subst (λ (k : Known). SendsFor k c.in_ok-outs.outs) c.self.view_is
     (sends_settled inside.responder inside.table inside.is_settled c.in_ok-outs.outs c.in_ok-outs.ensures.sends)
+
+pub returns-clause-forgets : goal.returns-clause-forgets
+returns-clause-forgets c =
+    let inside = c.self.inside in
+    let most = c.number-number.result + 1 in
+    let oldest = oldest_look most c.settle.new.table in
+    let log = c.turn.ensures.log ∙ ap (λ n. filter (is_since n) c.settle.new.responder.marks.log) c.oldest_look.ensures in
+    let same = subst (λ n. SameFrom n c.settle.new.responder.marks c.turn.new.self.marks) c.oldest_look.ensures c.turn.ensures.same in
+    forgets_seen inside.responder c.turn.new.self inside.table c.settle.new.table inside.is_settled most
+    (is_turned inside.responder c.settle.new.responder c.turn.new.self oldest c.settle.ensures.rest c.turn.ensures.rest
+    c.turn.ensures.number log same c.turn.ensures.fresh)
+    c.in_ok-outs.ensures.table (ap (λ n. n + 1) c.number-number.ensures) c.args.self.now c.self.view_is
 
 pub returns-clause-bound : goal.returns-clause-bound
 returns-clause-bound c =
