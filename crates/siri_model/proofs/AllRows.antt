@@ -1,13 +1,15 @@
 -- What holds of all rows of a table holds of them after its changes.
 use Rattle.std.proofs.Common.{ℕ, List, [], ◌∷◌, fold, Bool, true, false, cond, not, Result, Ok, Err}
 use Rattle.std.specs.List.{All}
-use Rattle.std.proofs.lemmas.List.Elements.{All-cons, All-head, All-tail, All-filter}
+use Rattle.std.proofs.lemmas.List.Elements.{All-cons, All-head, All-tail, All-filter, All-map, All-weaker}
+use Rattle.siri_messages.specs.Asked.{AskedFor}
 use Rattle.siri_life.specs.Named.{Name}
 use Rattle.siri_subs.specs.declared.entry.Row.{Row}
 use Rattle.siri_subs.specs.declared.errors.Accepted.{Accepted}
 use Rattle.siri_subs.specs.declared.errors.Accepted.TheVariants as accepted_as
 use Rattle.siri_subs.specs.declared.errors.AcceptError.{AcceptError}
-use Rattle.siri_subs.specs.Table.{is_of, is_ended_by, is_terminated, accepted, after, answer, ended, expired, put, without}
+use Rattle.siri_subs.specs.Table.{is_of, is_ended_by, is_renumbered_by, is_terminated, accepted, after, answer, ended, expired, put, without}
+use Rattle.siri_model.specs.Steps.{asked_of, renewed_row, with_row_of}
 
 module _ {E : Type 0} (P : Row E → Type 0) where
   put_if : (b : Bool) (h g : Row E) (rows : List (Row E)) → P h → P g → All P rows → All P (put h rows)
@@ -50,6 +52,27 @@ module _ {E : Type 0} (P : Row E → Type 0) where
   ended_all number subscriber (identifier ∷ identifiers) rows all =
       ended_all number subscriber identifiers (ended number subscriber identifier rows)
       (ended_if (is_ended_by number subscriber identifier rows) subscriber identifier rows all)
+
+  -- the row of a subscription is changed
+  one_if : (change : Row E → Row E) → ((row : Row E) → P row → P (change row)) → (b : Bool) (row : Row E) → P row
+      → P (cond b (change row) row)
+  one_if change keeps true row holds = keeps row holds
+  one_if change keeps false row holds = holds
+
+  pub one_all : (change : Row E → Row E) → ((row : Row E) → P row → P (change row)) → (subscriber identifier : Name)
+      → (rows : List (Row E)) → All P rows → All P (with_row_of subscriber identifier change rows)
+  one_all change keeps subscriber identifier rows all =
+      All-map P (λ row. cond (is_of subscriber identifier row) (change row) row) rows
+      (All-weaker P (λ row. P (cond (is_of subscriber identifier row) (change row) row))
+      (λ row holds. one_if change keeps (is_of subscriber identifier row) row holds) rows all)
+
+  -- it begins anew
+  pub renewed_all : (begun : ℕ → AskedFor → E) (now number base : ℕ)
+      → ((row : Row E) → P (record row { number = number; slot = begun now (asked_of row) }))
+      → (row : Row E) → P row → P (renewed_row begun now number base row)
+  renewed_all begun now number base new row holds =
+      one_if (λ row. record row { number = number; slot = begun now (asked_of row) }) (λ row holds. new row)
+      (is_renumbered_by number base row) row holds
 
   -- a later moment
   pub expired_all : (now : ℕ) (rows : List (Row E)) → All P rows → All P (expired now rows)

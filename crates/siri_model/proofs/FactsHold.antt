@@ -23,18 +23,19 @@ use Rattle.siri_life.specs.Life.{Mark, Outstanding, greatest_round}
 use Rattle.siri_life.specs.Named.{Name}
 use Rattle.siri_life.specs.Slot.{Slot, acknowledgement_if, acknowledgement_of, begun, is_message_due, next_if, opens_round, sent_of, supply_if, supply_of}
 use Rattle.siri_subs.specs.declared.entry.Row.{Row}
-use Rattle.siri_subs.specs.Table.{is_of, expired, is_renumbered_by}
+use Rattle.siri_subs.specs.Table.{expired}
 use Rattle.siri_model.specs.Facts.{Follows}
-use Rattle.siri_model.specs.Followed.{Followed, Look, followed_after, followed_from, followed_settled, goal_by, goal_of, life_row, lifted}
-use Rattle.siri_model.specs.Followed.{keys_apart, keys_dying, look_at, look_by, new_row, opens, rows_acknowledged, rows_supplied, rows_taken, touch, touched_look, with_row_of}
+use Rattle.siri_model.specs.Followed.{Followed, Look, followed_after, followed_settled, goal_by, goal_of, life_row, lifted}
+use Rattle.siri_model.specs.Followed.{keeps_looks, keys_apart, keys_dying, look_at, look_by, opens, rows_taken, touch, touched_look}
+use Rattle.siri_model.specs.Steps.{new_row, renewed_row, rows_acknowledged, rows_from, rows_supplied}
 use Rattle.siri_model.specs.History.{Entry, IsKeyed, State, Step, Start, Clock, Feed, Take, Settle, History, after_step, entries_fed, nothing}
 use Rattle.siri_model.specs.Last.{entry_key}
 use Rattle.siri_model.specs.Lives.{mark_of}
-use Rattle.siri_model.specs.Rows.{KeptLife, acknowledged_row, asked_of, is_numbered, looked, next_round, nothing_kept, sent_if_due, settled_row, supplied_row}
+use Rattle.siri_model.specs.Rows.{KeptLife, acknowledged_row, asked_of, is_numbered, looked, next_round, sent_if_due, settled_row, supplied_row}
 use Rattle.siri_model.specs.Direct.{direct_to}
 use Rattle.siri_model.specs.Meaning.{meaning}
 use Rattle.siri_model.specs.laws.Followed.{HoldsBy, RowHolds, AllHold, FactsHold}
-use Rattle.siri_model.proofs.AllRows.{accepted_all, ended_all, expired_all}
+use Rattle.siri_model.proofs.AllRows.{accepted_all, ended_all, expired_all, one_all, renewed_all}
 use Rattle.siri_model.proofs.Current.{keyed_passing, keyed_step, none_keyed}
 use Rattle.siri_model.proofs.Entries.{sorted_passing}
 use Rattle.siri_model.proofs.Facts.{goal_stays, look_follows}
@@ -139,62 +140,39 @@ module _ (now : ℕ) (held : Items) where
     some_opened = subst (λ n. 1 ≤ n) (sym alike.opened) holds.some_opened;
   }
 
-  lifted_row : (change : Row KeptLife → Row KeptLife) → KeepsRounds change → (b : Bool) (row : Row Followed)
-      → RowHolds now held row
-      → RowHolds now held (cond b (lifted change row) row)
-  lifted_row change keeps true row holds =
+  lifted_row : (change : Row KeptLife → Row KeptLife) → KeepsRounds change → (row : Row Followed)
+      → RowHolds now held row → RowHolds now held (lifted change row)
+  lifted_row change keeps row holds =
       alike_row row.wanted row.slot.life.rounds (change (life_row row)).slot.rounds row.slot.look
       (keeps (life_row row)) holds
-  lifted_row change keeps false row holds = holds
-
-  one_row : (subscriber identifier : Name) (change : Row KeptLife → Row KeptLife) → KeepsRounds change
-      → (rows : List (Row Followed)) → AllHold now held rows
-      → AllHold now held (with_row_of subscriber identifier change rows)
-  one_row subscriber identifier change keeps rows all =
-      All-map (RowHolds now held) (λ row. cond (is_of subscriber identifier row) (lifted change row) row) rows
-      (All-weaker (RowHolds now held)
-      (λ row. RowHolds now held (cond (is_of subscriber identifier row) (lifted change row) row))
-      (λ row holds. lifted_row change keeps (is_of subscriber identifier row) row holds) rows all)
 
   acknowledged_rows : (start moment : ℕ) (status : Bool) (consumer : Option Name) (mark : Option MarkOf)
       (rows : List (Row Followed))
-      → AllHold now held rows → AllHold now held (rows_acknowledged start moment status consumer mark rows)
+      → AllHold now held rows → AllHold now held (rows_acknowledged keeps_looks start moment status consumer mark rows)
   acknowledged_rows start moment true (Some consumer) (Some mark) rows all =
-      one_row consumer mark.subscription (acknowledged_row start moment (mark_of mark))
-      (acknowledged_keeps start moment (mark_of mark)) rows all
+      one_all (RowHolds now held) (lifted (acknowledged_row start moment (mark_of mark)))
+      (lifted_row (acknowledged_row start moment (mark_of mark)) (acknowledged_keeps start moment (mark_of mark)))
+      consumer mark.subscription rows all
   acknowledged_rows start moment true (Some consumer) None rows all = all
   acknowledged_rows start moment true None mark rows all = all
   acknowledged_rows start moment false consumer mark rows all = all
 
-  renewed_row : (here renews : Bool) (moment number : ℕ) (row : Row Followed) → RowHolds now held row
-      → RowHolds now held (cond here (cond renews
-      (record row { number = number; slot = record { life = nothing_kept moment (asked_of (life_row row)); look = None } }) row) row)
-  renewed_row true true moment number row holds = refl
-  renewed_row true false moment number row holds = holds
-  renewed_row false renews moment number row holds = holds
-
   supplied_rows : (start moment : ℕ) (all : Bool) (consumer : Name) (mark : MarkOf) (rows : List (Row Followed))
-      → AllHold now held rows → AllHold now held (rows_supplied start moment all consumer mark rows)
+      → AllHold now held rows → AllHold now held (rows_supplied keeps_looks start moment all consumer mark rows)
   supplied_rows start moment true consumer mark rows all =
-      All-map (RowHolds now held) (renewed moment mark.number mark.round consumer mark.subscription) rows
-      (All-weaker (RowHolds now held)
-      (λ row. RowHolds now held (renewed moment mark.number mark.round consumer mark.subscription row))
-      (λ row holds. renewed_row (is_of consumer mark.subscription row) (is_renumbered_by mark.number mark.round row)
-      moment mark.number row holds) rows all)
-    where
-      renewed : ℕ → (number base : ℕ) → Name → Name → Row Followed → Row Followed
-      renewed moment number base consumer identifier row =
-          cond (is_of consumer identifier row) (cond (is_renumbered_by number base row)
-          (record row { number = number; slot = record { life = nothing_kept moment (asked_of (life_row row)); look = None } }) row) row
+      one_all (RowHolds now held) (renewed_row keeps_looks.begun moment mark.number mark.round)
+      (renewed_all (RowHolds now held) keeps_looks.begun moment mark.number mark.round (λ row. refl))
+      consumer mark.subscription rows all
   supplied_rows start moment false consumer mark rows all =
-      one_row consumer mark.subscription (supplied_row start moment (mark_of mark))
-      (supplied_keeps start moment (mark_of mark)) rows all
+      one_all (RowHolds now held) (lifted (supplied_row start moment (mark_of mark)))
+      (lifted_row (supplied_row start moment (mark_of mark)) (supplied_keeps start moment (mark_of mark)))
+      consumer mark.subscription rows all
 
   taken_rows : (start moment : ℕ) (m : Message) (rows : List (Row Followed)) → AllHold now held rows
       → AllHold now held (rows_taken start moment m rows)
   unfolding rows_taken
   taken_rows start moment (message.SubscriptionRequest r) rows all =
-      accepted_all (RowHolds now held) moment (new_row moment r.message_identifier) (λ wanted. refl)
+      accepted_all (RowHolds now held) moment (new_row keeps_looks.begun moment r.message_identifier) (λ wanted. refl)
       (asked_in r) rows all
   taken_rows start moment (message.TerminateSubscriptionRequest r) rows all =
       ended_all (RowHolds now held) r.message_identifier r.subscriber_ref r.subscription_ref rows all
@@ -202,15 +180,7 @@ module _ (now : ℕ) (held : Items) where
       acknowledged_rows start moment a.status a.consumer_ref a.extensions rows all
   taken_rows start moment (message.DataSupplyRequest r) rows all =
       supplied_rows start moment r.all_data r.consumer_ref r.extensions rows all
-  taken_rows start moment (message.ServiceRequest r) rows all = all
-  taken_rows start moment (message.ServiceDelivery d) rows all = all
-  taken_rows start moment (message.SubscriptionResponse r) rows all = all
-  taken_rows start moment (message.TerminateSubscriptionResponse r) rows all = all
-  taken_rows start moment (message.DataReadyNotification n) rows all = all
-  taken_rows start moment (message.DataReadyAcknowledgement a) rows all = all
-  taken_rows start moment (message.CheckStatusRequest r) rows all = all
-  taken_rows start moment (message.CheckStatusResponse r) rows all = all
-  taken_rows start moment (message.HeartbeatNotification n) rows all = all
+  taken_rows start moment other rows all = all
 
 -- ---- a settle
 
@@ -383,7 +353,8 @@ hold_after state Settle rows s own all = settled_rows state.now state.current s 
 
 hold_from : (state : State) (rows : List (Row Followed)) (steps : History) → InOrder state.current → IsKeyed state.current
     → AllHoldIn state rows
-    → AllHoldIn (fold after_step state steps) (followed_from state rows steps)
+    → AllHoldIn (fold after_step state steps) (rows_from keeps_looks state rows steps)
+unfolding followed_after
 hold_from state rows [] s own all = all
 hold_from state rows (step ∷ steps) s own all =
     hold_from (after_step state step) (followed_after state step rows) steps (in_order_step state step s) (keyed_step state step own)

@@ -4,6 +4,7 @@ pub mod Current
 pub mod Entries
 pub mod Facts
 pub mod FactsHold
+pub mod Carried
 pub mod FollowedRows
 pub mod Histories
 pub mod InOrder

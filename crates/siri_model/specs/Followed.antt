@@ -1,39 +1,35 @@
 -- What is known of the last look at each subscription of a history, and how many stored items a look may read.
-use Rattle.std.specs.Prelude.{ℕ, ℤ, ◌+◌, ◌==◌, nat_lt, max, List, [], ◌∷◌, length, map, filter, fold, count_by, Bool, true, false, not, ◌&&◌, Option, Some, None, is_some, option_map, if◌then◌else◌}
+use Rattle.std.specs.Prelude.{ℕ, ℤ, ◌+◌, ◌==◌, nat_lt, List, [], length, filter, count_by, Bool, not, ◌&&◌, Option, Some, None, is_some, if◌then◌else◌}
 use Rattle.std.specs.List.{list_any, sum_by}
-use Rattle.std.specs.Map.{keys_of}
 use Rattle.std.specs.Ordering.{is_lt}
 use Rattle.siri_records.specs.declared.item.Item.{Item}
 use Rattle.siri_records.specs.declared.key.Key.{Key}
 use Rattle.siri_records.specs.Near.{is_near}
 use Rattle.siri_records.specs.KeyLists.{with_keys}
-use Rattle.siri_records.specs.Keyed.{Items, dead_of, living}
+use Rattle.siri_records.specs.Keyed.{Items}
 use Rattle.siri_topic.specs.declared.topics.Topic.{Topic}
-use Rattle.siri_topic.specs.declared.topics.Topic.TheVariants as topic
 use Rattle.siri_topic.specs.declared.windows.Window.{Window}
 use Rattle.siri_topic.specs.Shown.{window_of, is_from, is_before}
 use Rattle.siri_store.specs.Candidates.{candidates, may_be_shown}
-use Rattle.siri_messages.specs.Asked.{AskedFor, asked_in}
 use Rattle.siri_messages.specs.declared.message.Message.{Message}
-use Rattle.siri_messages.specs.declared.message.Message.TheVariants as message
-use Rattle.siri_messages.specs.declared.supplies.Mark.{Mark as MarkOf}
 use Rattle.siri_change.specs.Changes.{agree_on, keys_of_both}
 use Rattle.siri_change.specs.Parts.{Carried}
 use Rattle.siri_life.specs.Life.{Outstanding}
-use Rattle.siri_life.specs.Named.{Name}
 use Rattle.siri_life.specs.Slot.{Slot, opens_round}
 use Rattle.siri_subs.specs.declared.entry.Row.{Row}
-use Rattle.siri_subs.specs.Mapped.{mapped_row}
-use Rattle.siri_subs.specs.Table.{is_of, accepted, ended, expired, is_renumbered_by}
-use Rattle.siri_model.specs.History.{State, Step, Start, Clock, Feed, Take, Settle, History, nothing, after_step, entries_fed}
-use Rattle.siri_model.specs.Last.{entry_key}
-use Rattle.siri_model.specs.Lives.{mark_of}
+use Rattle.siri_model.specs.History.{State, Step, History, nothing}
 use Rattle.siri_model.specs.Meaning.{meaning}
-use Rattle.siri_model.specs.Rows.{KeptLife, asked_of, nothing_kept, settled_row, acknowledged_row, supplied_row}
+use Rattle.siri_model.specs.Rows.{KeptLife, asked_of}
+use Rattle.siri_model.specs.LookedAt as looked_at
+use Rattle.siri_model.specs.LookedAt.{LookedAt, with_look}
+use Rattle.siri_model.specs.Steps as steps
+use Rattle.siri_model.specs.Steps.{Keeps}
 use Rattle.siri_records.specs.Edges.{has_edge}
 use Rattle.siri_records.specs.Ends.{entry_of}
 use Rattle.siri_model.specs.Direct.{direct_to, most_of, soonest_cmp}
 use Rattle.siri_topic.specs.Services.{is_served}
+pub use Rattle.siri_model.specs.LookedAt.{life_row, lifted, look_by}
+pub use Rattle.siri_model.specs.Steps.{keys_dying}
 
 -- ---- the last look
 
@@ -45,14 +41,9 @@ pub record Look : Type 0 where
   pub touched : List Key
   pub apart : List Key
 
--- what is kept of a life, and its last look, none before the first
-pub record Followed : Type 0 where
-  pub life : KeptLife
-  pub look : Option Look
-
--- the row of a followed life, as it is kept
-abbrev pub life_row : Row Followed → Row KeptLife
-life_row row = mapped_row (λ followed. followed.life) row
+-- what is kept of a life, and its last look
+abbrev pub Followed : Type 0
+Followed = LookedAt Look
 
 -- ---- the view that a consumer is led to: the target of the outstanding round, else the acknowledged view
 
@@ -70,50 +61,7 @@ abbrev pub touched_look : List Key → Look → Look
 touched_look keys look = record look { touched = with_keys look.touched keys }
 
 abbrev pub touch : List Key → Row Followed → Row Followed
-touch keys row = record row { slot = record row.slot { look = option_map (touched_look keys) row.slot.look } }
-
--- the rows with what is kept of the lives changed, and their looks as they were
-abbrev pub lifted : (Row KeptLife → Row KeptLife) → Row Followed → Row Followed
-lifted change row = record row { slot = record row.slot { life = (change (life_row row)).slot } }
-
-abbrev pub with_row_of : Name → Name → (Row KeptLife → Row KeptLife) → List (Row Followed) → List (Row Followed)
-with_row_of subscriber identifier change rows = map (λ row. if is_of subscriber identifier row then lifted change row else row) rows
-
--- a subscription that is accepted wasn't looked at yet
-abbrev pub new_row : ℕ → ℕ → AskedFor → Row Followed
-new_row now number asked = record {
-  wanted = asked.subscription;
-  number = number;
-  base = number;
-  address = asked.address;
-  beat = asked.beat;
-  slot = record { life = nothing_kept now asked; look = None };
-}
-
--- nor was one that an AllData request renews
-abbrev pub renewed_row : ℕ → (number base : ℕ) → Row Followed → Row Followed
-renewed_row now number base row =
-    if is_renumbered_by number base row
-    then record row { number = number; slot = record { life = nothing_kept now (asked_of (life_row row)); look = None } } else row
-
-abbrev pub rows_renewed : ℕ → (number base : ℕ) → Name → Name → List (Row Followed) → List (Row Followed)
-rows_renewed now number base subscriber identifier rows =
-    map (λ row. if is_of subscriber identifier row then renewed_row now number base row else row) rows
-
-abbrev pub rows_supplied : ℕ → ℕ → (all_data : Bool) → Name → MarkOf → List (Row Followed) → List (Row Followed)
-rows_supplied start now true consumer mark rows = rows_renewed now mark.number mark.round consumer mark.subscription rows
-rows_supplied start now false consumer mark rows = with_row_of consumer mark.subscription (supplied_row start now (mark_of mark)) rows
-
-abbrev pub rows_acknowledged : ℕ → ℕ → Bool → Option Name → Option MarkOf → List (Row Followed) → List (Row Followed)
-rows_acknowledged start now true (Some consumer) (Some mark) rows = with_row_of consumer mark.subscription (acknowledged_row start now (mark_of mark)) rows
-rows_acknowledged start now status consumer mark rows = rows
-
-unfoldable pub rows_taken : ℕ → ℕ → Message → List (Row Followed) → List (Row Followed)
-rows_taken start now (message.SubscriptionRequest r) rows = fold (λ rows asked. accepted now (new_row now r.message_identifier asked) rows) rows (asked_in r)
-rows_taken start now (message.TerminateSubscriptionRequest r) rows = fold (λ rows identifier. ended r.message_identifier r.subscriber_ref identifier rows) rows r.subscription_ref
-rows_taken start now (message.DataReceivedAcknowledgement a) rows = rows_acknowledged start now a.status a.consumer_ref a.extensions rows
-rows_taken start now (message.DataSupplyRequest r) rows = rows_supplied start now r.all_data r.consumer_ref r.extensions rows
-rows_taken start now other rows = rows
+touch keys = with_look (touched_look keys)
 
 -- ---- a look
 
@@ -135,38 +83,24 @@ look_at now items row =
       apart = if opens direct row then [] else keys_apart row.wanted.slack row.slot.rounds.acknowledged direct;
     }
 
--- a settle is a look where nothing is outstanding
-abbrev pub look_by : Option (Outstanding Items Carried) → (before : Option Look) → (now : Look) → Option Look
-look_by None before now = Some now
-look_by (Some outstanding) before now = before
-
 abbrev pub followed_settled : ℕ → Items → Row Followed → Row Followed
-followed_settled now items row = record row {
-  slot = record {
-    life = (settled_row now items (life_row row)).slot;
-    look = look_by row.slot.life.rounds.outstanding row.slot.look (look_at now items (life_row row));
-  };
-}
+followed_settled = looked_at.settled look_at touched_look
 
 -- ---- the followed rows of a history
 
--- the keys whose item is dead at a later moment, and wasn't before
-abbrev pub keys_dying : State → ℕ → List Key
-keys_dying state moment = keys_of (dead_of (max state.now moment) (living state.now state.current))
+abbrev pub keeps_looks : Keeps Followed
+keeps_looks = looked_at.keeps_looks look_at touched_look
+
+unfoldable pub rows_taken : ℕ → ℕ → Message → List (Row Followed) → List (Row Followed)
+unfolding steps.rows_taken
+rows_taken start now m rows = steps.rows_taken keeps_looks start now m rows
 
 unfoldable pub followed_after : State → Step → List (Row Followed) → List (Row Followed)
-followed_after state (Start number moment) rows = []
-followed_after state (Clock moment) rows = map (touch (keys_dying state moment)) (expired (max state.now moment) rows)
-followed_after state (Feed entries) rows = map (touch (map entry_key entries)) rows
-followed_after state (Take m) rows = map (touch (map entry_key (entries_fed m))) (rows_taken state.start state.now m rows)
-followed_after state Settle rows = map (followed_settled state.now state.current) rows
-
-abbrev pub followed_from : State → List (Row Followed) → History → List (Row Followed)
-followed_from state rows [] = rows
-followed_from state rows (step ∷ steps) = followed_from (after_step state step) (followed_after state step rows) steps
+unfolding steps.rows_after rows_taken
+followed_after state step rows = steps.rows_after keeps_looks state step rows
 
 abbrev pub followed_of : History → List (Row Followed)
-followed_of history = followed_from nothing [] history
+followed_of history = steps.rows_from keeps_looks nothing [] history
 
 -- ---- how many stored items a look may read
 

@@ -4,7 +4,9 @@ pub mod Last
 pub mod Direct
 pub mod Meaning
 pub mod Lives
+pub mod Steps
 pub mod Rows
+pub mod LookedAt
 pub mod Held
 pub mod Looks
 pub mod Followed

@@ -27,7 +27,7 @@ use Rattle.siri_subscriptions.specs.declared.outs.Out.{Out}
 use Rattle.siri_subscriptions.specs.Looked.{look_of, followed, followed_rows}
 use Rattle.siri_subscriptions.specs.Sends as settle
 use Rattle.siri_subscriptions.specs.Sends.{table_sends}
-use Rattle.siri_subscriptions.specs.Settled.{look_now, looked_by, settled_row}
+use Rattle.siri_subscriptions.specs.Settled.{look_now, settled_row}
 use Rattle.siri_subscriptions.proofs.Carriage.{settled_carried}
 use Rattle.siri_producer.specs.Known.{Known, StandsFor, Follows, GoesOn, SendsFor}
 use Rattle.siri_producer.specs.Forgets.{Forgets, number_by, numbers_after, oldest_of}
@@ -125,9 +125,9 @@ module _ (known new : responder.Known) (oldest next : ℕ) (same : SameFrom olde
   settled_now row = settled_row known.moment known.held next row
 
   look_settled : (row : Row Course) (o : Option (Outstanding Items (List KeyChange)))
-      → ((l : Looked) → looked_by o row.slot.looked (look_now known.moment known.held next row) ≡ Some l
+      → ((l : Looked) → look_by o row.slot.looked (look_now known.moment known.held next row) ≡ Some l
       → oldest ≤ l.number)
-      → option_map (look_of new.marks) (looked_by o row.slot.looked (look_now known.moment known.held next row))
+      → option_map (look_of new.marks) (look_by o row.slot.looked (look_now known.moment known.held next row))
       ≡ look_by (option_map outstanding_carried o) (option_map (look_of known.marks) row.slot.looked)
       (look_at known.moment known.held (kept_row row))
   look_settled row None from = λ i. Some (record {
@@ -165,7 +165,7 @@ number_settled : (now : ℕ) (items : Items) (number next : ℕ) → number ≤ 
 number_settled now items number next le row numbered = by row.slot.rounds.outstanding
   where
     by : (o : Option (Outstanding Items (List KeyChange))) → (looked : Looked)
-        → looked_by o row.slot.looked (look_now now items next row) ≡ Some looked → looked.number ≤ next
+        → look_by o row.slot.looked (look_now now items next row) ≡ Some looked → looked.number ≤ next
     by None looked is =
         let same : look_now now items next row ≡ looked = cc in
         subst (λ (l : Looked). l.number ≤ next) same (omega arith)
@@ -183,7 +183,7 @@ numbers_settled now items number next le (row ∷ rows) numbered =
 -- the numbers of the looks after it
 number_now : (now : ℕ) (items : Items) (next : ℕ) (row : Row Course)
     → (o : Option (Outstanding Items (List KeyChange)))
-    → option_map number_of (looked_by o row.slot.looked (look_now now items next row))
+    → option_map number_of (look_by o row.slot.looked (look_now now items next row))
     ≡ number_by (option_map outstanding_carried o) (option_map number_of row.slot.looked) next
 number_now now items next row None = refl
 number_now now items next row (Some outstanding) = refl

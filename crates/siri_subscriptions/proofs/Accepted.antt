@@ -207,7 +207,7 @@ module _ (now number : ℕ) (candidate : Candidate) (course : Course) (table : L
   rows_kept rows is = ap kept_rows is ∙ (sym (accepted_mapped kept now row_by table) ∙ ap (λ h. accepted now h (kept_rows table)) row_kept)
 
   row_noted : course.looked ≡ None → mapped_row noted row_by ≡ new_noted now number (asked_by candidate)
-  row_noted none = λ i. record (new_noted now number (asked_by candidate)) { slot = record { life = new i; looked = none i } }
+  row_noted none = λ i. record (new_noted now number (asked_by candidate)) { slot = record { life = new i; look = none i } }
 
   pub noted_kept : course.looked ≡ None → (rows : List (Row Course)) → rows ≡ accepted now row_by table
       → noted_rows rows ≡ accept_noted now number (noted_rows table) candidate

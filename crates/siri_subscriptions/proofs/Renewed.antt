@@ -18,10 +18,10 @@ use Rattle.siri_subs.proofs.Numbered.{unnumbered}
 use Rattle.siri_subs.proofs.Once.{held_like}
 use Rattle.siri_subscriptions.specs.replies.Parts.{all_data_response}
 use Rattle.siri_subscriptions.specs.replies.Refusals.{not_renewed_as}
-use Rattle.siri_model.specs.Rows.{KeptLife}
+use Rattle.siri_model.specs.Rows.{KeptLife, asked_of}
 use Rattle.siri_subscriptions.specs.declared.course.Course.{Course}
 use Rattle.siri_subscriptions.specs.Courses.{kept, kept_row, kept_rows}
-use Rattle.siri_subscriptions.specs.Noted.{Noted, noted, noted_life, noted_renewed, noted_rows}
+use Rattle.siri_subscriptions.specs.Noted.{noted, noted_anew, noted_renewed, noted_rows}
 use Rattle.siri_subscriptions.specs.Renewals.{renew_by}
 use Rattle.siri_subscriptions.specs.Renewing.{anew, answer_as}
 
@@ -102,10 +102,6 @@ module _ {E F : Type 0} (f : E → F) (s i : List ℕ) where
 
 -- ---- the rows with what belongs to their lives, and with what is noted
 
--- what is noted of a row where it begins anew
-abbrev noted_anew : ℕ → Row Noted → Noted
-noted_anew now row = record { life = anew now (noted_life row); looked = None }
-
 module _ (s i : List ℕ) (n b now : ℕ) (table : List (Row Course)) where
   -- a course is that of the row, as it begins anew
   made : (course : Course) (o : Option (Row Course)) → find (is_of s i) table ≡ o
@@ -137,8 +133,8 @@ module _ (s i : List ℕ) (n b now : ℕ) (table : List (Row Course)) where
       by (Some h) there =
           let same : Some (kept course) ≡ Some (anew now (kept_row h)) = made course (Some h) there is in
           let life : kept course ≡ anew now (kept_row h) = cc in
-          renewed_mapped noted s i n b course (noted_anew now) table h once there
-          (λ j. record { life = life j; looked = unlooked j })
+          renewed_mapped noted s i n b course (λ row. noted_anew now (asked_of row)) table h once there
+          (λ j. record { life = life j; look = unlooked j })
 
   -- where the subscription isn't held, nothing changes
   none_held : (rows : List (Row KeptLife)) → find (is_of s i) rows ≡ None → is_held s i rows ≡ false
@@ -164,7 +160,7 @@ module _ (s i : List ℕ) (n b now : ℕ) (table : List (Row Course)) where
   pub keeps_noted : None ≡ option_map (anew now) (find (is_of s i) (kept_rows table))
       → noted_rows table ≡ noted_renewed now n b s i (noted_rows table)
   keeps_noted is =
-      sym (unrenewed s i n b (noted_anew now) (noted_rows table)
+      sym (unrenewed s i n b (λ row. noted_anew now (asked_of row)) (noted_rows table)
       (held_mapped noted s i s i table ∙ (sym (held_mapped kept s i s i table) ∙ unmade is)))
 
   pub keeps_answer : None ≡ option_map (anew now) (find (is_of s i) (kept_rows table))

@@ -5,7 +5,7 @@ use Rattle.siri_change.specs.Changes as change
 use Rattle.siri_life.specs.Life.{Outstanding}
 use Rattle.siri_subs.specs.declared.entry.Row.{Row}
 use Rattle.siri_model.specs.Direct.{direct_to}
-use Rattle.siri_model.specs.Followed.{look_at}
+use Rattle.siri_model.specs.Followed.{look_at, look_by}
 use Rattle.siri_model.specs.Rows as model
 use Rattle.siri_subscriptions.specs.declared.course.Course.{Course}
 use Rattle.siri_subscriptions.specs.declared.course.Looked.{Looked}
@@ -21,11 +21,6 @@ level_by (Some outstanding) found before = before
 abbrev pub look_now : (now : ℕ) → Items → (next : ℕ) → Row Course → Looked
 look_now now items next row = record { moment = now; number = next; apart = (look_at now items (kept_row row)).apart }
 
--- where nothing is outstanding it is the last look
-abbrev pub looked_by : Option (Outstanding Items (List KeyChange)) → (before : Option Looked) → (now : Looked) → Option Looked
-looked_by None before now = Some now
-looked_by (Some outstanding) before now = before
-
 -- what is kept of a subscription after a settle, by the current items at a moment; its looks get the next number
 abbrev pub settled_course : (now : ℕ) → Items → (next : ℕ) → Row Course → Course
 settled_course now items next row =
@@ -36,7 +31,7 @@ settled_course now items next row =
       is_level = level_by row.slot.rounds.outstanding
           (change.meets row.wanted.slack row.slot.rounds.acknowledged (direct_to now items row.wanted.topic))
           row.slot.is_level;
-      looked = looked_by row.slot.rounds.outstanding row.slot.looked (look_now now items next row);
+      looked = look_by row.slot.rounds.outstanding row.slot.looked (look_now now items next row);
     }
 
 abbrev pub settled_row : (now : ℕ) → Items → (next : ℕ) → Row Course → Row Course
