@@ -1,5 +1,6 @@
 -- The rows of dead items leave.
 use Rattle.std.proofs.Common.{◌≡◌, ℕ, List, [], ◌∷◌, Bool, true, false, cond, Option, None, Some, refl, sym, ap, ◌∙◌, inl, inr}
+use Rattle.std.specs.Prelude.{option_map}
 use Rattle.std.specs.List.{AllByRecursion as All, Contains}
 use Rattle.std.specs.Cmp.{eq_by_cmp_equiv}
 use Rattle.std.specs.Map.{keys_of}
@@ -15,9 +16,12 @@ use Rattle.siri_records.specs.Keyed.{InOrder, Items, apply, dead_of, item_of}
 use Rattle.siri_records.specs.Order.{key_cmp, key_cmp_total}
 use Rattle.siri_records.proofs.KeyLists.{one_key}
 use Rattle.siri_change.proofs.Leads.{order_applied, same_views}
-use Rattle.siri_keeping.specs.Keeping.{Covers, changes_to}
+use Rattle.siri_row_texts.specs.ItemRows.{item_text, key_text}
+use Rattle.siri_model.proofs.Entries.{sorted_passing}
+use Rattle.siri_keeping.specs.Keeping.{Covers, changes_to, puts_to}
 use Rattle.siri_keeping.proofs.Kept.{changes_leave, is_named}
-use Rattle.siri_keep.proofs.Alls.{all_of_each, each_of_all}
+use Rattle.siri_keep.proofs.Alls.{all_mapped, all_of_each, each_of_all}
+use Rattle.siri_keep.proofs.Written.{passed}
 
 -- ---- what holds of each item that is found
 
@@ -43,8 +47,18 @@ named_at : (k : Key) (i : Item) (items : Items) → item_of items k ≡ Some i �
 named_at k i [] at = cc
 named_at k i (e ∷ items) at = named_here k i e items (is_eq (key_cmp k e.0)) refl at (named_at k i items)
 
-passed : (now : ℕ) (i : Item) → is_dead i now ≡ true → option_filter (λ i. is_dead i now) (Some i) ≡ Some i
-passed now i dead = rw dead refl
+-- keys of which none is live
+changes_none : (live : Items) (keys : List Key) → All (λ k. item_of live k ≡ None) keys → changes_to live keys ≡ changes_to [] keys
+changes_none live [] all = refl
+changes_none live (k ∷ keys) all = λ i. (k, all.0 i) ∷ changes_none live keys all.1 i
+
+puts_none : (live : Items) (keys : List Key) → All (λ k. item_of live k ≡ None) keys → puts_to live keys ≡ puts_to [] keys
+puts_none live [] all = refl
+puts_none live (k ∷ keys) all =
+    λ i. record { table = 1; key = key_text k; text = option_map item_text (all.0 i) } ∷ puts_none live keys all.1 i
+
+dead_passes : (now : ℕ) (i : Item) → is_dead i now ≡ true → option_filter (λ i. is_dead i now) (Some i) ≡ Some i
+dead_passes now i dead = rw dead refl
 
 module _ (now : ℕ) (live mirror : Items) (s : InOrder live) (t : InOrder mirror) (covers : Covers now live mirror) where
   abbrev pub dead_keys : List Key
@@ -54,7 +68,7 @@ module _ (now : ℕ) (live mirror : Items) (s : InOrder live) (t : InOrder mirro
   dead_named k i at dead = named_at k i (dead_of now mirror)
       (lookup-filter-values (eq_by_cmp_equiv key_cmp_total) (λ i. is_dead i now) k mirror (IsDistinct-from_sorted key_cmp _ t)
       ∙ ap (option_filter (λ i. is_dead i now)) at
-      ∙ passed now i dead)
+      ∙ dead_passes now i dead)
 
   -- a key that nothing is kept of isn't live
   none_live : (k : Key) (o : Option Item) → item_of live k ≡ o → item_of mirror k ≡ None → None ≡ o
@@ -74,3 +88,29 @@ module _ (now : ℕ) (live mirror : Items) (s : InOrder live) (t : InOrder mirro
   pub live_left : apply mirror (changes_to live dead_keys) ≡ live
   live_left = same_views (apply mirror (changes_to live dead_keys)) live (order_applied mirror (changes_to live dead_keys) t) s
       (λ k. changes_leave live k dead_keys mirror t ∙ left_at k (is_named k dead_keys) (item_of mirror k) refl refl)
+
+  -- ---- where what is live isn't dead, no dead key is live
+
+  module _ (alive : (k : Key) (i : Item) → item_of live k ≡ Some i → is_dead i now ≡ false) where
+    not_live : (k : Key) (i : Item) → item_of (dead_of now mirror) k ≡ Some i → item_of live k ≡ None
+    not_live k i at = by (item_of live k) refl
+      where
+        there : (item_of mirror k ≡ Some i) × (is_dead i now ≡ true)
+        there = passed (λ i. is_dead i now) (item_of mirror k) i
+            (sym (lookup-filter-values (eq_by_cmp_equiv key_cmp_total) (λ i. is_dead i now) k mirror (IsDistinct-from_sorted key_cmp _ t)) ∙ at)
+
+        by : (o : Option Item) → item_of live k ≡ o → item_of live k ≡ None
+        by None is = is
+        by (Some j) is = absurd (cc (covers.has_live k j is, alive k j is, there.0, there.1))
+
+    none_dead : All (λ k. item_of live k ≡ None) dead_keys
+    none_dead = all_mapped (λ k. item_of live k ≡ None) (λ (e : Key × Item). e.0) (dead_of now mirror)
+        (all_by_items (λ e. item_of live e.0 ≡ None) (dead_of now mirror)
+        (sorted_passing key_cmp (λ (i : Item). is_dead i now) mirror t) not_live)
+
+    -- so none of them need be looked up
+    pub unlooked_changes : changes_to live dead_keys ≡ changes_to [] dead_keys
+    unlooked_changes = changes_none live dead_keys none_dead
+
+    pub unlooked_puts : puts_to live dead_keys ≡ puts_to [] dead_keys
+    unlooked_puts = puts_none live dead_keys none_dead

@@ -4,7 +4,7 @@ use Rattle.std.specs.List.{AllByRecursion}
 use Rattle.std.proofs.Math.Seq.{take-length}
 use Rattle.siri_outside.specs.OutsideCalls.{WhereTold}
 use Rattle.siri_model.specs.History.{History}
-use Rattle.siri_producer.specs.Known.{StandsFor}
+use Rattle.siri_producer.specs.Known.{Follows, StandsFor}
 use Rattle.siri_outside.specs.declared.rows.Put.{Put}
 use Rattle.siri_outside.specs.Rows.{Rows, with_puts}
 use Rattle.siri_outside.specs.Shelves.{ShelfState}
@@ -12,7 +12,7 @@ use Rattle.siri_keeping.specs.Keeping.{AddsOnly}
 use Rattle.siri_keeping.specs.Keeps.{Keeps}
 use Rattle.siri_keep.specs.declared.errors.KeepError.{KeepError}
 use Rattle.siri_keep.specs.declared.kept.Kept.{Kept}
-use Rattle.siri_keep.specs.Calls.{AddsFronts, GoesOnAs, GoesOnKept, Holds, KeepsFront, LeavesLive, StandsOn, StaysUnless}
+use Rattle.siri_keep.specs.Calls.{AddsFronts, FollowsOn, GoesOnAs, GoesOnKept, Holds, KeepsFront, LeavesLive, StandsOn, StaysUnless}
 use Rattle.siri_keep.specs.Planning.{Plans, WritesAll}
 use Rattle.siri_keep.proofs.Left.{keeps_of}
 use Rattle.siri_keep.proofs.Told.{told_same, told_weaker}
@@ -60,6 +60,9 @@ module _ (old mid new : Kept) (steps : History) (puts : List Put) (plans : Plans
 
   pub stands_on : StandsOn old.producer new.producer steps
   stands_on = λ h s. subst (λ (k : Kept). StandsFor k.producer (h ++ steps)) (sym rest) (plans.stands h s)
+
+  pub follows_on : FollowsOn old.producer new.producer steps
+  follows_on = λ h f. subst (λ (k : Kept). Follows k.producer (h ++ steps)) (sym rest) (plans.follows h f)
 
   pub name_stays : new.producer.responder.name ≡ old.producer.responder.name
   name_stays = ap (λ (k : Kept). k.producer.responder.name) rest ∙ plans.name

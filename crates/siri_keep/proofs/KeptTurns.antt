@@ -1,9 +1,8 @@
 -- A turn over a shelf: what it takes, what it answers, and what it sends.
-use Rattle.std.specs.Prelude.{if◌then◌else◌, IfOk, IsSomeAnd, OnOk}
+use Rattle.std.specs.Prelude.{if◌then◌else◌, IsSomeAnd, OnOk}
 use Rattle.std.proofs.Common.{◌≡◌, ◌⊎◌, ℕ, List, [], ◌∷◌, ◌++◌, Bool, true, false, Option, None, Some, Result, Ok, Err, refl, sym, ap, ◌∙◌, subst, append-nil, inl, inr}
 use Rattle.siri_outside.specs.OutsideCalls.{WhereTold}
 use Rattle.siri_outside.specs.Wires.{WireState}
-use Rattle.siri_outside.specs.declared.errors.OutsideError.{OutsideError}
 use Rattle.siri_http.specs.Requests.{post_alone}
 use Rattle.siri_http.specs.declared.asked.Asked.{Asked}
 use Rattle.siri_http.specs.declared.tally.Tally.{Tally}
@@ -34,7 +33,7 @@ use Rattle.siri_keep.specs.declared.kept.Kept.{Kept}
 use Rattle.siri_keep.specs.Calls.{AddsFronts, CountsKept, GoesOnKept, Holds}
 use Rattle.siri_keep.specs.KeptTurns.{KeepsOn, LeavesKept, outside_error}
 use Rattle.siri_keep.specs.Puts.{changes_rows, has_long_row}
-use Rattle.siri_keep.specs.Serving.{AddsTurn, GoesOnServing, KeepsWhatIsAnswered, has_long_asked, is_long_in, keeping, message_kept, row_too_long}
+use Rattle.siri_keep.specs.Serving.{AddsTurn, GoesOnServing, KeepsWhatIsAnswered, has_long_asked, is_long_in, keeping, message_kept, row_too_long, short_of}
 use Rattle.siri_keep.proofs.Answered.{told_answered, told_unanswered, told_unread}
 use Rattle.siri_keep.proofs.Left.{keeps_of}
 use Rattle.siri_keep.proofs.SameKept.{SameKept, heard_kept, keeps_same, kept_proper, left_same, same_none, same_settled, same_taken, turn_proper}
@@ -96,79 +95,39 @@ leaves_nothing kept rows = record {
 
 -- the same of what is told
 
-pub told_keeps : (old new : Kept) (m : Message) (x y : Option ShelfState)
-    → WhereTold x y (λ s t. GoesOnKept old new (Take m ∷ []) s.rows t.rows) → WhereTold x y (λ s t. LeavesKept old new (Take m ∷ []) s.rows t.rows)
-told_keeps old new m x y told = told_weaker (λ s t. GoesOnKept old new (Take m ∷ []) s.rows t.rows)
-    (λ s t. LeavesKept old new (Take m ∷ []) s.rows t.rows) x y (λ s t goes. keeps_message old new m s.rows t.rows goes) told
+-- where no row is too long
+pub told_keeps : (old new : Kept) (m : Message) (x y : Option ShelfState) → has_long_row m ≡ false
+    → WhereTold x y (λ s t. GoesOnKept old new (Take m ∷ []) s.rows t.rows)
+    → WhereTold x y (λ s t. LeavesKept old new (taking (short_of m)) s.rows t.rows)
+told_keeps old new m x y short told = rw short (told_weaker (λ s t. GoesOnKept old new (Take m ∷ []) s.rows t.rows)
+    (λ s t. LeavesKept old new (Take m ∷ []) s.rows t.rows) x y (λ s t goes. keeps_message old new m s.rows t.rows goes) told)
 
-pub told_leaves : (old new : Kept) (m : Message) (r : Reply) (x : Option ShelfState)
+pub told_leaves : (old new : Kept) (m : Message) (r : Reply) (x : Option ShelfState) → has_long_row m ≡ false
     → Prepares old.producer new.producer (Some m) (message_response m) r → changes_rows m ≡ false → IsProper m
     → new.producer.responder.name ≡ old.producer.responder.name → new ≡ record old { producer = new.producer }
-    → WhereTold x x (λ s t. LeavesKept old new (Take m ∷ []) s.rows t.rows)
-told_leaves old new m r x so none proper name rest =
-    told_same (λ s t. LeavesKept old new (Take m ∷ []) s.rows t.rows) x (λ s. leaves_message old new m r s.rows so none proper name rest)
+    → WhereTold x x (λ s t. LeavesKept old new (taking (short_of m)) s.rows t.rows)
+told_leaves old new m r x short so none proper name rest = rw short
+    (told_same (λ s t. LeavesKept old new (Take m ∷ []) s.rows t.rows) x (λ s. leaves_message old new m r s.rows so none proper name rest))
+
+pub fronts_short : (old : Kept) (m : Message) (x y : Option ShelfState) → has_long_row m ≡ false
+    → WhereTold x y (AddsFronts old (Take m ∷ [])) → WhereTold x y (AddsFronts old (taking (short_of m)))
+fronts_short old m x y short told = rw short told
 
 pub told_nothing : (kept : Kept) (x : Option ShelfState) → WhereTold x x (λ s t. LeavesKept kept kept [] s.rows t.rows)
 told_nothing kept x = told_same (λ s t. LeavesKept kept kept [] s.rows t.rows) x (λ s. leaves_nothing kept s.rows)
+
+-- where one is, nothing is taken
+pub told_long : (kept : Kept) (m : Message) (x : Option ShelfState) → has_long_row m ≡ true
+    → WhereTold x x (λ s t. LeavesKept kept kept (taking (short_of m)) s.rows t.rows)
+told_long kept m x long = rw long (told_nothing kept x)
 
 pub told_unwritten : (old : Kept) (steps : History) (x : Option ShelfState) → WhereTold x x (AddsFronts old steps)
 told_unwritten old steps x = told_same (AddsFronts old steps) x (λ s. fronts_same old steps s)
 
 -- ---- what a connection asks
 
--- a message that a connection brings is taken where it is short
-pub asked_short : (asked : Asked) (m : Message) → message_asked asked ≡ Some m → has_long_asked asked ≡ false → message_kept asked ≡ Some m
-asked_short asked m is short = ap (λ b. if b then None else message_asked asked) short ∙ is
-
-pub asked_long : (asked : Asked) → has_long_asked asked ≡ true → message_kept asked ≡ None
-asked_long asked long = ap (λ b. if b then None else message_asked asked) long
-
 pub long_of : (asked : Asked) (m : Message) → message_asked asked ≡ Some m → has_long_asked asked ≡ has_long_row m
 long_of asked m is = ap is_long_in is
-
--- ---- a connection that brings a message
-
-module _ {B : Type 0} (tells : B → Option ShelfState) (asked : Asked) (m : Message) (old : Kept) (s t : B)
-    (asked_is : message_asked asked ≡ Some m) (same : has_long_row m ≡ true → t ≡ s) where
-  none_kept : has_long_row m ≡ true → message_kept asked ≡ None
-  none_kept long = asked_long asked (long_of asked m asked_is ∙ long)
-
-  one_kept : has_long_row m ≡ false → message_kept asked ≡ Some m
-  one_kept short = asked_short asked m asked_is (long_of asked m asked_is ∙ short)
-
-  pub kept_trail : (has_long_row m ≡ false → WhereTold (tells s) (tells t) (AddsFronts old (Take m ∷ [])))
-      → WhereTold (tells s) (tells t) (AddsFronts old (taking (message_kept asked)))
-  kept_trail trail = by (has_long_row m) refl
-    where
-      by : (long : Bool) → has_long_row m ≡ long → WhereTold (tells s) (tells t) (AddsFronts old (taking (message_kept asked)))
-      by true long = subst (λ o. WhereTold (tells s) (tells t) (AddsFronts old (taking o))) (sym (none_kept long))
-          (subst (λ u. WhereTold (tells s) (tells u) (AddsFronts old [])) (sym (same long)) (told_unwritten old [] (tells s)))
-      by false short = subst (λ o. WhereTold (tells s) (tells t) (AddsFronts old (taking o))) (sym (one_kept short)) (trail short)
-
-  module _ (new : Kept) where
-    abbrev Leaves : Option Message → B → Kept → Type 0
-    Leaves o u k = WhereTold (tells s) (tells u) (λ before after. LeavesKept old k (taking o) before.rows after.rows)
-
-    leaves_at : (result : Result Reply OutsideError) (o : Option Message) → message_kept asked ≡ o → OnOk result (Leaves o t new)
-        → OnOk result (Leaves (message_kept asked) t new)
-    leaves_at result o at leaves = subst (λ o. OnOk result (Leaves o t new)) (sym at) leaves
-
-    pub kept_leaves : (result : Result Reply OutsideError)
-        → IfOk result (λ answer. has_long_row m ≡ true → (answer ≡ reply.Made (Some row_too_long)) × (new ≡ old))
-        → (has_long_row m ≡ false → OnOk result (WhereTold (tells s) (tells t) (λ before after. LeavesKept old new (Take m ∷ []) before.rows after.rows)))
-        → OnOk result (WhereTold (tells s) (tells t) (λ before after. LeavesKept old new (taking (message_kept asked)) before.rows after.rows))
-    kept_leaves result long leaves = by (has_long_row m) refl
-      where
-        nothing : (result : Result Reply OutsideError) → has_long_row m ≡ true
-            → IfOk result (λ answer. has_long_row m ≡ true → (answer ≡ reply.Made (Some row_too_long)) × (new ≡ old))
-            → OnOk result (Leaves None t new)
-        nothing (Ok answer) is long = subst (λ k. Leaves None t k) (sym (long is).1)
-            (subst (λ u. Leaves None u old) (sym (same is)) (told_nothing old (tells s)))
-        nothing (Err error) is long = tt
-
-        by : (b : Bool) → has_long_row m ≡ b → OnOk result (Leaves (message_kept asked) t new)
-        by true is = leaves_at result None (none_kept is) (nothing result is long)
-        by false short = leaves_at result (Some m) (one_kept short) (leaves short)
 
 -- ---- the turn of a connection, of which the reply is still to be written
 

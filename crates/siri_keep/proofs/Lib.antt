@@ -6,6 +6,7 @@ pub mod TakenRows
 pub mod Beginnings
 pub mod ReadOn
 pub mod Left
+pub mod Looks
 pub mod Fronts
 pub mod Steps
 pub mod Alls

@@ -1,5 +1,5 @@
 -- What is planned makes of the rows what they are to be.
-use Rattle.std.proofs.Common.{◌≡◌, ◌≤◌, ℕ, List, [], ◌∷◌, ◌++◌, length, map, fold, Bool, true, false, cond, not, Option, None, Some, refl, sym, ap, ◌∙◌, subst, inl, inr, append-nil, arith}
+use Rattle.std.proofs.Common.{◌≡◌, ◌≤◌, ℕ, List, [], ◌∷◌, ◌++◌, length, map, fold, Bool, true, false, cond, not, Some, refl, sym, ap, ◌∙◌, subst, inl, inr, append-nil, arith}
 use Rattle.std.specs.List.{AllByRecursion as All}
 use Rattle.std.specs.Map.{keys_of}
 use Rattle.std.proofs.lemmas.List.{length-map, map-append}
@@ -25,7 +25,7 @@ use Rattle.siri_model.specs.Rows.{KeptLife, rows_after, rows_taken}
 use Rattle.siri_model.proofs.Current.{few_live}
 use Rattle.siri_model.proofs.InOrder.{current_in_order, in_order_all}
 use Rattle.siri_producer.proofs.Stands.{fed_all}
-use Rattle.siri_producer.specs.Known.{GoesOn, Known, SameButReads, StandsFor}
+use Rattle.siri_producer.specs.Known.{Follows, GoesOn, Known, SameButReads, StandsFor}
 use Rattle.siri_responder.specs.Known as responder
 use Rattle.siri_outside.specs.declared.rows.Put.{Put}
 use Rattle.siri_outside.specs.Rows.{Rows, with_puts}
@@ -39,7 +39,7 @@ use Rattle.siri_keep.specs.Calls.{Holds, LeavesLive, Left}
 use Rattle.siri_keep.specs.Planning.{Plans, ReadsMoment}
 use Rattle.siri_keep.specs.Puts.{changes_rows, has_long_row}
 use Rattle.siri_keep.proofs.Alls.{all_filtered, all_mapped, all_unmapped, all_weaker}
-use Rattle.siri_keep.proofs.Cleaned.{all_by_items, item_by_all, live_left}
+use Rattle.siri_keep.proofs.Cleaned.{all_by_items, item_by_all, live_left, unlooked_changes, unlooked_puts}
 use Rattle.siri_keep.proofs.Clocked.{all_stay, is_later, later_held, same_rows, start_stays}
 use Rattle.siri_keep.proofs.Started.{begun_start}
 use Rattle.siri_tables.specs.Proper.{IsNumber}
@@ -49,8 +49,8 @@ use Rattle.siri_row_texts.specs.SubscriptionRows.{renewal_of, renewal_text, requ
 use Rattle.siri_row_texts.specs.Reading.{began_of_row, item_of_row, renewal_of_row, request_of_row}
 use Rattle.siri_row_texts.specs.ItemRows.{item_text, key_text, moment_row}
 use Rattle.siri_records.specs.Keys.{key_of}
-use Rattle.siri_keep.proofs.Written.{covers_clocked, dead_stays, items_kept, moment_kept, subscriptions_kept}
-use Rattle.siri_keep.proofs.Steps.{held_is, left_as, moment_is, proper_more, same_held, same_moment, same_start, stands_read, start_is, table_is}
+use Rattle.siri_keep.proofs.Written.{covers_clocked, dead_stays, items_kept, moment_kept, passed, subscriptions_kept}
+use Rattle.siri_keep.proofs.Steps.{follows_read, held_is, left_as, moment_is, proper_more, same_held, same_moment, same_start, stands_read, start_is, table_is}
 
 abbrev helds : Known → List Held
 helds known = map held_of known.table
@@ -105,6 +105,18 @@ live_few known h s =
     let few : length known.responder.held ≤ most_live = rw s.responder.held (few_live h) in
     omega (arith, few)
 
+-- and isn't dead
+alive : (b : Bool) → not b ≡ true → b ≡ false
+alive true is = cc
+alive false is = refl
+
+live_alive : (known : Known) (h : History) → StandsFor known h → (k : Key) (i : Item) → item_of known.responder.held k ≡ Some i
+    → is_dead i known.responder.moment ≡ false
+live_alive known h s k i at =
+    let there = passed (λ (i : Item). not (is_dead i (now_of h))) (item_of (current h) k) i
+    (sym (live_at (now_of h) (current h) k (current_in_order h)) ∙ ap (λ items. item_of items k) (sym s.responder.held) ∙ at) in
+    rw s.responder.moment (alive (is_dead i (now_of h)) there.1)
+
 dead_proper : (now : ℕ) (kept : Items) → All ReadsItem kept → All IsProperKey (keys_of (dead_of now kept))
 dead_proper now kept all = all_mapped IsProperKey (λ (e : Key × Item). e.0) (dead_of now kept)
     (all_filtered (λ (e : Key × Item). IsProperKey e.0) (λ (e : Key × Item). is_dead e.1 now) kept
@@ -148,6 +160,7 @@ pub nothing_plans : (old new : Kept) (m : Message) → new ≡ record old { prod
 nothing_plans old new m rest name goes proper none same = record {
   name = name;
   stands = goes.stands;
+  follows = goes.follows;
   holds = λ rows h holds.
       let t = goes.stands h holds.stands in
       let state = taken_nothing (state_of h) m none in
@@ -175,6 +188,7 @@ pub subscriptions_plans : (old mid new : Kept) (m : Message) → mid ≡ record 
 subscriptions_plans old mid new m one two name goes few proper short none = record {
   name = ap (λ (k : Kept). k.producer.responder.name) two ∙ name;
   stands = λ h s. subst (λ (k : Kept). StandsFor k.producer (h ++ Take m ∷ [])) (sym two) (goes.stands h s);
+  follows = λ h f. subst (λ (k : Kept). Follows k.producer (h ++ Take m ∷ [])) (sym two) (goes.follows h f);
   holds = λ rows h holds.
       let t = goes.stands h holds.stands in
       let state = taken_nothing (state_of h) m none in
@@ -242,6 +256,7 @@ module _ (old mid : Kept) (now : ℕ) (one : mid ≡ record old { producer = mid
   clock_plans began more = record {
     name = name;
     stands = goes.stands;
+    follows = goes.follows;
     holds = λ rows h holds.
         let t = goes.stands h holds.stands in
         record {
@@ -258,6 +273,7 @@ module _ (old mid : Kept) (now : ℕ) (one : mid ≡ record old { producer = mid
   clock_plans_all began new two few = record {
     name = ap (λ (k : Kept). k.producer.responder.name) two ∙ name;
     stands = λ h s. subst (λ (k : Kept). StandsFor k.producer (h ++ Clock now ∷ [])) (sym two) (goes.stands h s);
+    follows = λ h f. subst (λ (k : Kept). Follows k.producer (h ++ Clock now ∷ [])) (sym two) (goes.follows h f);
     holds = λ rows h holds.
         let t = goes.stands h holds.stands in
         let all = all_stay old.producer mid.producer h now holds.stands t Reads (subscriptions_there old rows holds.left) in
@@ -271,13 +287,14 @@ module _ (old mid : Kept) (now : ℕ) (one : mid ≡ record old { producer = mid
 
 -- ---- dead items leave
 
-pub clean_plans : (old new : Kept) → SameButReads old.producer new.producer
-    → new.mirror ≡ apply old.mirror (changes_to old.producer.responder.held (keys_of (dead_of old.producer.responder.moment old.mirror)))
+pub clean_plans : (old new : Kept) → new.producer ≡ old.producer
+    → new.mirror ≡ apply old.mirror (changes_to [] (keys_of (dead_of old.producer.responder.moment old.mirror)))
     → new.places ≡ old.places
-    → Plans old new [] (puts_to old.producer.responder.held (keys_of (dead_of old.producer.responder.moment old.mirror)))
-clean_plans old new reads mirror places = record {
-  name = ap (λ (k : Known). k.responder.name) reads;
-  stands = λ h s. rw (append-nil h) (stands_read old.producer new.producer h reads s);
+    → Plans old new [] (puts_to [] (keys_of (dead_of old.producer.responder.moment old.mirror)))
+clean_plans old new same mirror places = record {
+  name = ap (λ (k : Known). k.responder.name) same;
+  stands = λ h s. rw (append-nil h) (subst (λ (k : Known). StandsFor k h) (sym same) s);
+  follows = λ h f. rw (append-nil h) (subst (λ (k : Known). Follows k h) (sym same) f);
   holds = λ rows h holds.
       let known = old.producer.responder in
       let dead = keys_of (dead_of known.moment old.mirror) in
@@ -285,6 +302,8 @@ clean_plans old new reads mirror places = record {
       let kept = apply old.mirror (changes_to known.held dead) in
       let s = live_in_order old.producer h holds.stands in
       let is = live_left known.moment known.held old.mirror s holds.left.ordered holds.left.covers in
+      let lives = live_alive old.producer h holds.stands in
+      let changes = unlooked_changes known.moment known.held old.mirror s holds.left.ordered holds.left.covers lives in
       let all = items_left old rows holds.left in
       let live : All ReadsItem known.held = all_by_items ReadsItem known.held s
       (λ k i at. item_by_all ReadsItem old.mirror k i all (holds.left.covers.has_live k i at)) in
@@ -294,32 +313,28 @@ clean_plans old new reads mirror places = record {
       (covers_still known.moment known.held old.mirror dead holds.left.ordered holds.left.covers)
       (subst (λ items. length items ≤ most_rows) (sym is) (live_few old.producer h holds.stands))
       (subst (All ReadsItem) (sym is) live) in
-      rw (append-nil h) (record {
-        left = rw (
-          ap (λ (k : Known). k.responder.name) reads,
-          ap (λ (k : Known). k.responder.moment) reads,
-          ap (λ (k : Known). k.responder.start) reads,
-          ap (λ (k : Known). k.responder.held) reads,
-          ap (λ (k : Known). k.table) reads,
-          mirror,
-          places,
-        ) after;
-        stands = stands_read old.producer new.producer h reads holds.stands;
+      rw (append-nil h) (subst (λ puts. Holds new (with_puts rows puts) h)
+      (unlooked_puts known.moment known.held old.mirror s holds.left.ordered holds.left.covers lives) (record {
+        left = rw (same, mirror ∙ ap (apply old.mirror) (sym changes), places) after;
+        stands = subst (λ (k : Known). StandsFor k h) (sym same) holds.stands;
         proper = holds.proper;
-      });
+      }));
 }
 
 -- the rows that are left are those of live items
-pub clean_leaves : (old new : Kept) → SameButReads old.producer new.producer
-    → new.mirror ≡ apply old.mirror (changes_to old.producer.responder.held (keys_of (dead_of old.producer.responder.moment old.mirror)))
+pub clean_leaves : (old new : Kept) → new.producer ≡ old.producer
+    → new.mirror ≡ apply old.mirror (changes_to [] (keys_of (dead_of old.producer.responder.moment old.mirror)))
     → new.places ≡ old.places → (rows : Rows)
-    → LeavesLive old rows (with_puts rows (puts_to old.producer.responder.held (keys_of (dead_of old.producer.responder.moment old.mirror))))
-clean_leaves old new reads mirror places rows = λ h holds.
+    → LeavesLive old rows (with_puts rows (puts_to [] (keys_of (dead_of old.producer.responder.moment old.mirror))))
+clean_leaves old new same mirror places rows = λ h holds.
     let known = old.producer.responder in
-    let after : Rows = with_puts rows (puts_to known.held (keys_of (dead_of known.moment old.mirror))) in
-    let is = live_left known.moment known.held old.mirror (live_in_order old.producer h holds.stands) holds.left.ordered holds.left.covers in
-    let left = (clean_plans old new reads mirror places).holds rows h holds in
-    subst (HasItems after) (mirror ∙ is ∙ holds.stands.responder.held) left.left.items
+    let after : Rows = with_puts rows (puts_to [] (keys_of (dead_of known.moment old.mirror))) in
+    let s = live_in_order old.producer h holds.stands in
+    let is = live_left known.moment known.held old.mirror s holds.left.ordered holds.left.covers in
+    let changes = unlooked_changes known.moment known.held old.mirror s holds.left.ordered holds.left.covers
+    (live_alive old.producer h holds.stands) in
+    let left = (clean_plans old new same mirror places).holds rows h holds in
+    subst (HasItems after) (mirror ∙ ap (apply old.mirror) (sym changes) ∙ is ∙ holds.stands.responder.held) left.left.items
 
 -- ---- a feed
 
@@ -329,14 +344,6 @@ rows_fed state d rows = refl
 
 passes : (now : ℕ) (i : Item) → not (is_dead i now) ≡ true → option_filter (λ i. not (is_dead i now)) (Some i) ≡ Some i
 passes now i alive = rw alive refl
-
-passed_of : (p : Item → Bool) (o : Option Item) (i : Item) → option_filter p o ≡ Some i → (o ≡ Some i) × (p i ≡ true)
-passed_of p None i at = cc
-passed_of p (Some j) i at = by (p j) refl at
-  where
-    by : (b : Bool) → p j ≡ b → cond b (Some j) None ≡ Some i → (Some j ≡ Some i) × (p i ≡ true)
-    by true is at = (at, cc)
-    by false is at = cc
 
 -- of the items that are named, and of those that were kept, each is read back
 module _ (old : Kept) (mid : Known) (d : ServiceDelivery) (more : List Key) where
@@ -413,7 +420,7 @@ module _ (old : Kept) (mid : Known) (d : ServiceDelivery) (more : List Key) wher
 
     live_reads : (k : Key) (i : Item) → item_of live k ≡ Some i → ReadsItem (k, i)
     live_reads k i at =
-        let there = passed_of (λ i. not (is_dead i now)) (item_of (fold (after_entry now) (current h) entries) k) i
+        let there = passed (λ i. not (is_dead i now)) (item_of (fold (after_entry now) (current h) entries) k) i
         (sym (live_at now (fold (after_entry now) (current h) entries) k (in_order_all now (current h) entries (current_in_order h)))
         ∙ ap (λ items. item_of items k) (sym fed_held) ∙ at) in
         elim (found_after now k i entries (current h) (current_in_order h) brings there.0) [
@@ -439,6 +446,7 @@ module _ (old : Kept) (mid : Known) (d : ServiceDelivery) (more : List Key) wher
   feed_plans new none proper short name goes reads mirror places few are = record {
     name = ap (λ (k : Known). k.responder.name) reads ∙ name;
     stands = λ h s. stands_read mid new.producer (h ++ Take (message.ServiceDelivery d) ∷ []) reads (goes.stands h s);
+    follows = λ h f. follows_read mid new.producer (h ++ Take (message.ServiceDelivery d) ∷ []) reads (goes.follows h f);
     holds = λ rows h holds.
         let m = message.ServiceDelivery d in
         let s = holds.stands in
@@ -478,60 +486,66 @@ module _ (old : Kept) (mid : Known) (d : ServiceDelivery) (more : List Key) wher
   }
 
 -- a feed after which there are few enough rows of items
-pub fed_plans : (old : Kept) (mid : Known) (m : Message) (d : ServiceDelivery) (new : Kept) → m ≡ message.ServiceDelivery d
-    → has_round d ≡ false → IsProper m → has_long_row m ≡ false → mid.responder.name ≡ old.producer.responder.name
-    → GoesOn old.producer mid (Take m) → SameButReads mid new.producer
+pub fed_plans : (old : Kept) (mid : Known) (d : ServiceDelivery) (new : Kept)
+    → has_round d ≡ false → IsProper (message.ServiceDelivery d) → has_long_row (message.ServiceDelivery d) ≡ false
+    → mid.responder.name ≡ old.producer.responder.name
+    → GoesOn old.producer mid (Take (message.ServiceDelivery d)) → SameButReads mid new.producer
     → new.mirror ≡ apply old.mirror (changes_to mid.responder.held (map entry_key (entries_of d))) → new.places ≡ old.places
     → length new.mirror ≤ most_rows
-    → Plans old new (Take m ∷ []) (puts_to mid.responder.held (map entry_key (entries_of d)))
-fed_plans old mid m d new of none proper short name goes reads mirror places few =
+    → Plans old new (Take (message.ServiceDelivery d) ∷ []) (puts_to mid.responder.held (map entry_key (entries_of d)))
+fed_plans old mid d new none proper short name goes reads mirror places few =
     let keys = map entry_key (entries_of d) in
     let live = mid.responder.held in
     let more = append-nil keys in
     let whole : new.mirror ≡ apply old.mirror (changes_to live (keys ++ [])) =
     mirror ∙ ap (λ all. apply old.mirror (changes_to live all)) (sym more) in
-    subst (λ x. Plans old new (Take x ∷ []) (puts_to live keys)) (sym of)
-    (subst (λ all. Plans old new (Take (message.ServiceDelivery d) ∷ []) (puts_to live all)) more
-    (feed_plans old mid d [] new none (subst IsProper of proper) (subst (λ x. has_long_row x ≡ false) of short) name
-    (subst (λ x. GoesOn old.producer mid (Take x)) of goes) reads whole places
-    (λ covers one two small. subst (λ items. length items ≤ most_rows) whole few) (λ all. tt)))
+    subst (λ all. Plans old new (Take (message.ServiceDelivery d) ∷ []) (puts_to live all)) more
+    (feed_plans old mid d [] new none proper short name goes reads whole places
+    (λ covers one two small. subst (λ items. length items ≤ most_rows) whole few) (λ all. tt))
 
-reads_twice : (a b c : Known) → SameButReads a b → SameButReads b c → SameButReads a c
-reads_twice a b c first second =
-    second ∙ ap (λ (k : Known). record k { responder = record k.responder { reads = c.responder.reads } }) first
-
--- a feed after which dead items leave too
-pub fed_plans_dead : (old : Kept) (mid : Known) (m : Message) (d : ServiceDelivery) (one new : Kept) → m ≡ message.ServiceDelivery d
-    → has_round d ≡ false → IsProper m → has_long_row m ≡ false → mid.responder.name ≡ old.producer.responder.name
-    → GoesOn old.producer mid (Take m) → SameButReads mid one.producer → SameButReads one.producer new.producer
+-- a feed after which dead items leave too, of which none is looked up
+pub fed_plans_dead : (old : Kept) (mid : Known) (d : ServiceDelivery) (one new : Kept)
+    → has_round d ≡ false → IsProper (message.ServiceDelivery d) → has_long_row (message.ServiceDelivery d) ≡ false
+    → mid.responder.name ≡ old.producer.responder.name
+    → GoesOn old.producer mid (Take (message.ServiceDelivery d)) → SameButReads mid one.producer → new.producer ≡ one.producer
     → one.mirror ≡ apply old.mirror (changes_to mid.responder.held (map entry_key (entries_of d)))
-    → new.mirror ≡ apply one.mirror (changes_to one.producer.responder.held (keys_of (dead_of one.producer.responder.moment one.mirror)))
+    → new.mirror ≡ apply one.mirror (changes_to [] (keys_of (dead_of one.producer.responder.moment one.mirror)))
     → one.places ≡ old.places → new.places ≡ one.places
-    → Plans old new (Take m ∷ []) (puts_to mid.responder.held (map entry_key (entries_of d))
-    ++ puts_to one.producer.responder.held (keys_of (dead_of one.producer.responder.moment one.mirror)))
-fed_plans_dead old mid m d one new of none proper short name goes reads more_reads fed left places same_places =
+    → Plans old new (Take (message.ServiceDelivery d) ∷ []) (puts_to mid.responder.held (map entry_key (entries_of d))
+    ++ puts_to [] (keys_of (dead_of one.producer.responder.moment one.mirror)))
+fed_plans_dead old mid d one new none proper short name goes reads same fed left places same_places =
+    let m = message.ServiceDelivery d in
     let keys = map entry_key (entries_of d) in
     let live = mid.responder.held in
     let mirror = apply old.mirror (changes_to live keys) in
     let dead = keys_of (dead_of mid.responder.moment mirror) in
-    let live_same : one.producer.responder.held ≡ live = ap (λ (k : Known). k.responder.held) reads in
+    let all_reads : SameButReads mid new.producer = subst (SameButReads mid) (sym same) reads in
     let moment_same : one.producer.responder.moment ≡ mid.responder.moment = ap (λ (k : Known). k.responder.moment) reads in
     let dead_same : keys_of (dead_of one.producer.responder.moment one.mirror) ≡ dead = λ i. keys_of (dead_of (moment_same i) (fed i)) in
     let whole : apply old.mirror (changes_to live (keys ++ dead)) ≡ apply mirror (changes_to live dead) = split old mid d dead in
-    let gone : apply one.mirror (changes_to one.producer.responder.held (keys_of (dead_of one.producer.responder.moment one.mirror)))
-    ≡ apply mirror (changes_to live dead) = λ i. apply (fed i) (changes_to (live_same i) (dead_same i)) in
-    let all : new.mirror ≡ apply old.mirror (changes_to live (keys ++ dead)) = left ∙ gone ∙ sym whole in
-    let tail : puts_to one.producer.responder.held (keys_of (dead_of one.producer.responder.moment one.mirror)) ≡ puts_to live dead =
-    λ i. puts_to (live_same i) (dead_same i) in
-    let puts : puts_to live (keys ++ dead) ≡ puts_to live keys
-    ++ puts_to one.producer.responder.held (keys_of (dead_of one.producer.responder.moment one.mirror)) =
-    map-append (put_to live) keys dead ∙ ap (λ rest. puts_to live keys ++ rest) (sym tail) in
-    subst (λ x. Plans old new (Take x ∷ []) (puts_to live keys
-    ++ puts_to one.producer.responder.held (keys_of (dead_of one.producer.responder.moment one.mirror)))) (sym of)
-    (subst (Plans old new (Take (message.ServiceDelivery d) ∷ [])) puts
-    (feed_plans old mid d dead new none (subst IsProper of proper) (subst (λ x. has_long_row x ≡ false) of short) name
-    (subst (λ x. GoesOn old.producer mid (Take x)) of goes) (reads_twice mid one.producer new.producer reads more_reads) all
-    (same_places ∙ places)
-    (λ covers ordered sorted small. subst (λ items. length items ≤ most_rows)
-    (sym (whole ∙ live_left mid.responder.moment live mirror ordered sorted covers)) small)
-    (λ each. dead_proper mid.responder.moment mirror each)))
+    let gone : apply one.mirror (changes_to [] (keys_of (dead_of one.producer.responder.moment one.mirror)))
+    ≡ apply mirror (changes_to [] dead) = λ i. apply (fed i) (changes_to [] (dead_same i)) in
+    record {
+      name = ap (λ (k : Known). k.responder.name) all_reads ∙ name;
+      stands = λ h s. stands_read mid new.producer (h ++ Take m ∷ []) all_reads (goes.stands h s);
+      follows = λ h f. follows_read mid new.producer (h ++ Take m ∷ []) all_reads (goes.follows h f);
+      holds = λ rows h holds.
+          let t = goes.stands h holds.stands in
+          let s = live_in_order mid (h ++ Take m ∷ []) t in
+          let sorted = order_applied old.mirror (changes_to live keys) holds.left.ordered in
+          let covers = covers_named old mid d dead h none (items_left old rows holds.left) holds.left.ordered holds.stands t
+          holds.left.covers (reads_entries d proper short) in
+          let lives = live_alive mid (h ++ Take m ∷ []) t in
+          let changes = unlooked_changes mid.responder.moment live mirror s sorted covers lives in
+          let unlooked = unlooked_puts mid.responder.moment live mirror s sorted covers lives in
+          let all : new.mirror ≡ apply old.mirror (changes_to live (keys ++ dead)) =
+          left ∙ gone ∙ ap (apply mirror) (sym changes) ∙ sym whole in
+          let puts : puts_to live (keys ++ dead)
+          ≡ puts_to live keys ++ puts_to [] (keys_of (dead_of one.producer.responder.moment one.mirror)) =
+          map-append (put_to live) keys dead ∙ ap (λ rest. puts_to live keys ++ rest) (unlooked ∙ ap (puts_to []) (sym dead_same)) in
+          let plans = feed_plans old mid d dead new none proper short name goes all_reads all (same_places ∙ places)
+          (λ covers ordered sorted small. subst (λ items. length items ≤ most_rows)
+          (sym (whole ∙ live_left mid.responder.moment live mirror ordered sorted covers)) small)
+          (λ each. dead_proper mid.responder.moment mirror each) in
+          subst (λ puts. Holds new (with_puts rows puts) (h ++ Take m ∷ [])) puts (plans.holds rows h holds);
+    }

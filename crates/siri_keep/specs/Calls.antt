@@ -5,7 +5,7 @@ use Rattle.siri_outside.specs.Causes.{Rose}
 use Rattle.siri_records.specs.Keyed.{living}
 use Rattle.siri_model.specs.Held.{held_of}
 use Rattle.siri_model.specs.History.{History, current, now_of}
-use Rattle.siri_producer.specs.Known.{Known, StandsFor}
+use Rattle.siri_producer.specs.Known.{Follows, Known, StandsFor}
 use Rattle.siri_outside.specs.Rows.{Rows}
 use Rattle.siri_outside.specs.Shelves.{ShelfState, after_fault}
 use Rattle.siri_keeping.specs.Keeping.{AddsOnly, HasItems}
@@ -18,6 +18,10 @@ use Rattle.siri_keep.specs.declared.kept.Kept.{Kept}
 -- whatever history a producer stood for, it stands for that one and these steps after it
 abbrev pub StandsOn : Known → Known → History → Type 0
 StandsOn old new steps = (h : History) → StandsFor old h → StandsFor new (h ++ steps)
+
+-- and whatever history it followed, it follows that one and these steps after it
+abbrev pub FollowsOn : Known → Known → History → Type 0
+FollowsOn old new steps = (h : History) → Follows old h → Follows new (h ++ steps)
 
 -- a shelf is as the calls of a producer left it
 abbrev pub Left : Kept → Rows → Type 0

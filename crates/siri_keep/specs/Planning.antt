@@ -19,7 +19,7 @@ use Rattle.siri_keep.specs.declared.errors.KeepError.{KeepError}
 use Rattle.siri_keep.specs.declared.kept.Kept.{Kept}
 use Rattle.siri_keep.specs.declared.opening.WhatIsRead.{WhatIsRead}
 use Rattle.siri_keep.specs.declared.reopening.ReopenedProducer.{ReopenedProducer}
-use Rattle.siri_keep.specs.Calls.{Holds, IsEarlier, StandsOn}
+use Rattle.siri_keep.specs.Calls.{FollowsOn, Holds, IsEarlier, StandsOn}
 use Rattle.siri_keep.specs.Walking.{IsRead}
 
 -- puts were written, all of them or none
@@ -38,12 +38,13 @@ ReadsMoment moment start name =
 pub record Plans (old new : Kept) (steps : History) (puts : List Put) : Type 0 where
   pub name : new.producer.responder.name ≡ old.producer.responder.name
   pub stands : StandsOn old.producer new.producer steps
+  pub follows : FollowsOn old.producer new.producer steps
   pub holds : (rows : Rows) (h : History) → Holds old rows h → Holds new (with_puts rows puts) (h ++ steps)
 
--- for each of these keys, its row was put, and what is kept of it is its live item, or nothing
-pub record PutsKeys (old new : Kept) (before after : List Put) (keys : List Key) : Type 0 where
-  pub puts : after ≡ before ++ puts_to old.producer.responder.held keys
-  pub mirror : new.mirror ≡ apply old.mirror (changes_to old.producer.responder.held keys)
+-- for each of these keys, its row was put, and what is kept of it is its item among the live ones, or nothing
+pub record PutsKeys (live : Items) (old new : Kept) (before after : List Put) (keys : List Key) : Type 0 where
+  pub puts : after ≡ before ++ puts_to live keys
+  pub mirror : new.mirror ≡ apply old.mirror (changes_to live keys)
   pub producer : SameButReads old.producer new.producer
   pub places : new.places ≡ old.places
   pub is_closed : new.is_closed ≡ old.is_closed

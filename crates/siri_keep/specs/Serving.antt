@@ -35,6 +35,10 @@ abbrev pub has_long_asked : Asked → Bool
 has_long_asked asked = is_long_in (message_asked asked)
 
 -- it isn't taken
+abbrev pub short_of : Message → Option Message
+short_of message = if has_long_row message then None else Some message
+
+-- so what is taken of a connection
 abbrev pub message_kept : Asked → Option Message
 message_kept asked = if has_long_asked asked then None else message_asked asked
 

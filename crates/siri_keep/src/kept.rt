@@ -9,7 +9,8 @@ ghost use Rattle.siri_producer.specs.Known.{AnswerFor, Follows, SameButReads, Se
 ghost use Rattle.siri_outside.specs.Rows.{Rows};
 ghost use Rattle.siri_wire.specs.laws.ProperMessages.{IsProper};
 ghost use Rattle.siri_keep.specs.declared.errors.KeepError.TheVariants as error;
-ghost use Rattle.siri_keep.specs.Calls.{AddsFronts, ClosesBy, CountsKept, GoesOnKept, HasKeepCause, LeavesLive, RefusesRow, StandsOn, StaysUnless};
+ghost use Rattle.siri_keep.specs.Calls.{AddsFronts, ClosesBy, CountsKept, FollowsOn, GoesOnKept, HasKeepCause, LeavesLive, RefusesRow, StandsOn, StaysUnless};
+ghost use Rattle.siri_keep.specs.Looks.{LooksTaking};
 ghost use Rattle.siri_keep.specs.Planning.{WritesAll};
 ghost use Rattle.siri_keep.specs.Puts.{has_long_row};
 
@@ -82,6 +83,8 @@ impl Kept {
         ensures open { B.is_open shelf.new }
         ensures ok { OnOk result (OnShelf B.tells shelf.old shelf.new (λ old new. GoesOnKept self.old self.new (Clock now ∷ []) old.rows new.rows)) }
         ensures stands { OnOk result (StandsOn self.old.producer self.new.producer (Clock now ∷ [])) }
+        ensures follows { OnOk result (FollowsOn self.old.producer self.new.producer (Clock now ∷ [])) }
+        ensures looks { self.new.producer.responder.reads ≡ self.old.producer.responder.reads }
         ensures name { OnOk result (self.new.producer.responder.name ≡ self.old.producer.responder.name) }
         ensures trail { OnShelf B.tells shelf.old shelf.new (AddsFronts self.old (Clock now ∷ [])) }
         ensures too_long { ¬ IsErrOf result error.RowTooLong }
@@ -109,13 +112,15 @@ impl Kept {
     /// by its text, which takes memory: where that is wanting, `OutOfMemory` is told, and neither the shelf nor what is
     /// kept changed for such a message. `ShelfFault` exactly where the shelf failed; then nothing more is written, and
     /// the rows stay.
-    #[tactic(auto, using(crate::proofs::Fronts::told_stays, crate::proofs::Fronts::told_stays_same))]
+    #[tactic(auto, using(crate::proofs::Fronts::told_stays, crate::proofs::Fronts::told_stays_same, crate::proofs::Looks::looks_still))]
     pub fn take<B: Shelf>(&mut self, shelf: &mut B, message: &Message) -> Result<Answer, KeepError>
         requires there { B.is_open shelf.old }
         requires proper { IsProper message.now }
         ensures open { B.is_open shelf.new }
         ensures ok { OnOk result (OnShelf B.tells shelf.old shelf.new (λ old new. GoesOnKept self.old self.new (Take message.now ∷ []) old.rows new.rows)) }
         ensures stands { OnOk result (StandsOn self.old.producer self.new.producer (Take message.now ∷ [])) }
+        ensures follows { OnOk result (FollowsOn self.old.producer self.new.producer (Take message.now ∷ [])) }
+        ensures looks { LooksTaking self.old.producer self.new.producer message.now }
         ensures name { OnOk result (self.new.producer.responder.name ≡ self.old.producer.responder.name) }
         ensures answer { IfOk result (AnswerFor self.old.producer message.now) }
         ensures trail { OnShelf B.tells shelf.old shelf.new (AddsFronts self.old (Take message.now ∷ [])) }
@@ -156,6 +161,8 @@ impl Kept {
         ensures open { B.is_open shelf.new }
         ensures ok { OnOk result (OnShelf B.tells shelf.old shelf.new (λ old new. GoesOnKept self.old self.new (Take message ∷ []) old.rows new.rows)) }
         ensures stands { OnOk result (StandsOn self.old.producer self.new.producer (Take message ∷ [])) }
+        ensures follows { OnOk result (FollowsOn self.old.producer self.new.producer (Take message ∷ [])) }
+        ensures looks { LooksTaking self.old.producer self.new.producer message }
         ensures name { OnOk result (self.new.producer.responder.name ≡ self.old.producer.responder.name) }
         ensures answer { IfOk result (AnswerFor self.old.producer message) }
         ensures trail { OnShelf B.tells shelf.old shelf.new (AddsFronts self.old (Take message ∷ [])) }
@@ -177,7 +184,8 @@ impl Kept {
         }
     }
 
-    /// Removes the rows of dead items: table 1 has the live ones alone then. Refused as `clock` is.
+    /// Removes the rows of dead items: table 1 has the live ones alone then. The producer is not asked for any. Refused as
+    /// `clock` is.
     #[tactic(auto, using(crate::proofs::Fronts::told_stays, crate::proofs::Fronts::told_stays_same))]
     pub fn clean<B: Shelf>(&mut self, shelf: &mut B) -> Result<(), KeepError>
         requires { B.is_open shelf.old }
@@ -185,6 +193,7 @@ impl Kept {
         ensures ok { OnOk result (OnShelf B.tells shelf.old shelf.new (λ old new. GoesOnKept self.old self.new [] old.rows new.rows)) }
         ensures cleaned { OnOk result (OnShelf B.tells shelf.old shelf.new (λ old new. LeavesLive self.old old.rows new.rows)) }
         ensures stands { OnOk result (StandsOn self.old.producer self.new.producer []) }
+        ensures looks { self.new.producer ≡ self.old.producer }
         ensures name { OnOk result (self.new.producer.responder.name ≡ self.old.producer.responder.name) }
         ensures trail { OnShelf B.tells shelf.old shelf.new (AddsFronts self.old []) }
         ensures too_long { ¬ IsErrOf result error.RowTooLong }

@@ -15,6 +15,7 @@ ghost use Rattle.siri_row_texts.specs.ItemRows.{item_text};
 ghost use Rattle.siri_outside.specs.Rows.{Rows, with_puts};
 ghost use Rattle.siri_keeping.specs.Keeping.{kept_at, moment_put, places_to, removed_at, subscription_puts};
 ghost use Rattle.siri_keep.specs.Calls.{LeavesLive};
+ghost use Rattle.siri_keep.specs.Looks.{LooksTaking, LooksUpTo};
 ghost use Rattle.siri_keep.specs.Puts.{changes_rows, has_long_row};
 ghost use Rattle.siri_keep.specs.Planning.{Plans, PutsKeys, ReadsMoment};
 
@@ -101,9 +102,11 @@ fn append_subscriptions(
 }
 
 /// The live item of a key, shared.
+#[tactic(auto, using(crate::proofs::Looks::looks_one))]
 fn live_item(producer: &mut Producer, key: &Key) -> Result<Option<Rc<Item>>, OutOfMemory>
     ensures item { IfOk result (λ item. option_map (λ i. i.value) item ≡ item_of producer.old.responder.held key.now) }
     ensures rest { SameButReads producer.old producer.new }
+    ensures looks { LooksUpTo producer.old producer.new 1 }
 {
     match producer.look(key) {
         Some(item) => Ok(Some(item.clone()?)),
@@ -147,6 +150,7 @@ impl Kept {
         ensures kept { OnOk result (self.new ≡ record self.old { places = places_to (length self.old.producer.table) }) }
         ensures few { OnOk result (length self.old.producer.table ≤ most_subscriptions) }
         ensures open { self.new.is_closed ≡ self.old.is_closed }
+        ensures producer { self.new.producer ≡ self.old.producer }
     {
         append_removed(puts, self.places.slice())?;
         self.places = append_subscriptions(self.alloc, puts, &self.producer)?;
@@ -155,8 +159,9 @@ impl Kept {
 
     /// Puts the row of a key's live item, or none, and keeps the item or nothing of it.
     fn put_key(&mut self, key: &SharedKey, puts: &mut List<Put>) -> Result<(), OutOfMemory>
-        ensures ok { OnOk result (PutsKeys self.old self.new puts.old puts.new (key.now ∷ [])) }
+        ensures ok { OnOk result (PutsKeys self.old.producer.responder.held self.old self.new puts.old puts.new (key.now ∷ [])) }
         ensures open { self.new.is_closed ≡ self.old.is_closed }
+        ensures looks { LooksUpTo self.old.producer self.new.producer 1 }
     {
         let item = live_item(&mut self.producer, key.key())?;
         let text = text_of(self.alloc, &item)?;
@@ -172,8 +177,9 @@ impl Kept {
 
     /// The same of some keys, one after the other.
     fn put_keys(&mut self, keys: &[SharedKey], puts: &mut List<Put>) -> Result<(), OutOfMemory>
-        ensures ok { OnOk result (PutsKeys self.old self.new puts.old puts.new keys.now) }
+        ensures ok { OnOk result (PutsKeys self.old.producer.responder.held self.old self.new puts.old puts.new keys.now) }
         ensures open { self.new.is_closed ≡ self.old.is_closed }
+        ensures looks { LooksUpTo self.old.producer self.new.producer (length keys.now) }
     {
         for key in keys {
             self.put_key(key, puts)?;
@@ -181,19 +187,49 @@ impl Kept {
         Ok(())
     }
 
-    /// Puts that dead items have no row any more, and keeps nothing of them.
-    fn put_dead(&mut self, puts: &mut List<Put>) -> Result<(), OutOfMemory>
-        ensures ok { OnOk result (PutsKeys self.old self.new puts.old puts.new (keys_of (dead_of self.old.producer.responder.moment self.old.mirror))) }
+    /// Puts that a key has no row any more, and keeps nothing of it.
+    fn remove_key(&mut self, key: &SharedKey, puts: &mut List<Put>) -> Result<(), OutOfMemory>
+        ensures ok { OnOk result (PutsKeys [] self.old self.new puts.old puts.new (key.now ∷ [])) }
         ensures open { self.new.is_closed ≡ self.old.is_closed }
+        ensures producer { self.new.producer ≡ self.old.producer }
+    {
+        let place = key_text(self.alloc, key.key())?;
+        puts.push(Put {
+            table: 1,
+            key: place,
+            text: None,
+        })?;
+        let key = key.copy()?;
+        self.mirror.change(Change { key, item: None })
+    }
+
+    /// The same of some keys, one after the other.
+    fn remove_keys(&mut self, keys: &[SharedKey], puts: &mut List<Put>) -> Result<(), OutOfMemory>
+        ensures ok { OnOk result (PutsKeys [] self.old self.new puts.old puts.new keys.now) }
+        ensures open { self.new.is_closed ≡ self.old.is_closed }
+        ensures producer { self.new.producer ≡ self.old.producer }
+    {
+        for key in keys {
+            self.remove_key(key, puts)?;
+        }
+        Ok(())
+    }
+
+    /// Puts that dead items have no row any more, and keeps nothing of them. None of them is looked up.
+    fn put_dead(&mut self, puts: &mut List<Put>) -> Result<(), OutOfMemory>
+        ensures ok { OnOk result (PutsKeys [] self.old self.new puts.old puts.new (keys_of (dead_of self.old.producer.responder.moment self.old.mirror))) }
+        ensures open { self.new.is_closed ≡ self.old.is_closed }
+        ensures producer { self.new.producer ≡ self.old.producer }
     {
         let keys = dead_keys(self.alloc, &self.mirror, self.producer.now())?;
-        self.put_keys(keys.slice(), puts)
+        self.remove_keys(keys.slice(), puts)
     }
 
     /// What a later moment changes: the row of the moment, and the subscriptions where fewer are held.
     pub(crate) fn plan_clock(&mut self, now: Moment) -> Result<List<Put>, OutOfMemory>
         ensures ok { IfOk result (Plans self.old self.new (Clock now ∷ [])) }
         ensures open { self.new.is_closed ≡ self.old.is_closed }
+        ensures looks { self.new.producer.responder.reads ≡ self.old.producer.responder.reads }
     {
         let before = self.producer.subscriptions();
         self.producer.clock(now);
@@ -210,6 +246,7 @@ impl Kept {
         ensures ok { IfOk result (Plans self.old self.new []) }
         ensures cleaned { IfOk result (λ puts. (rows : Rows) → LeavesLive self.old rows (with_puts rows puts)) }
         ensures open { self.new.is_closed ≡ self.old.is_closed }
+        ensures producer { self.new.producer ≡ self.old.producer }
     {
         let mut puts = List::new(self.alloc);
         self.put_dead(&mut puts)?;
@@ -217,6 +254,7 @@ impl Kept {
     }
 
     /// A feed: the rows of the keys that it names. Where table 1 would have too many rows, those of dead items leave.
+    #[tactic(auto, using(crate::proofs::Looks::looks_message, crate::proofs::Looks::looks_fed))]
     fn plan_feed(&mut self, delivery: ServiceDelivery) -> Result<Planned, OutOfMemory>
         requires fed { has_round delivery ≡ false }
         requires proper { IsProper (messages.ServiceDelivery delivery) }
@@ -224,6 +262,7 @@ impl Kept {
         ensures ok { IfOk result (λ planned. Plans self.old self.new (Take (messages.ServiceDelivery delivery) ∷ []) planned.puts) }
         ensures answer { IfOk result (λ planned. AnswerFor self.old.producer (messages.ServiceDelivery delivery) planned.answer) }
         ensures open { self.new.is_closed ≡ self.old.is_closed }
+        ensures looks { LooksTaking self.old.producer self.new.producer (messages.ServiceDelivery delivery) }
     {
         let keys = named_keys(self.alloc, &delivery);
         let (keys, delivery) = beside(keys, delivery)?;
@@ -239,6 +278,7 @@ impl Kept {
     }
 
     /// A message about subscriptions: all their rows.
+    #[tactic(auto, using(crate::proofs::Looks::looks_message))]
     fn plan_subscriptions(&mut self, message: Message) -> Result<Planned, OutOfMemory>
         requires fed { entries_fed message ≡ [] }
         requires proper { IsProper message }
@@ -246,6 +286,7 @@ impl Kept {
         ensures ok { IfOk result (λ planned. Plans self.old self.new (Take message ∷ []) planned.puts) }
         ensures answer { IfOk result (λ planned. AnswerFor self.old.producer message planned.answer) }
         ensures open { self.new.is_closed ≡ self.old.is_closed }
+        ensures looks { LooksTaking self.old.producer self.new.producer message }
     {
         let answer = self.producer.take_owned(message)?;
         let mut puts = List::new(self.alloc);
@@ -254,12 +295,14 @@ impl Kept {
     }
 
     /// Any other message, which changes no row.
+    #[tactic(auto, using(crate::proofs::Looks::looks_message))]
     fn plan_nothing(&mut self, message: Message) -> Result<Planned, OutOfMemory>
         requires proper { IsProper message }
         requires rowless { changes_rows message ≡ false }
         ensures ok { IfOk result (λ planned. Plans self.old self.new (Take message ∷ []) planned.puts) }
         ensures answer { IfOk result (λ planned. AnswerFor self.old.producer message planned.answer) }
         ensures open { self.new.is_closed ≡ self.old.is_closed }
+        ensures looks { LooksTaking self.old.producer self.new.producer message }
     {
         let answer = self.producer.take_owned(message)?;
         let puts = List::new(self.alloc);
@@ -273,6 +316,7 @@ impl Kept {
         ensures ok { IfOk result (λ planned. Plans self.old self.new (Take message ∷ []) planned.puts) }
         ensures answer { IfOk result (λ planned. AnswerFor self.old.producer message planned.answer) }
         ensures open { self.new.is_closed ≡ self.old.is_closed }
+        ensures looks { LooksTaking self.old.producer self.new.producer message }
     {
         match &message {
             Message::ServiceDelivery(delivery) if !delivery.has_round() => {

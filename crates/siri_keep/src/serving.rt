@@ -8,17 +8,16 @@ ghost use Rattle.siri_producer.specs.Known.{StandsFor};
 ghost use Rattle.siri_ends.specs.At.{at_of};
 ghost use Rattle.siri_ends.specs.Lending.{CanBeWritten, IsReply, Prepares, PreparesFor, message_response};
 ghost use Rattle.siri_ends.specs.Responses.{producer_reply, replying, taking};
-ghost use Rattle.siri_ends.specs.Looks.{LooksHearing};
+ghost use Rattle.siri_ends.specs.Looks.{FollowsAlike, LooksHearing};
 ghost use Rattle.siri_ends.specs.Serving.{PostsOut, acknowledging, none_posted_out};
-ghost use Rattle.siri_ends.specs.Turns.{Brings};
-ghost use Rattle.siri_ends.specs.declared.answering.Brought.TheVariants as brings;
 ghost use Rattle.siri_ends.specs.declared.reply.Reply.TheVariants as reply;
 ghost use Rattle.siri_wire.specs.laws.ProperMessages.{IsProper};
 ghost use Rattle.siri_keep.specs.declared.errors.KeepError.TheVariants as error;
 ghost use Rattle.siri_keep.specs.Calls.{AddsFronts, ClosesBy, CountsKept, GoesOnKept, HasKeepCause, Holds, StandsOn};
 ghost use Rattle.siri_keep.specs.KeptTurns.{KeepsOn, LeavesKept, outside_error};
-ghost use Rattle.siri_keep.specs.Puts.{changes_rows, has_long_row};
-ghost use Rattle.siri_keep.specs.Serving.{AddsTurn, GoesOnServing, KeepsWhatIsAnswered, LeavesLiveAt, ServesKeptSome, has_long_asked, keeping, message_kept, row_too_long, steps_of};
+ghost use Rattle.siri_keep.specs.Looks.{KeptLooksOnce, LooksInTurn, LooksTaking};
+ghost use Rattle.siri_keep.specs.Puts.{has_long_row};
+ghost use Rattle.siri_keep.specs.Serving.{AddsTurn, GoesOnServing, KeepsWhatIsAnswered, LeavesLiveAt, ServesKeptSome, has_long_asked, keeping, message_kept, row_too_long, short_of, steps_of};
 
 use crate::rows::{changes_rows, has_long_row};
 use crate::{KeepError, Kept};
@@ -57,7 +56,7 @@ fn outside_error(error: &KeepError) -> OutsideError
 
 impl Kept {
     /// Takes a message that changes rows, and makes its answer.
-    #[tactic(auto, using(crate::proofs::KeptTurns::outside_counts))]
+    #[tactic(auto, using(crate::proofs::KeptTurns::outside_counts, crate::proofs::Looks::alike_on))]
     fn answer_kept<B: Shelf>(
         &mut self,
         shelf: &mut B,
@@ -76,6 +75,8 @@ impl Kept {
         ensures trail { OnShelf B.tells shelf.old shelf.new (AddsFronts self.old (Take message ∷ [])) }
         ensures later { B.faults shelf.old ≤ B.faults shelf.new }
         ensures counted { CountsFault (B.faults shelf.old) (B.faults shelf.new) result }
+        ensures looks { LooksTaking self.old.producer self.new.producer message }
+        ensures follows { OnOk result (FollowsAlike self.old.producer self.new.producer (Some message)) }
     {
         let answer = match self.take_short(shelf, message) {
             Ok(answer) => answer,
@@ -86,37 +87,9 @@ impl Kept {
         Ok(response?)
     }
 
-    /// What a message is to be answered whose rows can be written. It is taken, but for a request for items whose answer
-    /// is lent.
-    #[tactic(auto, using(siri_ends::proofs::Lends::makes, crate::proofs::KeptTurns::told_keeps, crate::proofs::KeptTurns::told_leaves, crate::proofs::KeptTurns::told_unwritten))]
-    fn reply_short<B: Shelf>(
-        &mut self,
-        shelf: &mut B,
-        message: Message,
-    ) -> Result<Reply, OutsideError>
-        requires there { B.is_open shelf.old }
-        requires open { self.old.is_closed ≡ false }
-        requires proper { IsProper message }
-        requires short { has_long_row message ≡ false }
-        ensures open { B.is_open shelf.new }
-        ensures prepares { IfOk result (λ reply. Prepares self.old.producer self.new.producer (Some message) (message_response message) reply) }
-        ensures written { IfOk result CanBeWritten }
-        ensures name { OnOk result (self.new.producer.responder.name ≡ self.old.producer.responder.name) }
-        ensures ok { OnOk result (OnShelf B.tells shelf.old shelf.new (λ old new. LeavesKept self.old self.new (Take message ∷ []) old.rows new.rows)) }
-        ensures trail { OnShelf B.tells shelf.old shelf.new (AddsFronts self.old (Take message ∷ [])) }
-        ensures later { B.faults shelf.old ≤ B.faults shelf.new }
-        ensures counted { CountsFault (B.faults shelf.old) (B.faults shelf.new) result }
-    {
-        if changes_rows(&message) {
-            let response = self.answer_kept(shelf, message)?;
-            return Ok(Reply::Made(Some(response)));
-        }
-        let reply = reply_to(self.alloc, &mut self.producer, message)?;
-        Ok(reply)
-    }
-
-    /// What a message is to be answered.
-    #[tactic(auto, using(crate::proofs::KeptTurns::told_unwritten))]
+    /// What a message is to be answered. It is taken, but where one of its rows is too long, and but for a request for items
+    /// whose answer is lent.
+    #[tactic(auto, using(siri_ends::proofs::Lends::makes, crate::proofs::KeptTurns::told_unwritten, crate::proofs::KeptTurns::told_keeps, crate::proofs::KeptTurns::told_long, crate::proofs::KeptTurns::fronts_short, crate::proofs::Looks::looks_none, crate::proofs::Looks::looks_reply, crate::proofs::Looks::looks_rows))]
     fn reply_kept<B: Shelf>(
         &mut self,
         shelf: &mut B,
@@ -130,46 +103,28 @@ impl Kept {
         ensures long { IfOk result (λ answer. has_long_row message ≡ true → (answer ≡ reply.Made (Some row_too_long)) × (self.new ≡ self.old)) }
         ensures written { IfOk result CanBeWritten }
         ensures name { OnOk result (self.new.producer.responder.name ≡ self.old.producer.responder.name) }
-        ensures ok { has_long_row message ≡ false → OnOk result (OnShelf B.tells shelf.old shelf.new (λ old new. LeavesKept self.old self.new (Take message ∷ []) old.rows new.rows)) }
-        ensures same { has_long_row message ≡ true → shelf.new ≡ shelf.old }
-        ensures trail { has_long_row message ≡ false → OnShelf B.tells shelf.old shelf.new (AddsFronts self.old (Take message ∷ [])) }
+        ensures ok { OnOk result (OnShelf B.tells shelf.old shelf.new (λ old new. LeavesKept self.old self.new (taking (short_of message)) old.rows new.rows)) }
+        ensures trail { OnShelf B.tells shelf.old shelf.new (AddsFronts self.old (taking (short_of message))) }
         ensures later { B.faults shelf.old ≤ B.faults shelf.new }
         ensures counted { CountsFault (B.faults shelf.old) (B.faults shelf.new) result }
+        ensures looks { LooksInTurn self.old.producer self.new.producer (short_of message) }
+        ensures follows { OnOk result (FollowsAlike self.old.producer self.new.producer (short_of message)) }
     {
         if has_long_row(self.alloc, &message)? {
             drop(message);
             return Ok(Reply::Made(Some(refuse_row(self.alloc)?)));
         }
-        self.reply_short(shelf, message)
-    }
-
-    /// What a connection is to be answered that brings this message.
-    fn reply_brought<B: Shelf>(
-        &mut self,
-        shelf: &mut B,
-        asked: &Asked,
-        message: Message,
-    ) -> Result<Reply, OutsideError>
-        requires there { B.is_open shelf.old }
-        requires open { self.old.is_closed ≡ false }
-        requires asks { Brings asked.now (brings.Message message) }
-        ensures open { B.is_open shelf.new }
-        ensures short { IfOk result (λ reply. has_long_asked asked.now ≡ false → PreparesFor self.old.producer self.new.producer asked.now reply) }
-        ensures long { IfOk result (λ answer. has_long_asked asked.now ≡ true → (answer ≡ reply.Made (Some row_too_long)) × (self.new ≡ self.old)) }
-        ensures written { IfOk result CanBeWritten }
-        ensures name { OnOk result (self.new.producer.responder.name ≡ self.old.producer.responder.name) }
-        ensures ok { OnOk result (OnShelf B.tells shelf.old shelf.new (λ old new. LeavesKept self.old self.new (taking (message_kept asked.now)) old.rows new.rows)) }
-        ensures trail { OnShelf B.tells shelf.old shelf.new (AddsFronts self.old (taking (message_kept asked.now))) }
-        ensures later { B.faults shelf.old ≤ B.faults shelf.new }
-        ensures counted { CountsFault (B.faults shelf.old) (B.faults shelf.new) result }
-    {
-        let _ = asked;
-        self.reply_kept(shelf, message)
+        if changes_rows(&message) {
+            let response = self.answer_kept(shelf, message)?;
+            return Ok(Reply::Made(Some(response)));
+        }
+        let reply = reply_to(self.alloc, &mut self.producer, message)?;
+        Ok(reply)
     }
 
     /// Takes the message that a connection brings, where it brings one that can be kept and isn't answered directly, and
     /// tells what the connection is to be answered.
-    #[tactic(auto, using(siri_ends::proofs::Lends::prepares_refusal, siri_ends::proofs::Lends::prepares_nothing, crate::proofs::KeptTurns::told_unwritten))]
+    #[tactic(auto, using(siri_ends::proofs::Lends::prepares_refusal, siri_ends::proofs::Lends::prepares_nothing, crate::proofs::KeptTurns::told_unwritten, crate::proofs::Looks::looks_none))]
     fn reply_for<B: Shelf>(&mut self, shelf: &mut B, asked: &Asked) -> Result<Reply, OutsideError>
         requires there { B.is_open shelf.old }
         requires open { self.old.is_closed ≡ false }
@@ -182,9 +137,11 @@ impl Kept {
         ensures trail { OnShelf B.tells shelf.old shelf.new (AddsFronts self.old (taking (message_kept asked.now))) }
         ensures later { B.faults shelf.old ≤ B.faults shelf.new }
         ensures counted { CountsFault (B.faults shelf.old) (B.faults shelf.new) result }
+        ensures looks { LooksInTurn self.old.producer self.new.producer (message_kept asked.now) }
+        ensures follows { OnOk result (FollowsAlike self.old.producer self.new.producer (message_kept asked.now)) }
     {
         match brought_by(self.alloc, asked)? {
-            Brought::Message(message) => self.reply_brought(shelf, asked, message),
+            Brought::Message(message) => self.reply_kept(shelf, message),
             Brought::Refused(response) => Ok(Reply::Made(Some(response))),
             Brought::Nothing => Ok(Reply::Made(None)),
         }
@@ -216,6 +173,8 @@ impl<B: Shelf> Taker<B> for Kept {
 
     ghost has_ended = { λ kept made before after. OnShelf B.tells before after (λ old new. LeavesLiveAt kept made old.rows new.rows) };
 
+    ghost looks_taking = { λ old asked new. KeptLooksOnce old.producer new.producer (message_kept asked) };
+
     ghost looks_hearing = { λ old _ message new. LooksHearing old.producer new.producer (acknowledging message) };
 
     ghost faults = { λ shelf. B.faults shelf };
@@ -241,7 +200,7 @@ impl<B: Shelf> Taker<B> for Kept {
     }
 
     /// One that is closed takes nothing.
-    #[tactic(auto, using(crate::proofs::KeptTurns::told_unwritten))]
+    #[tactic(auto, using(crate::proofs::KeptTurns::told_unwritten, crate::proofs::Looks::kept_settled, crate::proofs::Looks::kept_unsettled, crate::proofs::Looks::looks_none))]
     fn take(
         &mut self,
         _alloc: Global,

@@ -1,6 +1,7 @@
-use Rattle.std.proofs.Common.{[], ◌∷◌}
+use Rattle.std.proofs.Common.{[], ◌∷◌, ap, ◌∙◌}
 use Rattle.siri_model.specs.History.{Clock}
-use Rattle.siri_keep.proofs.Fronts.{name_stays, stands_on, told_fronts, told_goes}
+use Rattle.siri_keep.specs.declared.kept.Kept.{Kept}
+use Rattle.siri_keep.proofs.Fronts.{follows_on, name_stays, stands_on, told_fronts, told_goes}
 use Rattle.siri_keep.proofs.Told.{on_ok_any}
 use Rattle.siri_keep.proofs.kept.Kept.clock.Goals as goal
 
@@ -19,3 +20,10 @@ returns-in-Ok-clause-stands g c = on_ok_any c.write.result _ (stands_on c.args.s
 pub returns-in-Ok-clause-name : goal.returns-in-Ok-clause-name
 returns-in-Ok-clause-name g c = on_ok_any c.write.result _ (name_stays c.args.self.now c.plan_clock.new.self c.write.new.self (Clock c.args.now ∷ [])
     c.in-Ok.puts c.in-Ok.ensures.ok c.write.ensures.rest)
+
+pub returns-in-Ok-clause-follows : goal.returns-in-Ok-clause-follows
+returns-in-Ok-clause-follows g c = on_ok_any c.write.result _ (follows_on c.args.self.now c.plan_clock.new.self c.write.new.self (Clock c.args.now ∷ [])
+    c.in-Ok.puts c.in-Ok.ensures.ok c.write.ensures.rest)
+
+pub returns-in-Ok-clause-looks : goal.returns-in-Ok-clause-looks
+returns-in-Ok-clause-looks g c = ap (λ (k : Kept). k.producer.responder.reads) c.write.ensures.rest ∙ c.plan_clock.ensures.looks

@@ -1,7 +1,6 @@
-use Rattle.std.proofs.Common.{◌≡◌, map, arith, refl, sym, subst, IfOk, List}
+use Rattle.std.proofs.Common.{◌≡◌, map, arith, sym, subst, IfOk, List}
 use Rattle.siri_records.specs.Keyed.{apply}
 use Rattle.siri_records.specs.declared.key.Key.{Key}
-use Rattle.siri_messages.specs.declared.message.Message.TheVariants as message
 use Rattle.siri_model.specs.History.{entries_of}
 use Rattle.siri_model.specs.Last.{entry_key}
 use Rattle.siri_keeping.specs.Keeping.{changes_to}
@@ -15,7 +14,6 @@ returns-clause-ok c =
     let old : Kept = c.args.self.now in
     let one : Kept = c.put_keys.new.self in
     let d = c.args.delivery in
-    let m = message.ServiceDelivery d in
     let put = c.in_ok-put_keys.ensures.ok in
     let keys : c.in_ok-keys.keys ≡ map entry_key (entries_of d) =
     subst (λ r. IfOk r (λ (keys : List Key). keys ≡ map entry_key (entries_of d))) c.in_ok-keys.ensures.made c.named_keys-keys.ensures in
@@ -26,10 +24,10 @@ returns-clause-ok c =
       | then-len-gt-MOST_ROWS+in_ok-put_dead w ↦
           let dead = w.in_ok-put_dead.ensures.ok in
           rw (w.self-is, w.puts-is, dead.puts, put.puts, c.new-puts.ensures, c.slice.ensures, keys)
-          (fed_plans_dead old c.take_owned.new.self m d one w.put_dead.new.self refl c.requires.fed c.requires.proper c.requires.short
-          c.take_owned.ensures.name taken put.producer dead.producer fed dead.mirror put.places dead.places)
+          (fed_plans_dead old c.take_owned.new.self d one w.put_dead.new.self c.requires.fed c.requires.proper c.requires.short
+          c.take_owned.ensures.name taken put.producer w.in_ok-put_dead.ensures.producer fed dead.mirror put.places dead.places)
       | else-len-gt-MOST_ROWS w ↦
           rw (w.self-is, w.puts-is, put.puts, c.new-puts.ensures, c.slice.ensures, keys)
-          (fed_plans old c.take_owned.new.self m d one refl c.requires.fed c.requires.proper c.requires.short c.take_owned.ensures.name
+          (fed_plans old c.take_owned.new.self d one c.requires.fed c.requires.proper c.requires.short c.take_owned.ensures.name
           taken put.producer fed put.places (omega (arith, w.if-len-gt-MOST_ROWS.false, c.len.ensures)))
     ]
