@@ -4,7 +4,6 @@ ghost use Rattle.std.specs.Prelude.{◌≡◌};
 ghost use Rattle.siri_keep.specs.declared.errors.KeepError.TheVariants as error;
 
 use siri_base::{List, OutOfMemory};
-use siri_outside::OutsideError;
 
 /// Why a call of a producer over a shelf was refused.
 #[derive(Debug)]
@@ -52,14 +51,5 @@ impl From<OutOfMemory> for KeepError {
 
     fn from(_: OutOfMemory) -> Self {
         KeepError::OutOfMemory
-    }
-}
-
-impl From<OutsideError> for KeepError {
-    fn from(error: OutsideError) -> Self {
-        match error {
-            OutsideError::Failed => KeepError::ShelfFault,
-            OutsideError::OutOfMemory => KeepError::OutOfMemory,
-        }
     }
 }

@@ -16,6 +16,7 @@ use Rattle.siri_ends.specs.declared.taker.Taker.{Ghosts as TakerGhosts}
 use Rattle.siri_outside.specs.Shelves.{ShelfState}
 use Rattle.siri_keep.specs.Calls.{AddsFronts, Holds}
 use Rattle.siri_keep.specs.KeptTurns.{KeepsOn}
+use Rattle.siri_keep.specs.Looks.{KeptLooksOnce}
 use Rattle.siri_keep.specs.Serving.{LeavesLiveAt, ServesKept, ServesKeptSome, keeping, message_kept, steps_of}
 use Rattle.siri_keep.specs.declared.kept.Kept.{Kept}
 use Rattle.siri_keep.proofs.KeptTurns.{adds_turn, goes_kept, keeps_answered}
@@ -45,7 +46,7 @@ module _ {B : Type 0} (is_open : B → Type 0) (tells : B → Option ShelfState)
         WhereTold (tells before) (tells after) (λ old new. KeepsOn kept (taking (message_kept asked)) old.rows new.rows);
     has_ended = λ kept made before after.
         WhereTold (tells before) (tells after) (λ old new. LeavesLiveAt kept made old.rows new.rows);
-    looks_taking = λ old asked new. Unit {0};
+    looks_taking = λ old asked new. KeptLooksOnce old.producer new.producer (message_kept asked);
     looks_hearing = λ old sent message new. LooksHearing old.producer new.producer (acknowledging message);
     faults = λ shelf. faults shelf;
     given = λ now h. h ++ Clock now ∷ [];
