@@ -2,10 +2,11 @@
 //!
 //! Stands on `siri_cli`, whose `run_all` is the whole of the work, on `siri_system` for the network, the clock, the start
 //! number and the file of `keep`, on `siri_outside` for standard input and output, and on `siri_base` and `siri_lines` for
-//! the line that tells how a run ended. A line of the system's own words follows where the wire or the keeper failed, and
-//! one of the database's where the shelf did; where the words are no command, it is told which word is wrong, and what the
-//! command takes (`usage`, by the table of `commands`, which asks `siri_http` what an address is). Where the variable
-//! `SIRI_LOG` of the environment is `1`, each connection that ends has a line on standard error.
+//! the line that tells how a run ended. Where the wire, the keeper or the shelf failed, a line follows that names the
+//! address or the file, with the words of the system or of the database, and one that says what is wanted there; where
+//! the words are no command, it is told which word is wrong, and what the command takes (`usage`, by the table of
+//! `commands`, which asks `siri_http` what an address is). Where the variable `SIRI_LOG` of the environment is `1`, each
+//! connection that ends has a line on standard error, and where it is `json`, an object.
 #![tactic(auto)]
 
 mod commands;
@@ -16,13 +17,23 @@ use siri_base::Status;
 use siri_cli::run_all;
 use siri_lines::write_status;
 use siri_outside::{Input, Output};
-use siri_system::{FileKeeper, FileShelf, LoggedWire, SystemClock};
+use siri_system::{FileKeeper, FileShelf, LoggedWire, SystemClock, Telling};
 use std::io::{ErrorKind, Write};
 use std::process::ExitCode;
 use std::{env, fmt};
 
+/// What is wanted where listening, the file of the start number, or the file of rows fails.
+const LISTENING: &str =
+    "that wants an address of this machine, a port that no other program has, and files left to open";
+
+const NUMBER: &str =
+    "that wants a folder that may be written to, where it is a file with a number, or isn't there yet";
+
+const ROWS: &str =
+    "that wants a file that keep made, or none yet, a disk with room, and no other program at the file";
+
 fn main(rt: HostRuntime) -> ExitCode {
-    let mut wire = LoggedWire::new(rt, is_logged(&rt));
+    let mut wire = LoggedWire::new(rt, telling(&rt));
     let mut keeper = FileKeeper::new(rt);
     let mut shelf = FileShelf::new(rt);
     let (status, words) = match given_words(&rt) {
@@ -37,9 +48,12 @@ fn main(rt: HostRuntime) -> ExitCode {
         Status::Usage => {
             let _ = write_usage(&mut rt.stderr(), &words);
         }
-        Status::WireFault => tell_fault(&rt, wire.fault()),
-        Status::KeeperFault => tell_fault(&rt, keeper.fault()),
-        Status::ShelfFault => tell_fault(&rt, shelf.fault()),
+        Status::WireFault => {
+            let (address, wanted) = address_in(&words);
+            tell_fault(&rt, address, wire.fault(), wanted);
+        }
+        Status::KeeperFault => tell_fault(&rt, "siri-start", keeper.fault(), NUMBER),
+        Status::ShelfFault => tell_fault(&rt, word(&words, 3), shelf.fault(), ROWS),
         _ => {}
     }
     ExitCode::from(status.number())
@@ -59,11 +73,15 @@ fn given_words(rt: &HostRuntime) -> Result<Vec<String>, Status> {
     }
 }
 
-/// Whether connections are to be told of: the variable SIRI_LOG is 1.
-fn is_logged(rt: &HostRuntime) -> bool {
+/// How connections are to be told of: in lines where the variable SIRI_LOG is 1, in objects where it is json.
+fn telling(rt: &HostRuntime) -> Telling {
     match env::var(rt, "SIRI_LOG") {
-        Ok(value) => value.as_str() == "1",
-        Err(_) => false,
+        Ok(value) => match value.as_str() {
+            "1" => Telling::Lines,
+            "json" => Telling::Objects,
+            _ => Telling::Nothing,
+        },
+        Err(_) => Telling::Nothing,
     }
 }
 
@@ -87,9 +105,32 @@ fn run_command(
     )
 }
 
-/// Tells what the system, or the database, told of a failure, on a line of standard error.
-fn tell_fault<F: fmt::Display + Drop>(rt: &HostRuntime, fault: Option<F>) {
+/// The word at a place, which a command has.
+fn word(words: &[String], place: usize) -> &str {
+    match words.get(place) {
+        Some(word) => word.as_str(),
+        None => "",
+    }
+}
+
+/// The address that a command listens at, or that `get` asks, and what is wanted there.
+fn address_in(words: &[String]) -> (&str, &'static str) {
+    match word(words, 0) {
+        "get" => (word(words, 1), "that wants a producer that answers there"),
+        _ => (word(words, 2), LISTENING),
+    }
+}
+
+/// Tells of what a failure was, and what the system, or the database, told, on a line of standard error, and on another
+/// one what is wanted there.
+fn tell_fault<F: fmt::Display + Drop>(
+    rt: &HostRuntime,
+    what: &str,
+    fault: Option<F>,
+    wanted: &str,
+) {
     if let Some(fault) = fault {
-        let _ = writeln!(rt.stderr(), "siri: {fault}");
+        let _ = writeln!(rt.stderr(), "siri: {what}: {fault}");
+        let _ = writeln!(rt.stderr(), "siri: {wanted}");
     }
 }

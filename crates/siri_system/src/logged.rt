@@ -2,22 +2,20 @@
 
 ghost use Rattle.std.specs.Prelude.{◌≡◌, None, IsSome};
 
-use crate::clock::system_moment;
 use crate::gone::Change;
+use crate::telling::{Begun, Logged, Telling, Way};
 use crate::traffic::Traffic;
 use crate::wire::TcpWire;
-use siri_base::{Moment, Name};
+use siri_base::Name;
 use siri_outside::{Failed, OutsideError, Wire};
-use siri_time::write_moment;
-use std::io::Write;
+use std::io;
 use std::net::SocketAddr;
-use std::time::Instant;
-use std::{io, str};
 
 /// The wire over TCP, which tells what became of each connection where that is asked for, on a line of standard error:
 ///
 /// ```text
 /// 2024-05-01T08:00:00Z accepted 127.0.0.1:50312 "POST / HTTP/1.1" "HTTP/1.1 200 OK" in 532 out 310 bytes, 3 ms
+/// 2024-05-01T08:00:01Z accepted 127.0.0.1:50314 "POST / HTTP/1.1" "HTTP/1.1 400 Bad Request" in 90 out 98 bytes, 1 ms: Siri: Missing
 /// 2024-05-01T08:00:02Z dialled 127.0.0.1:7002 failed: Connection refused (os error 111), 1 ms
 /// 2024-05-01T08:00:14Z left alone 127.0.0.1:7003 for 15 s
 /// 2024-05-01T08:00:44Z answers again 127.0.0.1:7003
@@ -37,69 +35,8 @@ pub struct LoggedWire {
 #[derive(Drop)]
 struct Log {
     rt: HostRuntime,
+    telling: Telling,
     connection: Option<Logged>,
-}
-
-/// Who began a connection.
-#[derive(Clone, Copy, PartialEq, Eq, Drop)]
-enum Way {
-    Accepted,
-    Dialled,
-}
-
-/// What is known of the connection that is there.
-#[derive(Clone, Copy, Drop)]
-struct Logged {
-    way: Way,
-    begun: Begun,
-    peer: Option<SocketAddr>,
-    came: Traffic,
-    went: Traffic,
-    fault: Option<io::Error>,
-}
-
-/// When something began, where the system's clocks tell it.
-#[derive(Clone, Copy, Drop)]
-struct Begun {
-    moment: Option<Moment>,
-    since: Option<Instant>,
-}
-
-impl Begun {
-    /// It begins now.
-    fn now(rt: &HostRuntime) -> Begun {
-        Begun {
-            moment: system_moment(rt),
-            since: Instant::now(rt).ok(),
-        }
-    }
-
-    /// It began at this moment of the system's other clock, where that is known.
-    fn at(rt: &HostRuntime, since: Option<Instant>) -> Begun {
-        let now = Begun::now(rt);
-        match (now.moment, since) {
-            (Some(moment), Some(since)) => {
-                let begun = Begun {
-                    moment: None,
-                    since: Some(since),
-                };
-                let ago = i64::try_from(begun.milliseconds(rt)).unwrap_or(0);
-                Begun {
-                    moment: Moment::new(moment.ms().saturating_sub(ago)),
-                    since: Some(since),
-                }
-            }
-            _ => now,
-        }
-    }
-
-    /// How many milliseconds ago it began; 0 where that isn't known.
-    fn milliseconds(&self, rt: &HostRuntime) -> u128 {
-        match (self.since, Instant::now(rt)) {
-            (Some(since), Ok(now)) => now.duration_since(since).as_millis(),
-            _ => 0,
-        }
-    }
 }
 
 impl Log {
@@ -119,92 +56,30 @@ impl Log {
     /// The connection that is there ends, and its line is written.
     fn end(&mut self) {
         if let Some(connection) = self.connection.take() {
-            let _ = write_line(&self.rt, &connection);
+            self.telling.end(&self.rt, &connection);
         }
     }
 }
 
-/// The moment at which something began, as a line begins with it: `-` where the system's clock told none.
-fn write_begun(rt: &HostRuntime, begun: &Begun) -> io::Result<()> {
-    let mut text = [0u8; 24];
-    let length = match begun.moment {
-        Some(moment) => write_moment(moment, &mut text),
-        None => 0,
-    };
-    let told = text.get(..length).unwrap_or(&[]);
-    write!(rt.stderr(), "{} ", str::from_utf8(told).unwrap_or("-"))
-}
-
-/// The line of a connection.
-fn write_line(rt: &HostRuntime, connection: &Logged) -> io::Result<()> {
-    let (way, asked, answered) = match connection.way {
-        Way::Accepted => ("accepted", &connection.came, &connection.went),
-        Way::Dialled => ("dialled", &connection.went, &connection.came),
-    };
-    write_begun(rt, &connection.begun)?;
-    match connection.peer {
-        Some(peer) => write!(rt.stderr(), "{way} {peer}")?,
-        None => write!(rt.stderr(), "{way} -")?,
-    }
-    let (question, answer) = (asked.first_line(), answered.first_line());
-    let (came, went) = (connection.came.bytes(), connection.went.bytes());
-    write!(
-        rt.stderr(),
-        " \"{question}\" \"{answer}\" in {came} out {went} bytes"
-    )?;
-    write_end(rt, &connection.begun, connection.fault)
-}
-
-/// The line of a connection that wasn't made.
-fn write_failure(
-    rt: &HostRuntime,
-    begun: &Begun,
-    address: &str,
-    fault: Option<io::Error>,
-) -> io::Result<()> {
-    write_begun(rt, begun)?;
-    write!(rt.stderr(), "dialled {address}")?;
-    write_end(rt, begun, fault)
-}
-
-/// The line of an address that is left alone from now on, or answers again.
-fn write_change(rt: &HostRuntime, change: &Change) -> io::Result<()> {
-    write_begun(rt, &Begun::now(rt))?;
-    match change {
-        Change::Alone(address, seconds) => {
-            writeln!(rt.stderr(), "left alone {} for {seconds} s", address.text())
-        }
-        Change::Back(address) => writeln!(rt.stderr(), "answers again {}", address.text()),
-    }
-}
-
-/// The lines of changes, one after the other.
-fn write_changes(rt: &HostRuntime, changes: &[Change]) {
+/// Tells changes, one after the other.
+fn tell_each(log: &Log, changes: &[Change]) {
     for change in changes {
-        let _ = write_change(rt, change);
+        log.telling.change(&log.rt, change);
     }
-}
-
-/// What the system told last where a call failed, and how long it took.
-fn write_end(rt: &HostRuntime, begun: &Begun, fault: Option<io::Error>) -> io::Result<()> {
-    if let Some(fault) = fault {
-        write!(rt.stderr(), " failed: {fault}")?;
-    }
-    writeln!(rt.stderr(), ", {} ms", begun.milliseconds(rt))
 }
 
 impl LoggedWire {
-    /// A wire with no connection, which listens nowhere; whether it tells what becomes of connections.
-    pub fn new(rt: HostRuntime, is_logged: bool) -> LoggedWire
+    /// A wire with no connection, which listens nowhere; how it tells what becomes of connections.
+    pub fn new(rt: HostRuntime, telling: Telling) -> LoggedWire
         ensures faults { ⟦<LoggedWire as Wire>⟧.faults result ≡ 0 }
     {
-        let log = if is_logged {
-            Some(Log {
+        let log = match telling {
+            Telling::Nothing => None,
+            telling => Some(Log {
                 rt,
+                telling,
                 connection: None,
-            })
-        } else {
-            None
+            }),
         };
         LoggedWire {
             wire: TcpWire::new(rt),
@@ -220,7 +95,7 @@ impl LoggedWire {
         if let Some(log) = &self.log
             && let Some(changes) = self.wire.take_changes()
         {
-            write_changes(&log.rt, &changes);
+            tell_each(log, &changes);
         }
     }
 
@@ -265,7 +140,8 @@ impl Wire for LoggedWire {
                 Ok(()) => log.begin(Way::Dialled, begun, self.wire.peer().0),
                 Err(_) if self.wire.was_left_alone() => {}
                 Err(_) => {
-                    let _ = write_failure(&log.rt, &begun, address.text(), self.wire.fault());
+                    let fault = self.wire.fault();
+                    log.telling.failure(&log.rt, &begun, address.text(), fault);
                 }
             }
         }
