@@ -19,6 +19,7 @@ from browser import Browser, in_few_colours
 from fresh import Fresh
 from languages import Languages
 from named import Named
+from readable import Readable
 from walls import Walls
 
 HOSTILE = "<script>alert(1)</script><img src=x onerror=alert(2)>\"'&\u05ea\u05d7\u05e0\u05d4 \u0645\u062d\u0637\u0629"
@@ -222,7 +223,7 @@ class Departures(Board):
                 file.write(in_few_colours(self.browser.picture()))
 
 
-class Trials(Departures, Fresh, Languages, Named, Walls):
+class Trials(Departures, Fresh, Languages, Named, Readable, Walls):
     pass
 
 
@@ -259,7 +260,8 @@ def main(chromium, siri, examples, *folders):
                 print("board: there is no nginx or no openssl (Debian's packages of these names), so a stand-in is before the producer")
             browser.size(1280, 900)
             board = Trials(browser, base, producer, faults, pages)
-            for part in (board.leaves, board.grows_stale, board.shows, board.breaks_off, board.begins, board.refuses, board.hostile, board.reads, board.clock, board.names, board.comes_first, board.phones, board.speaks, board.walls, board.screens):
+            for part in (board.leaves, board.grows_stale, board.shows, board.breaks_off, board.begins, board.refuses, board.hostile, board.reads, board.clock, board.names, board.comes_first,
+                         board.phones, board.speaks, board.contrasts, board.large_letters, board.keeps_still, board.walls, board.screens):
                 part()
             for pictures in folders:
                 board.pictures(pictures)
