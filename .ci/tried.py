@@ -5,8 +5,10 @@ import http.client
 import json
 import os
 import re
+import shutil
 import signal
 import socket
+import struct
 import subprocess
 import sys
 import tempfile
@@ -50,9 +52,10 @@ class Trial:
         os.chmod(path, 0o755)
         return path
 
-    def mistake(self, says, *words):
-        """It ends by itself with one line on standard error."""
-        told = subprocess.run([sys.executable, self.program, *words], capture_output=True, text=True, check=False, timeout=60)
+    def mistake(self, says, *words, program=None, nowhere=False):
+        """It ends by itself with one line on standard error; also where it has nowhere to put a file."""
+        begin = "import sys, tempfile, runpy; tempfile._candidate_tempdir_list = lambda: ['/nowhere']; sys.argv = sys.argv[1:]; runpy.run_path(sys.argv[0], run_name='__main__')"
+        told = subprocess.run([sys.executable, *(["-c", begin] if nowhere else []), program or self.program, *words], capture_output=True, text=True, check=False, timeout=60)
         lines = told.stderr.splitlines()
         self.check(told.returncode == 1 and len(lines) == 1 and re.search(says, lines[0]), "%s end with %d and %s" % (words, told.returncode, told.stderr))
         return told.stdout
@@ -60,13 +63,16 @@ class Trial:
     def mistakes(self):
         port = str(free_port())
         self.mistake("^usage: ")
-        for wrong in ("x", "0", "65536", "-1", "8000x"):
+        for wrong in ("x", "0", "65536", "-1", "8000x", "9" * 80):
             self.mistake("PORT is a number from 1 to 65535, and not " + wrong, "/bin/true", wrong)
         with socket.create_server(("127.0.0.1", 0)) as taken:
             self.mistake("can't be served at port %d: Address already in use" % taken.getsockname()[1], "/bin/true", str(taken.getsockname()[1]))
         self.mistake("/nowhere can't be started: No such file", "/nowhere", port)
         self.mistake("can't be started: Permission denied", os.path.join(self.folder), port)
         self.mistake("/bin/true ended with status 0", "/bin/true", port)
+        self.mistake("No usable temporary directory", "/bin/true", port, nowhere=True)
+        copied = shutil.copy(self.program, self.folder)
+        self.mistake("there is no board at ", "/bin/true", port, program=copied)
         self.mistake("ended with status 3: it is broken", self.executable("broken", "#!/bin/sh\necho it is broken >&2\nexit 3\n"), port)
         self.mistake("answers otherwise than the program `siri`", self.executable("other", SLOW % ("Another", 1000)), port)
         written = self.mistake("ended with status 1: all is answered", self.executable("slow", SLOW % ("CheckStatusResponse", 2)), port)
@@ -86,6 +92,7 @@ class Trial:
                     visits = json.loads(answer)["Siri"]["ServiceDelivery"]["StopMonitoringDelivery"][0]["MonitoredStopVisit"]
                 time.sleep(0.2)
             self.check(b"<title>" in page and len(visits) > 3, "the board shows %d departures" % len(visits))
+            self.hangs_up(port)
             children = subprocess.run(["ps", "-o", "pid=", "--ppid", str(process.pid)], capture_output=True, text=True, check=False).stdout.split()
             for child in children:
                 os.kill(int(child), signal.SIGKILL)
@@ -95,6 +102,14 @@ class Trial:
         finally:
             process.kill()
             process.wait()
+
+    def hangs_up(self, port):
+        """A browser that doesn't wait for its answers, of which nothing is told."""
+        for target in ("/board/main.js", "/siri-lite/situation-exchange.json", "/board/"):
+            with socket.create_connection(("127.0.0.1", port)) as client:
+                client.setsockopt(socket.SOL_SOCKET, socket.SO_LINGER, struct.pack("ii", 1, 0))
+                client.sendall(b"GET %s HTTP/1.1\r\nHost: a\r\n\r\n" % target.encode())
+        self.get(port, "/board/")
 
     def get(self, port, target):
         client = http.client.HTTPConnection("127.0.0.1", port, timeout=20)

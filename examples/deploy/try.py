@@ -42,12 +42,7 @@ class Handler(http.server.BaseHTTPRequestHandler):
 
     def do_GET(self):
         if self.path.startswith("/siri-lite/"):
-            question = ("POST", "/", CHECK) if self.path.startswith("/siri-lite/check-status.json") else ("GET", self.path)
-            try:
-                with self.one_at_a_time:
-                    self.tell(*ask(self.producer, *question))
-            except (OSError, http.client.HTTPException):
-                self.tell(502, "text/plain", b"the producer doesn't answer\n")
+            self.tell(*self.asked())
             return
         path = self.path.partition("?")[0]
         if path == "/":
@@ -66,6 +61,15 @@ class Handler(http.server.BaseHTTPRequestHandler):
         with open(file, "rb") as content:
             self.tell(200, TYPES[os.path.splitext(name)[1]], content.read())
 
+    def asked(self):
+        """What the producer answers to this question."""
+        question = ("POST", "/", CHECK) if self.path.startswith("/siri-lite/check-status.json") else ("GET", self.path)
+        try:
+            with self.one_at_a_time:
+                return ask(self.producer, *question)
+        except (OSError, http.client.HTTPException):
+            return 502, "text/plain", b"the producer doesn't answer\n"
+
     def tell(self, status, kind, body):
         self.send_response(status)
         self.send_header("Content-Type", kind or "text/plain")
@@ -75,6 +79,14 @@ class Handler(http.server.BaseHTTPRequestHandler):
 
     def log_message(self, *words):
         pass
+
+
+class Server(http.server.ThreadingHTTPServer):
+    """Of a browser that hangs up before it has its answer nothing is told."""
+
+    def handle_error(self, request, client_address):
+        if not isinstance(sys.exc_info()[1], OSError):
+            super().handle_error(request, client_address)
 
 
 def text_of(moment):
@@ -120,14 +132,16 @@ def feed(port, delivery):
 
 
 def port_of(text):
-    if not (text.isascii() and text.isdigit() and 1 <= int(text) <= 65535):
-        raise Mistake("PORT is a number from 1 to 65535, and not %s" % text)
+    if not (text.isascii() and text.isdigit() and len(text) <= 5 and 1 <= int(text) <= 65535):
+        raise Mistake("PORT is a number from 1 to 65535, and not %s" % text[:80])
     return int(text)
 
 
 def server_at(port):
+    if not os.path.isfile(os.path.join(BOARD, "index.html")):
+        raise Mistake("there is no board at %s" % BOARD)
     try:
-        return http.server.ThreadingHTTPServer(("127.0.0.1", port), Handler)
+        return Server(("127.0.0.1", port), Handler)
     except OSError as fault:
         raise Mistake("the board can't be served at port %d: %s; name another one behind the program" % (port, fault.strerror)) from None
 
@@ -205,5 +219,5 @@ if __name__ == "__main__":
         sys.exit("usage: try.py SIRI [PORT]")
     try:
         main(*sys.argv[1:])
-    except Mistake as mistake:
+    except (Mistake, OSError) as mistake:
         sys.exit("try.py: %s" % mistake)
