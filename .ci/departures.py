@@ -214,7 +214,7 @@ class Departures(Board):
                   [situation("p", "Works at the old mill: buses of line 24N end at the hospital until Friday.", lines=["24N"])])
         time.sleep(2.1)
         for name, width, height, scale, dark, more in (("board", 760, 430, 1, False, "&most=5"), ("wall", 1920, 1080, 0.5, True, "&rows=fit"),
-                                                       ("stele", 1080, 1920, 0.4, True, "&rows=fit"), ("phone", 390, 844, 1, False, "")):
+                                                       ("wall-4k", 3840, 2160, 0.25, True, "&rows=fit"), ("stele", 1080, 1920, 0.4, True, "&rows=fit"), ("phone", 390, 844, 1, False, "")):
             self.browser.size(width, height, scale, dark)
             self.open("stop=P1&zone=Europe/Paris" + more)
             self.wait_rows([[line] for line, *_ in lines * (1 if name == "board" else 4)], "the board of the picture")
