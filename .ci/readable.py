@@ -120,7 +120,8 @@ class Readable(Board):
     def large_letters(self):
         """Whoever reads by letters of twice the size has all of it, on any screen, without scrolling sideways."""
         now = int(time.time())
-        self.feed([visit("g1", "6", "University", now + 1200, 120, "G1", DeparturePlatformName="Gleis 7 A-D Nord, Bahnsteig 3"), visit("g2", "S7", "K\u00f6nigs Wusterhausen", now + 86400, 600, "G1", DeparturePlatformName="Gleis 7 A-D Nord"),
+        self.feed([visit("g1", "6", "University", now + 1200, 120, "G1", DeparturePlatformName="Gleis 7 A-D Nord, Bahnsteig 3"),
+                   visit("g2", "S7", "K\u00f6nigs Wusterhausen", now + 86400, 600, "G1", DeparturePlatformName="Gleis 7 A-D Nord"),
                    visit("g3", "24N", "Old Mill via Hospital", now + 86460, 600, "G1", DeparturePlatformName="Gleis 12", DepartureStatus="cancelled"),
                    visit("g4", LONG, "Linz", now + 87100, None, "G1", DeparturePlatformName="12a")], [situation("11", "Works at the stop.", places=["G1-1"])])
         time.sleep(2.1)
