@@ -127,6 +127,11 @@ class Readable(Board):
         time.sleep(2.1)
         for size in (32, 16):
             self.browser.call("Page.setFontSizes", fontSizes={"standard": size, "fixed": size})
+            self.browser.size(320, 640)
+            self.open("lang=de")
+            self.wait("!document.querySelector('#choice').hidden", "without a stop none is asked for")
+            beyond = self.browser.run("[...document.querySelectorAll('input, button')].map((one) => one.getBoundingClientRect().right - document.querySelector('main').getBoundingClientRect().right)")
+            self.check(max(beyond) < 1, "with letters of %d pixels a field stands over the edge by %s" % (size, beyond))
             for width, height, languages in ((320, 640, ("en", "de", "fr", "no", "es")), (390, 844, ("en", "de", "fr", "no", "es")), (640, 512, ("en",)), (1280, 900, ("en",))):
                 for language in languages:
                     self.browser.size(width, height)
