@@ -1,0 +1,6 @@
+-- In order of reading: what calls of doors do; whose turn it is; doors in memory; inner words.
+pub mod Doors
+pub mod Gathered
+pub mod Decisions
+pub mod InMemoryDoors
+pub mod Waiting
