@@ -27,7 +27,7 @@ without slot (first ∷ later) = if nat_eq first.slot slot then later else first
 abbrev pub with_bytes : ℕ → List ℕ → List Asking → List Asking
 with_bytes slot bytes [] = []
 with_bytes slot bytes (first ∷ later) =
-    if nat_eq first.slot slot then record { slot = first.slot; bytes = bytes } ∷ later else first ∷ with_bytes slot bytes later
+    if nat_eq first.slot slot then record { slot = slot; bytes = bytes } ∷ later else first ∷ with_bytes slot bytes later
 
 -- how many bytes wait in all
 abbrev pub held : List Asking → ℕ
@@ -62,22 +62,22 @@ abbrev pub comes : (List ℕ → Bool) → ℕ → List ℕ → List Asking → 
 comes whole slot piece waiting =
     if nat_le (held waiting + length piece) 67108864 then gathers whole slot (bytes_in slot waiting ++ piece) waiting else refuses slot waiting
 
+-- What happens to a connection that doesn't wait decides nothing.
+abbrev pub where_it_waits : ℕ → List Asking → Step → Step
+where_it_waits slot waiting happens = if waits_in slot waiting then happens else stays waiting
+
 -- A connection opens: it waits where fewer than 256 do, and is refused else.
 abbrev pub opens : ℕ → List Asking → Step
 opens slot waiting =
     if nat_lt (length waiting) 256 then stays (waiting ++ record { slot = slot; bytes = [] } ∷ []) else record { waiting = waiting; outcome = Refuses slot }
 
--- A connection ends, or its time is over: it has its turn with the bytes that came.
-abbrev pub ends : ℕ → List Asking → Step
-ends slot waiting = decides slot (bytes_in slot waiting) waiting
-
 -- What an event does. A connection waits from when it opens until its bytes are whole, it ends or its time is over: then it has its
--- turn. What happens to one that doesn't wait decides nothing.
+-- turn with the bytes that came.
 unfoldable pub step : (List ℕ → Bool) → List Asking → Event → Step
 step whole waiting (Opened slot) = opens slot waiting
-step whole waiting (Came slot piece) = if waits_in slot waiting then comes whole slot piece waiting else stays waiting
-step whole waiting (Ended slot) = if waits_in slot waiting then ends slot waiting else stays waiting
-step whole waiting (Late slot) = if waits_in slot waiting then ends slot waiting else stays waiting
+step whole waiting (Came slot piece) = where_it_waits slot waiting (comes whole slot piece waiting)
+step whole waiting (Ended slot) = where_it_waits slot waiting (decides slot (bytes_in slot waiting) waiting)
+step whole waiting (Late slot) = where_it_waits slot waiting (decides slot (bytes_in slot waiting) waiting)
 
 -- ---- what all events do
 

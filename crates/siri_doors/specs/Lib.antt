@@ -1,6 +1,7 @@
--- In order of reading: what calls of doors do; whose turn it is; doors in memory; inner words.
+-- In order of reading: what calls of doors do; whose turn it is; the wire over doors; doors in memory; inner words.
 pub mod Doors
 pub mod Gathered
 pub mod Decisions
+pub mod Gathers
 pub mod InMemoryDoors
 pub mod Waiting

@@ -19,13 +19,16 @@
 
 mod doors;
 mod event;
+mod gather;
 mod gathered;
 mod in_memory;
 mod outcome;
 mod patience;
+mod turn;
 mod waiting;
 
 pub use doors::Doors;
 pub use event::Event;
+pub use gather::Gather;
 pub use in_memory::InMemoryDoors;
 pub use patience::Patience;

@@ -1,7 +1,7 @@
 //! The connections that wait for their turn.
 
 ghost use Rattle.std.specs.Prelude.{◌≡◌, ◌+◌, [], IfOk, IfSome, IfNone, OnErr, length, nat_le, nat_lt, false, MatchOption};
-ghost use Rattle.siri_doors.specs.Decisions.{bytes_in, comes, ends, held, opens, step, waits_in};
+ghost use Rattle.siri_doors.specs.Decisions.{bytes_in, comes, decides, held, opens, step, waits_in, where_it_waits};
 ghost use Rattle.siri_doors.specs.Waiting.{Becomes, IsPlaceOf};
 
 use crate::gathered::Gathered;
@@ -56,16 +56,10 @@ impl Waiting {
         ensures ok { IfOk result (λ outcome. Becomes (step (P.whole patience.now) self.old event.now) self.new outcome) }
         ensures err { OnErr result (self.new ≡ self.old) }
     {
-        let slot = match event {
-            Event::Opened(slot) => return self.open(*slot),
-            Event::Came(slot, _) | Event::Ended(slot) | Event::Late(slot) => *slot,
-        };
-        let Some(place) = self.place_of(slot) else {
-            return Ok(Outcome::Waits);
-        };
         match event {
-            Event::Came(_, piece) => self.come(patience, slot, place, piece.slice()),
-            _ => Ok(self.end(slot, place)),
+            Event::Opened(slot) => self.open(*slot),
+            Event::Came(slot, piece) => self.come(patience, *slot, piece.slice()),
+            Event::Ended(slot) | Event::Late(slot) => Ok(self.end(*slot)),
         }
     }
 
@@ -110,18 +104,19 @@ impl Waiting {
         true
     }
 
-    /// Bytes came by the connection at a place.
+    /// Bytes came by the connection in a slot.
     fn come<P: Patience>(
         &mut self,
         patience: &P,
         slot: usize,
-        place: usize,
         piece: &[u8],
     ) -> Result<Outcome, OutOfMemory>
-        requires { IsPlaceOf slot self.old place }
-        ensures ok { IfOk result (λ outcome. Becomes (comes (P.whole patience.now) slot piece.now self.old) self.new outcome) }
+        ensures ok { IfOk result (λ outcome. Becomes (where_it_waits slot self.old (comes (P.whole patience.now) slot piece.now self.old)) self.new outcome) }
         ensures err { OnErr result (self.new ≡ self.old) }
     {
+        let Some(place) = self.place_of(slot) else {
+            return Ok(Outcome::Waits);
+        };
         if !self.has_room(piece.len()) {
             drop(self.list.remove(place));
             return Ok(Outcome::Refuses(slot));
@@ -134,11 +129,13 @@ impl Waiting {
         Ok(Outcome::Waits)
     }
 
-    /// The connection at a place ended, or its time is over.
-    fn end(&mut self, slot: usize, place: usize) -> Outcome
-        requires { IsPlaceOf slot self.old place }
-        ensures { Becomes (ends slot self.old) self.new result }
+    /// The connection in a slot ended, or its time is over.
+    fn end(&mut self, slot: usize) -> Outcome
+        ensures { Becomes (where_it_waits slot self.old (decides slot (bytes_in slot self.old) self.old)) self.new result }
     {
-        Outcome::Decides(self.list.remove(place))
+        match self.place_of(slot) {
+            Some(place) => Outcome::Decides(self.list.remove(place)),
+            None => Outcome::Waits,
+        }
     }
 }

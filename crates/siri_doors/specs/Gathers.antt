@@ -1,0 +1,70 @@
+-- The wire that a gatherer tells, by what its doors tell.
+use Rattle.siri_doors.specs.Decisions.{decided, outcomes, refusals}
+use Rattle.siri_doors.specs.Doors.{DoorsState}
+use Rattle.siri_doors.specs.Gathered.{Asking}
+use Rattle.siri_doors.specs.declared.event.Event.{Event}
+use Rattle.siri_doors.specs.declared.outcome.Outcome.{Outcome}
+use Rattle.siri_doors.specs.declared.outcome.Outcome.TheVariants.{Decides, Refuses, Waits}
+use Rattle.siri_doors.specs.declared.turn.Turn.{Turn}
+use Rattle.siri_doors.specs.declared.turn.Turn.TheVariants.{Asked, Dialled, Nobody}
+use Rattle.siri_outside.specs.Wires.{Connection, Present, WireState, unfailing}
+use Rattle.std.specs.Prelude.{◌≡◌, ℕ, Bool, List, [], ◌∷◌, ◌++◌, drop, map, option_map, option_to_list, Option, None, Some}
+
+-- a connection that is decided, as a run reads it: its bytes so far, and then the end
+abbrev pub as_read : Asking → Connection
+as_read asking = unfailing asking.bytes
+
+-- The wire over doors: the connections come in the order in which they are decided, each with its bytes so far.
+abbrev pub wire_over : (List ℕ → Bool) → DoorsState → WireState
+wire_over whole doors = record doors.line { to_accept = map as_read (decided (outcomes whole [] doors.coming)); accept_fails = [] }
+
+-- ---- in the midst
+
+-- what is to come of doors: the connections that have their turns, in order, and all slots that are refused, those so far too
+pub record Prospect : Type 0 where
+  pub line : WireState
+  pub turns : List Asking
+  pub refused : List ℕ
+
+-- what is to come by what was decided and not done yet, by who waits, by an event that isn't seen yet, and by the doors
+abbrev pub due : (List ℕ → Bool) → List Asking → Option Event → Outcome → List Event → List Outcome
+due whole waiting unseen outcome coming = outcome ∷ outcomes whole waiting (option_to_list unseen ++ coming)
+
+abbrev pub prospect_of : (List ℕ → Bool) → List Asking → Option Event → Outcome → DoorsState → Prospect
+prospect_of whole waiting unseen outcome doors = record {
+  line = doors.line;
+  turns = decided (due whole waiting unseen outcome doors.coming);
+  refused = doors.refused ++ refusals (due whole waiting unseen outcome doors.coming);
+}
+
+abbrev pub prospect : (List ℕ → Bool) → List Asking → Option Event → Outcome → Option DoorsState → Option Prospect
+prospect whole waiting unseen outcome doors = option_map (prospect_of whole waiting unseen outcome) doors
+
+-- what is left of the connection that has its turn: of one that was gathered, the bytes that weren't given
+abbrev pub left_of : Turn → Connection → Connection
+left_of Nobody left = left
+left_of (Asked asking given) left = record left { input = drop given asking.bytes; read_fails = [] }
+left_of (Dialled slot) left = left
+
+abbrev pub served_of : Turn → Present → Present
+served_of turn present = record present { left = left_of turn present.left }
+
+-- the wire by what is to come and by whose turn it is
+abbrev pub wire_of : Turn → Prospect → WireState
+wire_of turn prospect = record prospect.line {
+  to_accept = map as_read prospect.turns;
+  present = option_map (served_of turn) prospect.line.present;
+  accept_fails = [];
+}
+
+-- a connection has its turn, and is open
+abbrev pub HasTurn : (ℕ → Type 0) → Turn → Type 0
+HasTurn IsOpen Nobody = ⊥
+HasTurn IsOpen (Asked asking given) = IsOpen asking.slot
+HasTurn IsOpen (Dialled slot) = IsOpen slot
+
+-- a connection is decided
+abbrev pub IsDecided : Outcome → Type 0
+IsDecided Waits = ⊥
+IsDecided (Decides asking) = Unit {0}
+IsDecided (Refuses slot) = ⊥
