@@ -1,1 +1,3 @@
 mod Places
+mod Prospects
+mod Wiring

@@ -5,8 +5,10 @@ use Rattle.siri_doors.specs.Gathered.{Asking}
 use Rattle.siri_doors.specs.declared.event.Event.{Event}
 use Rattle.siri_doors.specs.declared.outcome.Outcome.{Outcome}
 use Rattle.siri_doors.specs.declared.outcome.Outcome.TheVariants.{Decides, Refuses, Waits}
+use Rattle.siri_doors.specs.declared.queue.Queue.{Queue}
 use Rattle.siri_doors.specs.declared.turn.Turn.{Turn}
 use Rattle.siri_doors.specs.declared.turn.Turn.TheVariants.{Asked, Dialled, Nobody}
+use Rattle.siri_outside.specs.OutsideCalls.{WhereTold}
 use Rattle.siri_outside.specs.Wires.{Connection, Present, WireState, unfailing}
 use Rattle.std.specs.Prelude.{◌≡◌, ℕ, Bool, List, [], ◌∷◌, ◌++◌, drop, map, option_map, option_to_list, Option, None, Some}
 
@@ -26,19 +28,28 @@ pub record Prospect : Type 0 where
   pub turns : List Asking
   pub refused : List ℕ
 
--- what is to come by what was decided and not done yet, by who waits, by an event that isn't seen yet, and by the doors
-abbrev pub due : (List ℕ → Bool) → List Asking → Option Event → Outcome → List Event → List Outcome
-due whole waiting unseen outcome coming = outcome ∷ outcomes whole waiting (option_to_list unseen ++ coming)
-
-abbrev pub prospect_of : (List ℕ → Bool) → List Asking → Option Event → Outcome → DoorsState → Prospect
-prospect_of whole waiting unseen outcome doors = record {
-  line = doors.line;
-  turns = decided (due whole waiting unseen outcome doors.coming);
-  refused = doors.refused ++ refusals (due whole waiting unseen outcome doors.coming);
+-- what is to come by who waits, by what was decided and not done yet, and by the events that aren't seen yet
+abbrev pub prospect_by : (List ℕ → Bool) → List Asking → Outcome → List Event → (refused : List ℕ) → WireState → Prospect
+prospect_by whole waiting outcome unseen refused line = record {
+  line = line;
+  turns = decided (outcome ∷ outcomes whole waiting unseen);
+  refused = refused ++ refusals (outcome ∷ outcomes whole waiting unseen);
 }
 
-abbrev pub prospect : (List ℕ → Bool) → List Asking → Option Event → Outcome → Option DoorsState → Option Prospect
-prospect whole waiting unseen outcome doors = option_map (prospect_of whole waiting unseen outcome) doors
+abbrev pub prospect_of : (List ℕ → Bool) → Queue → DoorsState → Prospect
+prospect_of whole queue doors =
+    prospect_by whole queue.waiting queue.outcome (option_to_list queue.unseen ++ doors.coming) doors.refused doors.line
+
+abbrev pub prospect : (List ℕ → Bool) → Queue → Option DoorsState → Option Prospect
+prospect whole queue doors = option_map (prospect_of whole queue) doors
+
+-- the same is to come
+abbrev pub Stays : Option Prospect → Option Prospect → Type 0
+Stays before now = WhereTold before now (λ old new. new ≡ old)
+
+-- no connection is to come
+abbrev pub IsOver : Option Prospect → Option Prospect → Type 0
+IsOver before now = WhereTold before now (λ old new. new.turns ≡ [])
 
 -- what is left of the connection that has its turn: of one that was gathered, the bytes that weren't given
 abbrev pub left_of : Turn → Connection → Connection

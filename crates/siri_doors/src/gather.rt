@@ -5,11 +5,12 @@ ghost use Rattle.siri_outside.specs.Causes.{CountsFailures, HasOutsideCause};
 ghost use Rattle.siri_outside.specs.OutsideCalls.{WhereTold};
 ghost use Rattle.siri_outside.specs.Wires.{Accepts};
 ghost use Rattle.siri_outside.specs.declared.errors.OutsideError.TheVariants as outside;
-ghost use Rattle.siri_doors.specs.Gathers.{HasTurn, IsDecided, prospect, wire_of, wire_over};
+ghost use Rattle.siri_doors.specs.Gathers.{HasTurn, IsDecided, IsOver, Stays, prospect, wire_of, wire_over};
 ghost use Rattle.siri_doors.specs.declared.outcome.Outcome.TheVariants as becomes;
 
 use crate::outcome::Outcome;
-use crate::turn::Turn;
+use crate::queue::Queue;
+use crate::turn::{Turn, give};
 use crate::waiting::Waiting;
 use crate::{Doors, Event, Patience};
 use siri_base::Name;
@@ -22,11 +23,7 @@ use std::mem;
 pub struct Gather<D, P> {
     doors: D,
     patience: P,
-    waiting: Waiting,
-    /// What happened and isn't seen yet, for want of memory.
-    unseen: Option<Event>,
-    /// What was decided last, as long as it isn't done.
-    outcome: Outcome,
+    queue: Queue,
     turn: Turn,
 }
 
@@ -35,9 +32,7 @@ impl<D: Drop, P: Drop> Drop for Gather<D, P> {
         let Gather {
             doors: _,
             patience: _,
-            waiting: _,
-            unseen: _,
-            outcome: _,
+            queue: _,
             turn: _,
         } = self;
     }
@@ -52,34 +47,116 @@ impl<D: Doors, P: Patience> Gather<D, P> {
         Gather {
             doors,
             patience,
-            waiting: Waiting::new(alloc),
-            unseen: None,
-            outcome: Outcome::Waits,
+            queue: Queue {
+                waiting: Waiting::new(alloc),
+                unseen: None,
+                outcome: Outcome::Waits,
+            },
             turn: Turn::Nobody,
         }
     }
 
-    /// The next event, the one first that isn't seen yet.
+    /// The next event, first the one that isn't seen yet.
     fn event(&mut self) -> Result<Event, OutsideError>
-        ensures ok { IfOk result (λ event. prospect (P.whole self.new.patience) self.new.waiting (Some event) self.new.outcome (D.tells self.new.doors) ≡ prospect (P.whole self.old.patience) self.old.waiting self.old.unseen self.old.outcome (D.tells self.old.doors)) }
-        ensures err { OnErr result (prospect (P.whole self.new.patience) self.new.waiting self.new.unseen self.new.outcome (D.tells self.new.doors) ≡ prospect (P.whole self.old.patience) self.old.waiting self.old.unseen self.old.outcome (D.tells self.old.doors)) }
-        ensures none { IsErrOf result outside.Failed → IfSome (D.tells self.new.doors) (λ doors. doors.coming ≡ []) }
-        ensures seen { self.new.unseen ≡ None }
-        ensures rest { self.new ≡ record self.old { doors = self.new.doors; unseen = self.new.unseen } }
+        requires { self.old.queue.outcome ≡ becomes.Waits }
+        ensures ok { IfOk result (λ event. Stays (prospect (P.whole self.old.patience) self.old.queue (D.tells self.old.doors)) (prospect (P.whole self.new.patience) (record self.new.queue { unseen = Some event }) (D.tells self.new.doors))) }
+        ensures err { OnErr result (Stays (prospect (P.whole self.old.patience) self.old.queue (D.tells self.old.doors)) (prospect (P.whole self.new.patience) self.new.queue (D.tells self.new.doors))) }
+        ensures none { IsErrOf result outside.Failed → IsOver (prospect (P.whole self.old.patience) self.old.queue (D.tells self.old.doors)) (prospect (P.whole self.new.patience) self.new.queue (D.tells self.new.doors)) }
+        ensures seen { self.new.queue.unseen ≡ None }
+        ensures rest { self.new ≡ record self.old { doors = self.new.doors; queue = record self.old.queue { unseen = self.new.queue.unseen } } }
         ensures cause { HasOutsideCause (D.faults self.old.doors) (D.faults self.new.doors) result }
         ensures counted { IsSome (D.tells self.old.doors) → CountsFailures (D.faults self.old.doors) (D.faults self.new.doors) result }
     {
-        match self.unseen.take() {
+        match self.queue.unseen.take() {
             Some(event) => Ok(event),
             None => self.doors.next(),
         }
+    }
+
+    /// Sees the next event.
+    fn see(&mut self) -> Result<(), OutsideError>
+        requires { self.old.queue.outcome ≡ becomes.Waits }
+        ensures stays { Stays (prospect (P.whole self.old.patience) self.old.queue (D.tells self.old.doors)) (prospect (P.whole self.new.patience) self.new.queue (D.tells self.new.doors)) }
+        ensures none { IsErrOf result outside.Failed → IsOver (prospect (P.whole self.old.patience) self.old.queue (D.tells self.old.doors)) (prospect (P.whole self.new.patience) self.new.queue (D.tells self.new.doors)) }
+        ensures rest { self.new ≡ record self.old { doors = self.new.doors; queue = self.new.queue } }
+        ensures cause { HasOutsideCause (D.faults self.old.doors) (D.faults self.new.doors) result }
+        ensures counted { IsSome (D.tells self.old.doors) → CountsFailures (D.faults self.old.doors) (D.faults self.new.doors) result }
+    {
+        let event = self.event()?;
+        match self.queue.waiting.happens(&self.patience, &event) {
+            Ok(outcome) => {
+                self.queue.outcome = outcome;
+                Ok(())
+            }
+            Err(_) => {
+                self.queue.unseen = Some(event);
+                Err(OutsideError::OutOfMemory)
+            }
+        }
+    }
+
+    /// Does what was decided, and else sees the next event. Whether a connection has its turn.
+    fn advance(&mut self) -> Result<bool, OutsideError>
+        ensures decided { IfOk result (λ done. IsTrue done → IsDecided self.new.queue.outcome) }
+        ensures stays { Stays (prospect (P.whole self.old.patience) self.old.queue (D.tells self.old.doors)) (prospect (P.whole self.new.patience) self.new.queue (D.tells self.new.doors)) }
+        ensures none { IsErrOf result outside.Failed → IsOver (prospect (P.whole self.old.patience) self.old.queue (D.tells self.old.doors)) (prospect (P.whole self.new.patience) self.new.queue (D.tells self.new.doors)) }
+        ensures rest { self.new ≡ record self.old { doors = self.new.doors; queue = self.new.queue } }
+        ensures cause { HasOutsideCause (D.faults self.old.doors) (D.faults self.new.doors) result }
+        ensures counted { IsSome (D.tells self.old.doors) → CountsFailures (D.faults self.old.doors) (D.faults self.new.doors) result }
+    {
+        match &self.queue.outcome {
+            Outcome::Decides(_) => return Ok(true),
+            Outcome::Refuses(slot) => {
+                self.doors.refuse(*slot)?;
+                self.queue.outcome = Outcome::Waits;
+            }
+            Outcome::Waits => self.see()?,
+        }
+        Ok(false)
+    }
+
+    /// Takes events until a connection has its turn.
+    fn gather(&mut self) -> Result<(), OutsideError>
+        ensures decided { OnOk result (IsDecided self.new.queue.outcome) }
+        ensures stays { Stays (prospect (P.whole self.old.patience) self.old.queue (D.tells self.old.doors)) (prospect (P.whole self.new.patience) self.new.queue (D.tells self.new.doors)) }
+        ensures none { IsErrOf result outside.Failed → IsOver (prospect (P.whole self.old.patience) self.old.queue (D.tells self.old.doors)) (prospect (P.whole self.new.patience) self.new.queue (D.tells self.new.doors)) }
+        ensures rest { self.new ≡ record self.old { doors = self.new.doors; queue = self.new.queue } }
+        ensures cause { HasOutsideCause (D.faults self.old.doors) (D.faults self.new.doors) result }
+        ensures counted { IsSome (D.tells self.old.doors) → CountsFailures (D.faults self.old.doors) (D.faults self.new.doors) result }
+    {
+        for _ in 0..u64::MAX {
+            if self.advance()? {
+                return Ok(());
+            }
+        }
+        // (nobody waits for so many events)
+        Err(OutsideError::OutOfMemory)
+    }
+
+    /// Gives its turn to the connection that was decided. After want of memory all is as before.
+    fn hand_over(&mut self) -> Result<(), OutsideError>
+        requires { IsDecided self.old.queue.outcome }
+        ensures open { OnOk result (HasTurn (D.is_open self.new.doors) self.new.turn) }
+        ensures told { WhereTold (⟦<Gather<D, P> as Wire>⟧.tells self.old) (⟦<Gather<D, P> as Wire>⟧.tells self.new) (λ old new. Accepts old new result) }
+        ensures cause { HasOutsideCause (D.faults self.old.doors) (D.faults self.new.doors) result }
+        ensures counted { IsSome (D.tells self.old.doors) → CountsFailures (D.faults self.old.doors) (D.faults self.new.doors) result }
+    {
+        let Outcome::Decides(asking) = mem::replace(&mut self.queue.outcome, Outcome::Waits) else {
+            unreachable!();
+        };
+        if self.doors.turn(asking.slot()).is_err() {
+            self.queue.outcome = Outcome::Decides(asking);
+            return Err(OutsideError::OutOfMemory);
+        }
+        self.turn = Turn::Asked(asking, 0);
+        Ok(())
     }
 }
 
 impl<D: Doors, P: Patience> Wire for Gather<D, P> {
     ghost is_open = { λ g. HasTurn (D.is_open g.doors) g.turn };
 
-    ghost tells = { λ g. option_map (wire_of g.turn) (prospect (P.whole g.patience) g.waiting g.unseen g.outcome (D.tells g.doors)) };
+    ghost tells = { λ g. option_map (wire_of g.turn) (prospect (P.whole g.patience) g.queue (D.tells g.doors)) };
 
     ghost faults = { λ g. D.faults g.doors };
 
@@ -88,7 +165,8 @@ impl<D: Doors, P: Patience> Wire for Gather<D, P> {
     }
 
     fn accept(&mut self) -> Result<(), OutsideError> {
-        Err(OutsideError::OutOfMemory)
+        self.gather()?;
+        self.hand_over()
     }
 
     fn dial(&mut self, address: &Name) -> Result<(), OutsideError> {
@@ -100,13 +178,7 @@ impl<D: Doors, P: Patience> Wire for Gather<D, P> {
     fn read(&mut self, into: &mut [u8]) -> Result<usize, Failed> {
         match &mut self.turn {
             Turn::Nobody => Err(Failed),
-            Turn::Asked(asking, given) => {
-                let rest = asking.rest(*given);
-                let count = into.len().min(rest.len());
-                into[..count].copy_from_slice(&rest[..count]);
-                *given += count;
-                Ok(count)
-            }
+            Turn::Asked(asking, given) => Ok(give(asking, given, into)),
             Turn::Dialled(slot) => self.doors.read(*slot, into),
         }
     }

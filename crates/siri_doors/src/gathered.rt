@@ -1,6 +1,6 @@
 //! A connection that waits, and its bytes.
 
-ghost use Rattle.std.specs.Prelude.{◌≡◌, ◌++◌, [], nat_eq, OnErr, OnOk};
+ghost use Rattle.std.specs.Prelude.{◌≡◌, ◌+◌, ◌^◌, ◌<◌, ◌++◌, [], drop, length, nat_eq, OnErr, OnOk};
 ghost use Rattle.siri_doors.specs.Gathered.{with_piece};
 
 use siri_base::OutOfMemory;
@@ -52,11 +52,22 @@ impl Gathered {
         self.slot == slot
     }
 
-    /// What came.
+    /// What came by it.
     pub(crate) fn bytes(&self) -> &[u8]
         ensures { result.now ≡ self.now.bytes }
     {
         &self.bytes
+    }
+
+    /// What came behind so many bytes.
+    pub(crate) fn rest(&self, given: usize) -> &[u8]
+        ensures rest { result.now ≡ drop given self.now.bytes }
+        ensures reach { given + length result.now < 2 ^ 64 }
+    {
+        if given > self.bytes.len() {
+            return &[];
+        }
+        &self.bytes[given..]
     }
 
     /// More came. After want of memory it is as before.

@@ -24,6 +24,7 @@ mod gathered;
 mod in_memory;
 mod outcome;
 mod patience;
+mod queue;
 mod turn;
 mod waiting;
 

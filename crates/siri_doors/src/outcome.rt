@@ -3,6 +3,7 @@
 use crate::gathered::Gathered;
 
 /// What an event decides.
+#[derive(Drop)]
 pub(crate) enum Outcome {
     /// Nothing: no connection has its turn, and none is refused.
     Waits,
@@ -10,12 +11,4 @@ pub(crate) enum Outcome {
     Decides(Gathered),
     /// The connection in this slot is refused.
     Refuses(usize),
-}
-
-impl Drop for Outcome {
-    fn drop(self) {
-        match self {
-            Outcome::Waits | Outcome::Decides(_) | Outcome::Refuses(_) => {}
-        }
-    }
 }

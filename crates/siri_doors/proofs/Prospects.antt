@@ -1,0 +1,85 @@
+-- What is to come stays as it is when an event is taken, seen or done.
+use Rattle.siri_base.specs.declared.errors.OutOfMemory.{OutOfMemory}
+use Rattle.siri_doors.specs.Decisions.{decided, outcomes, refusals, step}
+use Rattle.siri_doors.specs.Doors.{DoorsState, GivesEvent, Refuses}
+use Rattle.siri_doors.specs.Gathered.{Asking}
+use Rattle.siri_doors.specs.Gathers.{IsOver, Prospect, Stays, prospect, prospect_by, prospect_of}
+use Rattle.siri_doors.specs.Waiting.{Becomes}
+use Rattle.siri_doors.specs.declared.event.Event.{Event}
+use Rattle.siri_doors.specs.declared.outcome.Outcome.{Outcome}
+use Rattle.siri_doors.specs.declared.outcome.Outcome.TheVariants.{Decides, Refuses as Refused, Waits}
+use Rattle.siri_doors.specs.declared.queue.Queue.{Queue}
+use Rattle.siri_outside.specs.OutsideCalls.{WhereTold}
+use Rattle.siri_outside.specs.declared.errors.OutsideError.{OutsideError}
+use Rattle.siri_outside.specs.declared.errors.OutsideError.TheVariants as outside
+use Rattle.std.specs.Prelude.{option_map, option_to_list, IsSome, IfOk, OnErr, IsErrOf, Result, Ok, Err}
+use Rattle.std.proofs.Common.{◌≡◌, ℕ, List, [], ◌∷◌, ◌++◌, Bool, Option, None, Some, refl, sym, ap, ◌∙◌, subst, append_assoc}
+
+module _ (whole : List ℕ → Bool) where
+  -- doors that took an event, before it is seen
+  event_ok : (queue : Queue) (a b : DoorsState) (event : Event) → queue.unseen ≡ None → a.coming ≡ event ∷ b.coming
+      → b ≡ record a { coming = b.coming } → prospect_of whole (record queue { unseen = Some event }) b ≡ prospect_of whole queue a
+  event_ok queue a b event none comes is =
+      let events : event ∷ b.coming ≡ option_to_list queue.unseen ++ a.coming =
+      sym comes ∙ ap (λ (o : Option Event). option_to_list o ++ a.coming) (sym none) in
+      let line : b.line ≡ a.line = ap (λ (d : DoorsState). d.line) is in
+      let refused : b.refused ≡ a.refused = ap (λ (d : DoorsState). d.refused) is in
+      λ i. prospect_by whole queue.waiting queue.outcome (events i) (refused i) (line i)
+
+  pub event_comes : (queue : Queue) (a b : Option DoorsState) (result : Result Event OutsideError) → queue.unseen ≡ None
+      → WhereTold a b (λ old new. GivesEvent old new result)
+      → IfOk result (λ event. Stays (prospect whole queue a) (prospect whole (record queue { unseen = Some event }) b))
+  event_comes queue None b (Ok event) none told = tt
+  event_comes queue (Some a) None (Ok event) none told = absurd told
+  event_comes queue (Some a) (Some b) (Ok event) none told = event_ok queue a b event none told.0 told.1
+  event_comes queue a b (Err error) none told = tt
+
+  pub event_stays : (queue : Queue) (a b : Option DoorsState) (result : Result Event OutsideError)
+      → WhereTold a b (λ old new. GivesEvent old new result) → OnErr result (Stays (prospect whole queue a) (prospect whole queue b))
+  event_stays queue a b (Ok event) told = tt
+  event_stays queue None b (Err error) told = tt
+  event_stays queue (Some a) None (Err error) told = absurd told
+  event_stays queue (Some a) (Some b) (Err outside.Failed) told = ap (prospect_of whole queue) told.1
+  event_stays queue (Some a) (Some b) (Err outside.OutOfMemory) told = ap (prospect_of whole queue) told
+
+  none_left : (queue : Queue) (a b : DoorsState) → queue.unseen ≡ None → queue.outcome ≡ Waits → a.coming ≡ [] → b ≡ a
+      → decided (queue.outcome ∷ outcomes whole queue.waiting (option_to_list queue.unseen ++ b.coming)) ≡ []
+  none_left queue a b none waits ends is =
+      let coming : b.coming ≡ [] = ap (λ (d : DoorsState). d.coming) is ∙ ends in
+      let events : option_to_list queue.unseen ++ b.coming ≡ [] =
+      ap (λ (o : Option Event). option_to_list o ++ b.coming) none ∙ coming in
+      λ i. decided (waits i ∷ outcomes whole queue.waiting (events i))
+
+  pub event_over : (queue : Queue) (a b : Option DoorsState) (result : Result Event OutsideError) → queue.unseen ≡ None → queue.outcome ≡ Waits
+      → WhereTold a b (λ old new. GivesEvent old new result) → IsErrOf result outside.Failed
+      → IsOver (prospect whole queue a) (prospect whole queue b)
+  event_over queue None b result none waits told failed = tt
+  event_over queue (Some a) None result none waits told failed = absurd told
+  event_over queue (Some a) (Some b) (Ok event) none waits told failed = absurd (cc failed)
+  event_over queue (Some a) (Some b) (Err outside.Failed) none waits told failed = none_left queue a b none waits told.0 told.1
+  event_over queue (Some a) (Some b) (Err outside.OutOfMemory) none waits told failed = absurd (cc failed)
+
+-- ---- one after the other
+
+pub stays_more : (p q r : Option Prospect) → Stays p q → Stays q r → Stays p r
+stays_more None q r s t = tt
+stays_more (Some p) None r s t = absurd s
+stays_more (Some p) (Some q) None s t = absurd t
+stays_more (Some p) (Some q) (Some r) s t = t ∙ s
+
+pub over_more : (p q r : Option Prospect) → Stays p q → IsOver q r → IsOver p r
+over_more None q r s t = tt
+over_more (Some p) None r s t = absurd s
+over_more (Some p) (Some q) None s t = absurd t
+over_more (Some p) (Some q) (Some r) s t = t
+
+pub stays_same : (p : Option Prospect) → Stays p p
+stays_same None = tt
+stays_same (Some p) = refl
+
+-- one that tells goes on to tell
+pub tells_on : (whole : List ℕ → Bool) (queue later : Queue) (a b : Option DoorsState) → Stays (prospect whole queue a) (prospect whole later b)
+    → IsSome a → IsSome b
+tells_on whole queue later None b s some = absurd (cc some)
+tells_on whole queue later (Some a) None s some = absurd s
+tells_on whole queue later (Some a) (Some b) s some = refl
