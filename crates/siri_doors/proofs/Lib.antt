@@ -1,3 +1,5 @@
+mod Orders
 mod Places
 mod Prospects
+mod Slots
 mod Wiring

@@ -23,8 +23,9 @@ module _ (whole : List ℕ → Bool) where
       let events : event ∷ b.coming ≡ option_to_list queue.unseen ++ a.coming =
       sym comes ∙ ap (λ (o : Option Event). option_to_list o ++ a.coming) (sym none) in
       let line : b.line ≡ a.line = ap (λ (d : DoorsState). d.line) is in
+      let slot : b.slot ≡ a.slot = ap (λ (d : DoorsState). d.slot) is in
       let refused : b.refused ≡ a.refused = ap (λ (d : DoorsState). d.refused) is in
-      λ i. prospect_by whole queue.waiting queue.outcome (events i) (refused i) (line i)
+      λ i. prospect_by whole queue.waiting queue.outcome (events i) (refused i) (slot i) (line i)
 
   pub event_comes : (queue : Queue) (a b : Option DoorsState) (result : Result Event OutsideError) → queue.unseen ≡ None
       → WhereTold a b (λ old new. GivesEvent old new result)
@@ -58,28 +59,3 @@ module _ (whole : List ℕ → Bool) where
   event_over queue (Some a) (Some b) (Ok event) none waits told failed = absurd (cc failed)
   event_over queue (Some a) (Some b) (Err outside.Failed) none waits told failed = none_left queue a b none waits told.0 told.1
   event_over queue (Some a) (Some b) (Err outside.OutOfMemory) none waits told failed = absurd (cc failed)
-
--- ---- one after the other
-
-pub stays_more : (p q r : Option Prospect) → Stays p q → Stays q r → Stays p r
-stays_more None q r s t = tt
-stays_more (Some p) None r s t = absurd s
-stays_more (Some p) (Some q) None s t = absurd t
-stays_more (Some p) (Some q) (Some r) s t = t ∙ s
-
-pub over_more : (p q r : Option Prospect) → Stays p q → IsOver q r → IsOver p r
-over_more None q r s t = tt
-over_more (Some p) None r s t = absurd s
-over_more (Some p) (Some q) None s t = absurd t
-over_more (Some p) (Some q) (Some r) s t = t
-
-pub stays_same : (p : Option Prospect) → Stays p p
-stays_same None = tt
-stays_same (Some p) = refl
-
--- one that tells goes on to tell
-pub tells_on : (whole : List ℕ → Bool) (queue later : Queue) (a b : Option DoorsState) → Stays (prospect whole queue a) (prospect whole later b)
-    → IsSome a → IsSome b
-tells_on whole queue later None b s some = absurd (cc some)
-tells_on whole queue later (Some a) None s some = absurd s
-tells_on whole queue later (Some a) (Some b) s some = refl

@@ -1,4 +1,4 @@
--- The wire of a gatherer: what is read of a connection that was gathered, and who has the next turn.
+-- What is read of a connection that was gathered.
 use Rattle.siri_base.specs.declared.errors.OutOfMemory.{OutOfMemory}
 use Rattle.siri_doors.specs.Decisions.{decided, outcomes}
 use Rattle.siri_doors.specs.Doors.{DoorsState, GivesTurn, with_turn}
@@ -57,62 +57,3 @@ module _ (asking : Asking) (given more count : ℕ) (buffer : List ℕ) where
       (λ old new. Reads {E = E} old new (Ok count) buffer)
   reads_gathered E None least bytes is = tt
   reads_gathered E (Some p) least bytes is = record { present = takes E p.line.present least bytes is; rest = refl }
-
--- ---- who has the next turn
-
--- a connection was decided
-pub decided_is : (outcome : Outcome) → IsDecided outcome → ((asking : Asking) → outcome ≡ Decides asking → ⊥) → ⊥
-decided_is Waits is other = is
-decided_is (Decides asking) is other = other asking refl
-decided_is (Refuses slot) is other = is
-
--- what was written to the connection that is there, whatever is left of it
-over_same : (turn : Turn) (present : Option Present)
-    → option_map (λ (p : Present). let o : Over = record { written = p.written; ending = Replaced } in o) (option_map (served_of turn) present)
-    ≡ option_map (λ (p : Present). let o : Over = record { written = p.written; ending = Replaced } in o) present
-over_same turn None = refl
-over_same turn (Some present) = refl
-
-module _ (whole : List ℕ → Bool) (queue : Queue) (turn : Turn) (asking : Asking) where
-  turns : (a : DoorsState) → wire_of (Asked asking 0) (prospect_of whole (record queue { outcome = Waits }) (with_turn asking.slot a))
-      ≡ with_connection (as_read asking) (record (accept_called (wire_of turn (prospect_of whole queue a))) {
-        to_accept = map as_read (decided (outcomes whole queue.waiting (option_to_list queue.unseen ++ a.coming)));
-      })
-  turns a = λ i. record a.line {
-    to_accept = map as_read (decided (outcomes whole queue.waiting (option_to_list queue.unseen ++ a.coming)));
-    present = Some (record { left = as_read asking; written = [] });
-    over = a.line.over ++ option_to_list (sym (over_same turn a.line.present) i);
-    accept_fails = [];
-  }
-
-  accepts_some : (T : Type 0) (done : T) (a b : DoorsState) → queue.outcome ≡ Decides asking → b ≡ with_turn asking.slot a
-      → Accepts {T = T} (wire_of turn (prospect_of whole queue a)) (wire_of (Asked asking 0) (prospect_of whole (record queue { outcome = Waits }) b)) (Ok done)
-  accepts_some T done a b is gives =
-      rw is ((λ due. due), ap (λ d. wire_of (Asked asking 0) (prospect_of whole (record queue { outcome = Waits }) d)) gives ∙ turns a)
-
-  pub accepts_turn : (T : Type 0) (done : T) (a b : Option DoorsState) → queue.outcome ≡ Decides asking
-      → WhereTold a b (λ old new. new ≡ with_turn asking.slot old)
-      → WhereTold (option_map (wire_of turn) (prospect whole queue a)) (option_map (wire_of (Asked asking 0)) (prospect whole (record queue { outcome = Waits }) b))
-      (λ old new. Accepts {T = T} old new (Ok done))
-  accepts_turn T done None b is told = tt
-  accepts_turn T done (Some a) None is told = absurd told
-  accepts_turn T done (Some a) (Some b) is told = accepts_some T done a b is told
-
--- ---- one after the other
-
-pub accepts_then : (T : Type 0) (turn : Turn) (p q : Option Prospect) (r : Option WireState) (result : Result T OutsideError) → Stays p q
-    → WhereTold (option_map (wire_of turn) q) r (λ old new. Accepts old new result)
-    → WhereTold (option_map (wire_of turn) p) r (λ old new. Accepts old new result)
-accepts_then T turn None q r result stays told = tt
-accepts_then T turn (Some p) None r result stays told = absurd stays
-accepts_then T turn (Some p) (Some q) None result stays told = absurd told
-accepts_then T turn (Some p) (Some q) (Some r) result stays told = subst (λ x. Accepts (wire_of turn x) r result) stays told
-
-pub accepts_none : (T : Type 0) (turn : Turn) (p q : Option Prospect) (error : OutsideError) → Stays p q
-    → (error ≡ outside.Failed → IsOver p q)
-    → WhereTold (option_map (wire_of turn) p) (option_map (wire_of turn) q) (λ old new. Accepts {T = T} old new (Err error))
-accepts_none T turn None q error stays over = tt
-accepts_none T turn (Some p) None error stays over = absurd stays
-accepts_none T turn (Some p) (Some q) outside.Failed stays over =
-    (inr (ap (map as_read) (ap (λ (x : Prospect). x.turns) (sym stays) ∙ over refl)), ap (wire_of turn) stays)
-accepts_none T turn (Some p) (Some q) outside.OutOfMemory stays over = ap (wire_of turn) stays

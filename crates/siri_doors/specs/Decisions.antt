@@ -4,7 +4,7 @@ use Rattle.siri_doors.specs.declared.event.Event.{Event}
 use Rattle.siri_doors.specs.declared.event.Event.TheVariants.{Opened, Came, Ended, Late}
 use Rattle.siri_doors.specs.declared.outcome.Outcome.{Outcome}
 use Rattle.siri_doors.specs.declared.outcome.Outcome.TheVariants.{Decides, Refuses, Waits}
-use Rattle.std.specs.Prelude.{ℕ, ◌+◌, List, [], ◌∷◌, ◌++◌, length, Bool, true, false, if◌then◌else◌, nat_eq, nat_le, nat_lt}
+use Rattle.std.specs.Prelude.{ℕ, ◌+◌, List, [], ◌∷◌, ◌++◌, length, map, Bool, true, false, if◌then◌else◌, nat_eq, nat_le, nat_lt}
 
 -- ---- the connections that wait, in the order in which they came
 
@@ -99,3 +99,11 @@ refusals [] = []
 refusals (Waits ∷ later) = refusals later
 refusals (Decides asking ∷ later) = refusals later
 refusals (Refuses slot ∷ later) = slot ∷ refusals later
+
+-- the connections that have their turns by these events, in order
+abbrev pub turns : (List ℕ → Bool) → List Event → List Asking
+turns whole events = decided (outcomes whole [] events)
+
+-- their slots
+abbrev pub slots : List Asking → List ℕ
+slots list = map (λ asking. asking.slot) list

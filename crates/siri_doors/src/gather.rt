@@ -5,7 +5,7 @@ ghost use Rattle.siri_outside.specs.Causes.{CountsFailures, HasOutsideCause};
 ghost use Rattle.siri_outside.specs.OutsideCalls.{WhereTold};
 ghost use Rattle.siri_outside.specs.Wires.{Accepts};
 ghost use Rattle.siri_outside.specs.declared.errors.OutsideError.TheVariants as outside;
-ghost use Rattle.siri_doors.specs.Gathers.{HasTurn, IsDecided, IsOver, Stays, prospect, wire_of, wire_over};
+ghost use Rattle.siri_doors.specs.Gathers.{HasTurn, IsDecided, IsOver, Stays, TakesTurn, prospect, wire_of, wire_over};
 ghost use Rattle.siri_doors.specs.declared.outcome.Outcome.TheVariants as becomes;
 
 use crate::outcome::Outcome;
@@ -138,6 +138,7 @@ impl<D: Doors, P: Patience> Gather<D, P> {
         requires { IsDecided self.old.queue.outcome }
         ensures open { OnOk result (HasTurn (D.is_open self.new.doors) self.new.turn) }
         ensures told { WhereTold (⟦<Gather<D, P> as Wire>⟧.tells self.old) (⟦<Gather<D, P> as Wire>⟧.tells self.new) (λ old new. Accepts old new result) }
+        ensures whose { WhereTold (prospect (P.whole self.old.patience) self.old.queue (D.tells self.old.doors)) (prospect (P.whole self.new.patience) self.new.queue (D.tells self.new.doors)) (λ old new. TakesTurn old new result) }
         ensures cause { HasOutsideCause (D.faults self.old.doors) (D.faults self.new.doors) result }
         ensures counted { IsSome (D.tells self.old.doors) → CountsFailures (D.faults self.old.doors) (D.faults self.new.doors) result }
     {
@@ -164,7 +165,14 @@ impl<D: Doors, P: Patience> Wire for Gather<D, P> {
         self.doors.listen(address)
     }
 
-    fn accept(&mut self) -> Result<(), OutsideError> {
+    /// Besides what the trait says: in whose slot the connection is, and that each is refused that is to be.
+    fn accept(&mut self) -> Result<(), OutsideError>
+        ensures open { OnOk result (HasTurn (D.is_open self.new.doors) self.new.turn) }
+        ensures told { WhereTold (⟦<Gather<D, P> as Wire>⟧.tells self.old) (⟦<Gather<D, P> as Wire>⟧.tells self.new) (λ old new. Accepts old new result) }
+        ensures whose { WhereTold (prospect (P.whole self.old.patience) self.old.queue (D.tells self.old.doors)) (prospect (P.whole self.new.patience) self.new.queue (D.tells self.new.doors)) (λ old new. TakesTurn old new result) }
+        ensures cause { HasOutsideCause (D.faults self.old.doors) (D.faults self.new.doors) result }
+        ensures counted { IsSome (⟦<Gather<D, P> as Wire>⟧.tells self.old) → CountsFailures (D.faults self.old.doors) (D.faults self.new.doors) result }
+    {
         self.gather()?;
         self.hand_over()
     }

@@ -22,6 +22,7 @@ mod event;
 mod gather;
 mod gathered;
 mod in_memory;
+mod laws;
 mod outcome;
 mod patience;
 mod queue;
@@ -32,4 +33,8 @@ pub use doors::Doors;
 pub use event::Event;
 pub use gather::Gather;
 pub use in_memory::InMemoryDoors;
+pub use laws::{
+    a_slot_is_decided_by_its_own_events, bytes_and_order_decide_the_wire,
+    interleaving_decides_nothing_else,
+};
 pub use patience::Patience;
