@@ -191,3 +191,104 @@ module _ (slot : ℕ) where
   other_opened other apart true ws =
       let one : asking_in slot (record { slot = other; bytes = [] } ∷ []) ≡ [] = rw apart refl in
       record { waiting = in_append ws (record { slot = other; bytes = [] } ∷ []) ∙ ap (λ l. asking_in slot ws ++ l) one ∙ append-nil (asking_in slot ws); other = tt }
+
+  -- ---- a step of an event
+
+  fewer : (ws : List Asking) → nat_lt (length ws) 256 ≡ true → nat_lt (length (asking_in slot ws)) 256 ≡ true
+  fewer ws less = let l = in_length ws in grind (arith, nat_tests)
+
+  lighter : (ws : List Asking) (n : ℕ) → nat_le (held ws + n) 67108864 ≡ true → nat_le (held (asking_in slot ws) + n) 67108864 ≡ true
+  lighter ws n less = let l = in_held ws in grind (arith, nat_tests)
+
+  module _ (whole : List ℕ → Bool) where
+    abbrev pub OwnStep : List Asking → Event → Type 0
+    OwnStep ws event = IsFree (step whole ws event).outcome → Own (step whole ws event) (step whole (asking_in slot ws) event)
+
+    step_opened : (ws : List Asking) → OwnStep ws (Opened slot)
+    unfolding step
+    step_opened ws free = own_opened (nat_lt (length ws) 256) (nat_lt (length (asking_in slot ws)) 256) ws (fewer ws) free
+
+    step_came : (piece : List ℕ) (ws : List Asking) → OwnStep ws (Came slot piece)
+    unfolding step
+    step_came piece ws free =
+        let all : Step = came_by (waits_in slot ws) (nat_le (held ws + length piece) 67108864) (whole (bytes_in slot ws ++ piece)) slot (bytes_in slot ws ++ piece) ws in
+        let less : Bool = nat_le (held (asking_in slot ws) + length piece) 67108864 in
+        subst (λ w. Own all (came_by w less (whole (bytes_in slot (asking_in slot ws) ++ piece)) slot (bytes_in slot (asking_in slot ws) ++ piece) (asking_in slot ws)))
+        (sym (in_waits ws))
+        (subst (λ b. Own all (came_by (waits_in slot ws) less (whole (b ++ piece)) slot (b ++ piece) (asking_in slot ws))) (sym (in_bytes ws))
+        (own_came (waits_in slot ws) (nat_le (held ws + length piece) 67108864) less (whole (bytes_in slot ws ++ piece)) (bytes_in slot ws ++ piece) ws
+        (lighter ws (length piece)) free))
+
+    ends_own : (ws : List Asking) → IsFree (came_by (waits_in slot ws) true true slot (bytes_in slot ws) ws).outcome
+        → Own (came_by (waits_in slot ws) true true slot (bytes_in slot ws) ws)
+        (came_by (waits_in slot (asking_in slot ws)) true true slot (bytes_in slot (asking_in slot ws)) (asking_in slot ws))
+    ends_own ws free =
+        let all : Step = came_by (waits_in slot ws) true true slot (bytes_in slot ws) ws in
+        subst (λ w. Own all (came_by w true true slot (bytes_in slot (asking_in slot ws)) (asking_in slot ws))) (sym (in_waits ws))
+        (subst (λ b. Own all (came_by (waits_in slot ws) true true slot b (asking_in slot ws))) (sym (in_bytes ws))
+        (own_came (waits_in slot ws) true true true (bytes_in slot ws) ws (λ e. e) free))
+
+    step_ended : (ws : List Asking) → OwnStep ws (Ended slot)
+    unfolding step
+    step_ended ws free = ends_own ws free
+
+    step_late : (ws : List Asking) → OwnStep ws (Late slot)
+    unfolding step
+    step_late ws free = ends_own ws free
+
+    step_own : (event : Event) (ws : List Asking) → slot_of event ≡ slot → OwnStep ws event
+    step_own (Opened other) ws is = subst (λ s. OwnStep ws (Opened s)) (sym is) (step_opened ws)
+    step_own (Came other piece) ws is = subst (λ s. OwnStep ws (Came s piece)) (sym is) (step_came piece ws)
+    step_own (Ended other) ws is = subst (λ s. OwnStep ws (Ended s)) (sym is) (step_ended ws)
+    step_own (Late other) ws is = subst (λ s. OwnStep ws (Late s)) (sym is) (step_late ws)
+
+    step_other : (event : Event) (ws : List Asking) → nat_eq (slot_of event) slot ≡ false → Other (step whole ws event) ws
+    unfolding step
+    step_other (Opened other) ws apart = other_opened other apart (nat_lt (length ws) 256) ws
+    step_other (Came other piece) ws apart =
+        other_came other apart (waits_in other ws) (nat_le (held ws + length piece) 67108864) (whole (bytes_in other ws ++ piece)) (bytes_in other ws ++ piece) ws
+    step_other (Ended other) ws apart = other_came other apart (waits_in other ws) true true (bytes_in other ws) ws
+    step_other (Late other) ws apart = other_came other apart (waits_in other ws) true true (bytes_in other ws) ws
+
+  -- ---- all events
+
+  first_free : (outcome : Outcome) (later : List Outcome) → refusals (outcome ∷ later) ≡ [] → IsFree outcome × (refusals later ≡ [])
+  first_free Waits later none = (tt, none)
+  first_free (Decides asking) later none = (tt, none)
+  first_free (Refuses other) later none = absurd (cc none)
+
+  own_first : (outcome : Outcome) (all alone : List Outcome) → IsOwn outcome → asking_in slot (decided all) ≡ decided alone
+      → asking_in slot (decided (outcome ∷ all)) ≡ decided (outcome ∷ alone)
+  own_first Waits all alone own later = later
+  own_first (Decides asking) all alone own later = rw own (ap (λ l. asking ∷ l) later)
+  own_first (Refuses other) all alone own later = later
+
+  other_first : (outcome : Outcome) (all : List Outcome) (list : List Asking) → IsOther outcome → asking_in slot (decided all) ≡ list
+      → asking_in slot (decided (outcome ∷ all)) ≡ list
+  other_first Waits all list other later = later
+  other_first (Decides asking) all list other later = rw other later
+  other_first (Refuses slot) all list other later = later
+
+  module _ (whole : List ℕ → Bool) where
+    abbrev pub BySlot : List Asking → List Event → List Event → Type 0
+    BySlot ws events own = asking_in slot (decided (outcomes whole ws events)) ≡ decided (outcomes whole (asking_in slot ws) own)
+
+    by_first : (b : Bool) (event : Event) (ws : List Asking) (later : List Event) → nat_eq (slot_of event) slot ≡ b
+        → IsFree (step whole ws event).outcome → BySlot (step whole ws event).waiting later (events_in slot later)
+        → BySlot ws (event ∷ later) (if b then event ∷ events_in slot later else events_in slot later)
+    by_first true event ws later is free rest =
+        let own = step_own whole event ws (eqb-true (slot_of event) slot is) free in
+        subst (λ s. asking_in slot (decided (outcomes whole ws (event ∷ later))) ≡ decided (s.outcome ∷ outcomes whole s.waiting (events_in slot later)))
+        (sym own.step)
+        (own_first (step whole ws event).outcome (outcomes whole (step whole ws event).waiting later)
+        (outcomes whole (asking_in slot (step whole ws event).waiting) (events_in slot later)) own.own rest)
+    by_first false event ws later is free rest =
+        let other = step_other whole event ws is in
+        other_first (step whole ws event).outcome (outcomes whole (step whole ws event).waiting later) (decided (outcomes whole (asking_in slot ws) (events_in slot later)))
+        other.other (rest ∙ ap (λ l. decided (outcomes whole l (events_in slot later))) other.waiting)
+
+    pub by_slot : (ws : List Asking) (events : List Event) → refusals (outcomes whole ws events) ≡ [] → BySlot ws events (events_in slot events)
+    by_slot ws [] free = refl
+    by_slot ws (event ∷ later) free =
+        let f = first_free (step whole ws event).outcome (outcomes whole (step whole ws event).waiting later) free in
+        by_first (nat_eq (slot_of event) slot) event ws later refl f.0 (by_slot (step whole ws event).waiting later f.1)
