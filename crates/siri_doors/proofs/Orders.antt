@@ -3,7 +3,7 @@ use Rattle.siri_doors.specs.Decisions.{slots}
 use Rattle.siri_doors.specs.Gathered.{Asking}
 use Rattle.siri_doors.specs.Orders.{asking_in}
 use Rattle.std.specs.Prelude.{nat_eq}
-use Rattle.std.proofs.Common.{◌≡◌, ℕ, List, [], ◌∷◌, Bool, true, false, refl, sym, ap, ◌∙◌, subst}
+use Rattle.std.proofs.Common.{◌≡◌, ℕ, List, [], ◌∷◌, Bool, true, false, refl, sym, ap, ◌∙◌}
 use Rattle.std.proofs.lemmas.Bool.{eq-eqb}
 
 tail_of : List Asking → List Asking

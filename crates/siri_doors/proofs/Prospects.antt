@@ -1,19 +1,15 @@
 -- What is to come stays as it is when an event is taken, seen or done.
-use Rattle.siri_base.specs.declared.errors.OutOfMemory.{OutOfMemory}
-use Rattle.siri_doors.specs.Decisions.{decided, outcomes, refusals, step}
-use Rattle.siri_doors.specs.Doors.{DoorsState, GivesEvent, Refuses}
-use Rattle.siri_doors.specs.Gathered.{Asking}
-use Rattle.siri_doors.specs.Gathers.{IsOver, Prospect, Stays, prospect, prospect_by, prospect_of}
-use Rattle.siri_doors.specs.Waiting.{Becomes}
+use Rattle.siri_doors.specs.Decisions.{decided, outcomes}
+use Rattle.siri_doors.specs.Doors.{DoorsState, GivesEvent}
+use Rattle.siri_doors.specs.Gathers.{IsOver, Stays, prospect, prospect_by, prospect_of}
 use Rattle.siri_doors.specs.declared.event.Event.{Event}
-use Rattle.siri_doors.specs.declared.outcome.Outcome.{Outcome}
-use Rattle.siri_doors.specs.declared.outcome.Outcome.TheVariants.{Decides, Refuses as Refused, Waits}
+use Rattle.siri_doors.specs.declared.outcome.Outcome.TheVariants.{Waits}
 use Rattle.siri_doors.specs.declared.queue.Queue.{Queue}
 use Rattle.siri_outside.specs.OutsideCalls.{WhereTold}
 use Rattle.siri_outside.specs.declared.errors.OutsideError.{OutsideError}
 use Rattle.siri_outside.specs.declared.errors.OutsideError.TheVariants as outside
-use Rattle.std.specs.Prelude.{option_map, option_to_list, IsSome, IfOk, OnErr, IsErrOf, Result, Ok, Err}
-use Rattle.std.proofs.Common.{◌≡◌, ℕ, List, [], ◌∷◌, ◌++◌, Bool, Option, None, Some, refl, sym, ap, ◌∙◌, subst, append_assoc}
+use Rattle.std.specs.Prelude.{option_to_list, IfOk, OnErr, IsErrOf, Result, Ok, Err}
+use Rattle.std.proofs.Common.{◌≡◌, ℕ, List, [], ◌∷◌, ◌++◌, Bool, Option, None, Some, sym, ap, ◌∙◌}
 
 module _ (whole : List ℕ → Bool) where
   -- doors that took an event, before it is seen

@@ -1,5 +1,5 @@
 -- What happens in a slot decides what becomes of its connections.
-use Rattle.siri_doors.specs.Decisions.{Step, bytes_in, decided, decides, held, outcomes, refusals, refuses, stays, step, turns, waits_in, with_bytes, without}
+use Rattle.siri_doors.specs.Decisions.{Step, bytes_in, decided, decides, held, outcomes, refusals, refuses, stays, step, waits_in, with_bytes, without}
 use Rattle.siri_doors.specs.Gathered.{Asking}
 use Rattle.siri_doors.specs.Orders.{asking_in, events_in, slot_of}
 use Rattle.siri_doors.specs.declared.event.Event.{Event}
@@ -7,7 +7,7 @@ use Rattle.siri_doors.specs.declared.event.Event.TheVariants.{Opened, Came, Ende
 use Rattle.siri_doors.specs.declared.outcome.Outcome.{Outcome}
 use Rattle.siri_doors.specs.declared.outcome.Outcome.TheVariants.{Decides, Refuses, Waits}
 use Rattle.std.specs.Prelude.{nat_eq, nat_le, nat_lt, if◌then◌else◌}
-use Rattle.std.proofs.Common.{◌≡◌, ◌+◌, ◌≤◌, ◌<◌, ℕ, List, [], ◌∷◌, ◌++◌, length, Bool, true, false, refl, sym, ap, ◌∙◌, subst, append-nil, arith}
+use Rattle.std.proofs.Common.{◌≡◌, ◌+◌, ◌≤◌, ℕ, List, [], ◌∷◌, ◌++◌, length, Bool, true, false, refl, sym, ap, ◌∙◌, subst, append-nil, arith}
 use Rattle.std.proofs.lemmas.Bool.{eq-eqb, eqb-true}
 use Rattle.std.proofs.lemmas.Bool.Decides.{nat_tests}
 

@@ -1,20 +1,11 @@
 -- What is read of a connection that was gathered.
-use Rattle.siri_base.specs.declared.errors.OutOfMemory.{OutOfMemory}
-use Rattle.siri_doors.specs.Decisions.{decided, outcomes}
-use Rattle.siri_doors.specs.Doors.{DoorsState, GivesTurn, with_turn}
 use Rattle.siri_doors.specs.Gathered.{Asking}
-use Rattle.siri_doors.specs.Gathers.{IsDecided, IsOver, Prospect, Stays, as_read, prospect, prospect_of, served_of, wire_of}
-use Rattle.siri_doors.specs.declared.outcome.Outcome.{Outcome}
-use Rattle.siri_doors.specs.declared.outcome.Outcome.TheVariants.{Decides, Refuses, Waits}
-use Rattle.siri_doors.specs.declared.queue.Queue.{Queue}
-use Rattle.siri_doors.specs.declared.turn.Turn.{Turn}
+use Rattle.siri_doors.specs.Gathers.{Prospect, served_of, wire_of}
 use Rattle.siri_doors.specs.declared.turn.Turn.TheVariants.{Asked}
 use Rattle.siri_outside.specs.OutsideCalls.{WhereTold}
-use Rattle.siri_outside.specs.Wires.{Accepts, Connection, Ending, Over, Present, Reads, Replaced, TakesBytes, WireState, accept_called, unfailing, with_connection}
-use Rattle.siri_outside.specs.declared.errors.OutsideError.{OutsideError}
-use Rattle.siri_outside.specs.declared.errors.OutsideError.TheVariants as outside
-use Rattle.std.specs.Prelude.{map, option_map, option_to_list, Result, Ok, Err}
-use Rattle.std.proofs.Common.{◌≡◌, ◌+◌, ◌-◌, ◌<◌, min, ℕ, zero, suc, List, [], ◌∷◌, ◌++◌, length, take, drop, Bool, Option, None, Some, inr, refl, sym, ap, ◌∙◌, subst, arith, length-drop, take-append-drop}
+use Rattle.siri_outside.specs.Wires.{Present, Reads, TakesBytes}
+use Rattle.std.specs.Prelude.{option_map, Ok}
+use Rattle.std.proofs.Common.{◌≡◌, ◌+◌, ◌<◌, min, ℕ, zero, suc, List, [], ◌∷◌, ◌++◌, length, take, drop, Option, None, Some, refl, sym, ap, ◌∙◌, arith, take-append-drop}
 use Rattle.std.proofs.lemmas.List.{nil_from_length}
 
 -- ---- what is read of a connection that was gathered

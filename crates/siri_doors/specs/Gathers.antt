@@ -11,7 +11,7 @@ use Rattle.siri_doors.specs.declared.turn.Turn.TheVariants.{Asked, Dialled, Nobo
 use Rattle.siri_outside.specs.OutsideCalls.{WhereTold}
 use Rattle.siri_outside.specs.Wires.{Connection, Present, WireState, unfailing}
 use Rattle.siri_outside.specs.declared.errors.OutsideError.{OutsideError}
-use Rattle.std.specs.Prelude.{◌≡◌, ℕ, Bool, List, [], ◌∷◌, ◌++◌, drop, map, option_map, option_to_list, Option, None, Some, Result, Ok, Err}
+use Rattle.std.specs.Prelude.{◌≡◌, ℕ, Bool, List, [], ◌∷◌, ◌++◌, drop, map, option_map, option_to_list, Option, Result, Ok, Err}
 
 -- a connection that is decided, as a run reads it: its bytes so far, and then the end
 abbrev pub as_read : Asking → Connection

@@ -1,4 +1,4 @@
-use Rattle.std.proofs.Common.{inl, inr, sym, ap, subst}
+use Rattle.std.proofs.Common.{inl, inr, subst}
 use Rattle.std.specs.Result.{IfOk}
 use Rattle.siri_doors.specs.Decisions.{comes, step, where_it_waits}
 use Rattle.siri_doors.specs.Waiting.{Becomes}
