@@ -15,16 +15,17 @@ use std::net::SocketAddr;
 ///
 /// ```text
 /// 2024-05-01T08:00:00Z accepted 127.0.0.1:50312 "POST / HTTP/1.1" "HTTP/1.1 200 OK" in 532 out 310 bytes, 3 ms
-/// 2024-05-01T08:00:01Z accepted 127.0.0.1:50314 "POST / HTTP/1.1" "HTTP/1.1 400 Bad Request" in 90 out 98 bytes, 1 ms: Siri: Missing
+/// 2024-05-01T08:00:01Z accepted 127.0.0.1:50314 "POST / HTTP/1.1" "HTTP/1.1 400 Bad Request" in 148 out 107 bytes, 1 ms: Siri: Missing
 /// 2024-05-01T08:00:02Z dialled 127.0.0.1:7002 failed: Connection refused (os error 111), 1 ms
 /// 2024-05-01T08:00:14Z left alone 127.0.0.1:7003 for 15 s
 /// 2024-05-01T08:00:44Z answers again 127.0.0.1:7003
 /// ```
 ///
 /// The moment at which it came or was dialled, the peer, the first lines of the request and of the response, how many
-/// bytes came in and went out, what the system told where a call failed, and how long it took. Where an address is left
-/// alone, a line says so once, and one says that it answers again; what isn't sent to it meanwhile has none. Nothing
-/// that a connection carries depends on it; a line that can't be written is left out.
+/// bytes came in and went out, what the system told where a call failed, how long it took, and the first line of an
+/// answer in plain text. Where an address is left alone, a line says so once, and one says that it answers again; what
+/// isn't sent to it meanwhile has none. Nothing that a connection carries depends on it; a line that can't be written is
+/// left out. [`Telling`] says whether lines or objects are written.
 #[derive(Drop)]
 pub struct LoggedWire {
     wire: TcpWire,
