@@ -56,7 +56,8 @@ pub trait Doors {
         ensures cause { HasOutsideCause (faults self.old) (faults self.new) result }
         ensures counted { IsSome (tells self.old) → CountsFailures (faults self.old) (faults self.new) result };
 
-    /// Gives the next bytes of the connection in a slot, which was dialled. 0 into a buffer that isn't empty is the end.
+    /// Gives the next bytes of the connection in a slot, which was dialled. 0 into a buffer that isn't empty is the
+    /// end.
     fn read(&mut self, slot: usize, into: &mut [u8]) -> Result<usize, Failed>
         requires { is_open self.old slot }
         ensures open { is_open self.new slot }
