@@ -14,6 +14,7 @@ import re
 import resource
 import subprocess
 import sys
+import textwrap
 import threading
 import time
 
@@ -215,7 +216,12 @@ def heading(told, minutes, run):
     )
     edits = sum(told.kept_edits.values())
     kept = f"Kept from earlier runs: {len(told.kept)} crates and {edits} edits, so a first run takes more."
-    return [line, "", kept, ""] if told.kept or edits else [line, ""]
+    return [*wrapped(line), "", *wrapped(kept), ""] if told.kept or edits else [*wrapped(line), ""]
+
+
+def wrapped(line):
+    """Returns a paragraph as lines of at most 120 characters."""
+    return textwrap.wrap(line, 120, break_on_hyphens=False, break_long_words=False)
 
 
 def block(told, minutes, run):
