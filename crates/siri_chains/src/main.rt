@@ -15,6 +15,7 @@
 //! | `counts FIRST COUNT` | the same, and how much of everything happened |
 //! | `fed VISITS` | a source is fed so many visits |
 //! | `shown RELAYS VISITS CHANGES` | then they come to a display over so many relays, and so many changes of a visit after them |
+//! | `passed VISITS MOMENTS` | then so many moments pass, an hour from one to the next, none of which takes memory |
 //! | `phase NAME` | the document on standard input is read and written as far as that phase (`phases`) |
 //!
 //! What a run has to come to is the direct response of the source: at its end, when everything has come and nothing more
@@ -37,7 +38,7 @@ mod verdict;
 use crate::phases::measured;
 use crate::running::{Tally, run};
 use crate::stopped::Stopped;
-use crate::timing::{fed, shown};
+use crate::timing::{fed, passed, shown};
 use std::env;
 use std::process::ExitCode;
 
@@ -65,6 +66,7 @@ fn done(rt: &HostRuntime, words: &[String]) -> Option<bool> {
         "runs" => Some(told_runs(rt, first, number(words, 2)?, false)),
         "counts" => Some(told_runs(rt, first, number(words, 2)?, true)),
         "fed" => Some(told(rt, fed(rt.alloc(), first))),
+        "passed" => Some(told(rt, passed(rt.alloc(), first, number(words, 2)?))),
         "shown" => {
             let visits = number(words, 2)?;
             let changes = number(words, 3)?;

@@ -2,7 +2,7 @@
 
 use crate::chain::Chain;
 use crate::ends::{End, Kind, rounds};
-use crate::making::{Known, Link, delivery, visit};
+use crate::making::{HOUR, Known, Link, delivery, visit};
 use crate::stopped::Stopped;
 use siri_base::List;
 use std::alloc::Global;
@@ -62,6 +62,27 @@ pub(crate) fn shown(alloc: Global, relays: u64, visits: u64, changes: u64) -> Re
     let last = chain.len().saturating_sub(1);
     match chain.end(last) {
         Some(End::Display(display)) => rounds(alloc, display),
+        _ => Err(Stopped::NotHeld),
+    }
+}
+
+/// So many moments of a source with so many visits and of a display that shows them, an hour from one to the next, so that
+/// the visits depart on the way: how many the source holds then. No moment takes memory.
+pub(crate) fn passed(alloc: Global, visits: u64, moments: u64) -> Result<u64, Stopped> {
+    let mut chain = fed_chain(alloc, visits)?;
+    chain.join(Kind::Display, Some(ALL))?;
+    chain.deliver_all()?;
+    let mut now = chain.now();
+    for _ in 0..moments {
+        now = now.saturating_add(HOUR);
+        for place in 0..chain.len() {
+            if let Some(end) = chain.end(place) {
+                end.clock(now)?;
+            }
+        }
+    }
+    match chain.end(0) {
+        Some(End::Source(source)) => Ok(source.held() as u64),
         _ => Err(Stopped::NotHeld),
     }
 }

@@ -122,7 +122,7 @@ module _ {E F : Type 0} (f : E → F) (from : Keeps E) (to : Keeps F) (carries :
       supplied_carried start now r.all_data r.consumer_ref r.extensions rows
   taken_carried start now other rows = refl
 
-  step_carried : (state : State) (step : Step) (rows : List (Row E))
+  pub step_carried : (state : State) (step : Step) (rows : List (Row E))
       → with_mapped_slots f (rows_after from state step rows) ≡ rows_after to state step (with_mapped_slots f rows)
   unfolding rows_after
   step_carried state (Start number moment) rows = refl

@@ -11,6 +11,7 @@ pub mod InOrder
 pub mod Lawful
 pub mod Moves
 pub mod Outside
+pub mod Remembered
 pub mod Serves
 pub mod Tables
 pub mod Touched

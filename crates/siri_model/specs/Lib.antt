@@ -10,5 +10,6 @@ pub mod LookedAt
 pub mod Held
 pub mod Looks
 pub mod Followed
+pub mod Remembered
 pub mod Facts
 pub mod laws

@@ -1,5 +1,5 @@
 -- What a producer knows of the last looks goes on with its history.
-use Rattle.std.proofs.Common.{◌≡◌, ◌+◌, ◌≤◌, List, [], ◌∷◌, ◌++◌, map, Bool, Option, None, Some, refl, sym, ap, ◌∙◌, subst}
+use Rattle.std.proofs.Common.{◌≡◌, ◌≤◌, List, [], ◌∷◌, ◌++◌, map, Bool, Option, None, Some, refl, sym, ap, ◌∙◌, subst}
 use Rattle.std.specs.Prelude.{option_map}
 use Rattle.std.proofs.lemmas.List.Elements.{All-nil, All-cons, All-head, All-tail}
 use Rattle.siri_records.specs.declared.key.Key.{Key}
@@ -9,9 +9,13 @@ use Rattle.siri_subs.specs.Mapped.{mapped_row}
 use Rattle.siri_store.specs.Marked.{Marked}
 use Rattle.siri_model.specs.Followed.{Followed, Look, followed_after, followed_of, life_row, look_bounds, touch, touched_look}
 use Rattle.siri_model.specs.History.{Step, History, state_of, now_of, current}
-use Rattle.siri_model.specs.laws.Followed.{HoldsBy, RowHolds, AllHold}
+use Rattle.siri_model.specs.Remembered.{IsRemembered, AreRemembered}
+use Rattle.siri_model.specs.Rows.{KeptLife}
+use Rattle.siri_model.specs.laws.Followed.{HoldsBy, LookHolds, RowHolds, AllHold}
+use Rattle.siri_model.proofs.Current.{few_live}
 use Rattle.siri_model.proofs.FactsHold.{facts_hold}
 use Rattle.siri_model.proofs.FollowedRows.{are_the_rows, go_on}
+use Rattle.siri_model.proofs.Remembered.{bounds_within, remembered_after}
 use Rattle.siri_responder.specs.Known as responder
 use Rattle.siri_subscriptions.specs.declared.course.Course.{Course}
 use Rattle.siri_subscriptions.specs.declared.course.Looked.{Looked}
@@ -56,22 +60,32 @@ pub looks_are : (marks : Marked) (rows : List (Row Course))
 looks_are marks [] = refl
 looks_are marks (row ∷ rows) = ap (λ l. option_map (look_of marks) row.slot.looked ∷ l) (looks_are marks rows)
 
--- the rows that a producer keeps are the followed ones of a history that it follows
-pub followed_is : (known : responder.Known) (rows : List (Row Course)) (settled : Bool) (h : History)
-    → Follows (known_of known rows settled) h → followed_rows known.marks rows ≡ followed_of h
-followed_is known rows settled h f = rows_same (followed_rows known.marks rows) (followed_of h)
-    (lives_in known.marks rows ∙ f.stands.table ∙ sym (are_the_rows h)) (looks_are known.marks rows ∙ f.looks)
+-- the rows that a producer keeps have the lives of the followed ones of a history that it follows, and what is remembered of
+-- their looks
+module _ (known : responder.Known) (rows : List (Row Course)) (settled : Bool) (h : History)
+    (f : Follows (known_of known rows settled) h) where
+  pub lives_are : map life_row (followed_rows known.marks rows) ≡ map life_row (followed_of h)
+  lives_are = lives_in known.marks rows ∙ f.stands.table ∙ sym (are_the_rows h)
+
+  pub remembered : AreRemembered (map look_in (followed_rows known.marks rows)) (map look_in (followed_of h))
+  remembered = subst (λ (looks : List (Option Look)). AreRemembered looks (map look_in (followed_of h)))
+      (sym (looks_are known.marks rows)) f.looks
 
 -- ---- one more step
 
 looks_go_on : (known new : responder.Known) (rows after : List (Row Course)) (settled : Bool) (h : History)
     (step : Step)
     → followed_rows new.marks after ≡ followed_after (state_of h) step (followed_rows known.marks rows)
-    → Follows (known_of known rows settled) h → looks_in new.marks after ≡ looks_of (h ++ step ∷ [])
+    → Follows (known_of known rows settled) h → AreRemembered (looks_in new.marks after) (looks_of (h ++ step ∷ []))
 looks_go_on known new rows after settled h step is f =
-    sym (looks_are new.marks after)
-    ∙ ap (map look_in) (is ∙ ap (followed_after (state_of h) step) (followed_is known rows settled h f)
-    ∙ sym (go_on h step))
+    let looks : map look_in (followed_after (state_of h) step (followed_rows known.marks rows)) ≡ looks_in new.marks after =
+    ap (map look_in) (sym is) ∙ looks_are new.marks after in
+    subst (λ (ls : List (Option Look)). AreRemembered ls (looks_of (h ++ step ∷ []))) looks
+    (subst (λ (all : List (Row Followed)).
+    AreRemembered (map look_in (followed_after (state_of h) step (followed_rows known.marks rows))) (map look_in all))
+    (sym (go_on h step))
+    (remembered_after (state_of h) step (followed_rows known.marks rows) (followed_of h)
+    (lives_are known rows settled h f) (remembered known rows settled h f)))
 
 -- it stands for its history, and the followed rows change as the step says
 pub goes : (known new : responder.Known) (rows after : List (Row Course)) (settled later : Bool) (step : Step)
@@ -130,28 +144,38 @@ untouched (row ∷ rows) = λ i.
 
 -- ---- the two facts
 
-follows_row : (known : responder.Known) (row : Row Course) → IsNumbered known.marks.number row
-    → RowHolds known.moment known.held (mapped_row (followed known.marks) row) → RowFollows known row
-follows_row known row numbered holds = by row.slot.looked refl holds
+follows_row : (known : responder.Known) (row : Row Course) (look : Option Look) → IsNumbered known.marks.number row
+    → IsRemembered (option_map (look_of known.marks) row.slot.looked) look
+    → HoldsBy known.moment known.held row.wanted (kept row.slot).rounds look → RowFollows known row
+follows_row known row look numbered is holds = by row.slot.looked refl look is holds
   where
-    by : (o : Option Looked) → row.slot.looked ≡ o
-        → HoldsBy known.moment known.held row.wanted (kept row.slot).rounds (option_map (look_of known.marks) o)
-        → FollowsBy known row o
-    by None e holds = holds
-    by (Some looked) e holds = record { number = numbered looked e; facts = holds.facts; used_up = holds.used_up; some_opened = holds.some_opened }
+    by : (o : Option Looked) → row.slot.looked ≡ o → (look : Option Look)
+        → IsRemembered (option_map (look_of known.marks) o) look
+        → HoldsBy known.moment known.held row.wanted (kept row.slot).rounds look → FollowsBy known row o
+    by None e look is holds = tt
+    by (Some looked) e None is holds = absurd is
+    by (Some looked) e (Some look) is holds =
+        let its : LookHolds known.moment known.held row.wanted (kept row.slot).rounds (look_of known.marks looked) =
+        subst (LookHolds known.moment known.held row.wanted (kept row.slot).rounds) (sym is) holds in
+        record { number = numbered looked e; facts = its.facts; used_up = its.used_up; some_opened = its.some_opened }
 
-rows_follow : (known : responder.Known) (rows : List (Row Course)) → AreNumbered known.marks.number rows
-    → AllHold known.moment known.held (followed_rows known.marks rows) → AllFollow known rows
-rows_follow known [] numbered hold = All-nil (RowFollows known)
-rows_follow known (row ∷ rows) numbered hold =
-    let first = mapped_row (followed known.marks) row in
-    let rest = followed_rows known.marks rows in
+rows_follow : (known : responder.Known) (rows : List (Row Course)) (all : List (Row Followed))
+    → AreNumbered known.marks.number rows
+    → map life_row (followed_rows known.marks rows) ≡ map life_row all
+    → AreRemembered (map look_in (followed_rows known.marks rows)) (map look_in all)
+    → AllHold known.moment known.held all → AllFollow known rows
+rows_follow known [] all numbered lives are hold = All-nil (RowFollows known)
+rows_follow known (row ∷ rows) [] numbered lives are hold = absurd are
+rows_follow known (row ∷ rows) (one ∷ all) numbered lives are hold =
+    let life : kept_row row ≡ life_row one = cc in
     let holds = RowHolds known.moment known.held in
+    let its : HoldsBy known.moment known.held row.wanted (kept row.slot).rounds one.slot.look =
+    subst (λ (l : Row KeptLife). HoldsBy known.moment known.held l.wanted l.slot.rounds one.slot.look) (sym life)
+    (All-head holds one all hold) in
     All-cons (RowFollows known) row rows
-    (follows_row known row (All-head (IsNumbered known.marks.number) row rows numbered)
-    (All-head holds first rest hold))
-    (rows_follow known rows (All-tail (IsNumbered known.marks.number) row rows numbered)
-    (All-tail holds first rest hold))
+    (follows_row known row one.slot.look (All-head (IsNumbered known.marks.number) row rows numbered) are.0 its)
+    (rows_follow known rows all (All-tail (IsNumbered known.marks.number) row rows numbered) (cc) are.1
+    (All-tail holds one all hold))
 
 -- they hold of what a producer keeps
 pub all_follow : (known : responder.Known) (rows : List (Row Course)) (settled : Bool) → IsProducer known rows settled
@@ -160,18 +184,22 @@ all_follow known rows settled is =
     let h = is.follows.0 in
     let f = is.follows.1 in
     let knows = f.stands.responder in
-    let live = living (now_of h) (current h) in
-    rows_follow known rows is.numbered
-    (subst (λ now. AllHold now known.held (followed_rows known.marks rows)) (sym knows.moment)
-    (subst (λ (held : Items). AllHold (now_of h) held (followed_rows known.marks rows)) (sym knows.held)
-    (subst (λ rows. AllHold (now_of h) live rows) (sym (followed_is known rows settled h f)) (facts_hold h))))
+    rows_follow known rows (followed_of h) is.numbered (lives_are known rows settled h f) (remembered known rows settled h f)
+    (subst (λ now. AllHold now known.held (followed_of h)) (sym knows.moment)
+    (subst (λ (held : Items). AllHold (now_of h) held (followed_of h)) (sym knows.held) (facts_hold h)))
 
 -- ---- how many stored items a settle may read
 
 pub bounds_are : (known : responder.Known) (rows : List (Row Course)) (settled : Bool) (h : History)
     → Follows (known_of known rows settled) h
     → look_bounds known.moment known.held (followed_rows known.marks rows)
-    ≡ look_bounds (now_of h) (living (now_of h) (current h)) (followed_of h)
+    ≤ look_bounds (now_of h) (living (now_of h) (current h)) (followed_of h)
 bounds_are known rows settled h f =
     let knows = f.stands.responder in
-    λ i. look_bounds (knows.moment i) (knows.held i) (followed_is known rows settled h f i)
+    let live = living (now_of h) (current h) in
+    subst (λ now. look_bounds now known.held (followed_rows known.marks rows) ≤ look_bounds (now_of h) live (followed_of h))
+    (sym knows.moment)
+    (subst (λ (held : Items). look_bounds (now_of h) held (followed_rows known.marks rows) ≤ look_bounds (now_of h) live (followed_of h))
+    (sym knows.held)
+    (bounds_within (now_of h) live (few_live h) (followed_rows known.marks rows) (followed_of h)
+    (lives_are known rows settled h f) (remembered known rows settled h f)))

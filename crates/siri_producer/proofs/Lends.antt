@@ -49,7 +49,6 @@ use Rattle.siri_producer.specs.Known.{Known, StandsFor}
 use Rattle.siri_producer.specs.Lent.{OwnPart, has_all, head_of, if_it_has_all, is_lent, lent_topic, own_part, part_in}
 use Rattle.siri_producer.specs.Lent.{supplied_by, topics_of}
 use Rattle.siri_producer.specs.Sends.{sends}
-use Rattle.siri_producer.specs.declared.answers.Note.TheVariants as note
 use Rattle.siri_producer.specs.declared.lending.Supplied.{Supplied}
 use Rattle.siri_producer.specs.declared.lending.Supplied.TheVariants as told
 

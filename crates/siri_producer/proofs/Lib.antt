@@ -4,5 +4,6 @@ pub mod Stands
 pub mod Quiet
 pub mod Takes
 pub mod Settles
+pub mod Left
 pub mod Lends
 pub mod Lent

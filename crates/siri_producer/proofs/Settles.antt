@@ -30,7 +30,7 @@ use Rattle.siri_subscriptions.specs.Sends.{table_sends}
 use Rattle.siri_subscriptions.specs.Settled.{look_now, settled_row}
 use Rattle.siri_subscriptions.proofs.Carriage.{settled_carried}
 use Rattle.siri_producer.specs.Known.{Known, StandsFor, Follows, GoesOn, SendsFor}
-use Rattle.siri_producer.specs.Forgets.{Forgets, number_by, numbers_after, oldest_of}
+use Rattle.siri_producer.specs.Forgets.{number_by, numbers_after, oldest_of}
 use Rattle.siri_producer.specs.Oldest.{older, oldest_look}
 use Rattle.siri_producer.specs.Sends.{at_of, sends}
 use Rattle.siri_producer.specs.Standing.{IsNumbered, AreNumbered, IsProducer, known_of, number_of, numbers_in}
@@ -40,14 +40,14 @@ use Rattle.siri_producer.proofs.Stands.{goes_on, knows_settled, rows_settled_liv
 -- ---- the oldest look
 
 -- the number of a row's last look, where there was one, isn't below a number
-abbrev IsFrom : ℕ → Row Course → Type 0
+abbrev pub IsFrom : ℕ → Row Course → Type 0
 IsFrom oldest row = (looked : Looked) → row.slot.looked ≡ Some looked → oldest ≤ looked.number
 
 older_below : (oldest : ℕ) (o : Option Looked) → older oldest o ≤ oldest
 older_below oldest None = omega arith
 older_below oldest (Some l) = omega arith
 
-oldest_below : (most : ℕ) (rows : List (Row Course)) → oldest_look most rows ≤ most
+pub oldest_below : (most : ℕ) (rows : List (Row Course)) → oldest_look most rows ≤ most
 oldest_below most [] = omega arith
 oldest_below most (row ∷ rows) =
     omega (arith, older_below most row.slot.looked, oldest_below (older most row.slot.looked) rows)
@@ -61,7 +61,7 @@ older_from most row rows = λ looked is.
     omega (arith, below)
 
 -- the least of the numbers
-oldest_numbers : (most : ℕ) (rows : List (Row Course)) → oldest_look most rows ≡ oldest_of most (numbers_in rows)
+pub oldest_numbers : (most : ℕ) (rows : List (Row Course)) → oldest_look most rows ≡ oldest_of most (numbers_in rows)
 oldest_numbers most [] = refl
 oldest_numbers most (row ∷ rows) = oldest_numbers (older most row.slot.looked) rows
 
@@ -82,7 +82,7 @@ none_there table place lt none = elim (slice_get_cases table place).1 [
   | inr w ↦ absurd (omega (arith, w.0, lt))
 ]
 
-oldest_from : (most : ℕ) (rows : List (Row Course)) → All (IsFrom (oldest_look most rows)) rows
+pub oldest_from : (most : ℕ) (rows : List (Row Course)) → All (IsFrom (oldest_look most rows)) rows
 oldest_from most [] = All-nil (IsFrom most)
 oldest_from most (row ∷ rows) =
     let oldest = oldest_look (older most row.slot.looked) rows in
@@ -196,8 +196,14 @@ numbers_now now items next (row ∷ rows) = λ i.
 
 -- ---- the producer after it
 
+-- what a producer forgot when it turned to the next number
+pub record ForgotBy (next : ℕ) (old : Known) (known : responder.Known) (rows : List (Row Course)) : Type 0 where
+  pub number : known.marks.number ≡ next
+  pub numbers : numbers_in rows ≡ numbers_after next old.table old.numbers
+  pub log : known.marks.log ≡ filter (is_since (oldest_of next (numbers_in rows))) old.responder.marks.log
+
 -- neither the counter nor the marks matter
-stands_marked : (old new : responder.Known) (h : History) → new ≡ record old { reads = new.reads; marks = new.marks }
+pub stands_marked : (old new : responder.Known) (h : History) → new ≡ record old { reads = new.reads; marks = new.marks }
     → responder.StandsFor old h → responder.StandsFor new h
 stands_marked old new h is s =
     subst (λ (k : responder.Known). responder.StandsFor k h) (sym is)
@@ -273,8 +279,8 @@ module _ (known new : responder.Known) (rows after : List (Row Course)) (settled
   goes_settled = goes known new rows after settled true Settle stands_settled followed_after_settle
 
   -- what it forgets
-  forgets_settled : most ≡ known.marks.number + 1 → Forgets (known_of known rows settled) (known_of new after true)
-  forgets_settled next = record {
+  pub forgot : most ≡ known.marks.number + 1 → ForgotBy (known.marks.number + 1) (known_of known rows settled) new after
+  forgot next = record {
     number = turned.number;
     numbers = ap numbers_in is ∙ numbers_now known.moment known.held (known.marks.number + 1) rows;
     log =
@@ -282,10 +288,6 @@ module _ (known new : responder.Known) (rows after : List (Row Course)) (settled
         ∙ ap (λ oldest. filter (is_since oldest) known.marks.log) (oldest_numbers most after
         ∙ ap (λ most. oldest_of most (numbers_in after)) next);
   }
-
-  pub forgets_seen : most ≡ known.marks.number + 1 → (old : Known) → known_of known rows settled ≡ old
-      → Forgets old (known_of new after true)
-  forgets_seen next old view = subst (λ (k : Known). Forgets k (known_of new after true)) view (forgets_settled next)
 
   pub is_settled : IsProducer known rows settled → KnowLevels known.moment known.held after → IsProducer new after true
   is_settled was levels = record {
@@ -326,7 +328,7 @@ pub bound_settled : (known : responder.Known) (rows : List (Row Course)) (settle
     → (h : History) → Follows (known_of known rows settled) h
     → reads ≤ known.reads + look_bounds (now_of h) (living (now_of h) (current h)) (followed_of h)
 bound_settled known rows settled reads bound h f =
-    subst (λ n. reads ≤ known.reads + n) (bounds_are known rows settled h f) bound
+    omega (arith, bound, bounds_are known rows settled h f)
 
 -- seen from without
 pub bound_seen : (known : responder.Known) (rows : List (Row Course)) (settled : Bool) (reads : ℕ) (old : Known)

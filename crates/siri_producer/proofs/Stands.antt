@@ -1,5 +1,5 @@
 -- A producer goes on standing for its history.
-use Rattle.std.proofs.Common.{◌≡◌, ℕ, List, [], ◌∷◌, ◌++◌, map, take, Bool, false, not, None, Some, Result, Ok, Err, refl, sym, ap, ◌∙◌, subst}
+use Rattle.std.proofs.Common.{◌≡◌, ℕ, List, [], ◌∷◌, ◌++◌, map, take, Bool, false, not, Option, None, Some, Result, Ok, Err, refl, sym, ap, ◌∙◌, subst}
 use Rattle.std.specs.Prelude.{OnOk, OnErr}
 use Rattle.std.specs.Map.{keys_of}
 use Rattle.std.proofs.lemmas.List.Elements.{All-filter, All-nil}
@@ -12,7 +12,8 @@ use Rattle.siri_messages.specs.declared.message.Message.TheVariants as message
 use Rattle.siri_subs.specs.declared.entry.Row.{Row}
 use Rattle.siri_subs.specs.Table.{expired, is_terminated}
 use Rattle.siri_subs.proofs.Mapped.{expired_mapped}
-use Rattle.siri_model.specs.Followed.{Followed, followed_after, keys_dying, touch}
+use Rattle.siri_model.specs.Followed.{Followed, Look, followed_after, keys_dying, touch}
+use Rattle.siri_model.specs.Remembered.{AreRemembered}
 use Rattle.siri_model.specs.Last.{entry_key}
 use Rattle.siri_model.specs.History.{Entry, Step, Start, Clock, Feed, Take, Settle, History, State, after_step, entries_fed, entries_of, state_of, now_of}
 use Rattle.siri_model.specs.Lives.{is_settle, served_after, table_of}
@@ -135,7 +136,9 @@ pub follows_started : (known : responder.Known) (rows : List (Row Course)) (numb
     → Follows (known_of known rows false) (Start number moment ∷ [])
 follows_started known rows number moment knows none = record {
   stands = started known rows number moment knows none;
-  looks = ap (looks_in known.marks) none ∙ sym (looks_started number moment);
+  looks = subst (λ (looks : List (Option Look)). AreRemembered looks (looks_of (Start number moment ∷ [])))
+      (sym (ap (looks_in known.marks) none))
+      (subst (λ (looks : List (Option Look)). AreRemembered [] looks) (sym (looks_started number moment)) tt);
 }
 
 pub is_started : (known : responder.Known) (rows : List (Row Course)) (number moment : ℕ)

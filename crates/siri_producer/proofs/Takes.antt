@@ -48,6 +48,7 @@ use Rattle.siri_producer.specs.declared.answers.Answer.{Answer}
 use Rattle.siri_producer.specs.declared.answers.Note.TheVariants as note
 use Rattle.siri_producer.specs.Answers.{acknowledged_note, answer_to, fed_reply, is_ignored, noted, renew_reply}
 use Rattle.siri_producer.specs.Answers.{replied, supply_answer_to, supply_reply}
+use Rattle.siri_model.specs.Remembered.{AreRemembered}
 use Rattle.siri_producer.specs.Known.{Known, StandsFor, Follows, GoesOn, TookSome, CountsFor, AnswerFor, RefusedAt, RefusedIf, TakesMessage, looks_of}
 use Rattle.siri_producer.specs.Standing.{AreNumbered, IsProducer, known_of}
 use Rattle.siri_producer.proofs.Follows.{goes, untouched}
@@ -310,7 +311,10 @@ goes_as_fed old new d none on = record {
   stands = λ h s. stands_taken new h d none (on.stands h s);
   follows = λ h f.
       let fed = on.follows h f in
-      record { stands = stands_taken new h d none fed.stands; looks = fed.looks ∙ looks_taken h d none };
+      record {
+        stands = stands_taken new h d none fed.stands;
+        looks = subst (AreRemembered new.looks) (looks_taken h d none) fed.looks;
+      };
 }
 
 -- all of it was taken, but the reply wasn't made

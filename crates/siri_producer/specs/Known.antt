@@ -8,6 +8,7 @@ use Rattle.siri_subs.specs.declared.entry.Row.{Row}
 use Rattle.siri_model.specs.Direct.{response}
 use Rattle.siri_model.specs.Fed.{counts_of}
 use Rattle.siri_model.specs.Followed.{Look, followed_of}
+use Rattle.siri_model.specs.Remembered.{AreRemembered}
 use Rattle.siri_model.specs.History.{Entry, Feed, Take, History, Step, entries_fed, now_of, current}
 use Rattle.siri_model.specs.Lives.{table_of, is_settled}
 use Rattle.siri_model.specs.Rows.{KeptLife, rows_of}
@@ -39,11 +40,11 @@ pub record StandsFor (known : Known) (history : History) : Type 0 where
 abbrev pub looks_of : History → List (Option Look)
 looks_of history = map (λ row. row.slot.look) (followed_of history)
 
--- a producer follows a history that it stands for where it also knows the last look at each subscription: its moment, the
--- keys that were touched since then, and those that are kept apart
+-- a producer follows a history that it stands for where it also remembers the last look at each subscription: its moment, the
+-- keys that were touched since then, and those that are kept apart; or where it let it go, as it may once so many were touched
 pub record Follows (known : Known) (history : History) : Type 0 where
   pub stands : StandsFor known history
-  pub looks : known.looks ≡ looks_of history
+  pub looks : AreRemembered known.looks (looks_of history)
 
 -- whatever history a producer stood for before a call, it stands for that history and one more step after it, and so it
 -- follows that one where it followed it before

@@ -5,6 +5,7 @@ pub mod Standing
 pub mod Quiet
 pub mod Forgets
 pub mod Oldest
+pub mod Leaving
 pub mod Reads
 pub mod Lent
 pub mod Holding

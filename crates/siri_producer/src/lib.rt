@@ -15,8 +15,9 @@
 //!
 //! A producer stands for the history of its steps: what it holds are the current items of that history that aren't
 //! dead, and its table is that of the lives of the subscriptions in it. It also follows that history: of each
-//! subscription it knows the last look, and which keys were touched since then, so that a settle reads few items. An
-//! event is a `clock`, a `feed` or a `take`, and a `settle` after it.
+//! subscription it knows the last look, and which keys were touched since then, so that a settle reads few items; once
+//! as many were touched as may be held, it may let the look go, since a first one reads no more. An event is a `clock`,
+//! a `feed` or a `take`, and a `settle` after it.
 //!
 //! Stands on `siri_base`, `siri_records`, `siri_topic`, `siri_messages`, `siri_store`, `siri_subs`, `siri_responder`
 //! and `siri_subscriptions`; its contracts cite the histories and lives of `siri_model`, and its proofs what follows of
@@ -25,6 +26,7 @@
 
 mod answers;
 mod holding;
+mod leaving;
 mod lending;
 mod producer;
 mod taking;

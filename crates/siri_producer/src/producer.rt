@@ -8,12 +8,12 @@ ghost use Rattle.siri_model.specs.Lives.{quiet_number};
 ghost use Rattle.siri_producer.specs.Forgets.{Forgets};
 ghost use Rattle.siri_producer.specs.Quiet.{is_quiet};
 ghost use Rattle.siri_producer.specs.Known.{StandsFor, Follows, GoesOn, TookSome, CountsFor, ResponseFor, AnswerFor, RefusedAt, SameButReads, SendsFor};
-ghost use Rattle.siri_producer.specs.Oldest.{oldest_look};
 ghost use Rattle.siri_producer.specs.Reads.{ReadsFor};
 ghost use Rattle.siri_records.specs.Keyed.{living, most_live};
 ghost use Rattle.siri_base.specs.Numbers.{greatest_number};
 ghost use Rattle.siri_subs.specs.Table.{most_subscriptions};
 
+use crate::leaving::{MOST_MARKS, leave, oldest_look};
 use crate::{Answer, Fed, Out};
 use siri_base::{Copies, List, Moment, Name, OutOfMemory};
 use siri_messages::{Message, ServiceDelivery, ServiceRequest};
@@ -179,7 +179,9 @@ impl Producer {
     /// of what each subscription may look at: nothing while a round is outstanding, all held items at its first look,
     /// and then the keys that were touched since its last look, the items of which an end of its window passed an edge
     /// since then, and the target of a complete set. It keeps no mark of a key that was touched before the oldest of the
-    /// last looks. After the greatest number of settles, 2^64 - 1, it always answers `OutOfMemory`.
+    /// last looks, and at most 40,000: where there are more, of each key the last, and a look since which 20,000 keys or
+    /// more were touched is let go, so that the next one goes over what is held, which is no more. After the greatest
+    /// number of settles, 2^64 - 1, it always answers `OutOfMemory`.
     pub fn settle(&mut self) -> Result<List<Out>, OutOfMemory>
         ensures ok { OnOk result (GoesOn self.old self.new Settle) }
         ensures sends { IfOk result (SendsFor self.old) }
@@ -194,8 +196,10 @@ impl Producer {
         if number == u64::MAX {
             return Err(OutOfMemory);
         }
+        let last = self.responder.last_marks(MOST_MARKS)?;
         let outs = settle(self.alloc, &mut self.responder, &mut self.table)?;
         self.responder.turn(oldest_look(&self.table, number + 1));
+        leave(&mut self.responder, &mut self.table, last);
         self.is_settled = true;
         Ok(outs)
     }
@@ -268,22 +272,6 @@ impl Producer {
     {
         self.responder.reads()
     }
-}
-
-/// The least number of the last looks at the subscriptions of a table, at most this one.
-fn oldest_look(table: &Table<Course>, most: u64) -> u64
-    ensures { result ≡ oldest_look most table.now }
-{
-    let mut oldest = most;
-    for place in 0..table.len() {
-        let Some(row) = table.at(place) else {
-            break;
-        };
-        if let Some(looked) = &row.slot.looked {
-            oldest = oldest.min(looked.number);
-        }
-    }
-    oldest
 }
 
 /// Whether a subscription is quiet, by what its last look found.

@@ -1,9 +1,9 @@
 //! The responder.
 
-ghost use Rattle.std.specs.Prelude.{◌≡◌, ◌+◌, ◌*◌, ◌^◌, ◌<◌, ◌≤◌, [], ◌∷◌, length, map, filter, option_map, IfOk, OnOk, OnErr, ⊤};
+ghost use Rattle.std.specs.Prelude.{◌≡◌, ◌+◌, ◌*◌, ◌^◌, ◌<◌, ◌≤◌, [], ◌∷◌, length, map, filter, nat_lt, is_some, option_map, IfOk, IfSome, OnOk, OnErr, ⊤};
 ghost use Rattle.std.specs.Map.{keys_of};
 ghost use Rattle.siri_records.specs.Keyed.{InOrder, dead_of, item_of, most_live};
-ghost use Rattle.siri_store.specs.Marked.{SameFrom, is_since, keys_since, unmarked};
+ghost use Rattle.siri_store.specs.Marked.{IsLast, SameFrom, is_since, keys_since, unmarked};
 ghost use Rattle.siri_model.specs.Looks.{crossed_items, found_of};
 ghost use Rattle.siri_model.specs.Followed.{items_passed};
 ghost use Rattle.siri_responder.specs.Topics.{topics_in};
@@ -219,6 +219,38 @@ impl Responder {
     {
         self.feeding.marks.turn();
         self.feeding.marks.forget(oldest);
+    }
+
+    /// How many marks were set under a number or a later one.
+    pub fn marks_since(&self, number: u64) -> usize
+        ensures { result ≡ length (filter (is_since number) self.now.marks.log) }
+    {
+        self.feeding.marks.len_since(number)
+    }
+
+    /// Where there are more marks than so many, of each key the last mark, with room for one of each item that is held.
+    pub fn last_marks(&self, most: usize) -> Result<Option<Marks>, OutOfMemory>
+        ensures some { IfOk result (λ last. is_some last ≡ nat_lt most (length self.now.marks.log)) }
+        ensures last { IfOk result (λ last. IfSome last (IsLast self.now.marks (length self.now.held))) }
+    {
+        if self.feeding.marks.len() <= most {
+            return Ok(None);
+        }
+        let last = self.feeding.marks.last(self.feeding.store.held())?;
+        Ok(Some(last))
+    }
+
+    /// These marks are its own from now on, in the place of those that it has; of them those under a number or a later
+    /// one, since others are asked for no more. It takes no memory.
+    pub fn put_marks(&mut self, marks: Marks, number: u64)
+        requires earlier { marks.number ≤ self.old.marks.number }
+        requires room { length self.old.held ≤ marks.room }
+        ensures log { self.new.marks.log ≡ filter (is_since number) marks.log }
+        ensures number { self.new.marks.number ≡ self.old.marks.number }
+        ensures rest { self.new ≡ record self.old { marks = self.new.marks } }
+    {
+        self.feeding.marks.put(marks);
+        self.feeding.marks.forget(number);
     }
 
     /// Its name.

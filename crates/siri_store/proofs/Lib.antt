@@ -19,4 +19,4 @@ pub mod Digests
 pub mod Lasting
 pub mod Marking
 pub mod Touching
-mod Few
+pub mod Few

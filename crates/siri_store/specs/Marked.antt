@@ -34,6 +34,14 @@ last_of_each (mark ∷ log) =
 abbrev pub SameFrom : ℕ → Marked → Marked → Type 0
 SameFrom number old new = (n : ℕ) → number ≤ n → keys_since new.log n ≡ keys_since old.log n
 
+-- of each key the last mark alone, with room for so many more: from each number on the same keys are marked, each by one mark
+pub record IsLast (old : Marked) (more : ℕ) (last : Marked) : Type 0 where
+  pub log : last.log ≡ last_of_each old.log
+  pub number : last.number ≡ old.number
+  pub room : more ≤ last.room
+  pub same : SameFrom 0 old last
+  pub once : (n : ℕ) → length (filter (is_since n) last.log) ≡ length (keys_since old.log n)
+
 -- where memory was to be taken for so many marks more, no more are kept than that, or than keys are marked
 abbrev pub IsFew : ℕ → Marked → Marked → Type 0
 IsFew more old new = old.room < more → length new.log ≤ max more (length (keys_since old.log 0))

@@ -10,7 +10,7 @@
 ghost use Rattle.std.specs.Prelude.{◌≡◌, ℕ, ◌+◌, ◌≤◌, ◌<◌, ◌^◌, ◌∷◌, ◌++◌, [], drop, map, filter, length, ltb, IfOk, OnOk};
 ghost use Rattle.std.specs.VecDeque.{deque_capacity};
 ghost use Rattle.siri_records.specs.KeyLists.{in_order};
-ghost use Rattle.siri_store.specs.Marked.{keys_since, is_since, last_of_each, IsFew, Rises, SameFrom, MarksTouch, unmarked};
+ghost use Rattle.siri_store.specs.Marked.{keys_since, is_since, last_of_each, IsFew, IsLast, Rises, SameFrom, MarksTouch, unmarked};
 
 use siri_base::{Copies, OutOfMemory};
 use siri_records::SharedKey;
@@ -89,9 +89,8 @@ impl Marks {
             self.log.reserve(more.saturating_add(held))?;
             return Ok(());
         }
-        let mut log = last_marks(*self.log.allocator(), &self.log)?;
-        log.reserve(more.saturating_add(log.len()))?;
-        self.log = log;
+        let last = self.last(more)?;
+        self.put(last);
         Ok(())
     }
 
@@ -110,6 +109,44 @@ impl Marks {
     {
         let first = first_since(&self.log, self.number, number);
         keys_from(alloc, &self.log, first)
+    }
+
+    /// How many marks there are.
+    pub fn len(&self) -> usize
+        ensures { result ≡ length self.now.log }
+    {
+        self.log.len()
+    }
+
+    /// How many marks were set under a number or a later one.
+    pub fn len_since(&self, number: u64) -> usize
+        ensures { result ≡ length (filter (is_since number) self.now.log) }
+    {
+        let first = first_since(&self.log, self.number, number);
+        self.log.len() - first
+    }
+
+    /// Of each key the last mark, with room for so many more: the same keys are marked from each number on, each by one
+    /// mark.
+    pub fn last(&self, more: usize) -> Result<Marks, OutOfMemory>
+        ensures { IfOk result (IsLast self.now more) }
+    {
+        let mut log = last_marks(*self.log.allocator(), &self.log)?;
+        log.reserve(more.saturating_add(log.len()))?;
+        Ok(Marks {
+            log,
+            number: self.number,
+        })
+    }
+
+    /// These marks are its own from now on, in the place of those that it has; none of them is under a later number than
+    /// keys are marked under now. It takes no memory.
+    pub fn put(&mut self, marks: Marks)
+        requires { marks.number ≤ self.old.number }
+        ensures { self.new ≡ record self.old { log = marks.log; room = marks.room } }
+    {
+        let Marks { log, number: _ } = marks;
+        self.log = log;
     }
 
     /// Marks before a number go, since they are asked for no more. It takes no memory.

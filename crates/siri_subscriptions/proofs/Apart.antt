@@ -28,7 +28,3 @@ module _ (now : ℕ) (items : Items) (row : Row Course) (level : row.slot.rounds
   apart_kept h =
       let is_open : opens direct (kept_row row) ≡ false = opens_due ∙ h in
       rw level (rw (rw level at is_open) refl)
-
-  -- before the first round one is due
-  pub first_due : row.slot.rounds.rounds_opened ≡ 0 → due row.wanted direct row.slot.rounds ≡ true
-  first_due first = rw first refl

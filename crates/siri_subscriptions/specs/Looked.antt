@@ -36,9 +36,9 @@ pub record FollowsLook (known : Known) (row : Row Course) (looked : Looked) : Ty
   pub used_up : (looked.apart ≡ []) ⊎ (greatest_round ≤ row.slot.rounds.rounds_opened)
   pub some_opened : 1 ≤ row.slot.rounds.rounds_opened
 
--- before the first look no round was opened
+-- nothing is known before the first look, or where the last one counts no more
 abbrev pub FollowsBy : Known → Row Course → Option Looked → Type 0
-FollowsBy known row None = row.slot.rounds.rounds_opened ≡ 0
+FollowsBy known row None = Unit {0}
 FollowsBy known row (Some looked) = FollowsLook known row looked
 
 abbrev pub RowFollows : Known → Row Course → Type 0

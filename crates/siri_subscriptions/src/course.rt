@@ -19,7 +19,7 @@ pub struct Course {
     pub last_heartbeat: Moment,
     /// Whether the last look found that the acknowledged view meets what is shown.
     pub is_level: bool,
-    /// The last look, none before the first.
+    /// The last look: none before the first, and where it counts no more, so that the next one is as the first.
     pub looked: Option<Looked>,
 }
 

@@ -1,11 +1,10 @@
 //! What is due of one subscription at a settle.
 
-ghost use Rattle.std.specs.Prelude.{◌≡◌, ◌≤◌, ◌+◌, ◌++◌, None, is_some, length, IfOk, OnOk};
+ghost use Rattle.std.specs.Prelude.{◌≡◌, ◌≤◌, ◌+◌, ◌++◌, is_some, IfOk, OnOk};
 ghost use Rattle.siri_subs.specs.Lent.{entry_of};
 ghost use Rattle.siri_subscriptions.specs.Courses.{kept_row};
 ghost use Rattle.siri_model.specs.Followed.{look_bound};
 ghost use Rattle.siri_model.specs.Rows.{is_heartbeat_due};
-ghost use Rattle.siri_store.specs.Candidates.{candidates};
 ghost use Rattle.siri_subscriptions.specs.Again.{AreTouched};
 ghost use Rattle.siri_subscriptions.specs.Due.{apart_at, course_after, IsDue, IsFound};
 ghost use Rattle.siri_subscriptions.specs.Looked.{RowFollows, followed_row};
@@ -14,12 +13,12 @@ ghost use Rattle.siri_subscriptions.specs.Sends.{outs_with, at_of, heartbeat_due
 
 use crate::again::look_again;
 use crate::course::{Course, Looked};
+use crate::limited::look_whole;
 use crate::outs::push_out;
 use crate::replies::heartbeat;
 use crate::touched::Touched;
-use crate::{Finding, Out, look, message_due, move_on};
+use crate::{Finding, Out, message_due, move_on};
 use siri_base::{List, Moment, OutOfMemory};
-use siri_change::View;
 use siri_messages::Message;
 use siri_records::SharedKey;
 use siri_responder::Responder;
@@ -129,31 +128,8 @@ fn look_at(
     }
     match &course.looked {
         Some(looked) => look_again(alloc, responder, entry, looked, touched),
-        None => look_first(alloc, responder, entry),
+        None => look_whole(alloc, responder, entry),
     }
-}
-
-/// Looks at a subscription for the first time, at what may be shown to its topic by its key: a round opens, so no key is
-/// kept apart.
-fn look_first(
-    alloc: Global,
-    responder: &mut Responder,
-    entry: &Entry<'_, Course>,
-) -> Result<Seen, OutOfMemory>
-    requires level { (entry_of entry.now).slot.rounds.outstanding ≡ None }
-    requires first { (entry_of entry.now).slot.rounds.rounds_opened ≡ 0 }
-    ensures found { IfOk result (λ seen. IsFound responder.old.moment responder.old.held (entry_of entry.now) seen.finding) }
-    ensures apart { IfOk result (λ seen. seen.apart ≡ apart_at responder.old.moment responder.old.held (entry_of entry.now)) }
-    ensures rest { responder.new ≡ record responder.old { reads = responder.new.reads } }
-    ensures risen { responder.old.reads ≤ responder.new.reads }
-    ensures bound { responder.new.reads ≤ responder.old.reads + length (candidates entry.now.wanted.now.topic responder.old.held) }
-{
-    let direct = responder.direct_to(&entry.wanted.topic)?;
-    let finding = look(alloc, entry.wanted, &entry.slot.rounds, View::of(direct))?;
-    Ok(Seen {
-        finding,
-        apart: Some(List::new(alloc)),
-    })
 }
 
 /// The message of the wanted part, where one is due once the round has opened that a look found.

@@ -1,4 +1,4 @@
-//! A later look at a subscription whose topic has MaximumStopVisits.
+//! A look at the whole direct response, and a later look at a subscription whose topic has MaximumStopVisits.
 
 ghost use Rattle.std.specs.Prelude.{◌≡◌, ◌≤◌, ◌+◌, ◌==◌, ◌&&◌, nat_eq, length, if◌then◌else◌, true, [], None, Some, is_some, IfOk};
 ghost use Rattle.std.specs.Map.{keys_of};
@@ -99,8 +99,9 @@ fn look_still(
     })
 }
 
-/// Looks at the whole direct response.
-fn look_whole(
+/// Looks at the whole direct response: at the first look at a subscription, where the last one counts no more, and where
+/// something may have changed of a topic that has MaximumStopVisits.
+pub(crate) fn look_whole(
     alloc: Global,
     responder: &mut Responder,
     entry: &Entry<'_, Course>,
@@ -110,30 +111,41 @@ fn look_whole(
     ensures apart { IfOk result (λ seen. seen.apart ≡ apart_at responder.old.moment responder.old.held (entry_of entry.now)) }
     ensures rest { responder.new ≡ record responder.old { reads = responder.new.reads } }
     ensures risen { responder.old.reads ≤ responder.new.reads }
+    ensures asked { responder.new.reads ≤ responder.old.reads + length (candidates entry.now.wanted.now.topic responder.old.held) }
     ensures first { AreWithin responder.old.moment (candidates entry.now.wanted.now.topic responder.old.held) entry.now.wanted.now.topic responder.old.reads responder.new.reads }
 {
     let rounds = &entry.slot.rounds;
     let items = responder.direct_to(&entry.wanted.topic)?;
     let direct = View::of(items);
-    let unlike = unlike(alloc, rounds.acknowledged(), &direct, entry.wanted.slack)?;
-    let finding = look(alloc, entry.wanted, rounds, direct)?;
-    let apart = apart_after(alloc, &finding, unlike);
+    let finding = look(alloc, entry.wanted, rounds, &direct)?;
+    let apart = apart_after(
+        alloc,
+        &finding,
+        rounds.acknowledged(),
+        &direct,
+        entry.wanted.slack,
+    )?;
     Ok(Seen {
         finding,
         apart: Some(apart),
     })
 }
 
-/// The keys that are kept apart after a look, of those on which the view and the direct response don't agree: none where
-/// a round opens.
-fn apart_after(alloc: Global, finding: &Finding, unlike: List<SharedKey>) -> List<SharedKey>
-    ensures { result ≡ (if is_some finding.now.opening then [] else unlike) }
+/// The keys that are kept apart after a look: none where a round opens, else those on which the view and the direct
+/// response don't agree.
+fn apart_after(
+    alloc: Global,
+    finding: &Finding,
+    view: &View,
+    direct: &View,
+    slack: Span,
+) -> Result<List<SharedKey>, OutOfMemory>
+    ensures { IfOk result (λ keys. keys ≡ (if is_some finding.now.opening then [] else keys_apart slack view.now direct.now)) }
 {
     if finding.opening.is_some() {
-        List::new(alloc)
-    } else {
-        unlike
+        return Ok(List::new(alloc));
     }
+    unlike(alloc, view, direct, slack)
 }
 
 /// The keys on which a view and a direct response don't agree, in order.

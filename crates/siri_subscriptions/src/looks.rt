@@ -42,16 +42,16 @@ pub fn look(
     alloc: Global,
     wanted: &Subscription,
     rounds: &Rounds,
-    direct: View,
+    direct: &View,
 ) -> Result<Finding, OutOfMemory>
     requires { rounds.now.outstanding ≡ None }
     // Where its messages go, how often a heartbeat is, and the moment of the look don't matter.
     ensures opening { IfOk result (λ finding. (asked : AskedFor) → asked.subscription ≡ wanted.now → (now : ℕ)
-        → with_opening now finding.opening rounds.now ≡ looked asked direct now rounds.now) }
+        → with_opening now finding.opening rounds.now ≡ looked asked direct.now now rounds.now) }
     ensures can_open { IfOk result (λ finding. CanOpen finding.opening rounds.now) }
-    ensures level { IfOk result (λ finding. finding.is_level ≡ change.meets wanted.now.slack rounds.now.acknowledged direct) }
+    ensures level { IfOk result (λ finding. finding.is_level ≡ change.meets wanted.now.slack rounds.now.acknowledged direct.now) }
 {
-    let is_level = !differ(rounds.acknowledged(), &direct, wanted.slack);
+    let is_level = !differ(rounds.acknowledged(), direct, wanted.slack);
     let opening = if is_round_due(rounds.last(), is_level) {
         Some(round_to_open(alloc, wanted, rounds.acknowledged(), direct)?)
     } else {
@@ -73,15 +73,15 @@ fn round_to_open(
     alloc: Global,
     wanted: &Subscription,
     acknowledged: &View,
-    direct: View,
+    direct: &View,
 ) -> Result<Opening, OutOfMemory>
-    ensures leads { IfOk result (λ opening. part.led_to acknowledged.now opening.incremental opening.changes ≡ change.target wanted.now.slack wanted.now.incremental acknowledged.now direct) }
-    ensures changes { IfOk result (λ opening. opening.changes ≡ part.load acknowledged.now (change.target wanted.now.slack wanted.now.incremental acknowledged.now direct) wanted.now.incremental) }
+    ensures leads { IfOk result (λ opening. part.led_to acknowledged.now opening.incremental opening.changes ≡ change.target wanted.now.slack wanted.now.incremental acknowledged.now direct.now) }
+    ensures changes { IfOk result (λ opening. opening.changes ≡ part.load acknowledged.now (change.target wanted.now.slack wanted.now.incremental acknowledged.now direct.now) wanted.now.incremental) }
     ensures fits { IfOk result (λ opening. length (part.base_view acknowledged.now opening.incremental) + length opening.changes ≤ opening.room) }
 {
     view_is_in_order(acknowledged);
-    view_is_in_order(&direct);
-    let target = target(acknowledged, &direct, wanted.slack, wanted.incremental)?;
+    view_is_in_order(direct);
+    let target = target(acknowledged, direct, wanted.slack, wanted.incremental)?;
     let changes = load(alloc, wanted, acknowledged, &target)?;
     let opening = opening_of(wanted, acknowledged, changes)?;
     Ok(opening)

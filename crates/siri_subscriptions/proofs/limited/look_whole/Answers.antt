@@ -34,7 +34,6 @@ returns-clause-apart c =
       level = rw c.requires.level (c.in_ok-finding.ensures.level
           ∙ ap (λ d. change.meets row.wanted.slack row.slot.rounds.acknowledged d) direct);
     } in
-    whole_apart now c.args.responder.now.held row c.requires.level c.in_ok-finding.finding found c.apart_after-apart.result
-    (c.apart_after-apart.ensures
-    ∙ ap (λ keys. cond (is_some c.in_ok-finding.finding.opening) [] keys)
-    (c.in_ok-unlike.ensures ∙ (λ i. keys_apart row.wanted.slack (c.acknowledged.ensures i) (direct i))))
+    whole_apart now c.args.responder.now.held row c.requires.level c.in_ok-finding.finding found c.in_ok-apart.apart
+    (c.in_ok-apart.ensures
+    ∙ (λ i. cond (is_some c.in_ok-finding.finding.opening) [] (keys_apart row.wanted.slack (c.acknowledged.ensures i) (direct i))))

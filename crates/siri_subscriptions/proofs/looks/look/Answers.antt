@@ -11,7 +11,7 @@ pub returns-clause-opening : goal.returns-clause-opening
 returns-clause-opening c asked wants now =
     let wanted = c.args.wanted.now in
     let rounds = c.args.rounds.now in
-    let direct = c.args.direct in
+    let direct = c.args.direct.now in
     let found = is_found wanted direct c.acknowledged.result.now rounds c.last.result c.differ-is_level.result
     c.is_round_due.result c.last.ensures c.acknowledged.ensures c.differ-is_level.ensures
     c.is_round_due.ensures.due in

@@ -14,7 +14,7 @@ pub returns-clause-leads : goal.returns-clause-leads
 returns-clause-leads c =
     let wanted = c.args.wanted.now in
     let acknowledged = c.args.acknowledged.now in
-    let direct = c.args.direct in
+    let direct = c.args.direct.now in
     (λ i. part.led_to acknowledged (c.in_ok-opening.ensures.incremental i) (returns-clause-changes c i))
     ∙ load_applied acknowledged (change.target wanted.slack wanted.incremental acknowledged direct) wanted.incremental
     c.view_is_in_order.ensures

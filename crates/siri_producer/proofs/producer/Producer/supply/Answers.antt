@@ -1,4 +1,4 @@
-use Rattle.std.proofs.Common.{true, false, refl, sym, ap, ◌∙◌, subst}
+use Rattle.std.proofs.Common.{false, refl, sym, ap, ◌∙◌, subst}
 use Rattle.siri_messages.specs.declared.message.Message.TheVariants as message
 use Rattle.siri_model.specs.History.{Take}
 use Rattle.siri_subscriptions.specs.Courses.{kept_rows}

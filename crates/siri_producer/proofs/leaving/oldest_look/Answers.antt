@@ -2,8 +2,8 @@ use Rattle.std.proofs.Common.{sym, ap, ◌∙◌, option_map, arith}
 use Rattle.siri_subs.specs.Lent.{entry_of}
 use Rattle.siri_producer.specs.Oldest.{older}
 use Rattle.siri_producer.proofs.Settles.{none_there, oldest_next}
-use Rattle.siri_producer.proofs.producer.oldest_look.Goals as goal
-use Rattle.siri_producer.proofs.producer.oldest_look.Goals.{in-Some-looked, in_default-looked}
+use Rattle.siri_producer.proofs.leaving.oldest_look.Goals as goal
+use Rattle.siri_producer.proofs.leaving.oldest_look.Goals.{in-Some-looked, in_default-looked}
 
 pub loop-place-preserved : goal.loop-place-preserved
 loop-place-preserved c =
