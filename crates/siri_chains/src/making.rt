@@ -6,7 +6,7 @@ ghost use Rattle.std.specs.Prelude.{◌≤◌};
 use crate::stopped::Stopped;
 use siri_base::{List, Moment, Name, Span, Text};
 use siri_messages::{FunctionalDelivery, ServiceDelivery, ServiceRequest};
-use siri_records::{Item, Key, StopCall, Visit, VisitJourney};
+use siri_records::{Item, Key, SharedItem, StopCall, Visit, VisitJourney};
 use siri_topic::{StopTopic, Subscription, Topic};
 use std::alloc::Global;
 
@@ -84,16 +84,17 @@ pub(crate) fn identifier(alloc: Global) -> Result<Name, Stopped> {
 }
 
 /// A visit.
-pub(crate) fn visit(alloc: Global, known: &Known) -> Result<Item, Stopped> {
+pub(crate) fn visit(alloc: Global, known: &Known) -> Result<SharedItem, Stopped> {
     let item_identifier = numbered(alloc, "v", known.number)?;
     let monitoring_ref = stop(alloc)?;
     let monitored_vehicle_journey = journey(alloc, known)?;
-    Ok(Item::Visit(Visit {
+    let visit = Visit {
         recorded_at_time: None,
         item_identifier,
         monitoring_ref,
         monitored_vehicle_journey,
-    }))
+    };
+    Ok(SharedItem::new(alloc, Item::Visit(visit))?)
 }
 
 /// Its journey.
@@ -128,7 +129,7 @@ pub(crate) fn key(alloc: Global, number: u64) -> Result<Key, Stopped> {
 /// A delivery of these.
 pub(crate) fn delivery(
     alloc: Global,
-    items: List<Item>,
+    items: List<SharedItem>,
     removals: List<Key>,
 ) -> Result<ServiceDelivery, Stopped> {
     let mut functional = FunctionalDelivery::blank(alloc);

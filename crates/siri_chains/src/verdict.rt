@@ -7,7 +7,7 @@ use crate::stopped::Stopped;
 use siri_base::{Moment, Span, Text};
 use siri_change::View;
 use siri_messages::ServiceDelivery;
-use siri_records::{Item, Visit};
+use siri_records::{Item, SharedItem, Visit};
 use std::alloc::Global;
 use std::rc::Rc;
 
@@ -59,7 +59,7 @@ fn response(
 }
 
 /// A view beside the items that are wanted, both in order of key.
-fn compared(view: &View, wanted: &[Item], slack: u64) -> Result<Found, Stopped> {
+fn compared(view: &View, wanted: &[SharedItem], slack: u64) -> Result<Found, Stopped> {
     if view.len() != wanted.len() {
         return Err(Stopped::OtherKeys);
     }
@@ -68,7 +68,7 @@ fn compared(view: &View, wanted: &[Item], slack: u64) -> Result<Found, Stopped> 
         let Some(held) = view.at(place) else {
             return Err(Stopped::OtherKeys);
         };
-        let (Item::Visit(held), Item::Visit(wanted)) = (&**held, item) else {
+        let (Item::Visit(held), Item::Visit(wanted)) = (&**held, item.item()) else {
             return Err(Stopped::OtherKeys);
         };
         if !is_known_alike(held, wanted) {

@@ -24,7 +24,7 @@ use siri_items::JourneyTable;
 use siri_items::names::RECORDED_AT_TIME;
 use siri_json::Tree;
 use siri_messages::{FunctionalDelivery, ServiceDelivery};
-use siri_records::{Item, Journey};
+use siri_records::{Journey, SharedItem};
 use siri_tables::rows::row;
 use siri_tables::rules::{MomentRule, Table};
 use std::alloc::Global;
@@ -42,11 +42,15 @@ pub(crate) struct Deliveries {
 struct Visits;
 
 impl Apart for Visits {
-    type Out = Item;
+    type Out = SharedItem;
 
     ghost read = { entries visit_item most_entries };
 
-    fn next(alloc: Global, reader: &mut Reader<'_>, depth: usize) -> Result<List<Item>, NotRead> {
+    fn next(
+        alloc: Global,
+        reader: &mut Reader<'_>,
+        depth: usize,
+    ) -> Result<List<SharedItem>, NotRead> {
         list_next::<VisitItemTable>(alloc, reader, depth, MOST_ENTRIES)
     }
 }
@@ -55,11 +59,15 @@ impl Apart for Visits {
 struct VehicleActivities;
 
 impl Apart for VehicleActivities {
-    type Out = Item;
+    type Out = SharedItem;
 
     ghost read = { entries vehicle_item most_entries };
 
-    fn next(alloc: Global, reader: &mut Reader<'_>, depth: usize) -> Result<List<Item>, NotRead> {
+    fn next(
+        alloc: Global,
+        reader: &mut Reader<'_>,
+        depth: usize,
+    ) -> Result<List<SharedItem>, NotRead> {
         list_next::<VehicleItemTable>(alloc, reader, depth, MOST_ENTRIES)
     }
 }
@@ -85,7 +93,7 @@ impl Apart for Journeys {
 struct Frames;
 
 impl Apart for Frames {
-    type Out = List<Item>;
+    type Out = List<SharedItem>;
 
     ghost read = { entries frame most_entries };
 
@@ -93,7 +101,7 @@ impl Apart for Frames {
         alloc: Global,
         reader: &mut Reader<'_>,
         depth: usize,
-    ) -> Result<List<List<Item>>, NotRead> {
+    ) -> Result<List<List<SharedItem>>, NotRead> {
         list_next::<FrameTable>(alloc, reader, depth, MOST_ENTRIES)
     }
 }
@@ -102,11 +110,15 @@ impl Apart for Frames {
 struct SituationElements;
 
 impl Apart for SituationElements {
-    type Out = Item;
+    type Out = SharedItem;
 
     ghost read = { entries situation_item most_entries };
 
-    fn next(alloc: Global, reader: &mut Reader<'_>, depth: usize) -> Result<List<Item>, NotRead> {
+    fn next(
+        alloc: Global,
+        reader: &mut Reader<'_>,
+        depth: usize,
+    ) -> Result<List<SharedItem>, NotRead> {
         list_next::<SituationItemTable>(alloc, reader, depth, MOST_ENTRIES)
     }
 }
@@ -115,11 +127,15 @@ impl Apart for SituationElements {
 struct Situations;
 
 impl Apart for Situations {
-    type Out = Item;
+    type Out = SharedItem;
 
     ghost read = { situations_in };
 
-    fn next(alloc: Global, reader: &mut Reader<'_>, depth: usize) -> Result<List<Item>, NotRead> {
+    fn next(
+        alloc: Global,
+        reader: &mut Reader<'_>,
+        depth: usize,
+    ) -> Result<List<SharedItem>, NotRead> {
         let (_, items) = parts_next::<SituationElements>(
             alloc,
             reader,
@@ -131,19 +147,31 @@ impl Apart for Situations {
 }
 
 impl Incoming for VisitItemTable {
-    fn read_next(alloc: Global, reader: &mut Reader<'_>, depth: usize) -> Result<Item, NotRead> {
+    fn read_next(
+        alloc: Global,
+        reader: &mut Reader<'_>,
+        depth: usize,
+    ) -> Result<SharedItem, NotRead> {
         by_tree::<VisitItemTable>(alloc, reader, depth)
     }
 }
 
 impl Incoming for VehicleItemTable {
-    fn read_next(alloc: Global, reader: &mut Reader<'_>, depth: usize) -> Result<Item, NotRead> {
+    fn read_next(
+        alloc: Global,
+        reader: &mut Reader<'_>,
+        depth: usize,
+    ) -> Result<SharedItem, NotRead> {
         by_tree::<VehicleItemTable>(alloc, reader, depth)
     }
 }
 
 impl Incoming for SituationItemTable {
-    fn read_next(alloc: Global, reader: &mut Reader<'_>, depth: usize) -> Result<Item, NotRead> {
+    fn read_next(
+        alloc: Global,
+        reader: &mut Reader<'_>,
+        depth: usize,
+    ) -> Result<SharedItem, NotRead> {
         by_tree::<SituationItemTable>(alloc, reader, depth)
     }
 }
@@ -160,7 +188,7 @@ impl Incoming for FrameTable {
         alloc: Global,
         reader: &mut Reader<'_>,
         depth: usize,
-    ) -> Result<List<Item>, NotRead> {
+    ) -> Result<List<SharedItem>, NotRead> {
         let (others, journeys) = parts_next::<Journeys>(
             alloc,
             reader,

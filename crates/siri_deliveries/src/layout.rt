@@ -8,8 +8,9 @@ ghost use Rattle.siri_deliveries.specs.Layout.{back, entry_writing, front, items
 
 use crate::names;
 use crate::pieces::{DeliveryHead, Listed};
-use crate::write_entries::{FrameWriting, ItemWriting, RemovalWriting};
+use crate::write_entries::{RemovalWriting, write_journey_frame};
 use siri_base::OutOfMemory;
+use siri_items::write_item;
 use siri_json::Output;
 use siri_records::{Change, Item, Service};
 use siri_tables::rules::{FlagRule, MomentRule, NameRule, NumberRule};
@@ -212,8 +213,8 @@ pub(crate) fn write_entry(
     ensures { OnOk result (Appends (entry_writing service item.now) out.old out.new) }
 {
     match service {
-        Service::Stop | Service::Vehicle | Service::Situation => ItemWriting::write(out, item),
-        Service::Timetable => FrameWriting::write(out, item),
+        Service::Stop | Service::Vehicle | Service::Situation => write_item(out, item),
+        Service::Timetable => write_journey_frame(out, item),
     }
 }
 

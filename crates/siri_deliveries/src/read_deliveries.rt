@@ -13,7 +13,7 @@ use crate::read_removals::{VehicleCancellationTable, VisitCancellationTable};
 use siri_items::{SituationTable, VehicleTable, VisitTable};
 use siri_json::Tree;
 use siri_messages::{FunctionalDelivery, ServiceDelivery};
-use siri_records::Item;
+use siri_records::{Item, SharedItem};
 use siri_tables::TableError;
 use siri_tables::rows::{list, list_inside, row};
 use siri_tables::rules::{FlagRule, MomentRule, NameRule, Table};
@@ -26,13 +26,14 @@ pub(crate) const MOST_DELIVERIES: usize = 100;
 pub(crate) struct VisitItemTable;
 
 impl Table for VisitItemTable {
-    type Out = Item;
+    type Out = SharedItem;
 
     ghost rows = { visit_item };
 
     #[tactic(auto, unfolding(crate::specs::Deliveries::visit_item))]
-    fn read_rows(alloc: Global, tree: &Tree<'_>) -> Result<Item, TableError> {
-        Ok(Item::Visit(VisitTable::read_rows(alloc, tree)?))
+    fn read_rows(alloc: Global, tree: &Tree<'_>) -> Result<SharedItem, TableError> {
+        let visit = VisitTable::read_rows(alloc, tree)?;
+        Ok(SharedItem::new(alloc, Item::Visit(visit))?)
     }
 }
 
@@ -40,13 +41,14 @@ impl Table for VisitItemTable {
 pub(crate) struct VehicleItemTable;
 
 impl Table for VehicleItemTable {
-    type Out = Item;
+    type Out = SharedItem;
 
     ghost rows = { vehicle_item };
 
     #[tactic(auto, unfolding(crate::specs::Deliveries::vehicle_item))]
-    fn read_rows(alloc: Global, tree: &Tree<'_>) -> Result<Item, TableError> {
-        Ok(Item::Vehicle(VehicleTable::read_rows(alloc, tree)?))
+    fn read_rows(alloc: Global, tree: &Tree<'_>) -> Result<SharedItem, TableError> {
+        let vehicle = VehicleTable::read_rows(alloc, tree)?;
+        Ok(SharedItem::new(alloc, Item::Vehicle(vehicle))?)
     }
 }
 
@@ -54,13 +56,14 @@ impl Table for VehicleItemTable {
 pub(crate) struct SituationItemTable;
 
 impl Table for SituationItemTable {
-    type Out = Item;
+    type Out = SharedItem;
 
     ghost rows = { situation_item };
 
     #[tactic(auto, unfolding(crate::specs::Deliveries::situation_item))]
-    fn read_rows(alloc: Global, tree: &Tree<'_>) -> Result<Item, TableError> {
-        Ok(Item::Situation(SituationTable::read_rows(alloc, tree)?))
+    fn read_rows(alloc: Global, tree: &Tree<'_>) -> Result<SharedItem, TableError> {
+        let situation = SituationTable::read_rows(alloc, tree)?;
+        Ok(SharedItem::new(alloc, Item::Situation(situation))?)
     }
 }
 

@@ -10,7 +10,7 @@ use crate::read_parts::MOST_ENTRIES;
 use siri_base::{List, Moment, OutOfMemory, Reason};
 use siri_items::{JourneyTable, names as item_names};
 use siri_json::{Tree, member};
-use siri_records::{Item, Journey};
+use siri_records::{Item, Journey, SharedItem};
 use siri_tables::TableError;
 use siri_tables::refusal::{below, refuse};
 use siri_tables::rows::{list_of, row};
@@ -33,12 +33,12 @@ pub(crate) fn journeys_of_frame(
     alloc: Global,
     frame: &Option<Moment>,
     journeys: List<Journey>,
-) -> Result<List<Item>, OutOfMemory>
+) -> Result<List<SharedItem>, OutOfMemory>
     ensures { IfOk result (λ items. items ≡ map (journey_of_frame frame.now) journeys) }
 {
     let mut items = Vec::new(alloc);
     for journey in journeys.into_vec() {
-        items.push(journey_of_frame(frame, journey))?;
+        items.push(SharedItem::new(alloc, journey_of_frame(frame, journey))?)?;
     }
     Ok(List::of(items))
 }
@@ -59,12 +59,12 @@ fn journeys(alloc: Global, tree: &Tree<'_>) -> Result<List<Journey>, TableError>
 }
 
 impl Table for FrameTable {
-    type Out = List<Item>;
+    type Out = List<SharedItem>;
 
     ghost rows = { frame };
 
     #[tactic(auto, unfolding(crate::specs::Frames::frame))]
-    fn read_rows(alloc: Global, tree: &Tree<'_>) -> Result<List<Item>, TableError> {
+    fn read_rows(alloc: Global, tree: &Tree<'_>) -> Result<List<SharedItem>, TableError> {
         let recorded_at_time = row::<MomentRule>(alloc, tree, item_names::RECORDED_AT_TIME)?;
         let journeys = journeys(alloc, tree)?;
         Ok(journeys_of_frame(alloc, &recorded_at_time, journeys)?)
@@ -74,8 +74,8 @@ impl Table for FrameTable {
 /// The items of all frames in one list, frame by frame.
 pub(crate) fn concat_frames(
     alloc: Global,
-    frames: List<List<Item>>,
-) -> Result<List<Item>, OutOfMemory>
+    frames: List<List<SharedItem>>,
+) -> Result<List<SharedItem>, OutOfMemory>
     ensures { IfOk result (λ items. items ≡ concat_frames frames) }
 {
     let mut items = Vec::new(alloc);
@@ -87,7 +87,7 @@ pub(crate) fn concat_frames(
 
 /// The journeys of all frames of a list, or `TooMany` above 20,000, after what the frames are refused for.
 #[tactic(auto, unfolding(crate::specs::Frames::frames_of))]
-fn frames_of(alloc: Global, value: &Tree<'_>) -> Result<List<Item>, TableError>
+fn frames_of(alloc: Global, value: &Tree<'_>) -> Result<List<SharedItem>, TableError>
     ensures { Gives result (frames_of (shown value.now)) }
 {
     let frames = list_of::<FrameTable>(alloc, value)?;
@@ -101,7 +101,10 @@ fn frames_of(alloc: Global, value: &Tree<'_>) -> Result<List<Item>, TableError>
 /// The journeys of all frames of a delivery, at most 20,000: otherwise `TooMany` at EstimatedJourneyVersionFrame, after
 /// what its entries are refused for.
 #[tactic(auto, unfolding(crate::specs::Frames::journeys_of_frames))]
-pub(crate) fn journeys_of_frames(alloc: Global, tree: &Tree<'_>) -> Result<List<Item>, TableError>
+pub(crate) fn journeys_of_frames(
+    alloc: Global,
+    tree: &Tree<'_>,
+) -> Result<List<SharedItem>, TableError>
     ensures { Gives result (journeys_of_frames (shown tree.now)) }
 {
     match member(tree, names::ESTIMATED_JOURNEY_VERSION_FRAME) {

@@ -13,7 +13,7 @@ use crate::read_removals::{RemovedJourneyTable, RemovedSituationTable};
 use siri_base::{List, Moment, Name, Text};
 use siri_json::Tree;
 use siri_messages::FunctionalDelivery;
-use siri_records::{Item, Key};
+use siri_records::{Key, SharedItem};
 use siri_tables::TableError;
 use siri_tables::rows::{list, required_row, row};
 use siri_tables::rules::{FlagRule, MomentRule, NameRule, NumberRule, Table};
@@ -79,7 +79,7 @@ impl Heading {
     pub(crate) fn delivery(
         self,
         round_position: RoundPosition,
-        items: List<Item>,
+        items: List<SharedItem>,
         removals: List<Key>,
     ) -> FunctionalDelivery
         ensures { result ≡ delivery_of self round_position items removals }

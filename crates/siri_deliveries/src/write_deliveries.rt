@@ -16,7 +16,7 @@ use crate::write_values::{ErrorWriting, true_row};
 use siri_base::{List, OutOfMemory};
 use siri_json::Output;
 use siri_messages::{FunctionalDelivery, ServiceDelivery};
-use siri_records::Item;
+use siri_records::SharedItem;
 use siri_tables::rules::{FlagRule, MomentRule, NameRule, NumberRule};
 use siri_tables::writing::{Written, list, list_inside, optional, required};
 
@@ -166,7 +166,7 @@ impl Written for VehicleDeliveryWriting {
 
 /// Writes the row Situations, each as a PtSituationElement; it is left out where there are none.
 #[tactic(auto, unfolding(crate::specs::Deliveries::written_situations))]
-fn situations_row(out: &mut Output, items: &List<Item>) -> Result<(), OutOfMemory>
+fn situations_row(out: &mut Output, items: &List<SharedItem>) -> Result<(), OutOfMemory>
     ensures { OnOk result (out.new ≡ out.old ++ row_tokens SITUATIONS.now (written_situations items.now)) }
 {
     list_inside::<ItemWriting>(out, names::SITUATIONS, names::PT_SITUATION_ELEMENT, items)

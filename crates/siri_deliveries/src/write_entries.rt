@@ -2,7 +2,7 @@
 
 ghost use Rattle.std.specs.Prelude.{◌≡◌, [], ◌∷◌, ◌++◌, Option, OnOk};
 ghost use Rattle.siri_json.specs.Tokens.{tokens_of};
-ghost use Rattle.siri_tables.specs.Appended.{row_tokens};
+ghost use Rattle.siri_tables.specs.Appended.{Appends, row_tokens};
 ghost use Rattle.siri_tables.specs.Writing.{row_object, array_unless_empty};
 ghost use Rattle.siri_items.specs.Written.{written_item};
 ghost use Rattle.siri_deliveries.specs.declared.names.TheConstants.{ESTIMATED_VEHICLE_JOURNEY};
@@ -14,7 +14,7 @@ use crate::names;
 use siri_base::{Moment, Name, OutOfMemory};
 use siri_items::{names as item_names, write_item};
 use siri_json::Output;
-use siri_records::{Item, Key};
+use siri_records::{Item, Key, SharedItem};
 use siri_tables::rules::{MomentRule, NameRule};
 use siri_tables::writing::{Written, optional, required};
 
@@ -22,12 +22,12 @@ use siri_tables::writing::{Written, optional, required};
 pub(crate) struct ItemWriting;
 
 impl Written for ItemWriting {
-    type Of = Item;
+    type Of = SharedItem;
 
     ghost writing = { item_writing };
 
-    fn write(out: &mut Output, item: &Item) -> Result<(), OutOfMemory> {
-        write_item(out, item)
+    fn write(out: &mut Output, item: &SharedItem) -> Result<(), OutOfMemory> {
+        write_item(out, item.item())
     }
 }
 
@@ -52,20 +52,27 @@ fn journey_row(out: &mut Output, item: &Item) -> Result<(), OutOfMemory>
     out.end_list()
 }
 
-/// A journey in an EstimatedJourneyVersionFrame of its own, which carries the journey's RecordedAtTime.
+/// Writes a journey in an EstimatedJourneyVersionFrame of its own, which carries the journey's RecordedAtTime.
+#[tactic(auto, using(crate::proofs::InOrder::frame_in_order), unfolding(crate::specs::Frames::written_frame))]
+pub(crate) fn write_journey_frame(out: &mut Output, item: &Item) -> Result<(), OutOfMemory>
+    ensures { OnOk result (Appends (written_frame item.now) out.old out.new) }
+{
+    out.begin_object()?;
+    journey_row(out, item)?;
+    optional::<MomentRule>(out, item_names::RECORDED_AT_TIME, &frame_time(item))?;
+    out.end_object()
+}
+
+/// A journey in such a frame.
 pub(crate) struct FrameWriting;
 
 impl Written for FrameWriting {
-    type Of = Item;
+    type Of = SharedItem;
 
     ghost writing = { written_frame };
 
-    #[tactic(auto, using(crate::proofs::InOrder::frame_in_order), unfolding(crate::specs::Frames::written_frame))]
-    fn write(out: &mut Output, item: &Item) -> Result<(), OutOfMemory> {
-        out.begin_object()?;
-        journey_row(out, item)?;
-        optional::<MomentRule>(out, item_names::RECORDED_AT_TIME, &frame_time(item))?;
-        out.end_object()
+    fn write(out: &mut Output, item: &SharedItem) -> Result<(), OutOfMemory> {
+        write_journey_frame(out, item.item())
     }
 }
 

@@ -6,9 +6,10 @@ use Rattle.siri_subs.specs.declared.entry.Row.{Row}
 use Rattle.siri_model.specs.Held.{held_of}
 use Rattle.siri_model.specs.History.{History, State, Step, Settle, after_step, state_of}
 use Rattle.siri_model.specs.Rows.{KeptLife, rows_after, settled_row}
+use Rattle.siri_model.specs.Remembered.{AreRemembered}
 use Rattle.siri_model.proofs.Histories.{rows_go_on}
 use Rattle.siri_model.proofs.InOrder.{more_steps}
-use Rattle.siri_producer.specs.Known.{Follows, Known, GoesOn, SameButReads, StandsFor}
+use Rattle.siri_producer.specs.Known.{Follows, Known, GoesOn, SameButReads, StandsFor, looks_of}
 use Rattle.siri_outside.specs.Rows.{Rows}
 use Rattle.siri_keeping.specs.Keeps.{IsProperStep, Keeps}
 use Rattle.siri_keep.specs.declared.kept.Kept.{Kept}
@@ -106,4 +107,7 @@ stands_read old new h same s = subst (λ (k : Known). StandsFor k h) (sym same) 
 
 -- or followed
 pub follows_read : (old new : Known) (h : History) → SameButReads old new → Follows old h → Follows new h
-follows_read old new h same f = record { stands = stands_read old new h same f.stands; looks = ap (λ (k : Known). k.looks) same ∙ f.looks }
+follows_read old new h same f = record {
+  stands = stands_read old new h same f.stands;
+  looks = subst (λ looks. AreRemembered looks (looks_of h)) (sym (ap (λ (k : Known). k.looks) same)) f.looks;
+}

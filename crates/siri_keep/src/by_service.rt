@@ -6,16 +6,16 @@ ghost use Rattle.siri_keep.specs.RowByRow.{live_delivery, with_one};
 
 use siri_base::{List, OutOfMemory};
 use siri_messages::{FunctionalDelivery, ServiceDelivery};
-use siri_records::Item;
+use siri_records::{Item, SharedItem};
 use std::alloc::Global;
 
 /// Items, service by service.
 #[derive(Drop)]
 pub(crate) struct ByService {
-    pub(crate) visits: List<Item>,
-    pub(crate) journeys: List<Item>,
-    pub(crate) vehicles: List<Item>,
-    pub(crate) situations: List<Item>,
+    pub(crate) visits: List<SharedItem>,
+    pub(crate) journeys: List<SharedItem>,
+    pub(crate) vehicles: List<SharedItem>,
+    pub(crate) situations: List<SharedItem>,
 }
 
 impl ByService {
@@ -32,10 +32,10 @@ impl ByService {
     }
 
     /// One more, behind those of its service.
-    pub(crate) fn push(&mut self, item: Item) -> Result<(), OutOfMemory>
+    pub(crate) fn push(&mut self, item: SharedItem) -> Result<(), OutOfMemory>
         ensures { OnOk result (self.new ≡ with_one self.old item) }
     {
-        match &item {
+        match item.item() {
             Item::Visit(_) => self.visits.push(item),
             Item::Journey(_) => self.journeys.push(item),
             Item::Vehicle(_) => self.vehicles.push(item),
@@ -63,7 +63,10 @@ impl ByService {
 }
 
 /// One delivery of one service, of these items.
-fn functional_of(alloc: Global, items: List<Item>) -> Result<List<FunctionalDelivery>, OutOfMemory>
+fn functional_of(
+    alloc: Global,
+    items: List<SharedItem>,
+) -> Result<List<FunctionalDelivery>, OutOfMemory>
     ensures { IfOk result (λ list. list ≡ functional_of items []) }
 {
     let mut functional = FunctionalDelivery::blank(alloc);

@@ -9,15 +9,19 @@ ghost use Rattle.siri_model.specs.Last.{entry_key};
 
 use siri_base::{Copies, List, Moment, OutOfMemory};
 use siri_messages::{FunctionalDelivery, ServiceDelivery};
-use siri_records::{Item, Key, KeyedItems, SharedKey, dead};
+use siri_records::{Key, KeyedItems, SharedItem, SharedKey, dead};
 use std::alloc::Global;
 
 /// Puts the keys of items at the end of others.
-fn append_items(alloc: Global, into: &mut Vec<SharedKey>, items: &[Item]) -> Result<(), OutOfMemory>
+fn append_items(
+    alloc: Global,
+    into: &mut Vec<SharedKey>,
+    items: &[SharedItem],
+) -> Result<(), OutOfMemory>
     ensures { OnOk result (into.new.items ≡ into.old.items ++ map key_of items.now) }
 {
     for item in items {
-        into.push(SharedKey::of(alloc, item)?)?;
+        into.push(SharedKey::of(alloc, item.item())?)?;
     }
     Ok(())
 }

@@ -25,7 +25,7 @@ use siri_base::{Copies, List, Moment, OutOfMemory, beside};
 use siri_messages::{Message, ServiceDelivery};
 use siri_outside::Put;
 use siri_producer::{Answer, Producer, Subscribed};
-use siri_records::{Change, Item, Key, SharedKey};
+use siri_records::{Change, Item, Key, SharedItem, SharedKey};
 use siri_row_texts::{item_text, key_text, moment_row, place_text, renewal_text, request_text};
 use std::alloc::Global;
 use std::rc::Rc;
@@ -119,7 +119,10 @@ fn text_of(alloc: Global, item: &Option<Rc<Item>>) -> Result<Option<List<u8>>, O
     ensures { IfOk result (λ text. text ≡ option_map (λ i. item_text i.value) item.now) }
 {
     match item {
-        Some(item) => Ok(Some(item_text(alloc, item)?)),
+        Some(item) => {
+            let shared = SharedItem::of(item.clone()?);
+            Ok(Some(item_text(alloc, &shared)?))
+        }
         None => Ok(None),
     }
 }

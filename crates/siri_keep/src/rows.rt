@@ -10,7 +10,7 @@ ghost use Rattle.siri_keep.specs.Puts.{changes_rows, has_long_row, is_long};
 
 use siri_base::{Copies, List, OutOfMemory, Span};
 use siri_messages::{FunctionalDelivery, Message, ServiceDelivery, SubscriptionRequest};
-use siri_records::Item;
+use siri_records::SharedItem;
 use siri_row_texts::{item_text, request_text};
 use siri_topic::Subscription;
 use std::alloc::Global;
@@ -38,7 +38,7 @@ fn is_long(text: List<u8>) -> bool
 }
 
 /// Whether one of some items has a row that is too long.
-fn has_long_item(alloc: Global, items: &[Item]) -> Result<bool, OutOfMemory>
+fn has_long_item(alloc: Global, items: &[SharedItem]) -> Result<bool, OutOfMemory>
     ensures { IfOk result (λ long. long ≡ list_any (λ i. is_long (item_text i)) items.now) }
 {
     for item in items {

@@ -13,10 +13,9 @@ use siri_base::{Copies, List, OutOfMemory};
 use siri_messages::Message;
 use siri_outside::Row;
 use siri_producer::{MOST_LIVE, MOST_SUBSCRIPTIONS};
-use siri_records::{Item, KeyedItems, SharedKey, dead};
+use siri_records::{Item, KeyedItems, SharedItem, SharedKey, dead};
 use siri_row_texts::{Began, item_of_row, request_of_row};
 use std::alloc::Global;
-use std::rc::Rc;
 
 /// What the rows so far say, of those in order of table and key.
 #[derive(Drop)]
@@ -86,11 +85,11 @@ impl RowsRead {
     }
 
     /// Adds an item to the live ones, where it isn't dead at the kept moment.
-    fn add_live(&mut self, item: &Item) -> Result<(), OutOfMemory>
+    fn add_live(&mut self, item: &SharedItem) -> Result<(), OutOfMemory>
         requires { has_room self.old item.now ≡ true }
         ensures { OnOk result (self.new ≡ with_live self.old item.now) }
     {
-        if dead(item, self.began.moment) {
+        if dead(item.item(), self.began.moment) {
             return Ok(());
         }
         self.living += 1;
@@ -98,14 +97,14 @@ impl RowsRead {
     }
 
     /// Adds an item.
-    fn add(&mut self, item: Item) -> Result<(), OutOfMemory>
+    fn add(&mut self, item: SharedItem) -> Result<(), OutOfMemory>
         requires { has_room self.old item ≡ true }
         ensures { OnOk result (self.new ≡ with_kept self.old item) }
     {
         self.add_live(&item)?;
         self.count += 1;
-        let key = SharedKey::of(self.alloc, &item)?;
-        self.all.put(key, Rc::new(self.alloc, item)?)
+        let key = SharedKey::of(self.alloc, item.item())?;
+        self.all.put(key, item.into_inner())
     }
 
     /// Takes a row of table 1: an item, of which at most 100,000 are kept, and at most 20,000 live.
@@ -115,7 +114,7 @@ impl RowsRead {
         let Some(item) = item_of_row(self.alloc, row.key.slice(), row.text.slice())? else {
             return Err(bad(1, row)?);
         };
-        if !self.has_room(&item) {
+        if !self.has_room(item.item()) {
             return Err(bad(1, row)?);
         }
         self.add(item)?;

@@ -7,7 +7,7 @@ ghost use Rattle.siri_load.specs.Events.{call, cancelled, cancelling, consumer a
 
 use siri_base::{List, Moment, Name, OutOfMemory, Span, TextError};
 use siri_messages::{FunctionalDelivery, ServiceDelivery};
-use siri_records::{Item, Key, StopCall, Visit, VisitJourney};
+use siri_records::{Item, Key, SharedItem, StopCall, Visit, VisitJourney};
 use siri_topic::{StopTopic, Subscription, Topic};
 use siri_world_model::Event;
 use std::alloc::Global;
@@ -203,7 +203,8 @@ pub(crate) fn feeding(
     ensures { IfOk result (λ event. event.value ≡ feeding at known_by departure) }
 {
     let mut items = List::new(alloc);
-    items.push(visit(alloc, at, known_by, departure)?)?;
+    let visit = visit(alloc, at, known_by, departure)?;
+    items.push(SharedItem::new(alloc, visit)?)?;
     feed(alloc, items, List::new(alloc))
 }
 
@@ -217,7 +218,11 @@ pub(crate) fn cancelling(alloc: Global, at: u64, known_by: u64) -> Result<Box<Ev
 }
 
 /// A feed of visits and cancellations in one StopMonitoringDelivery.
-fn feed(alloc: Global, items: List<Item>, removals: List<Key>) -> Result<Box<Event>, OutOfMemory>
+fn feed(
+    alloc: Global,
+    items: List<SharedItem>,
+    removals: List<Key>,
+) -> Result<Box<Event>, OutOfMemory>
     ensures { IfOk result (λ event. event.value ≡ Event.Feed (delivery items removals)) }
 {
     let mut stops = List::new(alloc);
@@ -265,7 +270,7 @@ fn cancelled(alloc: Global, at: u64, known_by: u64) -> Result<Key, OutOfMemory>
 
 /// Items and cancellations of Stop Monitoring.
 #[tactic(auto, unfolding(crate::specs::Events::functional))]
-fn functional(alloc: Global, items: List<Item>, removals: List<Key>) -> FunctionalDelivery
+fn functional(alloc: Global, items: List<SharedItem>, removals: List<Key>) -> FunctionalDelivery
     ensures { result ≡ functional items removals }
 {
     let mut delivery = FunctionalDelivery::blank(alloc);

@@ -6,7 +6,7 @@ ghost use Rattle.siri_messages.specs.Blank.{blank_functional_delivery, blank_ser
 ghost use Rattle.siri_messages.specs.Rounds.{has_round, in_a_round};
 
 use siri_base::{Copies, List, Moment, Name, OutOfMemory, Text};
-use siri_records::{Item, Key};
+use siri_records::{Key, SharedItem};
 use std::alloc::Global;
 
 /// What is delivered of the four services (EN 15531-2, ServiceDelivery): the answer to a request, a part of a
@@ -42,7 +42,8 @@ pub struct FunctionalDelivery {
     pub start: Option<u64>,
     pub round: Option<u64>,
     pub part: Option<u64>,
-    pub items: List<Item>,
+    /// Whoever copies the delivery shares them.
+    pub items: List<SharedItem>,
     /// What its cancellations, or its removed journeys or situations, name.
     pub removals: List<Key>,
 }
@@ -115,7 +116,7 @@ impl FunctionalDelivery {
         }
     }
     /// Its items and its removals.
-    pub fn into_entries(self) -> (List<Item>, List<Key>)
+    pub fn into_entries(self) -> (List<SharedItem>, List<Key>)
         ensures { result ≡ (self.items, self.removals) }
     {
         let FunctionalDelivery {

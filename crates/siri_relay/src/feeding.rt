@@ -15,7 +15,7 @@ use siri_base::{Copies, List, OutOfMemory};
 use siri_change::{Change, View, changes};
 use siri_messages::{FunctionalDelivery, ServiceDelivery};
 use siri_producer::{MOST_LIVE, Producer};
-use siri_records::{Item, Key, SharedKey};
+use siri_records::{Key, SharedItem, SharedKey};
 use siri_subscriptions::{items_in, removals_in};
 use std::alloc::Global;
 
@@ -143,7 +143,7 @@ fn feeds_by(alloc: Global, list: &List<Change>) -> Result<Feeds, OutOfMemory>
 /// A delivery of no round with these entries.
 fn delivery(
     alloc: Global,
-    items: List<Item>,
+    items: List<SharedItem>,
     removals: List<Key>,
 ) -> Result<ServiceDelivery, OutOfMemory>
     ensures { IfOk result (λ delivery. entries_of delivery ≡ map Observed items ++ map Withdrawn removals) }

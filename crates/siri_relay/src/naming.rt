@@ -11,7 +11,7 @@ ghost use Rattle.siri_relay.specs.Named.{IsRound, changes_to, is_whole, items_at
 use siri_base::{Copies, List, OutOfMemory};
 use siri_change::{Change, View, changes};
 use siri_messages::{FunctionalDelivery, Message, ServiceDelivery};
-use siri_records::{Item, Key, SharedKey};
+use siri_records::{Key, SharedItem, SharedKey};
 use std::alloc::Global;
 
 /// The keys that a round names, where they are known.
@@ -83,13 +83,13 @@ fn named_in(alloc: Global, delivery: &FunctionalDelivery) -> Result<List<SharedK
 /// Puts the keys of items at the end.
 fn push_item_keys(
     alloc: Global,
-    items: &[Item],
+    items: &[SharedItem],
     into: &mut List<SharedKey>,
 ) -> Result<(), OutOfMemory>
     ensures { OnOk result (into.new ≡ into.old ++ map key_of_item items.now) }
 {
     for item in items {
-        into.push(SharedKey::of(alloc, item)?)?;
+        into.push(SharedKey::of(alloc, item.item())?)?;
     }
     Ok(())
 }

@@ -3,10 +3,10 @@
 ghost use Rattle.std.specs.Prelude.{◌≡◌, ◌+◌, ◌*◌, ◌≤◌, IfOk, length, map};
 ghost use Rattle.siri_model.specs.Direct as direct;
 
-use crate::soonest::{copies, soonest};
+use crate::soonest::{shared, soonest};
 use siri_base::{List, OutOfMemory};
 use siri_messages::FunctionalDelivery;
-use siri_records::Item;
+use siri_records::SharedItem;
 use siri_store::Store;
 use siri_topic::Topic;
 use std::alloc::Global;
@@ -57,8 +57,12 @@ fn answer(
     })
 }
 
-/// Copies of the items that answer a topic, in order of key.
-fn answering(alloc: Global, store: &mut Store, topic: &Topic) -> Result<List<Item>, OutOfMemory>
+/// The items that answer a topic, in order of key, shared with the store.
+fn answering(
+    alloc: Global,
+    store: &mut Store,
+    topic: &Topic,
+) -> Result<List<SharedItem>, OutOfMemory>
     ensures ok { IfOk result (λ items. items ≡ direct.answering store.old.moment store.old.entries topic.now) }
     ensures rest { store.new ≡ record store.old { reads = store.new.reads } }
     ensures risen { store.old.reads ≤ store.new.reads }
@@ -67,7 +71,7 @@ fn answering(alloc: Global, store: &mut Store, topic: &Topic) -> Result<List<Ite
     let shown = store.shown(alloc, topic)?;
     match most_of(topic) {
         Some(most) => soonest(alloc, &shown, most),
-        None => copies(alloc, &shown),
+        None => shared(alloc, &shown),
     }
 }
 

@@ -9,10 +9,9 @@ ghost use Rattle.siri_responder.specs.Feeding.{AreMarked, HasRoom, ReachesSome, 
 
 use siri_base::{Copies, List, OutOfMemory};
 use siri_messages::{FunctionalDelivery, ServiceDelivery};
-use siri_records::{Item, Key, SharedKey};
+use siri_records::{Key, SharedItem, SharedKey};
 use siri_store::{Marks, ObserveError, Store};
 use std::alloc::Global;
-use std::rc::Rc;
 
 /// What is told of a feed. A number that would pass the greatest of its type stands there.
 #[derive(Clone, Copy, Debug, PartialEq, Eq)]
@@ -148,7 +147,7 @@ impl Feeding {
     }
 
     /// The items are observed in order; after want of memory the first few of them are.
-    fn observe_all(&mut self, alloc: Global, items: List<Item>) -> Result<(), OutOfMemory>
+    fn observe_all(&mut self, alloc: Global, items: List<SharedItem>) -> Result<(), OutOfMemory>
         requires alive { NoneDead self.old.store }
         requires room { HasRoom self.old }
         ensures ok { OnOk result (TakesEntries self.old self.new (map Observed items)) }
@@ -164,7 +163,7 @@ impl Feeding {
 
     /// An item that isn't dead, and whose key isn't live, is refused where as many keys are live as may be. Its key is
     /// marked, also where it is refused; after want of memory it isn't.
-    pub(crate) fn observe(&mut self, alloc: Global, item: Item) -> Result<(), OutOfMemory>
+    pub(crate) fn observe(&mut self, alloc: Global, item: SharedItem) -> Result<(), OutOfMemory>
         requires alive { NoneDead self.old.store }
         requires room { HasRoom self.old }
         ensures ok { OnOk result (TakesEntries self.old self.new (Observed item ∷ [])) }
@@ -172,7 +171,7 @@ impl Feeding {
         ensures alive { NoneDead self.new.store }
         ensures room { HasRoom self.new }
     {
-        let item = Rc::new(alloc, item)?;
+        let item = item.into_inner();
         let key = SharedKey::of(alloc, &item)?;
         let own = key.copy()?;
         self.marks.reserve(self.store.held() + 2)?;

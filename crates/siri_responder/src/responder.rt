@@ -221,13 +221,6 @@ impl Responder {
         self.feeding.marks.forget(oldest);
     }
 
-    /// How many marks were set under a number or a later one.
-    pub fn marks_since(&self, number: u64) -> usize
-        ensures { result ≡ length (filter (is_since number) self.now.marks.log) }
-    {
-        self.feeding.marks.len_since(number)
-    }
-
     /// Where there are more marks than so many, of each key the last mark, with room for one of each item that is held.
     pub fn last_marks(&self, most: usize) -> Result<Option<Marks>, OutOfMemory>
         ensures some { IfOk result (λ last. is_some last ≡ nat_lt most (length self.now.marks.log)) }

@@ -7,23 +7,23 @@ ghost use Rattle.siri_records.specs.Keyed.{InOrder, Items, unshared};
 ghost use Rattle.siri_model.specs.Direct.{soonest};
 ghost use Rattle.siri_responder.specs.Answering as answering;
 
-use siri_base::{Copies, List, OutOfMemory};
-use siri_records::{Item, entry_of};
+use siri_base::{List, OutOfMemory};
+use siri_records::{Item, SharedItem, entry_of};
 use std::alloc::Global;
 use std::cmp::Ordering;
 use std::rc::Rc;
 
-/// Of items in order of key, copies of the first so many by call moment and then key, still in order of key. It sorts
+/// Of items in order of key the first so many by call moment and then key, still in order of key, shared. It sorts
 /// once and goes over the items twice.
 pub(crate) fn soonest(
     alloc: Global,
     items: &[Rc<Item>],
     most: u64,
-) -> Result<List<Item>, OutOfMemory>
+) -> Result<List<SharedItem>, OutOfMemory>
     ensures { IfOk result (λ kept. (entries : Items) → InOrder entries → values_of entries ≡ unshared items.now → kept ≡ values_of (soonest most entries)) }
 {
     if items.len() as u64 <= most {
-        return copies(alloc, items);
+        return shared(alloc, items);
     }
     if most == 0 {
         return Ok(List::new(alloc));
@@ -32,16 +32,16 @@ pub(crate) fn soonest(
     up_to(alloc, items, &last)
 }
 
-/// Copies of all of them.
-pub(crate) fn copies(alloc: Global, items: &[Rc<Item>]) -> Result<List<Item>, OutOfMemory>
-    ensures { IfOk result (λ copies. copies ≡ unshared items.now) }
+/// All of them, shared.
+pub(crate) fn shared(alloc: Global, items: &[Rc<Item>]) -> Result<List<SharedItem>, OutOfMemory>
+    ensures { IfOk result (λ shared. shared ≡ unshared items.now) }
 {
-    let mut copies = List::new(alloc);
+    let mut shared = List::new(alloc);
     for item in items {
-        let copy = item.copy()?;
-        copies.push(copy)?;
+        let one = item.clone()?;
+        shared.push(SharedItem::of(one))?;
     }
-    Ok(copies)
+    Ok(shared)
 }
 
 /// The call moment of an item and its place. Places are in order of key.
@@ -79,20 +79,20 @@ fn ranks(alloc: Global, items: &[Rc<Item>]) -> Result<Vec<(Option<u64>, usize)>,
     Ok(ranks)
 }
 
-/// Copies of the items up to a rank.
+/// The items up to a rank, shared.
 fn up_to(
     alloc: Global,
     items: &[Rc<Item>],
     last: &(Option<u64>, usize),
-) -> Result<List<Item>, OutOfMemory>
+) -> Result<List<SharedItem>, OutOfMemory>
     ensures { IfOk result (λ kept. kept ≡ answering.up_to last.now (unshared items.now)) }
 {
     let mut kept = List::new(alloc);
     for place in 0..items.len() {
         let item = &items[place];
         if is_up_to(&rank(item, place), last) {
-            let copy = item.copy()?;
-            kept.push(copy)?;
+            let one = item.clone()?;
+            kept.push(SharedItem::of(one))?;
         }
     }
     Ok(kept)

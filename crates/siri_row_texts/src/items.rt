@@ -7,12 +7,12 @@ ghost use Rattle.siri_row_texts.specs.ItemRows.{functional_of, item_delivery, it
 
 use siri_base::{Copies, List, OutOfMemory};
 use siri_messages::{FunctionalDelivery, Message, ServiceDelivery};
-use siri_records::{Item, Key};
+use siri_records::{Item, Key, SharedItem};
 use siri_wire::encode;
 use std::alloc::Global;
 
 /// One delivery of one service, with an item and nothing else.
-fn with_item(alloc: Global, item: Item) -> Result<List<FunctionalDelivery>, OutOfMemory>
+fn with_item(alloc: Global, item: SharedItem) -> Result<List<FunctionalDelivery>, OutOfMemory>
     ensures { IfOk result (λ list. list ≡ functional_of (item ∷ []) []) }
 {
     let mut functional = FunctionalDelivery::blank(alloc);
@@ -34,12 +34,12 @@ fn with_removal(alloc: Global, key: Key) -> Result<List<FunctionalDelivery>, Out
 }
 
 /// The delivery whose only entry is an item.
-fn item_delivery(alloc: Global, item: &Item) -> Result<ServiceDelivery, OutOfMemory>
+fn item_delivery(alloc: Global, item: &SharedItem) -> Result<ServiceDelivery, OutOfMemory>
     ensures { IfOk result (λ delivery. delivery ≡ item_delivery item.now) }
 {
     let entry = with_item(alloc, item.copy()?)?;
     let mut delivery = ServiceDelivery::blank(alloc);
-    match item {
+    match item.item() {
         Item::Visit(_) => delivery.stop_monitoring_delivery = entry,
         Item::Journey(_) => delivery.estimated_timetable_delivery = entry,
         Item::Vehicle(_) => delivery.vehicle_monitoring_delivery = entry,
@@ -73,8 +73,8 @@ fn text_of(alloc: Global, delivery: ServiceDelivery) -> Result<List<u8>, OutOfMe
     Ok(List::of(text?))
 }
 
-/// The text of an item's row: the canonical delivery whose only entry is the item. It takes a copy of the item.
-pub fn item_text(alloc: Global, item: &Item) -> Result<List<u8>, OutOfMemory>
+/// The text of an item's row: the canonical delivery whose only entry is the item.
+pub fn item_text(alloc: Global, item: &SharedItem) -> Result<List<u8>, OutOfMemory>
     ensures { IfOk result (λ text. text ≡ item_text item.now) }
 {
     text_of(alloc, item_delivery(alloc, item)?)

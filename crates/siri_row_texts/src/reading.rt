@@ -7,13 +7,13 @@ ghost use Rattle.siri_row_texts.specs.Reading.{asks_with, delivered, first_asked
 use crate::{item_text, key_text, renewal_text, request_text};
 use siri_base::{Copies, OutOfMemory, Span};
 use siri_messages::{FunctionalDelivery, Message, ServiceDelivery, SubscriptionRequest};
-use siri_records::{Item, key_of};
+use siri_records::{SharedItem, key_of};
 use siri_topic::Subscription;
 use siri_wire::{DecodeError, decode};
 use std::alloc::Global;
 
 /// The item with which a service's deliveries begin.
-fn first_item(list: &[FunctionalDelivery]) -> Option<&Item>
+fn first_item(list: &[FunctionalDelivery]) -> Option<&SharedItem>
     ensures { option_map (λ item. item.now) result ≡ first_item list.now }
 {
     match list.first() {
@@ -24,7 +24,7 @@ fn first_item(list: &[FunctionalDelivery]) -> Option<&Item>
 
 /// The item with which a delivery begins, service by service.
 #[tactic(auto, using(crate::proofs::Firsts::first_item_of_four))]
-fn delivered(delivery: &ServiceDelivery) -> Option<&Item>
+fn delivered(delivery: &ServiceDelivery) -> Option<&SharedItem>
     ensures { option_map (λ item. item.now) result ≡ delivered delivery.now }
 {
     let stops = first_item(delivery.stop_monitoring_delivery.slice());
@@ -34,30 +34,30 @@ fn delivered(delivery: &ServiceDelivery) -> Option<&Item>
     stops.or(timetables).or(vehicles).or(situations)
 }
 
-/// A copy of an item, where this is its row.
+/// An item, shared, where this is its row.
 fn if_written(
     alloc: Global,
-    item: &Item,
+    item: &SharedItem,
     key: &[u8],
     text: &[u8],
-) -> Result<Option<Item>, OutOfMemory>
+) -> Result<Option<SharedItem>, OutOfMemory>
     ensures { IfOk result (λ found. found ≡ if_written key.now text.now item.now) }
 {
     let written = item_text(alloc, item)?;
-    let named = key_text(alloc, &key_of(item)?)?;
+    let named = key_text(alloc, &key_of(item.item())?)?;
     if written.slice() == text && named.slice() == key {
         return Ok(Some(item.copy()?));
     }
     Ok(None)
 }
 
-/// A copy of the item with which a message begins, where this is its row.
+/// The item with which a message begins, shared, where this is its row.
 fn item_in(
     alloc: Global,
     message: &Message,
     key: &[u8],
     text: &[u8],
-) -> Result<Option<Item>, OutOfMemory>
+) -> Result<Option<SharedItem>, OutOfMemory>
     ensures { IfOk result (λ found. found ≡ option_and_then (if_written key.now text.now) (item_in message.now)) }
 {
     let Message::ServiceDelivery(delivery) = message else {
@@ -72,7 +72,11 @@ fn item_in(
 /// The item whose row this is: `None` exactly where the text is no document, or isn't what [`item_text`] would write of
 /// the item in it, or the key isn't what [`key_text`] would write of its key.
 #[tactic(auto, unfolding(crate::specs::Reading::item_of_row))]
-pub fn item_of_row(alloc: Global, key: &[u8], text: &[u8]) -> Result<Option<Item>, OutOfMemory>
+pub fn item_of_row(
+    alloc: Global,
+    key: &[u8],
+    text: &[u8],
+) -> Result<Option<SharedItem>, OutOfMemory>
     ensures { IfOk result (λ item. item ≡ item_of_row key.now text.now) }
 {
     match decode(alloc, text) {

@@ -59,7 +59,7 @@ fn a_row_of_a_moment_has_one_form(rt: HostRuntime) -> Result<(), Fail> {
 fn the_row_of_an_item_is_read_and_written(rt: HostRuntime) -> Result<(), Fail> {
     let item = item_of_row(rt.alloc(), VISIT.as_bytes(), DEPARTURE.as_bytes())?.ok_or("no row")?;
     let text = item_text(rt.alloc(), &item)?;
-    let key = key_text(rt.alloc(), &key_of(&item)?)?;
+    let key = key_text(rt.alloc(), &key_of(item.item())?)?;
     assert!(rt; text.slice() == DEPARTURE.as_bytes() && key.slice() == VISIT.as_bytes());
     assert!(rt; item_of_row(rt.alloc(), REQUEST.as_bytes(), DEPARTURE.as_bytes())?.is_none());
     Ok(())

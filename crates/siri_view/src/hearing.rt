@@ -9,7 +9,7 @@ ghost use Rattle.siri_view.specs.Heard.{heard_if};
 use crate::marks::Numbers;
 use siri_base::{List, Name, number_of};
 use siri_messages::{FunctionalDelivery, Mark, ServiceDelivery};
-use siri_records::{Item, Key};
+use siri_records::{Key, SharedItem};
 
 /// A part of a round that is delivered.
 #[derive(Drop)]
@@ -19,7 +19,7 @@ pub(crate) struct Delivered {
     pub mark: Numbers,
     // Whether further parts of its round follow.
     pub more: bool,
-    pub items: List<Item>,
+    pub items: List<SharedItem>,
     pub removals: List<Key>,
 }
 

@@ -7,7 +7,7 @@ ghost use Rattle.siri_change.specs.Parts.{changes_in};
 
 use siri_base::{Copies, List, OutOfMemory, beside};
 use siri_change::Change;
-use siri_records::{Item, Key, SharedKey};
+use siri_records::{Item, Key, SharedItem, SharedKey};
 use std::alloc::Global;
 use std::marker::Model;
 use std::rc::Rc;
@@ -40,7 +40,7 @@ impl Part {
     /// The items and removals of a delivery, none of which is copied.
     pub(crate) fn of(
         alloc: Global,
-        items: List<Item>,
+        items: List<SharedItem>,
         removals: List<Key>,
     ) -> Result<Part, OutOfMemory>
         ensures { IfOk result (λ part. part ≡ record { items = items; removals = removals }) }
@@ -65,13 +65,13 @@ impl Part {
     }
 }
 
-/// Items, to be shared.
-fn kept(alloc: Global, items: List<Item>) -> Result<Vec<Rc<Item>>, OutOfMemory>
+/// Shared items.
+fn kept(alloc: Global, items: List<SharedItem>) -> Result<Vec<Rc<Item>>, OutOfMemory>
     ensures { IfOk result (λ kept. unshared kept.items ≡ items) }
 {
     let mut kept = Vec::new(alloc);
     for item in items.into_vec() {
-        kept.push(Rc::new(alloc, item)?)?;
+        kept.push(item.into_inner())?;
     }
     Ok(kept)
 }

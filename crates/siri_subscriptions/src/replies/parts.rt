@@ -10,7 +10,7 @@ use crate::replies::{Refusal, number_text};
 use siri_base::{Copies, List, Moment, Name, OutOfMemory, Text};
 use siri_change::Change;
 use siri_messages::{DataReadyNotification, FunctionalDelivery, Mark, ServiceDelivery};
-use siri_records::{Item, Key};
+use siri_records::{Key, SharedItem};
 use siri_subs::{Part, SupplyError};
 use siri_topic::{Subscription, Topic};
 use std::alloc::Global;
@@ -94,14 +94,15 @@ fn part_functional(
     })
 }
 
-/// Copies of the items of changes, in the order of the changes.
-pub fn items_in(alloc: Global, changes: &[Change]) -> Result<List<Item>, OutOfMemory>
+/// The items of changes, in the order of the changes, shared with them.
+pub fn items_in(alloc: Global, changes: &[Change]) -> Result<List<SharedItem>, OutOfMemory>
     ensures { IfOk result (λ items. items ≡ (carried changes.now).items) }
 {
     let mut items = List::new(alloc);
     for change in changes {
         if let Some(item) = &change.item {
-            items.push(item.copy()?)?;
+            let one = item.clone()?;
+            items.push(SharedItem::of(one))?;
         }
     }
     Ok(items)

@@ -23,5 +23,5 @@ returns-clause-ok c =
     let topic = c.args.topic.now in
     let now = c.args.store.now.moment in
     let held = c.args.store.now.entries in
-    IfOk-weaker c.copies.result (λ copies. copies ≡ unshared c.deref-in-None.result.now) _
-    (λ copies is. is ∙ ap unshared c.deref-in-None.ensures.value ∙ c.in_ok-shown.ensures.ok ∙ answering_all now held topic c.in-None.ensures) c.copies.ensures
+    IfOk-weaker c.shared.result (λ shared. shared ≡ unshared c.deref-in-None.result.now) _
+    (λ shared is. is ∙ ap unshared c.deref-in-None.ensures.value ∙ c.in_ok-shown.ensures.ok ∙ answering_all now held topic c.in-None.ensures) c.shared.ensures

@@ -10,7 +10,7 @@ pub returns-then-items-most : goal.returns-then-items-most
 returns-then-items-most c =
     let items = unshared c.args.items.now in
     let le : length items ≤ c.args.most = omega (arith, c.if-items-most.true, length_mapped (λ item. item.value) c.args.items.now) in
-    IfOk-weaker c.copies.result (λ copies. copies ≡ items) _ (λ copies is entries s same. is ∙ cut_none entries items c.args.most same le) c.copies.ensures
+    IfOk-weaker c.shared.result (λ shared. shared ≡ items) _ (λ shared is entries s same. is ∙ cut_none entries items c.args.most same le) c.shared.ensures
 
 pub returns-then-most-eq0 : goal.returns-then-most-eq0
 returns-then-most-eq0 c = λ entries s same. c.new.ensures ∙ cut_all entries c.args.most c.if-most-eq0.true

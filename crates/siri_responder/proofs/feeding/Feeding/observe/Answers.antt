@@ -6,7 +6,7 @@ use Rattle.siri_responder.proofs.feeding.Feeding.observe.Goals as goal
 pub returns-in-Ok-clause-room : goal.returns-in-Ok-clause-room
 returns-in-Ok-clause-room c =
     let store = c.args.self.now.store in
-    let item = c.in_ok-item.item.value in
+    let item = c.into_inner-item.result.value in
     let now = ap (λ (s : Held). length s.entries) c.in-Ok.ensures.ok in
     record {
       few = omega (arith, now, few_observed store item c.held.ensures.ordered c.in-Ok.ensures.taken c.requires.room.few);
