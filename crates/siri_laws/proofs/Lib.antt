@@ -7,3 +7,4 @@ pub mod Settles
 pub mod http
 pub mod queries
 pub mod lite
+pub mod two_ends

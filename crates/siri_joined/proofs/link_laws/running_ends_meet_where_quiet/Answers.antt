@@ -1,8 +1,0 @@
-use Rattle.siri_joined.proofs.Acts
-use Rattle.siri_joined.proofs.link_laws.running_ends_meet_where_quiet.Goals as goal
-
-pub returns-clause-goal : goal.returns-clause-goal
-returns-clause-goal g c f laws = Acts.views f laws
-
-pub returns-clause-quiet : goal.returns-clause-quiet
-returns-clause-quiet g c f laws = Acts.meets_where_quiet f laws

@@ -1,8 +1,0 @@
-use Rattle.siri_joined.proofs.EndsLogged
-use Rattle.siri_joined.proofs.log_laws.a_producer_is_as_its_log_tells.Goals as goal
-
-pub returns-clause-history : goal.returns-clause-history
-returns-clause-history c = EndsLogged.serve_history
-
-pub returns-clause-log : goal.returns-clause-log
-returns-clause-log c = EndsLogged.serve_log
