@@ -103,6 +103,7 @@ impl Kept {
         ensures long { IfOk result (λ answer. has_long_row message ≡ true → (answer ≡ reply.Made (Some row_too_long)) × (self.new ≡ self.old)) }
         ensures written { IfOk result CanBeWritten }
         ensures name { OnOk result (self.new.producer.responder.name ≡ self.old.producer.responder.name) }
+        ensures same { has_long_row message ≡ true → shelf.new ≡ shelf.old }
         ensures ok { OnOk result (OnShelf B.tells shelf.old shelf.new (λ old new. LeavesKept self.old self.new (taking (short_of message)) old.rows new.rows)) }
         ensures trail { OnShelf B.tells shelf.old shelf.new (AddsFronts self.old (taking (short_of message))) }
         ensures later { B.faults shelf.old ≤ B.faults shelf.new }
